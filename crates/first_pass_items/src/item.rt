@@ -1,0 +1,168 @@
+//! The items of the tree: what a node is, and which bytes of the text it stands for.
+
+ghost use Rattle.std.specs.Prelude.{⊤, ◌≡◌, [], ◌∷◌, codes};
+
+use bitflags::{Flag, Flags, bitflag_items};
+
+/// The index of the attributes of a heading.
+#[derive(Clone, Copy, PartialEq, Eq)]
+pub struct HeadingIndex(pub usize);
+
+/// The index of the alignments of a table.
+#[derive(Clone, Copy, PartialEq, Eq)]
+pub struct AlignmentIndex(pub usize);
+
+/// The index of a text that isn't a plain range of the source.
+#[derive(Clone, Copy, PartialEq, Eq)]
+pub struct CowIndex(pub usize);
+
+/// The level of a heading (CommonMark 4.2, 4.3).
+#[derive(Clone, Copy, PartialEq, Eq)]
+pub enum HeadingLevel {
+    H1 = 1,
+    H2,
+    H3,
+    H4,
+    H5,
+    H6,
+}
+
+/// How a column of a table is aligned (GFM 4.10).
+#[derive(Clone, Copy, PartialEq, Eq)]
+pub enum Alignment {
+    None,
+    Left,
+    Center,
+    Right,
+}
+
+/// The marks that a metadata block stands between: `---` or `+++`.
+#[derive(Clone, Copy, PartialEq, Eq)]
+pub enum MetadataBlockKind {
+    YamlStyle,
+    PlusesStyle,
+}
+
+/// The kind that a tag gives a block quote, as `[!NOTE]`.
+#[derive(Clone, Copy, PartialEq, Eq)]
+pub enum BlockQuoteKind {
+    Note,
+    Tip,
+    Important,
+    Warning,
+    Caution,
+}
+
+/// What is known of a list: whether it is tight (CommonMark 5.3).
+#[derive(Clone, Copy, PartialEq, Eq)]
+pub struct ListFlags(u8);
+
+bitflag_items! {
+    impl ListFlags: u8 {
+        const IS_TIGHT = 1;
+    }
+}
+
+impl Flags for ListFlags {
+    type Bits = u8;
+
+    ghost exact = { ⊤ };
+
+    ghost table = { (codes "IS_TIGHT", 1) ∷ [] };
+
+    ghost set_of = { λ f. f.0 };
+
+    fn flags<'a>() -> &'a [Flag<ListFlags>] {
+        ListFlags::FLAGS
+    }
+
+    fn bits(&self) -> u8 {
+        self.0
+    }
+
+    fn from_bits_retain(bits: u8) -> ListFlags {
+        ListFlags(bits)
+    }
+}
+
+/// What a node is: a block, or a token of possible inline markup in a block.
+#[derive(Clone, Copy, PartialEq, Eq)]
+pub enum ItemBody {
+    /// The node around all others.
+    Root,
+
+    // Blocks.
+    Paragraph,
+    /// A paragraph directly in an item of a tight list.
+    TightParagraph,
+    Rule,
+    Heading(HeadingLevel, Option<HeadingIndex>),
+    /// The text is the info string.
+    FencedCodeBlock(CowIndex),
+    IndentCodeBlock,
+    HtmlBlock,
+    BlockQuote(Option<BlockQuoteKind>),
+    /// Whether it is tight, the byte of its markers (for numbers `.` or `)`), and its first number.
+    List(ListFlags, u8, u64),
+    /// The columns that a line needs to go on with the item.
+    ListItem(usize),
+    /// The text is the label.
+    FootnoteDefinition(CowIndex),
+    MetadataBlock(MetadataBlockKind),
+    DefinitionList(ListFlags),
+    /// A paragraph that may become the title of a definition; in no finished tree.
+    MaybeDefinitionListTitle,
+    DefinitionListTitle,
+    /// The columns that a line needs to go on with the definition.
+    DefinitionListDefinition(usize),
+    Table(AlignmentIndex),
+    TableHead,
+    TableRow,
+    TableCell,
+
+    // Tokens.
+    Text {
+        /// Whether the first byte stands behind a backslash that was dropped.
+        backslash_escaped: bool,
+    },
+    SoftBreak,
+    /// Whether a backslash made it, and not white space.
+    HardBreak(bool),
+    /// How many delimiters of the run are left, this one counted; whether it can open and close.
+    MaybeEmphasis(usize, bool, bool),
+    /// Whether it can open and close, and its brace context.
+    MaybeMath(bool, bool, u8),
+    /// The quote's byte, and whether it can open and close.
+    MaybeSmartQuote(u8, bool, bool),
+    /// How many backquotes, and whether a backslash stood before them.
+    MaybeCode(usize, bool),
+    MaybeHtml,
+    MaybeLinkOpen,
+    /// `true` in every tree of this pass.
+    MaybeLinkClose(bool),
+    MaybeImage,
+    /// Bytes of an HTML block.
+    Html,
+    /// A text that stands for the bytes.
+    SynthesizeText(CowIndex),
+    /// A character that stands for the bytes.
+    SynthesizeChar(char),
+    /// Whether it is checked.
+    TaskListMarker(bool),
+}
+
+impl Default for ItemBody {
+    fn default() -> ItemBody
+        ensures { result ≡ ItemBody.Root }
+    {
+        ItemBody::Root
+    }
+}
+
+/// A node's range, as offsets into the text (`start` is at most `end`), and what it is.
+#[derive(Clone, Copy, PartialEq, Eq)]
+pub struct Item {
+    pub start: usize,
+    pub end: usize,
+    pub body: ItemBody,
+}
