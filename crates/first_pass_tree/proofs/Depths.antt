@@ -1,0 +1,69 @@
+-- Lists of depths: the last place of a depth, and open paths, through an edit.
+use Rattle.std.proofs.Common.{◌≡◌, ℕ, ◌+◌, ◌-◌, ◌<◌, ◌≤◌, suc, zero, List, [], ◌∷◌, ◌++◌, length, get_or, take, refl, ◌∙◌, arith, add-one}
+use Rattle.std.proofs.lemmas.List.{places, get_or_append_left, get_or_push, length_push, get_or-take, length-take-le}
+use Rattle.first_pass_tree.specs.declared.tree_index.TreeIndex.{TreeIndex}
+use Rattle.first_pass_tree.specs.Forest.{IsLastAt, IsOpenPath, IsPreorder, open_place}
+
+-- the last place of a depth stays it where a deeper node is added
+pub last-append : (ds : List ℕ) (d e i : ℕ) → IsLastAt ds d i → d < e → IsLastAt (ds ++ e ∷ []) d i
+last-append ds d e i h l = record {
+  within = grind (arith, length_push ds e, h.within);
+  depth = get_or_append_left ds (e ∷ []) 0 i h.within ∙ h.depth;
+  behind = λ k p q. grind (arith, places, length_push, get_or_push, h.behind k p);
+}
+
+pub last-push : (ds : List ℕ) (e : ℕ) → IsLastAt (ds ++ e ∷ []) e (length ds)
+last-push ds e = record {
+  within = omega (arith, length_push ds e);
+  depth = get_or_push ds e 0 (length ds) refl;
+  behind = λ k p q. absurd (omega (arith, length_push ds e));
+}
+
+pub path-append : (ds : List ℕ) (is : List TreeIndex) (e : ℕ) → length is < e → IsOpenPath ds is → IsOpenPath (ds ++ e ∷ []) is
+path-append ds [] e l h = last-append ds 0 e 0 h (omega arith)
+path-append ds (i ∷ is) e l h = (last-append ds _ e _ h.0 (omega arith), path-append ds is e (omega arith) h.1)
+
+-- the last node is no less deep than the innermost open one
+pub path-last_depth : (ds : List ℕ) (is : List TreeIndex) → IsOpenPath ds is → (0 < length ds) × (length is ≤ get_or ds (length ds - 1) 0)
+path-last_depth ds [] h = (omega (arith, h.within), omega arith)
+path-last_depth ds (i ∷ is) h = (omega (arith, h.0.within), grind (arith, h.0.within, h.0.depth, h.0.behind (length ds - 1)))
+
+pub preorder-append : (ds : List ℕ) (e : ℕ) → IsPreorder ds → 0 < length ds → e ≤ get_or ds (length ds - 1) 0 + 1 → IsPreorder (ds ++ e ∷ [])
+preorder-append ds e h p l = λ k q. grind (arith, places, length_push, get_or_push, h k)
+
+-- of two last places the deeper one stands behind
+pub last-order : (ds : List ℕ) (d e i j : ℕ) → IsLastAt ds d i → IsLastAt ds e j → d < e → i < j
+last-order ds d e i j h g l = grind (arith, h.depth, g.depth, g.behind i, h.within, g.within)
+
+pub last-take : (ds : List ℕ) (d i n : ℕ) → IsLastAt ds d i → i < n → n ≤ length ds → IsLastAt (take n ds) d i
+last-take ds d i n h l m = record {
+  within = omega (arith, length-take-le n ds m);
+  depth = get_or-take n ds i 0 l ∙ h.depth;
+  behind = λ k p q. grind (arith, places, length-take-le n ds m, get_or-take, h.behind k p);
+}
+
+pub path-take : (ds : List ℕ) (is : List TreeIndex) (d i n : ℕ) → IsLastAt ds d i → length is < d → i < n → n ≤ length ds → IsOpenPath ds is → IsOpenPath (take n ds) is
+path-take ds [] d i n g l p m h =
+    let o = last-order ds 0 d 0 i h g (omega arith) in last-take ds 0 0 n h (omega arith) m
+path-take ds (j ∷ is) d i n g l p m h =
+    let o = last-order ds _ d _ i h.0 g (omega arith) in (last-take ds _ _ n h.0 (omega arith) m, path-take ds is d i n g (omega arith) p m h.1)
+
+pub preorder-take : (ds : List ℕ) (n : ℕ) → n ≤ length ds → IsPreorder ds → IsPreorder (take n ds)
+preorder-take ds n m h = λ k q. grind (arith, places, length-take-le n ds m, get_or-take, h k)
+
+pub path-take_open : (ds : List ℕ) (is : List TreeIndex) (n : ℕ) → open_place is < n → n ≤ length ds → IsOpenPath ds is → IsOpenPath (take n ds) is
+path-take_open ds [] n l m h = last-take ds 0 0 n h l m
+path-take_open ds (i ∷ is) n l m h = (last-take ds _ _ n h.0 l m, path-take ds is _ i.0 n h.0 (omega arith) l m h.1)
+
+-- the innermost open node is the last of its depth
+pub open-last : (ds : List ℕ) (is : List TreeIndex) → IsOpenPath ds is → IsLastAt ds (length is) (open_place is)
+open-last ds [] h = h
+open-last ds (i ∷ is) h = record { within = h.0.within; depth = grind (arith, h.0.depth); behind = λ k p q. grind (arith, h.0.behind k p q) }
+
+-- the depth at a place is at most the place
+pub depth-small : (ds : List ℕ) → IsPreorder ds → get_or ds 0 0 ≡ 0 → (k : ℕ) → k < length ds → get_or ds k 0 ≤ k
+depth-small ds h z zero l = omega arith
+depth-small ds h z (suc k) l =
+    let r = depth-small ds h z k (omega arith) in
+    let s = h k (omega arith) in
+    grind (arith, add-one)

@@ -1,0 +1,512 @@
+-- Each change of a forest leaves a forest.
+use Rattle.std.proofs.Common.{◌≡◌, ℕ, ◌+◌, ◌-◌, ◌<◌, ◌≤◌, ◌^◌, suc, zero, List, [], ◌∷◌, ◌++◌, length, get_or, set, take, drop, map, Some, None, true, false, Bool, nat_lt, eqb, ◌≢◌, ◌⊎◌, reverse, if◌then◌else◌, ◌&&◌, ◌==◌, slice_get, IfSome, Option, refl, sym, ◌∙◌, ap, subst, ⊎_elim, arith}
+use Rattle.std.proofs.lemmas.List.{take-take, drop-take, take-append-drop, length-append, length-reverse, get_or-reverse, map-append, length-map, take-map, get_or-map, get_or_past, take_more, reverse-append, get_or-append_right, get_or-drop, get_or-take, length-take-le, length-drop, get_or-set_other, length-set, get_or_append_left, get_or_at}
+use Rattle.std.proofs.lemmas.List.Sums.{prefix_len-drop_yes, prefix_len-drop_no, prefix_len-drop_all, prefix_len-le-length, prefix_len_passes}
+use Rattle.std.proofs.lemmas.Bool.Decides.{nat_tests}
+use Rattle.std.proofs.lemmas.Bool.{cases_lt}
+use Rattle.std.specs.Prelude.{insert}
+use Rattle.std.specs.Option.{option_map}
+use Rattle.std.specs.List.{prefix_len}
+use Rattle.first_pass_tree.specs.declared.tree_index.TreeIndex.{TreeIndex}
+use Rattle.first_pass_items.specs.declared.item.AlignmentIndex.{AlignmentIndex}
+use Rattle.first_pass_items.specs.declared.item.Item.{Item}
+use Rattle.first_pass_items.specs.declared.item.ItemBody.{ItemBody}
+use Rattle.first_pass_items.specs.declared.item.ItemBody.TheVariants.{Text, Table, TableHead, TableRow, TableCell}
+use Rattle.first_pass_tree.specs.Forest.{Forest, IsForest, IsLastAt, IsOpenPath, IsPreorder, depths, item_at, modify, run_end, end_of, child_of, sibling_of, in_table, in_table_by, appended, popped, cut_to, kept_after, childless, wrapped, map_from, deeper, IsShallow, cut_tokens, cut_item, is_escaped, cut_siblings, HasLeaves, last_child, open_place, IsChild}
+use Rattle.first_pass_tree.proofs.Depths.{last-push, last-take, path-append, path-last_depth, path-take, preorder-append, preorder-take, path-take_open, open-last, last-order, depth-small}
+
+pub appended-is : {T : Type 0} (f : Forest T) (x : T) → IsForest f → IsForest (appended f x)
+appended-is f x h =
+    let ds = depths f.nodes in
+    let e = length f.spine + 1 in
+    let l = path-last_depth ds f.spine h.opened in
+    let m = map-append (λ n. n.0) f.nodes ((e, x) ∷ []) in
+    record {
+      preorder = subst IsPreorder (sym m) (preorder-append ds e h.preorder l.0 (omega arith));
+      opened = subst (λ (v : List ℕ). IsOpenPath v f.spine) (sym m) (path-append ds f.spine e (omega arith) h.opened);
+      at_current = subst (λ (v : List ℕ). IsLastAt v e (length f.nodes)) (sym m) (subst (λ (n : ℕ). IsLastAt (ds ++ e ∷ []) e n) (length-map f.nodes (λ n. n.0)) (last-push ds e));
+    }
+
+-- the same, from what the calls on the fields answer
+pub appended-by : {T : Type 0} (f : Forest T) (x : T) (ns : List (ℕ × T)) (d n : ℕ) → IsForest f → ns ≡ f.nodes ++ (d, x) ∷ [] → d ≡ length f.spine + 1 → n ≡ length f.nodes → record f { nodes = ns; current = Some (record { 0 = n }) } ≡ appended f x
+appended-by f x ns d n h e p q = cc
+
+-- a write to one item
+pub modify-set : {T : Type 0} (ns : List (ℕ × T)) (i : ℕ) (n : ℕ × T) (g : T → T) → n ≡ get_or ns i n → set ns i (n.0, g n.1) ≡ modify ns i g
+modify-set [] i n g e = refl
+modify-set (m ∷ ns) zero n g e = ap (λ k. (k.0, g k.1) ∷ ns) e
+modify-set (m ∷ ns) (suc i) n g e = ap (λ k. m ∷ k) (modify-set ns i n g e)
+
+pub depths-modify : {T : Type 0} (ns : List (ℕ × T)) (i : ℕ) (g : T → T) → depths (modify ns i g) ≡ depths ns
+depths-modify [] i g = refl
+depths-modify (m ∷ ns) zero g = refl
+depths-modify (m ∷ ns) (suc i) g = ap (λ k. m.0 ∷ k) (depths-modify ns i g)
+
+-- only the depths matter
+pub same_depths-is : {T : Type 0} (f : Forest T) (ns : List (ℕ × T)) → depths ns ≡ depths f.nodes → IsForest f → IsForest (record f { nodes = ns })
+same_depths-is f ns e h =
+    record {
+      preorder = subst IsPreorder (sym e) h.preorder;
+      opened = subst (λ (v : List ℕ). IsOpenPath v f.spine) (sym e) h.opened;
+      at_current = subst (λ (v : List ℕ). IfSome f.current (λ c. IsLastAt v (length f.spine + 1) c.0)) (sym e) h.at_current;
+    }
+
+pub modified-is : {T : Type 0} (f : Forest T) (i : ℕ) (g : T → T) → IsForest f → IsForest (record f { nodes = modify f.nodes i g })
+modified-is f i g h = same_depths-is f (modify f.nodes i g) (depths-modify f.nodes i g) h
+
+-- the tree up to its innermost open node, which is closed
+pub closed-is : {T : Type 0} (f : Forest T) (c : TreeIndex) (rest : List TreeIndex) → f.spine ≡ c ∷ rest → IsForest f → IsForest (cut_to (popped f c rest) (c.0 + 1))
+closed-is f c rest e h =
+    let ds = depths f.nodes in
+    let o = subst (λ (v : List TreeIndex). IsOpenPath ds v) e h.opened in
+    let w = o.0.within in
+    let m = sym (take-map (λ n. n.0) (c.0 + 1) f.nodes) in
+    record {
+      preorder = subst IsPreorder (sym m) (preorder-take ds (c.0 + 1) (omega arith) h.preorder);
+      opened = subst (λ (v : List ℕ). IsOpenPath v rest) (sym m) (path-take ds rest _ c.0 (c.0 + 1) o.0 (omega arith) (omega arith) (omega arith) o.1);
+      at_current = subst (λ (v : List ℕ). IsLastAt v (length rest + 1) c.0) (sym m) (last-take ds _ c.0 (c.0 + 1) o.0 (omega arith) (omega arith));
+    }
+
+-- what a write to one item leaves
+pub modified-by : {T : Type 0} (f now : Forest T) (i : ℕ) (n : ℕ × T) (g : T → T) → f ≡ now → n ≡ get_or f.nodes i n → record f { nodes = set f.nodes i (n.0, g n.1) } ≡ record now { nodes = modify now.nodes i g }
+modified-by {T = T} f now i n g e q =
+    ap (λ (ns : List (ℕ × T)). record f { nodes = ns }) (modify-set f.nodes i n g q) ∙ ap (λ (v : Forest T). record v { nodes = modify v.nodes i g }) e
+
+-- the root is there
+pub root-within : {T : Type 0} (f : Forest T) → IsForest f → 0 < length f.nodes
+root-within f h = omega (arith, path-last_depth (depths f.nodes) f.spine h.opened, length-map f.nodes (λ n. n.0))
+
+-- the depth at a place that is read
+pub depth_at : {T : Type 0} (ns : List (ℕ × T)) (i : ℕ) (n : ℕ × T) → i < length ns → n ≡ get_or ns i n → get_or (depths ns) i 0 ≡ n.0
+depth_at ns i n l e = get_or-map (λ n. n.0) ns i n 0 l ∙ ap (λ m. m.0) (sym e)
+
+pub depth_past : {T : Type 0} (ns : List (ℕ × T)) (i : ℕ) → length ns ≤ i → get_or (depths ns) i 0 ≡ 0
+depth_past ns i l = get_or_past (depths ns) i 0 (omega (arith, length-map ns (λ n. n.0)))
+
+-- the same for a place of a slice
+pub depth_read : {T : Type 0} (ns : List (ℕ × T)) (i : ℕ) (d : ℕ × T) → i < length ns → get_or (depths ns) i 0 ≡ (get_or ns i d).0
+depth_read ns i d l = get_or-map (λ n. n.0) ns i d 0 l
+
+-- a run of deeper nodes, one node on and at its end
+pub run_more : {T : Type 0} (ns : List (ℕ × T)) (depth i : ℕ) (d : ℕ × T) → i < length ns → depth < (get_or ns i d).0 → run_end (depths ns) depth (i + 1) ≡ run_end (depths ns) depth i
+run_more ns depth i d l h =
+    let m = length-map ns (λ n. n.0) in
+    let r = depth_read ns i d l in
+    let t : nat_lt depth (get_or (depths ns) i 0) ≡ true = grind (arith, nat_tests) in
+    let e = prefix_len-drop_yes (λ d. nat_lt depth d) (depths ns) i 0 (omega arith) t in omega arith
+
+pub run_stop : {T : Type 0} (ns : List (ℕ × T)) (depth i : ℕ) (d : ℕ × T) → i < length ns → (get_or ns i d).0 ≤ depth → run_end (depths ns) depth i ≡ i
+run_stop ns depth i d l h =
+    let m = length-map ns (λ n. n.0) in
+    let r = depth_read ns i d l in
+    let t : nat_lt depth (get_or (depths ns) i 0) ≡ false = grind (arith, nat_tests) in
+    let e = prefix_len-drop_no (λ d. nat_lt depth d) (depths ns) i 0 (omega arith) t in omega arith
+
+pub run_all : {T : Type 0} (ns : List (ℕ × T)) (depth i : ℕ) → length ns ≤ i → run_end (depths ns) depth i ≡ i
+run_all ns depth i l =
+    let m = length-map ns (λ n. n.0) in
+    let e = prefix_len-drop_all (λ d. nat_lt depth d) (depths ns) i (omega arith) in omega arith
+
+-- the first child, as the code tests it
+pub child-some : {T : Type 0} (ns : List (ℕ × T)) (i : ℕ) (d : ℕ × T) → i + 1 < length ns → (get_or ns i d).0 < (get_or ns (i + 1) d).0 → Some (record { 0 = i + 1 }) ≡ child_of (depths ns) i
+child-some ns i d l h =
+    let a = depth_read ns i d (omega arith) in
+    let b = depth_read ns (i + 1) d l in
+    let t : nat_lt (get_or (depths ns) i 0) (get_or (depths ns) (i + 1) 0) ≡ true = grind (arith, nat_tests) in
+    rw t
+
+pub child-none : {T : Type 0} (ns : List (ℕ × T)) (i : ℕ) (d : ℕ × T) → i < length ns → (i + 1 < length ns → (get_or ns (i + 1) d).0 ≤ (get_or ns i d).0) → None ≡ child_of (depths ns) i
+child-none ns i d l h =
+    let a = depth_read ns i d l in
+    let t : nat_lt (get_or (depths ns) i 0) (get_or (depths ns) (i + 1) 0) ≡ false =
+    ⊎_elim (λ p. let b = depth_read ns (i + 1) d p in let k = h p in grind (arith, nat_tests)) (λ p. let b = depth_past ns (i + 1) p in grind (arith, nat_tests)) (cases_lt (i + 1) (length ns)) in
+    rw t
+
+-- the next sibling, as the code tests it
+pub sibling-some : {T : Type 0} (ns : List (ℕ × T)) (i e : ℕ) (d : ℕ × T) → i < length ns → e ≡ run_end (depths ns) (get_or ns i d).0 (i + 1) → e < length ns → (get_or ns e d).0 ≡ (get_or ns i d).0 → Some (record { 0 = e }) ≡ sibling_of (depths ns) i
+sibling-some ns i e d l r p h =
+    let m = length-map ns (λ n. n.0) in
+    let a = depth_read ns i d l in
+    let b = depth_read ns e d p in
+    let q : e ≡ end_of (depths ns) i = rw a r in
+    let t : nat_lt e (length (depths ns)) ≡ true = grind (arith, nat_tests) in
+    let u : eqb (get_or (depths ns) e 0) (get_or (depths ns) i 0) ≡ true = grind (arith, nat_tests) in
+    rw (← q, t, u)
+
+pub sibling-none : {T : Type 0} (ns : List (ℕ × T)) (i e : ℕ) (d : ℕ × T) → i < length ns → e ≡ run_end (depths ns) (get_or ns i d).0 (i + 1) → (e < length ns → (get_or ns e d).0 ≢ (get_or ns i d).0) → None ≡ sibling_of (depths ns) i
+sibling-none ns i e d l r h =
+    let m = length-map ns (λ n. n.0) in
+    let a = depth_read ns i d l in
+    let q : e ≡ end_of (depths ns) i = rw a r in
+    ⊎_elim
+    (λ p.
+    let b = depth_read ns e d p in
+    let k = h p in
+    let t : nat_lt e (length (depths ns)) ≡ true = grind (arith, nat_tests) in
+    let u : eqb (get_or (depths ns) e 0) (get_or (depths ns) i 0) ≡ false = grind (arith, nat_tests) in
+    rw (← q, t, u))
+    (λ p.
+    let t : nat_lt e (length (depths ns)) ≡ false = grind (arith, nat_tests) in
+    rw (← q, t))
+    (cases_lt e (length ns))
+
+pub rev_take : {X : Type 0} (xs : List X) (k : ℕ) (d : X) → k < length xs → reverse (take (k + 1) xs) ≡ get_or xs k d ∷ reverse (take k xs)
+rev_take xs k d l =
+    ap reverse (take_more xs k d l) ∙ reverse-append (take k xs) (get_or xs k d ∷ [])
+
+pub get-read : {X : Type 0} (xs : List X) (k : ℕ) (d : X) → k < length xs → slice_get xs k ≡ Some (get_or xs k d)
+get-read [] k d l = absurd (omega arith)
+get-read (x ∷ xs) zero d l = refl
+get-read (x ∷ xs) (suc k) d l = get-read xs k d (omega arith)
+
+-- one step outwards
+pub in_table-turn : (ns : List (ℕ × Item)) (xs : List TreeIndex) (left k : ℕ) (d : TreeIndex) (m : ℕ × Item) → left ≡ k + 1 → k < length xs → IsOpenPath (depths ns) (reverse (take left xs)) → (in_table ns (reverse (take left xs)) ≡ in_table_by (in_table ns (reverse (take k xs))) (Some (get_or ns (get_or xs k d).0 m).1.body)) × IsOpenPath (depths ns) (reverse (take k xs))
+in_table-turn ns xs left k d m e l h =
+    let r = ap (λ n. reverse (take n xs)) e ∙ rev_take xs k d l in
+    let o = subst (IsOpenPath (depths ns)) r h in
+    let w : (get_or xs k d).0 < length ns = omega (arith, o.0.within, length-map ns (λ n. n.0)) in
+    (ap (in_table ns) r ∙ ap (λ (o : Option (ℕ × Item)). in_table_by (in_table ns (reverse (take k xs))) (option_map (λ m. m.1.body) o)) (get-read ns (get_or xs k d).0 m w), o.1)
+
+pub in_table-stop : (o : Bool) (b : ItemBody) → ((a : AlignmentIndex) → b ≡ Table a → ⊥) → (b ≡ TableHead → ⊥) → (b ≡ TableRow → ⊥) → (b ≡ TableCell → ⊥) → in_table_by o (Some b) ≡ false
+in_table-stop o (Table a) t h r c = absurd (t a refl)
+in_table-stop o TableHead t h r c = absurd (h refl)
+in_table-stop o TableRow t h r c = absurd (r refl)
+in_table-stop o TableCell t h r c = absurd (c refl)
+in_table-stop o _ t h r c = refl
+
+pub in_table-more : (o : Bool) (b : ItemBody) → (b ≡ TableHead) ⊎ ((b ≡ TableRow) ⊎ (b ≡ TableCell)) → in_table_by o (Some b) ≡ o
+in_table-more o b h = ⊎_elim (λ e. rw e refl) (λ k. ⊎_elim (λ e. rw e refl) (λ e. rw e refl) k) h
+
+pub in_table-table : (o : Bool) (b : ItemBody) (a : AlignmentIndex) → b ≡ Table a → in_table_by o (Some b) ≡ true
+in_table-table o b a e = rw e refl
+
+-- in a map in place the element that comes next is as it was
+pub map_over_same : {X : Type 0} (f : X → X) (xs ys : List X) (i : ℕ) (d : X) → i < length xs → ys ≡ map f (take i xs) ++ drop i xs → get_or ys i d ≡ get_or xs i d
+map_over_same f xs ys i d l e =
+    let n : length (map f (take i xs)) ≡ i = length-map (take i xs) f ∙ length-take-le i xs (omega arith) in
+    let r = get_or-append_right (map f (take i xs)) (drop i xs) i i d n (omega arith) in
+    let z : i - i ≡ 0 = omega arith in
+    let w : i + 0 ≡ i = omega arith in
+    ap (λ zs. get_or zs i d) e ∙ r ∙ ap (λ k. get_or (drop i xs) k d) z ∙ get_or-drop i xs 0 d ∙ ap (λ k. get_or xs k d) w
+
+pub kept_after-is : {T : Type 0} (f : Forest T) (ix : TreeIndex) → IsChild f ix → IsForest f → IsForest (kept_after f ix)
+kept_after-is f ix g h =
+    let ds = depths f.nodes in
+    let m = length-map f.nodes (λ n. n.0) in
+    let p = end_of ds ix.0 in
+    let w : ix.0 < p = omega arith in
+    let q = prefix_len-le-length (λ d. nat_lt (get_or ds ix.0 0) d) (drop (ix.0 + 1) ds) in
+    let v : p ≤ length ds = omega (arith, length-drop (ix.0 + 1) ds) in
+    let t = sym (take-map (λ n. n.0) p f.nodes) in
+    record {
+      preorder = subst IsPreorder (sym t) (preorder-take ds p v h.preorder);
+      opened = subst (λ (v : List ℕ). IsOpenPath v f.spine) (sym t) (path-take_open ds f.spine p (omega (arith, g.behind)) v h.opened);
+      at_current = subst (λ (v : List ℕ). IsLastAt v (length f.spine + 1) ix.0) (sym t) (record {
+        within = omega (arith, length-take-le p ds v);
+        depth = get_or-take p ds ix.0 0 w ∙ g.depth;
+        behind = λ k a b.
+            let n : k < p = omega (arith, length-take-le p ds v) in
+            let j : k - (ix.0 + 1) < prefix_len (λ d. nat_lt (get_or ds ix.0 0) d) (drop (ix.0 + 1) ds) = omega arith in
+            let s = prefix_len_passes (λ d. nat_lt (get_or ds ix.0 0) d) (drop (ix.0 + 1) ds) (k - (ix.0 + 1)) 0 j in
+            let u = get_or-drop (ix.0 + 1) ds (k - (ix.0 + 1)) 0 in
+            let x : ix.0 + 1 + (k - (ix.0 + 1)) ≡ k = omega arith in
+            let y : nat_lt (get_or ds ix.0 0) (get_or ds k 0) ≡ true = ap (λ z. nat_lt (get_or ds ix.0 0) (get_or ds z 0)) (sym x) ∙ ap (nat_lt (get_or ds ix.0 0)) (sym u) ∙ s in
+            let r = get_or-take p ds k 0 n in
+            grind (arith, nat_tests, g.depth, r, y);
+      });
+    }
+
+pub open-at : (is : List TreeIndex) (ix : TreeIndex) → slice_get is 0 ≡ Some ix → open_place is ≡ ix.0
+open-at [] ix g = cc
+open-at (i ∷ is) ix g = let e : i ≡ ix = cc in ap (λ j. j.0) e
+
+pub childless-is : {T : Type 0} (f : Forest T) (ix : TreeIndex) → slice_get f.spine 0 ≡ Some ix → IsForest f → IsForest (childless f ix)
+childless-is f ix g h =
+    let ds = depths f.nodes in
+    let o = open-last ds f.spine h.opened in
+    let e = open-at f.spine ix g in
+    let v : ix.0 + 1 ≤ length ds = omega (arith, o.within, e) in
+    let t = sym (take-map (λ n. n.0) (ix.0 + 1) f.nodes) in
+    record {
+      preorder = subst IsPreorder (sym t) (preorder-take ds (ix.0 + 1) v h.preorder);
+      opened = subst (λ (v : List ℕ). IsOpenPath v f.spine) (sym t) (path-take_open ds f.spine (ix.0 + 1) (omega (arith, e)) v h.opened);
+      at_current = tt;
+    }
+
+pub open-within : {T : Type 0} (f : Forest T) (ix : TreeIndex) → slice_get f.spine 0 ≡ Some ix → IsForest f → ix.0 < length f.nodes
+open-within f ix g h = omega (arith, (open-last (depths f.nodes) f.spine h.opened).within, open-at f.spine ix g, length-map f.nodes (λ n. n.0))
+
+-- a change from a place on, one element on and at the end
+pub map_from-more : {T : Type 0} (g : ℕ × T → ℕ × T) (ns : List (ℕ × T)) (i : ℕ) (n : ℕ × T) → i < length ns → n ≡ get_or ns i n → map_from g (suc i) (set ns i (g n)) ≡ map_from g i ns
+map_from-more g [] i n l e = absurd (omega arith)
+map_from-more g (m ∷ ns) zero n l e = ap (λ k. g k ∷ map g ns) e
+map_from-more g (m ∷ ns) (suc i) n l e = ap (λ k. m ∷ k) (map_from-more g ns i n (omega arith) e)
+
+pub map_from-end : {T : Type 0} (g : ℕ × T → ℕ × T) (ns : List (ℕ × T)) (i : ℕ) → length ns ≤ i → map_from g i ns ≡ ns
+map_from-end g [] zero l = refl
+map_from-end g [] (suc i) l = refl
+map_from-end g (m ∷ ns) zero l = absurd (omega arith)
+map_from-end g (m ∷ ns) (suc i) l = ap (λ k. m ∷ k) (map_from-end g ns i (omega arith))
+
+-- nodes after the insertion of one and the change of those behind it
+pub wrap-nodes : {T : Type 0} (g : ℕ × T → ℕ × T) (ns : List (ℕ × T)) (p : ℕ) (y : ℕ × T) → p ≤ length ns → map_from g (suc p) (insert ns p y) ≡ take p ns ++ y ∷ map g (drop p ns)
+wrap-nodes g [] zero y l = refl
+wrap-nodes g (n ∷ ns) zero y l = refl
+wrap-nodes g [] (suc p) y l = absurd (omega arith)
+wrap-nodes g (n ∷ ns) (suc p) y l = ap (λ z. n ∷ z) (wrap-nodes g ns p y (omega arith))
+
+-- the depths behind an inserted place are those that stood before it
+pub insert-small : {T : Type 0} (ns : List (ℕ × T)) (p : ℕ) (y : ℕ × T) → p ≤ length ns → IsShallow (depths ns) → (k : ℕ) → suc p ≤ k → k < length (insert ns p y) → get_or (depths (insert ns p y)) k 0 < 2 ^ 63
+insert-small ns p y l h zero a b = absurd (omega arith)
+insert-small [] zero y l h (suc k) a b = absurd (omega arith)
+insert-small (n ∷ ns) zero y l h (suc k) a b = h k (omega (arith, length-map (n ∷ ns) (λ (m : ℕ × _). m.0)))
+insert-small [] (suc p) y l h (suc k) a b = absurd (omega arith)
+insert-small (n ∷ ns) (suc p) y l h (suc k) a b = insert-small ns p y (omega arith) (λ j q. h (suc j) (omega arith)) k (omega arith) (omega arith)
+
+pub map_set : {T : Type 0} (ns : List (ℕ × T)) (i : ℕ) (n : ℕ × T) → depths (set ns i n) ≡ set (depths ns) i n.0
+map_set [] i n = refl
+map_set (m ∷ ns) zero n = refl
+map_set (m ∷ ns) (suc i) n = ap (λ z. m.0 ∷ z) (map_set ns i n)
+
+-- a write to one place leaves the depths behind it
+pub raise-keeps : {T : Type 0} (ns : List (ℕ × T)) (i : ℕ) (n : ℕ × T) → ((k : ℕ) → i ≤ k → k < length ns → get_or (depths ns) k 0 < 2 ^ 63) → (k : ℕ) → i + 1 ≤ k → k < length (set ns i n) → get_or (depths (set ns i n)) k 0 < 2 ^ 63
+raise-keeps ns i n h k a b =
+    let e : depths (set ns i n) ≡ set (depths ns) i n.0 = map_set ns i n in
+    let ne : k ≢ i = omega arith in
+    let r = get_or-set_other (depths ns) i k n.0 0 ne in
+    let q = h k (omega arith) (omega (arith, length-set ns i n)) in
+    let s : get_or (depths (set ns i n)) k 0 ≡ get_or (depths ns) k 0 = ap (λ ds. get_or ds k 0) e ∙ r in
+    omega arith
+
+-- depths after a node is put behind the current one
+wrap-below : (ds : List ℕ) (p e k : ℕ) (es : List ℕ) → p ≤ length ds → k < p → get_or (take p ds ++ e ∷ es) k 0 ≡ get_or ds k 0
+wrap-below ds p e k es m l =
+    let n = length-take-le p ds m in get_or_append_left (take p ds) (e ∷ es) 0 k (omega arith) ∙ get_or-take p ds k 0 l
+
+wrap-behind : (ds : List ℕ) (p e j : ℕ) → p + j < length ds → get_or (take p ds ++ e ∷ map (λ d. d + 1) (drop p ds)) (suc (p + j)) 0 ≡ get_or ds (p + j) 0 + 1
+wrap-behind ds p e j l =
+    let n = length-take-le p ds (omega arith) in
+    let r = get_or-append_right (take p ds) (e ∷ map (λ d. d + 1) (drop p ds)) p (suc (p + j)) 0 n (omega arith) in
+    let z : suc (p + j) - p ≡ suc j = omega arith in
+    let w : j < length (drop p ds) = omega (arith, length-drop p ds) in
+    r ∙ ap (λ k. get_or (e ∷ map (λ d. d + 1) (drop p ds)) k 0) z ∙ get_or-map (λ d. d + 1) (drop p ds) j 0 0 w ∙ ap (λ d. d + 1) (get_or-drop p ds j 0)
+
+wrap-length : (ds : List ℕ) (p e : ℕ) → p ≤ length ds → length (take p ds ++ e ∷ map (λ d. d + 1) (drop p ds)) ≡ length ds + 1
+wrap-length ds p e m = grind (arith, length-append (take p ds) (e ∷ map (λ d. d + 1) (drop p ds)), length-take-le p ds m, length-map (drop p ds) (λ d. d + 1), length-drop p ds)
+
+-- a last node before the place stays it, where what is put in is deeper
+last-wrap : (ds : List ℕ) (d i p e : ℕ) → IsLastAt ds d i → i < p → p ≤ length ds → d < e → IsLastAt (take p ds ++ e ∷ map (λ d. d + 1) (drop p ds)) d i
+last-wrap ds d i p e h l m q = record {
+  within = omega (arith, wrap-length ds p e m, h.within);
+  depth = wrap-below ds p e i _ m l ∙ h.depth;
+  behind = λ k a b.
+      ⊎_elim
+      (λ x. rw (wrap-below ds p e k _ m x) (h.behind k a (omega (arith, wrap-length ds p e m))))
+      (λ x. ⊎_elim
+      (λ y.
+      let j = k - suc p in
+      let z : k ≡ suc (p + j) = omega arith in
+      let w : p + j < length ds = omega (arith, wrap-length ds p e m) in
+      let v = h.behind (p + j) (omega arith) w in
+      let g : get_or (take p ds ++ e ∷ map (λ d. d + 1) (drop p ds)) k 0 ≡ get_or ds (p + j) 0 + 1 = ap (λ k. get_or (take p ds ++ e ∷ map (λ d. d + 1) (drop p ds)) k 0) z ∙ wrap-behind ds p e j w in
+      omega arith)
+      (λ y.
+      let z : k ≡ p = omega arith in
+      let g = get_or_at (take p ds) e (map (λ d. d + 1) (drop p ds)) 0 k (omega (arith, length-take-le p ds m)) in
+      omega arith)
+      (cases_lt p k))
+      (cases_lt k p);
+}
+
+path-wrap : (ds : List ℕ) (is : List TreeIndex) (p e : ℕ) → open_place is < p → p ≤ length ds → length is < e → IsOpenPath ds is → IsOpenPath (take p ds ++ e ∷ map (λ d. d + 1) (drop p ds)) is
+path-wrap ds [] p e l m q h = last-wrap ds 0 0 p e h l m (omega arith)
+path-wrap ds (i ∷ is) p e l m q h =
+    let o : open_place is < i.0 = last-order ds _ _ _ i.0 (open-last ds is h.1) h.0 (omega arith) in
+    (last-wrap ds _ i.0 p e h.0 l m (omega arith), path-wrap ds is p e (omega arith) m (omega arith) h.1)
+
+depths-deeper : {T : Type 0} (ns : List (ℕ × T)) → depths (map deeper ns) ≡ map (λ d. d + 1) (depths ns)
+depths-deeper [] = refl
+depths-deeper (n ∷ ns) = ap (λ z. (n.0 + 1) ∷ z) (depths-deeper ns)
+
+depths-wrap : {T : Type 0} (ns : List (ℕ × T)) (p e : ℕ) (x : T) → depths (take p ns ++ (e, x) ∷ map deeper (drop p ns)) ≡ take p (depths ns) ++ e ∷ map (λ d. d + 1) (drop p (depths ns))
+depths-wrap ns zero e x = ap (λ z. e ∷ z) (depths-deeper ns)
+depths-wrap [] (suc p) e x = refl
+depths-wrap (n ∷ ns) (suc p) e x = ap (λ z. n.0 ∷ z) (depths-wrap ns p e x)
+
+preorder-wrap : (ds : List ℕ) (p e : ℕ) → IsPreorder ds → 0 < p → p ≤ length ds → get_or ds (p - 1) 0 + 1 ≡ e → IsPreorder (take p ds ++ e ∷ map (λ d. d + 1) (drop p ds))
+preorder-wrap ds p e h z m q = λ k a.
+    let es = take p ds ++ e ∷ map (λ d. d + 1) (drop p ds) in
+    let len = wrap-length ds p e m in
+    ⊎_elim
+    (λ x. rw (wrap-below ds p e (k + 1) _ m x, wrap-below ds p e k _ m (omega arith)) (h k (omega arith)))
+    (λ x. ⊎_elim
+    (λ y.
+    let n : k + 1 ≡ p = omega arith in
+    let j : k ≡ p - 1 = omega arith in
+    let g = get_or_at (take p ds) e (map (λ d. d + 1) (drop p ds)) 0 (k + 1) (omega (arith, length-take-le p ds m)) in
+    let b = wrap-below ds p e k (map (λ d. d + 1) (drop p ds)) m (omega arith) in
+    let v = ap (λ i. get_or ds i 0) j in
+    omega arith)
+    (λ y.
+    let j = k - p in
+    let n : k + 1 ≡ suc (p + j) = omega arith in
+    let w : p + j < length ds = omega arith in
+    let g : get_or es (k + 1) 0 ≡ get_or ds (p + j) 0 + 1 = ap (λ i. get_or es i 0) n ∙ wrap-behind ds p e j w in
+    ⊎_elim
+    (λ r.
+    let u : k ≡ p = omega arith in
+    let i : p + j ≡ p - 1 + 1 = omega arith in
+    let s = h (p - 1) (omega arith) in
+    let t = ap (λ i. get_or ds i 0) i in
+    let f = get_or_at (take p ds) e (map (λ d. d + 1) (drop p ds)) 0 k (omega (arith, length-take-le p ds m)) in
+    omega arith)
+    (λ r.
+    let i = k - suc p in
+    let u : k ≡ suc (p + i) = omega arith in
+    let o : p + j ≡ p + i + 1 = omega arith in
+    let s = h (p + i) (omega arith) in
+    let t = ap (λ i. get_or ds i 0) o in
+    let f : get_or es k 0 ≡ get_or ds (p + i) 0 + 1 = ap (λ i. get_or es i 0) u ∙ wrap-behind ds p e i (omega arith) in
+    omega arith)
+    (cases_lt k (p + 1)))
+    (cases_lt k p))
+    (cases_lt (k + 1) p)
+
+pub wrapped-is : {T : Type 0} (f : Forest T) (c : TreeIndex) (x : T) → f.current ≡ Some c → IsForest f → IsForest (wrapped f c x)
+wrapped-is f c x q h =
+    let ds = depths f.nodes in
+    let p = c.0 + 1 in
+    let e = length f.spine + 2 in
+    let l = subst (λ (o : Option TreeIndex). IfSome o (λ c. IsLastAt ds (length f.spine + 1) c.0)) q h.at_current in
+    let o = last-order ds _ _ _ c.0 (open-last ds f.spine h.opened) l (omega arith) in
+    let m : p ≤ length ds = omega (arith, l.within) in
+    let t = sym (depths-wrap f.nodes p e x) in
+    let j : c.0 ≡ p - 1 = omega arith in
+    let v : get_or ds (p - 1) 0 + 1 ≡ e = omega (arith, l.depth, ap (λ i. get_or ds i 0) j) in
+    record {
+      preorder = subst IsPreorder t (preorder-wrap ds p e h.preorder (omega arith) m v);
+      opened = subst (λ (v : List ℕ). IsOpenPath v f.spine) t (path-wrap ds f.spine p e (omega arith) m (omega arith) h.opened);
+      at_current = subst (λ (o : Option TreeIndex). IfSome o (λ c. IsLastAt (depths (take p f.nodes ++ (e, x) ∷ map deeper (drop p f.nodes))) (length f.spine + 1) c.0)) (sym q)
+          (subst (λ (v : List ℕ). IsLastAt v (length f.spine + 1) c.0) t (last-wrap ds _ c.0 p e l (omega arith) m (omega arith)));
+    }
+
+root-depth : (ds : List ℕ) (is : List TreeIndex) → IsOpenPath ds is → get_or ds 0 0 ≡ 0
+root-depth ds [] h = h.depth
+root-depth ds (i ∷ is) h = root-depth ds is h.1
+
+pub shallow : {T : Type 0} (f : Forest T) → IsForest f → length f.nodes < 2 ^ 63 → IsShallow (depths f.nodes)
+shallow f h l = λ k a. let s = depth-small (depths f.nodes) h.preorder (root-depth (depths f.nodes) f.spine h.opened) k a in omega (arith, length-map f.nodes (λ n. n.0))
+
+pub current-within : {T : Type 0} (f : Forest T) (c : TreeIndex) → f.current ≡ Some c → IsForest f → c.0 < length f.nodes
+current-within f c q h =
+    let l = subst (λ (o : Option TreeIndex). IfSome o (λ c. IsLastAt (depths f.nodes) (length f.spine + 1) c.0)) q h.at_current in
+    omega (arith, l.within, length-map f.nodes (λ n. n.0))
+
+-- the open places are within the list
+path-within : (ds : List ℕ) (is : List TreeIndex) → IsOpenPath ds is → (k : ℕ) → k < length is → (d : TreeIndex) → (get_or is k d).0 < length ds
+path-within ds [] h k l d = absurd (omega arith)
+path-within ds (i ∷ is) h zero l d = h.0.within
+path-within ds (i ∷ is) h (suc k) l d = path-within ds is h.1 k (omega arith) d
+
+pub spine-small : {T : Type 0} (f : Forest T) (xs : List TreeIndex) → f.spine ≡ reverse xs → IsForest f → length f.nodes < 2 ^ 63 → (k : ℕ) → k < length xs → IfSome (slice_get xs k) (λ ix. ix.0 < 2 ^ 63)
+spine-small f xs e h l k a =
+    let d : TreeIndex = record { 0 = 0 } in
+    let n = length-reverse xs in
+    let r = get_or-reverse xs (length xs - 1 - k) d (omega arith) in
+    let z : length xs - 1 - (length xs - 1 - k) ≡ k = omega arith in
+    let w = path-within (depths f.nodes) (reverse xs) (subst (λ (v : List TreeIndex). IsOpenPath (depths f.nodes) v) e h.opened) (length xs - 1 - k) (omega arith) d in
+    let m = length-map f.nodes (λ n. n.0) in
+    let q : get_or (reverse xs) (length xs - 1 - k) d ≡ get_or xs k d = r ∙ ap (λ i. get_or xs i d) z in
+    let v : (get_or xs k d).0 < 2 ^ 63 = omega (arith, ap (λ (t : TreeIndex). t.0) q) in
+    subst (λ (o : Option TreeIndex). IfSome o (λ ix. ix.0 < 2 ^ 63)) (sym (get-read xs k d a)) v
+
+cut_by : ℕ → ℕ × Item → List (ℕ × Item) → Bool → Bool → List (ℕ × Item)
+cut_by e n rest true b = (n.0, cut_item e n.1) ∷ rest
+cut_by e n rest false true = (n.0, record { start = e - 1; «end» = e; body = Text false }) ∷ []
+cut_by e n rest false false = []
+
+cut_by-depths : (e : ℕ) (n : ℕ × Item) (ns rest : List (ℕ × Item)) (a b : Bool) → depths rest ≡ take (length rest) (depths ns) → depths (cut_by e n rest a b) ≡ take (length (cut_by e n rest a b)) (depths (n ∷ ns))
+unfolding cut_by
+cut_by-depths e n ns rest true b h = ap (λ z. n.0 ∷ z) h
+cut_by-depths e n ns rest false true h = refl
+cut_by-depths e n ns rest false false h = refl
+
+cut_by-is : (e : ℕ) (n : ℕ × Item) (ns : List (ℕ × Item)) (a b : Bool) → (if a then (n.0, cut_item e n.1) ∷ cut_tokens e ns else (if b then (n.0, record { start = e - 1; «end» = e; body = Text false }) ∷ [] else [])) ≡ cut_by e n (cut_tokens e ns) a b
+unfolding cut_by
+cut_by-is e n ns true b = refl
+cut_by-is e n ns false true = refl
+cut_by-is e n ns false false = refl
+
+-- the cut keeps the depths of what stays
+pub cut-depths : (e : ℕ) (ns : List (ℕ × Item)) → depths (cut_tokens e ns) ≡ take (length (cut_tokens e ns)) (depths ns)
+cut-depths e [] = refl
+cut-depths e (n ∷ ns) =
+    rw (cut_by-is e n ns (nat_lt n.1.start e) (is_escaped n.1.body && (n.1.start == e)))
+    (cut_by-depths e n ns (cut_tokens e ns) (nat_lt n.1.start e) (is_escaped n.1.body && (n.1.start == e)) (cut-depths e ns))
+
+cut_by-length : (e : ℕ) (n : ℕ × Item) (ns rest : List (ℕ × Item)) (a b : Bool) → length rest ≤ length ns → length (cut_by e n rest a b) ≤ length (n ∷ ns)
+unfolding cut_by
+cut_by-length e n ns rest true b h = omega arith
+cut_by-length e n ns rest false true h = omega arith
+cut_by-length e n ns rest false false h = omega arith
+
+cut-length : (e : ℕ) (ns : List (ℕ × Item)) → length (cut_tokens e ns) ≤ length ns
+cut-length e [] = omega arith
+cut-length e (n ∷ ns) =
+    rw (cut_by-is e n ns (nat_lt n.1.start e) (is_escaped n.1.body && (n.1.start == e)))
+    (cut_by-length e n ns (cut_tokens e ns) (nat_lt n.1.start e) (is_escaped n.1.body && (n.1.start == e)) (cut-length e ns))
+
+take-two : {X : Type 0} (xs : List X) (p m : ℕ) → take p xs ++ take m (drop p xs) ≡ take (p + m) xs
+take-two xs p m =
+    ap (λ ys. ys ++ take m (drop p xs)) (sym (take-take p (p + m) xs (omega arith))) ∙ ap (λ ys. take p (take (p + m) xs) ++ ys) (sym (drop-take p m xs)) ∙ take-append-drop p (take (p + m) xs)
+
+drop-depths : {T : Type 0} (ns : List (ℕ × T)) (p : ℕ) → depths (drop p ns) ≡ drop p (depths ns)
+drop-depths ns zero = refl
+drop-depths [] (suc p) = refl
+drop-depths (n ∷ ns) (suc p) = drop-depths ns p
+
+-- the current node after a cut
+last_child-is : (ds : List ℕ) (is : List TreeIndex) (n : ℕ) → n ≤ length ds → ((k : ℕ) → open_place is < k → k < length ds → get_or ds k 0 ≡ length is + 1) → IfSome (last_child is n) (λ c. IsLastAt (take n ds) (length is + 1) c.0)
+last_child-is ds is n l h =
+    ⊎_elim
+    (λ p.
+    let t : nat_lt (open_place is + 1) n ≡ true = grind (arith, nat_tests) in
+    let w = length-take-le n ds l in
+    let r : IsLastAt (take n ds) (length is + 1) (n - 1) = record {
+      within = omega arith;
+      depth = get_or-take n ds (n - 1) 0 (omega arith) ∙ h (n - 1) (omega arith) (omega arith);
+      behind = λ k a b. absurd (omega arith);
+    } in
+    subst (λ (b : Bool). IfSome {T = TreeIndex} (if b then Some (record { 0 = n - 1 }) else None) (λ c. IsLastAt (take n ds) (length is + 1) c.0)) (sym t) r)
+    (λ p.
+    let t : nat_lt (open_place is + 1) n ≡ false = grind (arith, nat_tests) in
+    subst (λ (b : Bool). IfSome {T = TreeIndex} (if b then Some (record { 0 = n - 1 }) else None) (λ c. IsLastAt (take n ds) (length is + 1) c.0)) (sym t) tt)
+    (cases_lt (open_place is + 1) n)
+
+pub cut_siblings-is : (f : Forest Item) (e : ℕ) → HasLeaves f → IsForest f → IsForest (cut_siblings f e)
+cut_siblings-is f e g h =
+    let ds = depths f.nodes in
+    let p = open_place f.spine + 1 in
+    let cs = cut_tokens e (drop p f.nodes) in
+    let m = length-map f.nodes (λ n. n.0) in
+    let o = open-last ds f.spine h.opened in
+    let l : p ≤ length f.nodes = omega (arith, o.within) in
+    let n : length (take p f.nodes ++ cs) ≡ p + length cs = omega (arith, length-append (take p f.nodes) cs, length-take-le p f.nodes l) in
+    let v : p + length cs ≤ length ds = omega (arith, cut-length e (drop p f.nodes), length-drop p f.nodes) in
+    let a : depths (take p f.nodes ++ cs) ≡ take p ds ++ take (length cs) (drop p ds) =
+    map-append (λ n. n.0) (take p f.nodes) cs ∙ ap (λ (x : List ℕ). x ++ depths cs) (sym (take-map (λ n. n.0) p f.nodes)) ∙ ap (λ (x : List ℕ). take p ds ++ x) (cut-depths e (drop p f.nodes) ∙ ap (take (length cs)) (drop-depths f.nodes p)) in
+    let b : depths (take p f.nodes ++ cs) ≡ take (length (take p f.nodes ++ cs)) ds = a ∙ take-two ds p (length cs) ∙ ap (λ k. take k ds) (sym n) in
+    let w : length (take p f.nodes ++ cs) ≤ length ds = omega arith in
+    record {
+      preorder = subst IsPreorder (sym b) (preorder-take ds _ w h.preorder);
+      opened = subst (λ (v : List ℕ). IsOpenPath v f.spine) (sym b) (path-take_open ds f.spine _ (omega arith) w h.opened);
+      at_current = subst (λ (v : List ℕ). IfSome (last_child f.spine (length (take p f.nodes ++ cs))) (λ c. IsLastAt v (length f.spine + 1) c.0)) (sym b) (last_child-is ds f.spine _ w (λ k a c. g k a (omega arith)));
+    }
+
+pub siblings-by : (f : Forest Item) (e p n : ℕ) (ns : List (ℕ × Item)) (cur : Option TreeIndex) → p ≡ open_place f.spine + 1 → ns ≡ take p f.nodes ++ cut_tokens e (drop p f.nodes) → n ≡ length ns → cur ≡ (if nat_lt p n then Some (record { 0 = n - 1 }) else None) → record f { nodes = ns; current = cur } ≡ cut_siblings f e
+siblings-by f e p n ns cur ep en el ec = cc
+
+pub item-read : {T : Type 0} (f now : Forest T) (ix : TreeIndex) (n : ℕ × T) → f ≡ now → ix.0 < length now.nodes → n ≡ get_or f.nodes ix.0 n → item_at now ix ≡ Some n.1
+item-read {T = T} f now ix n e l r =
+    let m = subst (λ (v : Forest T). ix.0 < length v.nodes) (sym e) l in
+    sym (ap (λ (v : Forest T). item_at v ix) e) ∙ ap (λ (o : Option (ℕ × T)). option_map (λ k. k.1) o) (get-read f.nodes ix.0 n m ∙ ap (λ (k : ℕ × T). Some k) (sym r))

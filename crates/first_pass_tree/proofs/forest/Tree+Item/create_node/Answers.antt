@@ -1,0 +1,14 @@
+use Rattle.std.proofs.Common.{arith, ◌≡◌, ◌<◌, ◌^◌, ◌+◌, length}
+use Rattle.std.proofs.lemmas.List.{length-reverse}
+use Rattle.first_pass_tree.proofs.Keeps.{shallow, wrapped-is}
+use Rattle.first_pass_tree.proofs.forest.Tree+Item.create_node.Goals as goal
+
+pub wrap-requires-clause-small : goal.wrap-requires-clause-small
+wrap-requires-clause-small c =
+    let l : length c.self.inside.nodes.items < 2 ^ 63 = omega (arith, c.self.inside.nodes.small, c.self.inside.nodes.ok) in
+    shallow _ c.self.invariant l
+
+pub invariant_of-self-2 : goal.invariant_of-self-2
+invariant_of-self-2 c =
+    let d : c.len.result + 2 ≡ length c.self.inside.spine.items + 2 = omega arith in
+    rw (c.in_ok-wrap.ensures.ok, d, ← length-reverse c.self.inside.spine.items) (wrapped-is _ c.unwrap-place.result c.args.item c.unwrap-place.ensures c.self.invariant)

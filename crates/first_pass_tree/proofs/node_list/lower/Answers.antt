@@ -1,0 +1,14 @@
+use Rattle.std.proofs.Common.{arith, add-one, sym, ◌∙◌}
+use Rattle.first_pass_tree.specs.Forest.{shallower}
+use Rattle.first_pass_tree.proofs.Keeps.{map_from-more, map_from-end}
+use Rattle.first_pass_tree.proofs.Moves.{lower-keeps}
+use Rattle.first_pass_tree.proofs.node_list.lower.Goals as goal
+
+pub loop-next-preserved : goal.loop-next-preserved
+loop-next-preserved c = record {
+  same = rw add-one (map_from-more shallower c.loop-next.nodes.items c.loop-next.next c.index_mut-node.result.now (omega arith) c.index_mut-node.ensures.value) ∙ c.loop-next.invariant.same;
+  deep = lower-keeps c.loop-next.nodes.items c.loop-next.next _ c.loop-next.invariant.deep;
+}
+
+pub returns : goal.returns
+returns c = sym (map_from-end shallower c.loop-next.nodes.items c.loop-next.next (omega arith)) ∙ c.loop-next.invariant.same

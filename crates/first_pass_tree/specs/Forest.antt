@@ -1,0 +1,254 @@
+-- What a contract sees of a `Tree`, and what each call makes of it. The words are this project's own.
+use Rattle.std.specs.Prelude.{◌≡◌, ℕ, ◌+◌, ◌-◌, ◌<◌, ◌≤◌, ◌^◌, ◌==◌, ◌&&◌, Bool, true, false, nat_lt, zero, suc, List, [], ◌∷◌, ◌++◌, length, map, take, drop, Option, Some, None, IfSome, IsSomeAnd, slice_index, slice_get, if◌then◌else◌}
+use Rattle.std.specs.Option.{option_map}
+use Rattle.std.specs.List.{prefix_len}
+use Rattle.first_pass_tree.specs.declared.tree_index.TreeIndex.{TreeIndex}
+use Rattle.first_pass_items.specs.declared.item.Item.{Item}
+use Rattle.first_pass_items.specs.declared.item.ItemBody.{ItemBody}
+use Rattle.first_pass_items.specs.declared.item.ItemBody.TheVariants.{Root, Text, Table, TableHead, TableRow, TableCell}
+
+-- a tree as a list: the items in reading order, each with its depth (the root's is 0), the places of the open nodes, innermost first and without the root, and of the current node
+pub record Forest (T : Type 0) : Type 0 where
+  pub nodes : List (ℕ × T)
+  pub spine : List TreeIndex
+  pub current : Option TreeIndex
+
+module _ {T : Type 0} where
+  -- the depths alone, in reading order
+  abbrev pub depths : List (ℕ × T) → List ℕ
+  depths ns = map (λ n. n.0) ns
+
+  -- the item at a place
+  abbrev pub item_at : Forest T → TreeIndex → Option T
+  item_at f ix = option_map (λ n. n.1) (slice_get f.nodes ix.0)
+
+  -- the nodes with the item at a place changed
+  abbrev pub modify : List (ℕ × T) → ℕ → (T → T) → List (ℕ × T)
+  modify [] i g = []
+  modify (n ∷ ns) zero g = (n.0, g n.1) ∷ ns
+  modify (n ∷ ns) (suc i) g = n ∷ modify ns i g
+
+  -- the forest with another item at a place
+  abbrev pub with_item : Forest T → TreeIndex → T → Forest T
+  with_item f ix x = record f { nodes = modify f.nodes ix.0 (λ _. x) }
+
+  -- the forest with the item at a place changed
+  abbrev pub modified : Forest T → TreeIndex → (T → T) → Forest T
+  modified f ix g = record f { nodes = modify f.nodes ix.0 g }
+
+-- place i has depth d, and all behind it is deeper: the last node of its depth, whose descendants are all that follows
+pub record IsLastAt (ds : List ℕ) (d : ℕ) (i : ℕ) : Type 0 where
+  pub within : i < length ds
+  pub depth : slice_index ds i ≡ d
+  pub behind : (k : ℕ) → i < k → k < length ds → d < slice_index ds k
+
+-- the open nodes, innermost first, are the last of their depths, and so is the root
+abbrev pub IsOpenPath : List ℕ → List TreeIndex → Type 0
+IsOpenPath ds [] = IsLastAt ds 0 0
+IsOpenPath ds (i ∷ is) = IsLastAt ds (length is + 1) i.0 × IsOpenPath ds is
+
+-- each depth is at most one more than the one before it
+abbrev pub IsPreorder : List ℕ → Type 0
+IsPreorder ds = (k : ℕ) → k + 1 < length ds → slice_index ds (k + 1) ≤ slice_index ds k + 1
+
+-- what each tree keeps: the list is a tree in reading order, the open nodes a path from the root to its edge, and the current node is the innermost open one's last child
+pub record IsForest {T : Type 0} (f : Forest T) : Type 0 where
+  pub preorder : IsPreorder (depths f.nodes)
+  pub opened : IsOpenPath (depths f.nodes) f.spine
+  pub at_current : IfSome f.current (λ c. IsLastAt (depths f.nodes) (length f.spine + 1) c.0)
+
+-- the first place from one on that has no greater depth than this, or the length
+abbrev pub run_end : List ℕ → ℕ → ℕ → ℕ
+run_end ds depth from = from + prefix_len (λ d. nat_lt depth d) (drop from ds)
+
+-- each depth has room for one more
+abbrev pub IsShallow : List ℕ → Type 0
+IsShallow ds = (k : ℕ) → k < length ds → slice_index ds k < 2 ^ 63
+
+-- the place behind a node and all below it
+abbrev pub end_of : List ℕ → ℕ → ℕ
+end_of ds i = run_end ds (slice_index ds i) (i + 1)
+
+-- the place of a node's first child: the next place, where that is deeper
+abbrev pub child_of : List ℕ → ℕ → Option TreeIndex
+child_of ds i = if nat_lt (slice_index ds i) (slice_index ds (i + 1)) then Some (record { 0 = i + 1 }) else None
+
+-- the place of a node's next sibling: the place behind all below it, where that has the node's depth
+abbrev pub sibling_of : List ℕ → ℕ → Option TreeIndex
+sibling_of ds i =
+    if nat_lt (end_of ds i) (length ds) && (slice_index ds (end_of ds i) == slice_index ds i) then Some (record { 0 = end_of ds i }) else None
+
+-- the place of the innermost open node, which may be the root
+abbrev pub open_place : List TreeIndex → ℕ
+open_place [] = 0
+open_place (i ∷ is) = i.0
+
+-- the tree of the root alone
+abbrev pub empty_forest : Forest Item
+empty_forest = record { nodes = (0, record { start = 0; «end» = 0; body = Root }) ∷ []; spine = []; current = None }
+
+module _ {T : Type 0} where
+  -- with a last child of the innermost open node, which is current
+  abbrev pub appended : Forest T → T → Forest T
+  appended f x = record f { nodes = f.nodes ++ (length f.spine + 1, x) ∷ []; current = Some (record { 0 = length f.nodes }) }
+
+  -- with the current node open
+  abbrev pub pushed : Forest T → TreeIndex → Forest T
+  pushed f c = record f { spine = c ∷ f.spine; current = None }
+
+  -- with the innermost open node closed
+  abbrev pub popped : Forest T → TreeIndex → List TreeIndex → Forest T
+  popped f c rest = record f { spine = rest; current = Some c }
+
+  -- a node one deeper
+  abbrev pub deeper : ℕ × T → ℕ × T
+  deeper n = (n.0 + 1, n.1)
+
+  -- the elements from a place on changed
+  abbrev pub map_from : (ℕ × T → ℕ × T) → ℕ → List (ℕ × T) → List (ℕ × T)
+  map_from g zero ns = map g ns
+  map_from g (suc i) [] = []
+  map_from g (suc i) (n ∷ ns) = n ∷ map_from g i ns
+
+  -- with a node between the current one and its children
+  abbrev pub wrapped : Forest T → TreeIndex → T → Forest T
+  wrapped f c x = record f {
+    nodes = take (c.0 + 1) f.nodes ++ (length f.spine + 2, x) ∷ map deeper (drop (c.0 + 1) f.nodes);
+  }
+
+  -- the node is a child of the innermost open one
+  pub record IsChild (f : Forest T) (ix : TreeIndex) : Type 0 where
+    pub within : ix.0 < length f.nodes
+    pub depth : slice_index (depths f.nodes) ix.0 ≡ length f.spine + 1
+    pub behind : open_place f.spine < ix.0
+
+  -- only the first so many nodes
+  abbrev pub cut_to : Forest T → ℕ → Forest T
+  cut_to f n = record f { nodes = take n f.nodes }
+
+module _ {T : Type 0} where
+  -- without the siblings after a node and all below them; the node is current
+  abbrev pub kept_after : Forest T → TreeIndex → Forest T
+  kept_after f ix = record f { nodes = take (end_of (depths f.nodes) ix.0) f.nodes; current = Some ix }
+
+  -- without what is below the innermost open node; no node is current
+  abbrev pub childless : Forest T → TreeIndex → Forest T
+  childless f ix = record f { nodes = take (ix.0 + 1) f.nodes; current = None }
+
+-- the item is a text
+abbrev pub is_text : ItemBody → Bool
+is_text (Text b) = true
+is_text _ = false
+
+-- there is an item, a text whose range ends at an offset
+abbrev pub ends_text_at : ℕ → Option Item → Bool
+ends_text_at at None = false
+ends_text_at at (Some x) = is_text x.body && (x.«end» == at)
+
+-- the current node is a text whose range ends at an offset
+abbrev pub joins_at : Forest Item → ℕ → Option TreeIndex → Bool
+joins_at f at None = false
+joins_at f at (Some c) = ends_text_at at (item_at f c)
+
+-- with another end at a place
+abbrev pub with_end_at : Forest Item → TreeIndex → ℕ → Forest Item
+with_end_at f c e = record f { nodes = modify f.nodes c.0 (λ x. record x { «end» = e }) }
+
+-- with another body at a place
+abbrev pub with_body_at : Forest Item → TreeIndex → ItemBody → Forest Item
+with_body_at f c b = record f { nodes = modify f.nodes c.0 (λ x. record x { body = b }) }
+
+-- with another end at the current place
+abbrev pub with_end : Forest Item → ℕ → Option TreeIndex → Forest Item
+with_end f e None = f
+with_end f e (Some c) = with_end_at f c e
+
+-- with a text, unless it is empty; joined to the current node where that is a text that ends at its start
+abbrev pub with_text : Forest Item → ℕ → ℕ → Bool → Forest Item
+with_text f s e b =
+    if s == e
+    then f
+    else (if joins_at f s f.current then with_end f e f.current else appended f (record { start = s; «end» = e; body = Text b }))
+
+-- what the node at a place is
+abbrev pub body_at : List (ℕ × Item) → ℕ → Option ItemBody
+body_at ns i = option_map (λ n. n.1.body) (slice_get ns i)
+
+-- a node is a table, or a head, row or cell where this holds for the nodes around it
+abbrev pub in_table_by : Bool → Option ItemBody → Bool
+in_table_by outer None = false
+in_table_by outer (Some (Table a)) = true
+in_table_by outer (Some TableHead) = outer
+in_table_by outer (Some TableRow) = outer
+in_table_by outer (Some TableCell) = outer
+in_table_by outer (Some _) = false
+
+-- outwards from the innermost open node, over heads, rows and cells, a table comes first
+abbrev pub in_table : List (ℕ × Item) → List TreeIndex → Bool
+in_table ns [] = false
+in_table ns (i ∷ is) = in_table_by (in_table ns is) (body_at ns i.0)
+
+-- a text whose first byte stands behind a backslash
+abbrev pub is_escaped : ItemBody → Bool
+is_escaped (Text b) = b
+is_escaped _ = false
+
+-- an item that ends at an offset at the latest
+abbrev pub cut_item : ℕ → Item → Item
+cut_item e x = if nat_lt e x.«end» then record x { «end» = e } else x
+
+-- the tokens up to the first that starts at an offset or behind it, none beyond the offset; where that one starts there behind a backslash, the backslash becomes a text
+abbrev pub cut_tokens : ℕ → List (ℕ × Item) → List (ℕ × Item)
+cut_tokens e [] = []
+cut_tokens e (n ∷ ns) =
+    if nat_lt n.1.start e
+    then (n.0, cut_item e n.1) ∷ cut_tokens e ns
+    else (if is_escaped n.1.body && (n.1.start == e) then (n.0, record { start = e - 1; «end» = e; body = Text false }) ∷ [] else [])
+
+-- no child of the innermost open node has children
+abbrev pub HasLeaves : {T : Type 0} → Forest T → Type 0
+HasLeaves f = (k : ℕ) → open_place f.spine < k → k < length f.nodes → slice_index (depths f.nodes) k ≡ length f.spine + 1
+
+-- the last node, where it is behind the innermost open one
+abbrev pub last_child : List TreeIndex → ℕ → Option TreeIndex
+last_child spine n = if nat_lt (open_place spine + 1) n then Some (record { 0 = n - 1 }) else None
+
+-- with the innermost open node's children cut at an offset; the last of them is current
+abbrev pub cut_siblings : Forest Item → ℕ → Forest Item
+cut_siblings f e =
+    let ns = take (open_place f.spine + 1) f.nodes ++ cut_tokens e (drop (open_place f.spine + 1) f.nodes) in
+    record f { nodes = ns; current = last_child f.spine (length ns) }
+
+-- a block is a list of items with their depths below it, its own item first, at 0; here all at a depth
+abbrev pub at_depth : {T : Type 0} → ℕ → List (ℕ × T) → List (ℕ × T)
+at_depth d [] = []
+at_depth d (n ∷ ns) = (d + n.0, n.1) ∷ at_depth d ns
+
+-- with a block as a last child of the innermost open node, which is current
+abbrev pub added : {T : Type 0} → Forest T → List (ℕ × T) → Forest T
+added f block = record f { nodes = f.nodes ++ at_depth (length f.spine + 1) block; current = Some (record { 0 = length f.nodes }) }
+
+-- an item with blocks below it, as a block
+abbrev pub block_of : {T : Type 0} → T → List (ℕ × T) → List (ℕ × T)
+block_of x kids = (0, x) ∷ at_depth 1 kids
+
+-- a node one less deep
+abbrev pub shallower : {T : Type 0} → ℕ × T → ℕ × T
+shallower n = (n.0 - 1, n.1)
+
+-- the last place of a depth before a place, or 0
+abbrev pub last_before : List ℕ → ℕ → ℕ → ℕ
+last_before ds d zero = 0
+last_before ds d (suc k) = if slice_index ds k == d then k else last_before ds d k
+
+-- the node is a child of the current one
+pub record IsChildOfCurrent {T : Type 0} (f : Forest T) (ix : TreeIndex) : Type 0 where
+  pub within : ix.0 < length f.nodes
+  pub depth : slice_index (depths f.nodes) ix.0 ≡ length f.spine + 2
+  pub current : IsSomeAnd f.current (λ c. c.0 < ix.0)
+
+-- with the siblings after a node, and all below them, behind the current node in its parent; the last of them is current
+abbrev pub moved_out : {T : Type 0} → Forest T → TreeIndex → Forest T
+moved_out f ix =
+    let ns = map_from shallower (end_of (depths f.nodes) ix.0) f.nodes in
+    record f { nodes = ns; current = Some (record { 0 = last_before (depths ns) (length f.spine + 1) (length ns) }) }

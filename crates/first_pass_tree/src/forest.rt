@@ -1,0 +1,348 @@
+//! The tree as one list in reading order, with the path of its open nodes.
+
+ghost use Rattle.std.specs.Prelude.{◌≡◌, ℕ, ◌+◌, ◌<◌, ◌≤◌, ◌∷◌, [], slice_index, ◌++◌, ◌^◌, ◌-◌, length, map, take, drop, reverse, Some, None, EachIndex, if◌then◌else◌, nat_lt, IfOk, IfSome, OnOk, OnErr, IsSome, MatchOption, slice_get};
+ghost use Rattle.first_pass_tree.specs.Forest.{empty_forest, appended, pushed, popped, cut_to, with_text, with_item, with_end_at, with_body_at, item_at, depths, child_of, sibling_of, run_end, kept_after, childless, in_table, wrapped, shallower, last_before, IsChildOfCurrent, moved_out, deeper, map_from, IsShallow, open_place, IsChild, cut_siblings, cut_tokens, HasLeaves, IsForest, IsOpenPath};
+ghost use Rattle.std.specs.Borrow.{sem};
+
+use crate::node_list::{
+    child_in, cut_nodes, deeper_end, first_place, in_table_of, last_of_depth, last_place, lower,
+    sibling_in, wrap,
+};
+use crate::tree_index::TreeIndex;
+use first_pass_items::item::{Item, ItemBody};
+use std::alloc::{AllocError, Global};
+use std::marker::Model;
+use std::ops::{Index, IndexMut};
+
+/// A tree of items under construction. The nodes stand in one list in reading order, each with its depth
+/// (the root's is 0): a node's children are the nodes of depth one more that follow it before the next
+/// node of its depth or less. New nodes go under the innermost open node. The open nodes, from the root
+/// on, are each the last of their depth; the current node, if any, is the last child of the innermost.
+/// The root is always open.
+#[derive(Drop)]
+pub struct Tree<T> {
+    nodes: Vec<(usize, T)>,
+    spine: Vec<TreeIndex>,
+    cur: Option<TreeIndex>,
+}
+
+impl<T> Model for Tree<T> {
+    ghost use Rattle.std.specs.Prelude.{reverse};
+    ghost use Rattle.first_pass_tree.specs.Forest.{Forest, IsForest};
+
+    ghost Value = { Forest T };
+
+    ghost view = { λ t. record { nodes = t.nodes.items; spine = reverse t.spine.items; current = t.cur } };
+
+    ghost invariant = { λ t. IsForest (record { nodes = t.nodes.items; spine = reverse t.spine.items; current = t.cur }) };
+}
+
+impl Tree<Item> {
+    /// A tree of the root alone, a `Root` at 0..0, with nothing open and no current node. `capacity` is a
+    /// hint of how many nodes will come. An error where memory is refused.
+    pub fn with_capacity(alloc: Global, capacity: usize) -> Result<Tree<Item>, AllocError>
+        ensures { IfOk result (λ tree. tree ≡ empty_forest) }
+    {
+        let mut nodes = Vec::with_capacity(alloc, capacity)?;
+        let root = Item {
+            start: 0,
+            end: 0,
+            body: ItemBody::Root,
+        };
+        nodes.push((0, root))?;
+        Ok(Tree {
+            nodes,
+            spine: Vec::new(alloc),
+            cur: None,
+        })
+    }
+
+    /// Does nothing. It hands its caller what each tree keeps: the depths are those of a tree in reading
+    /// order, the open nodes are a path, and the current node is the innermost one's last child.
+    pub fn is_forest(&self)
+        ensures { IsForest self.now }
+    {
+        let _ = &self.nodes;
+    }
+
+    /// The place of the root.
+    pub fn root(&self) -> TreeIndex
+        ensures value { result.0 ≡ 0 }
+        ensures within { 0 < length self.now.nodes }
+    {
+        let _ = &self.nodes;
+        TreeIndex(0)
+    }
+
+    /// All nodes in reading order, the root first, each with its depth.
+    pub fn nodes(&self) -> &[(usize, Item)]
+        ensures { result.now ≡ self.now.nodes }
+    {
+        self.nodes.as_slice()
+    }
+
+    /// How many nodes there are, the root among them.
+    pub fn node_count(&self) -> usize
+        ensures { result ≡ length self.now.nodes }
+    {
+        self.nodes.len()
+    }
+
+    /// Adds a last child to the innermost open node, makes it the current node and answers its place. An
+    /// error where memory is refused; then the tree is as before.
+    pub fn append(&mut self, item: Item) -> Result<TreeIndex, AllocError>
+        ensures index { IfOk result (λ ix. ix.0 ≡ length self.old.nodes) }
+        ensures ok { OnOk result (self.new ≡ appended self.old item) }
+        ensures err { OnErr result (self.new ≡ self.old) }
+    {
+        let place = TreeIndex(self.nodes.len());
+        self.nodes.push((self.spine.len() + 1, item))?;
+        self.cur = Some(place);
+        Ok(place)
+    }
+
+    /// Adds the text of the bytes `start..end`. Nothing where the range is empty; where the current node is
+    /// a text that ends at `start`, that one now ends at `end`; else a `Text` is appended, with
+    /// `backslash_escaped` as given. An error where memory is refused; then the tree is as before.
+    pub fn append_text(
+        &mut self,
+        start: usize,
+        end: usize,
+        backslash_escaped: bool,
+    ) -> Result<(), AllocError>
+        ensures ok { OnOk result (self.new ≡ with_text self.old start end backslash_escaped) }
+        ensures err { OnErr result (self.new ≡ self.old) }
+    {
+        if start == end {
+            return Ok(());
+        }
+        if let Some(ix) = self.cur {
+            let item = self[ix];
+            if matches!(&item.body, ItemBody::Text { .. }) && item.end == start {
+                self.set_end(ix, end);
+                return Ok(());
+            }
+        }
+        self.append(Item {
+            start,
+            end,
+            body: ItemBody::Text { backslash_escaped },
+        })?;
+        Ok(())
+    }
+
+    /// Puts another item at a place.
+    pub fn set_item(&mut self, ix: TreeIndex, item: Item)
+        requires { ix.0 < length self.old.nodes }
+        ensures { self.new ≡ with_item self.old ix item }
+    {
+        let node = &mut self.nodes[ix.0];
+        node.1 = item;
+    }
+
+    /// Makes the item at a place end at the offset `end`.
+    pub fn set_end(&mut self, ix: TreeIndex, end: usize)
+        requires { ix.0 < length self.old.nodes }
+        ensures { self.new ≡ with_end_at self.old ix end }
+    {
+        let node = &mut self.nodes[ix.0];
+        node.1.end = end;
+    }
+
+    /// Makes the item at a place what `body` says; its range stays.
+    pub fn set_body(&mut self, ix: TreeIndex, body: ItemBody)
+        requires { ix.0 < length self.old.nodes }
+        ensures { self.new ≡ with_body_at self.old ix body }
+    {
+        let node = &mut self.nodes[ix.0];
+        node.1.body = body;
+    }
+
+    /// Opens the current node, which there must be, and answers its place; then there is no current node.
+    /// An error where memory is refused; then the tree is as before.
+    pub fn push(&mut self) -> Result<TreeIndex, AllocError>
+        requires { IsSome self.old.current }
+        ensures index { IfOk result (λ ix. self.old.current ≡ Some ix) }
+        ensures ok { IfOk result (λ ix. self.new ≡ pushed self.old ix) }
+        ensures err { OnErr result (self.new ≡ self.old) }
+    {
+        let ix = self.cur.unwrap();
+        self.spine.push(ix)?;
+        self.cur = None;
+        Ok(ix)
+    }
+
+    /// Closes the innermost open node, which becomes current, and answers its place. `None` where only the
+    /// root is open; then nothing changes.
+    pub fn pop(&mut self) -> Option<TreeIndex>
+        ensures { MatchOption result
+            ((self.old.spine ≡ []) × (self.new ≡ self.old))
+            (λ ix. (self.old.spine ≡ ix ∷ self.new.spine) × (self.new ≡ popped self.old ix self.new.spine)) }
+    {
+        let ix = self.spine.pop()?;
+        self.cur = Some(ix);
+        Some(ix)
+    }
+
+    /// As `pop`, and the closed node loses all that is below it.
+    pub fn remove_node(&mut self) -> Option<TreeIndex>
+        ensures { MatchOption result
+            ((self.old.spine ≡ []) × (self.new ≡ self.old))
+            (λ ix. (self.old.spine ≡ ix ∷ self.new.spine)
+            × (self.new ≡ cut_to (popped self.old ix self.new.spine) (ix.0 + 1))) }
+    {
+        let ix = self.spine.pop()?;
+        self.nodes.truncate(ix.0 + 1);
+        self.cur = Some(ix);
+        Some(ix)
+    }
+
+    /// Drops the siblings after a child of the innermost open node, with all below them; the child becomes
+    /// current.
+    pub fn drop_after(&mut self, ix: TreeIndex)
+        requires { IsChild self.old ix }
+        ensures { self.new ≡ kept_after self.old ix }
+    {
+        let end = deeper_end(&self.nodes, self.spine.len() + 1, ix.0 + 1);
+        self.nodes.truncate(end);
+        self.cur = Some(ix);
+    }
+
+    /// Drops all that is below the innermost open node, which is `ix`; then there is no current node.
+    pub fn drop_children(&mut self, ix: TreeIndex)
+        requires { slice_get self.old.spine 0 ≡ Some ix }
+        ensures { self.new ≡ childless self.old ix }
+    {
+        let _count = self.nodes.len();
+        self.nodes.truncate(ix.0 + 1);
+        self.cur = None;
+    }
+
+    /// Puts a node between the current node, which there must be, and its children: it is the current
+    /// node's only child, with all former children below it. Answers its place; the current node stays
+    /// current. An error where memory is refused; then the tree is as before.
+    pub fn create_node(&mut self, item: Item) -> Result<TreeIndex, AllocError>
+        requires { IsSome self.old.current }
+        ensures ok { IfOk result (λ ix. IfSome self.old.current (λ c. (ix.0 ≡ c.0 + 1) × (self.new ≡ wrapped self.old c item))) }
+        ensures err { OnErr result (self.new ≡ self.old) }
+    {
+        let place = self.cur.unwrap().0 + 1;
+        wrap(&mut self.nodes, place, self.spine.len() + 2, item)?;
+        Ok(TreeIndex(place))
+    }
+
+    /// Moves the siblings after `ix`, a child of the current node, out, with all below them: in their order
+    /// they follow the current node, and the last of them becomes current. Where there are none nothing
+    /// changes.
+    pub fn truncate_to_parent(&mut self, ix: TreeIndex)
+        requires { IsChildOfCurrent self.old ix }
+        ensures { self.new ≡ moved_out self.old ix }
+    {
+        let depth = self.spine.len() + 1;
+        let end = deeper_end(&self.nodes, depth + 1, ix.0 + 1);
+        lower(&mut self.nodes, end);
+        self.cur = Some(TreeIndex(last_of_depth(&self.nodes, depth)));
+    }
+
+    /// Cuts the children of the innermost open node, tokens without children, at the offset `end`. Those
+    /// that start before it stay, and one that crosses it ends there; the others go, but where the first of
+    /// them is a text that starts at `end` behind a backslash, that backslash takes its place as a text.
+    /// The last token that is left becomes current.
+    pub fn truncate_siblings(&mut self, end: usize)
+        requires leaves { HasLeaves self.old }
+        requires positive { 0 < end }
+        ensures { self.new ≡ cut_siblings self.old end }
+    {
+        let _count = self.nodes.len();
+        let first = first_place(&self.spine);
+        cut_nodes(&mut self.nodes, first, end);
+        self.cur = last_place(first, self.nodes.len());
+    }
+
+    /// The current node's place, or `None` where there is none, as right after `push`.
+    pub fn cur(&self) -> Option<TreeIndex>
+        ensures { result ≡ self.now.current }
+    {
+        self.cur
+    }
+
+    /// The place of the innermost open node, or `None` where only the root is open.
+    pub fn peek_up(&self) -> Option<TreeIndex>
+        ensures { result ≡ slice_get self.now.spine 0 }
+    {
+        self.spine.last().copied()
+    }
+
+    /// The place of the open node around the innermost one, or `None` where that is the root or there is
+    /// none.
+    pub fn peek_grandparent(&self) -> Option<TreeIndex>
+        ensures { result ≡ slice_get self.now.spine 1 }
+    {
+        if self.spine.len() < 2 {
+            return None;
+        }
+        Some(self.spine[self.spine.len() - 2])
+    }
+
+    /// How many nodes are open, without the root.
+    pub fn spine_len(&self) -> usize
+        ensures { result ≡ length self.now.spine }
+    {
+        self.spine.len()
+    }
+
+    /// The places of the open nodes without the root, outermost first.
+    pub fn walk_spine(&self) -> &[TreeIndex]
+        ensures { result.now ≡ reverse self.now.spine }
+    {
+        self.spine.as_slice()
+    }
+
+    /// The place of a node's first child, or `None` where it has none.
+    pub fn first_child(&self, ix: TreeIndex) -> Option<TreeIndex>
+        requires { ix.0 < length self.now.nodes }
+        ensures { result ≡ child_of (depths self.now.nodes) ix.0 }
+    {
+        child_in(&self.nodes, ix.0)
+    }
+
+    /// The place of a node's next sibling, or `None` where it has none.
+    pub fn next_sibling(&self, ix: TreeIndex) -> Option<TreeIndex>
+        requires { ix.0 < length self.now.nodes }
+        ensures { result ≡ sibling_of (depths self.now.nodes) ix.0 }
+    {
+        sibling_in(&self.nodes, ix.0)
+    }
+
+    /// Whether, outwards from the innermost open node over heads, rows and cells, a table comes first.
+    pub fn is_in_table(&self) -> bool
+        ensures { result ≡ in_table self.now.nodes self.now.spine }
+    {
+        in_table_of(&self.nodes, &self.spine)
+    }
+}
+
+impl Index<TreeIndex> for Tree<Item> {
+    type Output = Item;
+
+    ghost can_index = { λ tree ix. ix.0 < length tree.nodes };
+
+    ghost index_gives = { λ tree ix item. item_at tree ix ≡ Some item };
+
+    fn index(&self, ix: TreeIndex) -> &Item {
+        &self.nodes[ix.0].1
+    }
+}
+
+impl IndexMut<TreeIndex> for Tree<Item> {
+    ghost use Rattle.first_pass_tree.specs.Lending.{LendsItem};
+
+    fn index_mut(&mut self, ix: TreeIndex) -> &mut Item
+        requires { ix.0 < length self.old.nodes }
+        ensures* writes_back { sem 𝓛 (LendsItem self.entry ix result) }
+        ensures value { item_at self.old ix ≡ Some result.now }
+    {
+        let node = &mut self.nodes[ix.0];
+        &mut node.1
+    }
+}

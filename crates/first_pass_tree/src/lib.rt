@@ -1,0 +1,7 @@
+//! The tree of the block pass: items in reading order, each with its depth, and the path of nodes that
+//! are open.
+#![tactic(auto)]
+
+pub mod forest;
+mod node_list;
+pub mod tree_index;

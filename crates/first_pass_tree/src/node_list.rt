@@ -1,0 +1,181 @@
+//! Steps over the list of nodes, each a pair of its depth and its item, in reading order.
+
+ghost use Rattle.std.specs.Prelude.{◌≡◌, ℕ, ◌+◌, ◌<◌, ◌≤◌, ◌∷◌, slice_index, ◌++◌, ◌^◌, ◌-◌, length, take, drop, reverse, map, Some, None, EachIndex, if◌then◌else◌, nat_lt, IfSome, OnOk, OnErr, slice_get};
+ghost use Rattle.first_pass_tree.specs.Forest.{depths, child_of, sibling_of, run_end, in_table, shallower, last_before, deeper, map_from, IsShallow, open_place, cut_tokens, IsOpenPath};
+
+use crate::tree_index::TreeIndex;
+use first_pass_items::item::{Item, ItemBody};
+use std::alloc::AllocError;
+
+/// The first place from `from` on whose node is no deeper than `depth`, or the length.
+pub(crate) fn deeper_end(nodes: &[(usize, Item)], depth: usize, from: usize) -> usize
+    requires { from ≤ length nodes.now }
+    ensures { result ≡ run_end (depths nodes.now) depth from }
+{
+    let mut end = from;
+    while end < nodes.len() && depth < nodes[end].0 {
+        end += 1;
+    }
+    end
+}
+
+/// Puts a node at a place, and each node behind it one deeper. Where memory is refused the list stays.
+pub(crate) fn wrap(
+    nodes: &mut Vec<(usize, Item)>,
+    place: usize,
+    depth: usize,
+    item: Item,
+) -> Result<(), AllocError>
+    requires place_in { place ≤ length nodes.old.items }
+    requires small { IsShallow (depths nodes.old.items) }
+    ensures ok { OnOk result
+        (nodes.new.items ≡ take place nodes.old.items
+        ++ (depth, item) ∷ map deeper (drop place nodes.old.items)) }
+    ensures err { OnErr result (nodes.new.items ≡ nodes.old.items) }
+{
+    nodes.insert(place, (depth, item))?;
+    raise(nodes, place + 1);
+    Ok(())
+}
+
+/// Puts each node from a place on one deeper.
+pub(crate) fn raise(nodes: &mut Vec<(usize, Item)>, from: usize)
+    requires { (k : ℕ) → from ≤ k → k < length nodes.old.items → slice_index (depths nodes.old.items) k < 2 ^ 63 }
+    ensures { nodes.new.items ≡ map_from deeper from nodes.old.items }
+{
+    let mut next = from;
+    while next < nodes.len() {
+        let node = &mut nodes[next];
+        node.0 += 1;
+        next += 1;
+    }
+}
+
+/// Puts each node from a place on one less deep.
+pub(crate) fn lower(nodes: &mut Vec<(usize, Item)>, from: usize)
+    requires { (k : ℕ) → from ≤ k → k < length nodes.old.items → 0 < slice_index (depths nodes.old.items) k }
+    ensures { nodes.new.items ≡ map_from shallower from nodes.old.items }
+{
+    let mut next = from;
+    while next < nodes.len() {
+        let node = &mut nodes[next];
+        node.0 -= 1;
+        next += 1;
+    }
+}
+
+/// The last place whose node has this depth, or 0.
+pub(crate) fn last_of_depth(nodes: &[(usize, Item)], depth: usize) -> usize
+    ensures { result ≡ last_before (depths nodes.now) depth (length nodes.now) }
+{
+    let mut place = nodes.len();
+    while 0 < place {
+        place -= 1;
+        if nodes[place].0 == depth {
+            return place;
+        }
+    }
+    0
+}
+
+/// The place behind the innermost open node, which may be the root; `spine` is outermost first.
+pub(crate) fn first_place(spine: &[TreeIndex]) -> usize
+    requires { EachIndex spine.now (λ k. IfSome (slice_get spine.now k) (λ ix. ix.0 < 2 ^ 63)) }
+    ensures { result ≡ open_place (reverse spine.now) + 1 }
+{
+    match spine.last() {
+        Some(ix) => ix.0 + 1,
+        None => 1,
+    }
+}
+
+/// The last of `count` places, or `None` where none is at `first` or behind it.
+pub(crate) fn last_place(first: usize, count: usize) -> Option<TreeIndex>
+    ensures { result ≡ (if nat_lt first count then Some (record { 0 = count - 1 }) else None) }
+{
+    if first < count {
+        Some(TreeIndex(count - 1))
+    } else {
+        None
+    }
+}
+
+/// Cuts the tokens from the place `first` on at the offset `end`: see `Tree::truncate_siblings`.
+pub(crate) fn cut_nodes(nodes: &mut Vec<(usize, Item)>, first: usize, end: usize)
+    requires first_in { first ≤ length nodes.old.items }
+    requires positive { 0 < end }
+    ensures { nodes.new.items ≡ take first nodes.old.items ++ cut_tokens end (drop first nodes.old.items) }
+{
+    let mut kept = first;
+    while kept < nodes.len() {
+        let node = &mut nodes[kept];
+        if end <= node.1.start {
+            if node.1.start == end
+                && matches!(
+                    &node.1.body,
+                    ItemBody::Text {
+                        backslash_escaped: true
+                    }
+                )
+            {
+                node.1 = Item {
+                    start: end - 1,
+                    end,
+                    body: ItemBody::Text {
+                        backslash_escaped: false,
+                    },
+                };
+                kept += 1;
+            }
+            break;
+        }
+        if end < node.1.end {
+            node.1.end = end;
+        }
+        kept += 1;
+    }
+    nodes.truncate(kept);
+}
+
+/// The place of the first child of the node at `place`.
+pub(crate) fn child_in(nodes: &[(usize, Item)], place: usize) -> Option<TreeIndex>
+    requires { place < length nodes.now }
+    ensures { result ≡ child_of (depths nodes.now) place }
+{
+    if place + 1 < nodes.len() && nodes[place].0 < nodes[place + 1].0 {
+        Some(TreeIndex(place + 1))
+    } else {
+        None
+    }
+}
+
+/// The place of the next sibling of the node at `place`.
+pub(crate) fn sibling_in(nodes: &[(usize, Item)], place: usize) -> Option<TreeIndex>
+    requires { place < length nodes.now }
+    ensures { result ≡ sibling_of (depths nodes.now) place }
+{
+    let end = deeper_end(nodes, nodes[place].0, place + 1);
+    if end < nodes.len() && nodes[end].0 == nodes[place].0 {
+        Some(TreeIndex(end))
+    } else {
+        None
+    }
+}
+
+/// Whether, outwards over heads, rows and cells, a table comes first on `spine` (outermost first).
+pub(crate) fn in_table_of(nodes: &[(usize, Item)], spine: &[TreeIndex]) -> bool
+    requires { IsOpenPath (depths nodes.now) (reverse spine.now) }
+    ensures { result ≡ in_table nodes.now (reverse spine.now) }
+{
+    let mut left = spine.len();
+    while 0 < left {
+        left -= 1;
+        let place = spine[left];
+        match nodes[place.0].1.body {
+            ItemBody::Table(_) => return true,
+            ItemBody::TableHead | ItemBody::TableRow | ItemBody::TableCell => {}
+            _ => return false,
+        }
+    }
+    false
+}
