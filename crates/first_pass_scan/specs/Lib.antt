@@ -1,0 +1,3 @@
+pub mod Lines
+pub mod Rest
+pub mod Places

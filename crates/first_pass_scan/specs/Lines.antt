@@ -1,0 +1,89 @@
+-- Line ends, blank lines, and where an ATX heading begins, of the bytes from a place in the text on.
+use Rattle.std.specs.Prelude.{◌≡◌, ◌⊎◌, ℕ, ◌+◌, ◌==◌, ◌&&◌, ◌||◌, not, Bool, true, false, nat_lt, nat_le, List, [], ◌∷◌, ◌++◌, length, take, drop, Option, Some, None, unwrap_or, if◌then◌else◌}
+use Rattle.std.specs.Option.{option_map}
+use Rattle.std.specs.List.{prefix_len, list_all}
+use Rattle.first_pass_items.specs.declared.item.HeadingLevel.{HeadingLevel}
+use Rattle.first_pass_items.specs.declared.item.HeadingLevel.TheVariants.{H1, H2, H3, H4, H5, H6}
+
+-- `\n` or `\r` (CommonMark 2.1, line ending)
+abbrev pub is_line_end : ℕ → Bool
+is_line_end b = (b == 10) || (b == 13)
+
+-- a byte of a line that is no part of its end (CommonMark 2.1)
+abbrev pub is_content : ℕ → Bool
+is_content b = not (is_line_end b)
+
+-- white space without line ends: tab, 0x0B, 0x0C and space (this project; CommonMark 2.1 and 2.2 have tab and space alone)
+abbrev pub is_white : ℕ → Bool
+is_white b = (b == 9) || (b == 11) || (b == 12) || (b == 32)
+
+-- the bytes begin with the byte c (this project)
+abbrev pub begins : ℕ → List ℕ → Bool
+begins c [] = false
+begins c (b ∷ bs) = b == c
+
+-- a line ends behind `\n`, and behind `\r` unless `\n` follows (CommonMark 2.1, line ending)
+abbrev pub ends_line : ℕ → List ℕ → Bool
+ends_line b bs = (b == 10) || ((b == 13) && not (begins 10 bs))
+
+-- how many bytes the line end here has: `\n`, `\r\n` or `\r`, and none at the end of the text (CommonMark 2.1, line ending)
+abbrev pub eol_len : List ℕ → Option ℕ
+eol_len [] = Some 0
+eol_len (b ∷ bs) = if b == 10 then Some 1 else (if b == 13 then Some (if begins 10 bs then 2 else 1) else None)
+
+-- how many bytes a blank line has, its end too: white space alone (CommonMark 2.1, blank line)
+abbrev pub blank_len : List ℕ → Option ℕ
+blank_len bs = let n = prefix_len is_white bs in option_map (λ k. n + k) (eol_len (drop n bs))
+
+-- how many bytes a line has, its end too (CommonMark 2.1, line)
+unfoldable pub line_len : List ℕ → ℕ
+line_len bs = let n = prefix_len is_content bs in n + unwrap_or (eol_len (drop n bs)) 0
+
+-- the line or the text ends here (CommonMark 2.1)
+abbrev pub at_line_end : List ℕ → Bool
+at_line_end bs = (length bs == 0) || begins 10 bs || begins 13 bs
+
+-- the end of a line before the bytes behind it: `\n`, `\r\n`, `\r` where no `\n` is behind it, or nothing at the end of the text (CommonMark 2.1)
+abbrev pub IsLineEnd : List ℕ → List ℕ → Type 0
+IsLineEnd bs behind = (bs ≡ 10 ∷ []) ⊎ (bs ≡ 13 ∷ 10 ∷ []) ⊎ ((bs ≡ 13 ∷ []) × (begins 10 behind ≡ false)) ⊎ ((bs ≡ []) × (behind ≡ []))
+
+-- a line before the bytes behind it: bytes without `\n` and `\r`, and then its end (CommonMark 2.1, line)
+pub record IsLine (line : List ℕ) (behind : List ℕ) : Type 0 where
+  pub content : List ℕ
+  pub ending : List ℕ
+  pub parts : line ≡ content ++ ending
+  pub plain : list_all is_content content ≡ true
+  pub ends : IsLineEnd ending behind
+  pub some : ¬ (line ≡ [])
+
+-- a number sign (CommonMark 4.2)
+abbrev pub is_number_sign : ℕ → Bool
+is_number_sign b = b == 35
+
+-- the level of a heading is the number of its opening number signs (CommonMark 4.2)
+abbrev pub level_number : HeadingLevel → ℕ
+level_number H1 = 1
+level_number H2 = 2
+level_number H3 = 3
+level_number H4 = 4
+level_number H5 = 5
+level_number H6 = 6
+
+-- the heading level that a number of signs gives: 1 to 6 (CommonMark 4.2)
+abbrev pub level_of : ℕ → Option HeadingLevel
+level_of n =
+    if n == 1 then Some H1
+    else (if n == 2 then Some H2
+    else (if n == 3 then Some H3
+    else (if n == 4 then Some H4
+    else (if n == 5 then Some H5
+    else (if n == 6 then Some H6
+    else None)))))
+
+-- the opening sequence of an ATX heading ends here: at a space, a tab or the end of the line (CommonMark 4.2)
+abbrev pub ends_signs : List ℕ → Bool
+ends_signs bs = at_line_end bs || begins 32 bs || begins 9 bs
+
+-- the level of the ATX heading that begins here: 1 to 6 number signs, then a space, a tab or the end of the line (CommonMark 4.2)
+unfoldable pub atx_level : List ℕ → Option HeadingLevel
+atx_level bs = let n = prefix_len is_number_sign bs in if ends_signs (drop n bs) then level_of n else None
