@@ -1,5 +1,6 @@
-//! The words of the block pass: its options, and the items of its tree.
+//! The words of the block pass: its options, the items of its tree, and texts.
 #![tactic(auto)]
 
+pub mod cow_str;
 pub mod item;
 pub mod option_set;

@@ -1,7 +1,7 @@
 //! The tree as one list in reading order, with the path of its open nodes.
 
-ghost use Rattle.std.specs.Prelude.{◌≡◌, ℕ, ◌+◌, ◌<◌, ◌≤◌, ◌∷◌, [], slice_index, ◌++◌, ◌^◌, ◌-◌, length, map, take, drop, reverse, Some, None, EachIndex, if◌then◌else◌, nat_lt, IfOk, IfSome, OnOk, OnErr, IsSome, MatchOption, slice_get};
-ghost use Rattle.first_pass_tree.specs.Forest.{empty_forest, appended, pushed, popped, cut_to, with_text, with_item, with_end_at, with_body_at, item_at, depths, child_of, sibling_of, run_end, kept_after, childless, in_table, wrapped, shallower, last_before, IsChildOfCurrent, moved_out, deeper, map_from, IsShallow, open_place, IsChild, cut_siblings, cut_tokens, HasLeaves, IsForest, IsOpenPath};
+ghost use Rattle.std.specs.Prelude.{◌≡◌, ◌+◌, ◌<◌, ◌∷◌, [], ◌-◌, length, reverse, Some, None, if◌then◌else◌, IfOk, IfSome, OnOk, OnErr, IsSome, MatchOption, slice_get};
+ghost use Rattle.first_pass_tree.specs.Forest.{empty_forest, appended, pushed, popped, cut_to, with_text, with_item, with_end_at, with_body_at, item_at, depths, child_of, sibling_of, kept_after, childless, in_table, wrapped, IsChildOfCurrent, moved_out, IsChild, cut_siblings, HasLeaves, IsForest};
 ghost use Rattle.std.specs.Borrow.{sem};
 
 use crate::node_list::{
@@ -179,9 +179,9 @@ impl Tree<Item> {
             ((self.old.spine ≡ []) × (self.new ≡ self.old))
             (λ ix. (self.old.spine ≡ ix ∷ self.new.spine) × (self.new ≡ popped self.old ix self.new.spine)) }
     {
-        let ix = self.spine.pop()?;
-        self.cur = Some(ix);
-        Some(ix)
+        let closed = self.spine.pop()?;
+        self.cur = Some(closed);
+        Some(closed)
     }
 
     /// As `pop`, and the closed node loses all that is below it.
@@ -191,10 +191,10 @@ impl Tree<Item> {
             (λ ix. (self.old.spine ≡ ix ∷ self.new.spine)
             × (self.new ≡ cut_to (popped self.old ix self.new.spine) (ix.0 + 1))) }
     {
-        let ix = self.spine.pop()?;
-        self.nodes.truncate(ix.0 + 1);
-        self.cur = Some(ix);
-        Some(ix)
+        let emptied = self.spine.pop()?;
+        self.nodes.truncate(emptied.0 + 1);
+        self.cur = Some(emptied);
+        Some(emptied)
     }
 
     /// Drops the siblings after a child of the innermost open node, with all below them; the child becomes

@@ -7,4 +7,4 @@ pub invariant_of-self-2 : goal.invariant_of-self-2
 invariant_of-self-2 c =
     let rest = c.pop.new.self.items in
     rw c.truncate.ensures.items
-    (closed-is _ c.in_ok-ix.ix (reverse rest) (ap reverse c.in_ok-ix.ensures.items ∙ reverse-append rest (c.in_ok-ix.ix ∷ [])) c.self.invariant)
+    (closed-is _ c.in_ok-emptied.emptied (reverse rest) (ap reverse c.in_ok-emptied.ensures.items ∙ reverse-append rest (c.in_ok-emptied.emptied ∷ [])) c.self.invariant)

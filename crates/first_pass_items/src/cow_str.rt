@@ -1,0 +1,115 @@
+//! Texts that are borrowed from the source where they stand there as they are.
+
+ghost use Rattle.std.specs.Prelude.{◌≡◌, ◌≤◌, ◌↔◌, length, IsSome, IfSome, encode_utf8};
+ghost use Rattle.first_pass_items.specs.CowText.{text_of};
+
+use std::boxed::BoxedStr;
+use std::marker::Model;
+use std::ops::DerefStr;
+use std::str;
+
+/// A text of at most 22 bytes that stands in the value itself and takes no memory.
+#[derive(Drop)]
+pub struct InlineStr {
+    bytes: [u8; 22],
+    len: u8,
+}
+
+impl Model for InlineStr {
+    ghost use Rattle.std.specs.Prelude.{ℕ, ◌≤◌, List, take, IsUtf8};
+
+    ghost Value = { List ℕ };
+
+    ghost view = { λ s. take s.len s.bytes };
+
+    ghost invariant = { λ s. (s.len ≤ 22) × ∥ IsUtf8 (take s.len s.bytes) ∥₁ };
+}
+
+impl InlineStr {
+    /// A copy of the text, or `None` where it is longer than 22 bytes.
+    pub fn try_from_str(text: &str) -> Option<InlineStr>
+        ensures some { IsSome result ↔ (length text.now ≤ 22) }
+        ensures value { IfSome result (λ s. s ≡ text.now) }
+    {
+        if 22 < text.len() {
+            return None;
+        }
+        Some(InlineStr::from_short(text))
+    }
+
+    /// The text of one character.
+    pub fn from_char(character: char) -> InlineStr
+        ensures { result ≡ encode_utf8 character }
+    {
+        let mut buffer = [0; 4];
+        InlineStr::from_short(character.encode_utf8(&mut buffer))
+    }
+
+    // A copy of a text of at most 22 bytes.
+    fn from_short(text: &str) -> InlineStr
+        requires { length text.now ≤ 22 }
+        ensures { result ≡ text.now }
+    {
+        let len = text.len();
+        let mut bytes = [0; 22];
+        bytes[..len].copy_from_slice(text.as_bytes());
+        InlineStr {
+            bytes,
+            len: len as u8,
+        }
+    }
+
+    /// The text.
+    pub fn as_str(&self) -> &str
+        ensures value { result.now ≡ self.now }
+        ensures fits { length result.now ≤ 22 }
+    {
+        unsafe { str::from_utf8_unchecked(&self.bytes[..self.len as usize]) }
+    }
+}
+
+/// A text: bytes of the source as they stand there, or a text of its own, on the heap or, up to 22
+/// bytes, in place.
+#[derive(Drop)]
+pub enum CowStr<'a> {
+    Borrowed(&'a str),
+    Boxed(BoxedStr),
+    Inlined(InlineStr),
+}
+
+impl<'a> DerefStr for CowStr<'a> {
+    ghost deref_gives = { λ c bytes. bytes ≡ text_of c };
+
+    /// The text's bytes, wherever they stand.
+    fn deref(&self) -> &str
+        ensures { result.now ≡ text_of self.now }
+    {
+        match self {
+            CowStr::Borrowed(text) => text,
+            CowStr::Boxed(text) => text.as_str(),
+            CowStr::Inlined(text) => text.as_str(),
+        }
+    }
+}
+
+#[cfg(test)]
+mod tests {
+    use super::*;
+    use std::test::Fail;
+
+    #[test]
+    fn texts_are_read_as_they_are(rt: HostRuntime) -> Result<(), Fail> {
+        let longest = "twenty-two bytes, \u{e9}\u{e9}";
+        for text in ["", "&", "\u{a9}", longest] {
+            let inlined = CowStr::Inlined(InlineStr::try_from_str(text).ok_or("too long")?);
+            let boxed = CowStr::Boxed(BoxedStr::from_str(rt.alloc(), text)?);
+            assert!(rt; inlined.deref() == text, "inlined {text}");
+            assert!(rt; boxed.deref() == text, "boxed {text}");
+            assert!(rt; CowStr::Borrowed(text).deref() == text, "borrowed {text}");
+        }
+        assert!(rt; InlineStr::try_from_str("twenty-three bytes: \u{20ac}").is_none());
+        let euro = CowStr::Inlined(InlineStr::from_char('\u{20ac}'));
+        assert!(rt; euro.deref() == "\u{20ac}");
+        Ok(())
+    }
+}
