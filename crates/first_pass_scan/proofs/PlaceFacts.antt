@@ -7,7 +7,7 @@ use Rattle.std.proofs.lemmas.Bool.{eqb-true, cases_lt}
 use Rattle.std.proofs.lemmas.Bool.Decides.{nat_tests}
 use Rattle.first_pass_scan.specs.Lines.{begins, ends_line, line_len, is_content, is_white, is_number_sign}
 use Rattle.first_pass_scan.specs.Rest.{Rest, past_byte, column_of_byte, column_of, next_column, after_columns, indent}
-use Rattle.first_pass_scan.specs.Places.{Place, offset, line_place, IsPlaceOf, moved_columns, moved_bytes}
+use Rattle.first_pass_scan.specs.Places.{Place, place_at, line_rest, offset, line_place, IsPlaceOf, moved_columns, moved_bytes}
 use Rattle.first_pass_scan.proofs.LineFacts.{line_len-none, line_len-step, line_len-some, line_len-within}
 use Rattle.first_pass_scan.proofs.Columns.{after-more, after-none, indent-none, indent-some, all-more, all-none}
 
@@ -115,9 +115,6 @@ pub signs_keep : (text : List ℕ) (p : Place) → IsUtf8 text → IsPlaceOf tex
 signs_keep text p u i = prefix_keeps is_number_sign (λ b h. grind (arith, nat_tests, h)) text p u i
 
 -- and behind columns
-abbrev with_rest : Place → Rest → Place
-with_rest p r = record { line = p.line; rest = r }
-
 byte_by : (t u : Bool) (r s : Rest) (b : ℕ) (bs : List ℕ) → (b == 32) ≡ t → (b == 9) ≡ u → column_of_byte r (b ∷ bs) ≡ Some s → (b < 128) × (s.left ≡ bs) × (s.taken ≡ r.taken + 1)
 byte_by true u r s b bs h h' e =
     let small = eqb-true b 32 h in
@@ -128,7 +125,7 @@ byte_by false true r s b bs h h' e =
     (omega arith, grind (arith, h, h', e), grind (arith, h, h', e))
 byte_by false false r s b bs h h' e = absurd (grind (arith, h, h', e))
 
-byte_moves : (text : List ℕ) (p : Place) (s : Rest) (bs : List ℕ) → IsUtf8 text → IsPlaceOf text p → bs ≡ p.rest.left → column_of_byte p.rest bs ≡ Some s → IsPlaceOf text (with_rest p s)
+byte_moves : (text : List ℕ) (p : Place) (s : Rest) (bs : List ℕ) → IsUtf8 text → IsPlaceOf text p → bs ≡ p.rest.left → column_of_byte p.rest bs ≡ Some s → IsPlaceOf text (place_at p.line s)
 byte_moves text p s [] u i e h = cc
 byte_moves text p s (b ∷ bs) u i e h =
     let m = byte_by (b == 32) (b == 9) p.rest s b bs refl refl h in
@@ -144,19 +141,26 @@ byte_moves text p s (b ∷ bs) u i e h =
       boundary = rw o c;
     }
 
-column_moves : (text : List ℕ) (p : Place) (s : Rest) (o : ℕ) → IsUtf8 text → IsPlaceOf text p → column_of o p.rest ≡ Some s → IsPlaceOf text (with_rest p s)
+column_moves : (text : List ℕ) (p : Place) (s : Rest) (o : ℕ) → IsUtf8 text → IsPlaceOf text p → column_of o p.rest ≡ Some s → IsPlaceOf text (place_at p.line s)
 column_moves text p s zero u i h = byte_moves text p s p.rest.left u i refl h
 column_moves text p s (suc o) u i h =
     let e : record p.rest { owed = o } ≡ s = cc in
-    subst (λ r. IsPlaceOf text (with_rest p r)) e (record { left = i.left; within = i.within; boundary = i.boundary })
+    subst (λ r. IsPlaceOf text (place_at p.line r)) e (record { left = i.left; within = i.within; boundary = i.boundary })
 
 columns_step : (text : List ℕ) (k : ℕ) (p : Place) (o : Option Rest) → IsUtf8 text → IsPlaceOf text p → next_column p.rest ≡ o → ((q : Place) → IsPlaceOf text q → IsPlaceOf text (moved_columns k q)) → IsPlaceOf text (moved_columns (suc k) p)
 columns_step text k p None u i e f = rw (after-none (suc k) p.rest e) i
-columns_step text k p (Some s) u i e f = rw (after-more (suc k) k p.rest s refl e) (f (with_rest p s) (column_moves text p s p.rest.owed u i e))
+columns_step text k p (Some s) u i e f = rw (after-more (suc k) k p.rest s refl e) (f (place_at p.line s) (column_moves text p s p.rest.owed u i e))
 
 pub columns_keep : (text : List ℕ) (k : ℕ) (p : Place) → IsUtf8 text → IsPlaceOf text p → IsPlaceOf text (moved_columns k p)
 columns_keep text zero p u i = i
 columns_keep text (suc k) p u i = columns_step text k p (next_column p.rest) u i refl (λ q j. columns_keep text k q u j)
+
+-- the same for a rest that a call has changed
+pub starts_at : (text bytes : List ℕ) (s : ℕ) (r : Rest) → bytes ≡ drop s text → r ≡ line_rest bytes → IsCharBoundary text s → IsPlaceOf text (place_at s r)
+starts_at text bytes s r e h b = subst (λ q. IsPlaceOf text (place_at s q)) (ap line_rest (sym e) ∙ sym h) (line_is_place text s b)
+
+pub taken_columns : (text : List ℕ) (k line : ℕ) (r s : Rest) → IsUtf8 text → s ≡ after_columns k r → IsPlaceOf text (place_at line r) → IsPlaceOf text (place_at line s)
+taken_columns text k line r s u e i = subst (λ q. IsPlaceOf text (place_at line q)) (sym e) (columns_keep text k (place_at line r) u i)
 
 -- a line ends behind an ASCII byte, or with the text
 last_step : (t : Bool) (b : ℕ) (bs : List ℕ) → ends_line b bs ≡ t → (0 < length bs → (slice_index bs (line_len bs - 1) < 128) ⊎ (line_len bs ≡ length bs)) → (slice_index (b ∷ bs) (line_len (b ∷ bs) - 1) < 128) ⊎ (line_len (b ∷ bs) ≡ length (b ∷ bs))
