@@ -1,10 +1,6 @@
 -- Columns taken one at a time.
-use Rattle.std.proofs.Common.{◌≡◌, ℕ, ◌+◌, ◌<◌, ◌≤◌, suc, zero, List, [], ◌∷◌, Bool, true, false, MatchOption, Option, Some, None, length, take, get_or, refl, sym, ◌∙◌, ap, arith}
+use Rattle.std.proofs.Common.{◌≡◌, ℕ, ◌+◌, suc, zero, List, [], ◌∷◌, Bool, true, false, MatchOption, Option, Some, None, refl, sym, ◌∙◌, ap, arith}
 use Rattle.std.specs.Option.{option_map_or}
-use Rattle.std.specs.List.{prefix_len}
-use Rattle.std.proofs.lemmas.List.{get_or-take, length-take-le}
-use Rattle.std.proofs.lemmas.List.Sums.{prefix_len_passes}
-use Rattle.std.proofs.lemmas.Bool.Decides.{nat_tests}
 use Rattle.first_pass_scan.specs.Rest.{Rest, column_of, column_of_byte, next_column, after_columns, columns_of, indent}
 
 pub after-more : (k j : ℕ) (r s : Rest) → k ≡ suc j → next_column r ≡ Some s → after_columns k r ≡ after_columns j s
@@ -51,4 +47,3 @@ all-more r s h = sym (after-more (indent r) (indent s) r s (omega (arith, indent
 
 pub all-none : (r : Rest) → next_column r ≡ None → after_columns (indent r) r ≡ r
 all-none r h = after-none (indent r) r h
-

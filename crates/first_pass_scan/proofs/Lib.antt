@@ -1,3 +1,4 @@
 pub mod Columns
 pub mod LineFacts
 pub mod PlaceFacts
+pub mod HeadingFacts

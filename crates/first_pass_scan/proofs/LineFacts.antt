@@ -1,5 +1,6 @@
 -- Facts on lines.
-use Rattle.std.proofs.Common.{◌≡◌, ℕ, zero, suc, ◌+◌, ◌<◌, ◌≤◌, Bool, true, false, cond, not, ◌==◌, List, [], ◌∷◌, ◌++◌, length, take, drop, map, unwrap_or, refl, sym, ap, ◌∙◌, arith, add-one, length-drop, inl, inr, if◌then◌else◌}
+use Rattle.std.proofs.Common.{◌≡◌, ℕ, zero, suc, ◌+◌, ◌<◌, ◌≤◌, Bool, true, false, cond, not, ◌==◌, List, [], ◌∷◌, ◌++◌, length, take, drop, map, Some, None, Option, unwrap_or, refl, sym, ap, ◌∙◌, arith, add-one, length-drop, inl, inr, if◌then◌else◌}
+use Rattle.std.specs.Option.{option_map}
 use Rattle.std.specs.List.{prefix_len, concat, list_all, All}
 use Rattle.std.proofs.lemmas.List.{take-append-drop, drop-drop, length-take-le, append_cancel_left, at_drop_all}
 use Rattle.std.proofs.Math.Seq.{take-append_seam}
@@ -7,7 +8,7 @@ use Rattle.std.proofs.lemmas.Grind.{common_steps}
 use Rattle.std.proofs.lemmas.Bool.{eqb-true}
 use Rattle.std.proofs.lemmas.List.Elements.{All-nil, All-cons}
 use Rattle.std.proofs.lemmas.Bool.Decides.{nat_tests}
-use Rattle.first_pass_scan.specs.Lines.{begins, ends_line, is_content, eol_len, line_len, IsLineEnd, IsLine}
+use Rattle.first_pass_scan.specs.Lines.{begins, ends_line, is_white, is_content, eol_len, blank_len, line_len, IsLineEnd, IsLine}
 use Rattle.first_pass_scan.specs.Places.{Place, line_place, IsLinePlace, lines_behind, lines_at, line_of, IsDivision}
 
 -- the length of a line from its first byte on
@@ -237,3 +238,71 @@ line_len-inside (b ∷ bs) (suc k) h =
       | true ↦ λ e. absurd (omega arith)
       | false ↦ λ e. let r = line_len-inside bs k (omega arith) in omega arith
     ]) (line_len-step b bs)
+
+-- where a line ends at once, where its content ends, and a blank line
+pub line_len-content_end : (bs : List ℕ) → let n : ℕ = prefix_len is_content bs in line_len bs ≡ n + unwrap_or (eol_len (drop n bs)) 0
+unfolding line_len
+line_len-content_end bs = refl
+
+eol_by : (t u : Bool) (b : ℕ) (bs : List ℕ) (n : ℕ) → (b == 10) ≡ t → (b == 13) ≡ u → eol_len (b ∷ bs) ≡ Some n → line_len (b ∷ bs) ≡ n
+eol_by true u b bs n h h' e = end_first b bs (rw h) ∙ ap (λ o. unwrap_or o 0) e
+eol_by false true b bs n h h' e = end_first b bs (rw (h, h')) ∙ ap (λ o. unwrap_or o 0) e
+eol_by false false b bs n h h' e = absurd (grind (arith, h, h', e))
+
+pub line_len-eol : (bs : List ℕ) (n : ℕ) → eol_len bs ≡ Some n → line_len bs ≡ n
+line_len-eol [] n h = let e : 0 ≡ n = cc in line_len-none ∙ e
+line_len-eol (b ∷ bs) n h = eol_by (b == 10) (b == 13) b bs n refl refl h
+
+one_less : (w n : ℕ) (o : Option ℕ) → option_map (λ k. (w + 1) + k) o ≡ Some n → (m : ℕ) × (option_map (λ k. w + k) o ≡ Some m) × (n ≡ m + 1)
+one_less w n None h = cc
+one_less w n (Some k) h = let e : (w + 1) + k ≡ n = cc in (w + k, refl, omega arith)
+
+no_white : (o : Option ℕ) (n : ℕ) → option_map (λ k. 0 + k) o ≡ Some n → o ≡ Some n
+no_white None n h = cc
+no_white (Some k) n h = let e : 0 + k ≡ n = cc in ap Some (omega arith)
+
+blank_by : (t : Bool) (b : ℕ) (bs : List ℕ) (n : ℕ) → is_white b ≡ t → ((m : ℕ) → blank_len bs ≡ Some m → line_len bs ≡ m) → blank_len (b ∷ bs) ≡ Some n → line_len (b ∷ bs) ≡ n
+blank_by true b bs n h f e =
+    let w : ℕ = prefix_len is_white bs in
+    let p : prefix_len is_white (b ∷ bs) ≡ w + 1 = rw h (omega arith) in
+    let d : drop (w + 1) (b ∷ bs) ≡ drop w bs = rw add-one in
+    let g : blank_len (b ∷ bs) ≡ option_map (λ k. (w + 1) + k) (eol_len (drop w bs)) = rw p (rw d refl) in
+    let m = one_less w n (eol_len (drop w bs)) (sym g ∙ e) in
+    let c = content_first b bs (grind (arith, nat_tests, h)) in
+    c ∙ ap (λ k. k + 1) (f m.0 m.1) ∙ sym m.2
+blank_by false b bs n h f e =
+    let p : prefix_len is_white (b ∷ bs) ≡ 0 = rw h in
+    let g : blank_len (b ∷ bs) ≡ option_map (λ k. 0 + k) (eol_len (b ∷ bs)) = rw p in
+    line_len-eol (b ∷ bs) n (no_white (eol_len (b ∷ bs)) n (sym g ∙ e))
+
+pub line_len-blank : (bs : List ℕ) (n : ℕ) → blank_len bs ≡ Some n → line_len bs ≡ n
+line_len-blank [] n h = let e : 0 ≡ n = cc in line_len-none ∙ e
+line_len-blank (b ∷ bs) n h = blank_by (is_white b) b bs n refl (line_len-blank bs) h
+
+some_end : (t u : Bool) (b : ℕ) (bs : List ℕ) → (b == 10) ≡ t → (b == 13) ≡ u → is_content b ≡ false → (k : ℕ) × (eol_len (b ∷ bs) ≡ Some k)
+some_end true u b bs h h' e = (1, rw h)
+some_end false true b bs h h' e = (if begins 10 bs then 2 else 1, rw (h, h'))
+some_end false false b bs h h' e = absurd (grind (arith, h, h', e))
+
+ends_at : (bs : List ℕ) (k : ℕ) → eol_len bs ≡ Some k → eol_len bs ≡ Some (line_len bs)
+ends_at bs k h = h ∙ ap Some (sym (line_len-eol bs k h))
+
+content_by : (t : Bool) (b : ℕ) (bs : List ℕ) → is_content b ≡ t → (let rest : List ℕ = drop (prefix_len is_content bs) bs in eol_len rest ≡ Some (line_len rest)) → let rest : List ℕ = drop (prefix_len is_content (b ∷ bs)) (b ∷ bs) in eol_len rest ≡ Some (line_len rest)
+content_by true b bs h f =
+    let k : ℕ = prefix_len is_content bs in
+    let n : prefix_len is_content (b ∷ bs) ≡ k + 1 = rw h (omega arith) in
+    let d : drop (k + 1) (b ∷ bs) ≡ drop k bs = rw add-one in
+    rw n (rw d f)
+content_by false b bs h f =
+    let n : prefix_len is_content (b ∷ bs) ≡ 0 = rw h in
+    let k = some_end (b == 10) (b == 13) b bs refl refl h in
+    rw n (ends_at (b ∷ bs) k.0 k.1)
+
+pub content_ends : (bs : List ℕ) → let rest : List ℕ = drop (prefix_len is_content bs) bs in eol_len rest ≡ Some (line_len rest)
+content_ends [] = ap Some (sym line_len-none)
+content_ends (b ∷ bs) = content_by (is_content b) b bs refl (content_ends bs)
+
+pub line_len-parts : (bs : List ℕ) → let n : ℕ = prefix_len is_content bs in line_len bs ≡ n + line_len (drop n bs)
+line_len-parts bs =
+    let n : ℕ = prefix_len is_content bs in
+    line_len-content_end bs ∙ ap (λ o. n + unwrap_or o 0) (content_ends bs)

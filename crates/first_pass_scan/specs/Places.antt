@@ -9,6 +9,10 @@ pub record Place : Type 0 where
   pub line : ℕ
   pub rest : Rest
 
+-- a place in the line whose reading began at an offset (this project)
+abbrev pub place_at : ℕ → Rest → Place
+place_at line rest = record { line = line; rest = rest }
+
 -- how many bytes of the text stand before a place (this project)
 abbrev pub offset : Place → ℕ
 offset p = p.line + p.rest.taken

@@ -1,0 +1,53 @@
+-- The bytes at which a token may begin, and the next of them.
+use Rattle.std.specs.Prelude.{◌≡◌, ℕ, ◌<◌, ◌≤◌, ◌==◌, ◌&&◌, ◌||◌, Bool, true, false, List, [], ◌∷◌, length, slice_index}
+use Rattle.std.specs.List.{slice_index_or, list_any}
+use Rattle.first_pass_items.specs.declared.option_set.Options.{Options}
+use Rattle.first_pass_items.specs.OptionWords.{has}
+
+-- the byte is one of these (this project)
+abbrev pub is_one_of : List ℕ → ℕ → Bool
+is_one_of bytes b = list_any (λ c. b == c) bytes
+
+-- line ends, and ! & * < [ \ ] _ and the backquote (CommonMark 6)
+abbrev pub begins_token : ℕ → Bool
+begins_token = is_one_of (10 ∷ 13 ∷ 33 ∷ 38 ∷ 42 ∷ 60 ∷ 91 ∷ 92 ∷ 93 ∷ 95 ∷ 96 ∷ [])
+
+-- the pipe, with tables (GFM 4.10)
+abbrev pub begins_cell : Options → ℕ → Bool
+begins_cell options b = has options 2 && b == 124
+
+-- ~ with strikethrough (GFM 6.5) or subscript, and ^ with superscript (this project)
+abbrev pub begins_script : Options → ℕ → Bool
+begins_script options b = ((has options 8 || has options 16384) && b == 126) || (has options 8192 && b == 94)
+
+-- $ and braces with math (this project)
+abbrev pub begins_math : Options → ℕ → Bool
+begins_math options b = has options 1024 && is_one_of (36 ∷ 123 ∷ 125 ∷ []) b
+
+-- dots, dashes and quotes with smart punctuation (this project)
+abbrev pub begins_smart : Options → ℕ → Bool
+begins_smart options b = has options 32 && is_one_of (34 ∷ 39 ∷ 45 ∷ 46 ∷ []) b
+
+-- the bytes at which a token may begin (CommonMark 6; the extensions: this project)
+unfoldable pub is_special : Options → ℕ → Bool
+is_special options b =
+    begins_token b || (begins_cell options b || (begins_script options b || (begins_math options b || begins_smart options b)))
+
+-- the table marks just the bytes at which a token may begin (this project)
+abbrev pub MarksSpecial : List Bool → Options → Type 0
+MarksSpecial lut options = (b : ℕ) → b < 256 → slice_index_or lut b false ≡ is_special options b
+
+-- the table marks the byte at a place (this project)
+abbrev pub is_marked : List Bool → List ℕ → ℕ → Bool
+is_marked lut bytes k = slice_index_or lut (slice_index bytes k) false
+
+-- j is the least marked place from ix on (this project)
+pub record IsNextMarked (lut : List Bool) (bytes : List ℕ) (ix j : ℕ) : Type 0 where
+  pub from : ix ≤ j
+  pub within : j < length bytes
+  pub marked : is_marked lut bytes j ≡ true
+  pub least : (k : ℕ) → ix ≤ k → k < j → is_marked lut bytes k ≡ false
+
+-- no place from ix on is marked (this project)
+abbrev pub NoneMarkedFrom : List Bool → List ℕ → ℕ → Type 0
+NoneMarkedFrom lut bytes ix = (k : ℕ) → ix ≤ k → k < length bytes → is_marked lut bytes k ≡ false

@@ -1,0 +1,52 @@
+//! The walk over the bytes at which a token may begin.
+
+ghost use Rattle.std.specs.Prelude.{◌≡◌, IfSome, IfNone};
+ghost use Rattle.first_pass_below.specs.Walk.{is_special as is_special_byte, MarksSpecial, IsNextMarked, NoneMarkedFrom};
+
+use bitflags::Flags;
+use first_pass_items::option_set::Options;
+
+/// The table of the bytes at which a token may begin: the entry at a byte says whether one may.
+/// CommonMark 6; which bytes the extensions add, `specs/Walk.antt` says.
+pub fn special_bytes(options: &Options) -> [bool; 256]
+    ensures value { MarksSpecial result options.now }
+{
+    let mut table = [false; 256];
+    for byte in 0..256 {
+        table[byte] = is_special(options, byte as u8);
+    }
+    table
+}
+
+/// The least place at or behind the offset `ix` of `bytes` whose byte the table marks. `None` where
+/// there is none. CommonMark 6.
+pub fn next_special(lut: &[bool; 256], bytes: &[u8], ix: usize) -> Option<usize>
+    ensures found { IfSome result (λ j. IsNextMarked lut.now bytes.now ix j) }
+    ensures none { IfNone result (NoneMarkedFrom lut.now bytes.now ix) }
+{
+    for at in ix..bytes.len() {
+        if lut[bytes[at] as usize] {
+            return Some(at);
+        }
+    }
+    None
+}
+
+// Whether a token may begin at the byte.
+#[tactic(auto, unfolding(crate::specs::Walk::is_special))]
+fn is_special(options: &Options, byte: u8) -> bool
+    ensures { result ≡ is_special_byte options.now byte }
+{
+    match byte {
+        b'\n' | b'\r' | b'*' | b'_' | b'&' | b'\\' | b'[' | b']' | b'<' | b'!' | b'`' => true,
+        b'|' => options.contains(Options::ENABLE_TABLES),
+        b'~' => {
+            options.contains(Options::ENABLE_STRIKETHROUGH)
+                || options.contains(Options::ENABLE_SUBSCRIPT)
+        }
+        b'^' => options.contains(Options::ENABLE_SUPERSCRIPT),
+        b'$' | b'{' | b'}' => options.contains(Options::ENABLE_MATH),
+        b'.' | b'-' | b'"' | b'\'' => options.contains(Options::ENABLE_SMART_PUNCTUATION),
+        _ => false,
+    }
+}
