@@ -1,0 +1,317 @@
+-- Chains and trees: what a token adds and joins, what a cut leaves, and the block that a chain closes to.
+use Rattle.std.proofs.Common.{ℕ, suc, zero, ◌≡◌, ◌+◌, ◌-◌, ◌≤◌, ◌<◌, ◌==◌, ◌&&◌, Bool, true, false, List, [], ◌∷◌, ◌++◌, length, take, drop, Option, Some, None, MatchOption, nat_lt, slice_get, slice_index, refl, sym, ap, ◌∙◌, inl, inr, arith, length-append, append_assoc}
+use Rattle.std.specs.Option.{option_map}
+use Rattle.std.proofs.lemmas.List.{append-nil}
+use Rattle.std.proofs.Math.Seq.{take-append_seam, drop-append_seam}
+use Rattle.std.proofs.lemmas.Bool.{lt-ltb, le-ltb, cond-true, cond-false, cond_both, cases_Bool, cases_lt, and_parts, and_from, and_left, and_right, eq-eqb, ne_eqb, false≢true}
+use Rattle.first_pass_items.specs.declared.item.Item.{Item}
+use Rattle.first_pass_items.specs.declared.item.ItemBody.{ItemBody}
+use Rattle.first_pass_items.specs.declared.item.ItemBody.TheVariants.{SoftBreak, HardBreak}
+use Rattle.first_pass_tree.specs.declared.tree_index.TreeIndex.{TreeIndex}
+use Rattle.first_pass_tree.specs.Forest.{Forest, depths, item_at, modify, modified, appended, pushed, popped, cut_to, childless, is_text, is_escaped, cut_item, cut_tokens, cut_siblings, last_child, open_place, HasLeaves, ends_text_at, joins_at, with_end, with_end_at, with_text, at_depth, added, block_of}
+use Rattle.first_pass_tree.proofs.Blocks.{modify-at, forest-eq, block-calls}
+use Rattle.first_pass_tokens.specs.Chains.{text_token, touches, add_token, add_tokens, add_text, cut}
+use Rattle.first_pass_tokens.specs.LineTokens.{is_break}
+use Rattle.first_pass_tokens.specs.TreeTokens.{with_token, with_tokens, chained, leaves, JoinsNone}
+
+-- a text that is empty, and one that is not
+pub add_text-none : (from to : ℕ) (escaped : Bool) (chain : List Item) → to ≤ from → add_text from to escaped chain ≡ chain
+add_text-none from to escaped chain none = cond-false _ _ _ (le-ltb from to none)
+
+pub add_text-some : (from to : ℕ) (escaped : Bool) (chain : List Item) → from < to → add_text from to escaped chain ≡ add_token chain (text_token from to escaped)
+add_text-some from to escaped chain some = cond-true _ _ _ (lt-ltb from to some)
+
+-- a chain of one token at least keeps its first place
+add_token-cons : (x z : Item) (zs : List Item) (t u : Item) → add_token (x ∷ add_token (z ∷ zs) t) u ≡ x ∷ add_token (add_token (z ∷ zs) t) u
+add_token-cons x z [] t u = cond_both (touches z t) _ _ (λ (ys : List Item). add_token (x ∷ ys) u ≡ x ∷ add_token ys u) (λ b. refl) (λ b. refl)
+add_token-cons x z (w ∷ ws) t u = refl
+
+-- a text lengthened by the one behind it
+add_token-longer : (x : Item) (at to : ℕ) → is_text x.body ≡ true → add_token (record x { «end» = at } ∷ []) (text_token at to false) ≡ record x { «end» = to } ∷ []
+add_token-longer x at to text = cond-true (is_text x.body && (at == at)) _ _ (and_from _ _ text (eq-eqb at at refl))
+
+add_token-joined : (chain : List Item) (from mid to : ℕ) (escaped : Bool) → add_token (add_token chain (text_token from mid escaped)) (text_token mid to false) ≡ add_token chain (text_token from to escaped)
+add_token-joined [] from mid to escaped = cond-true _ _ _ (eq-eqb mid mid refl)
+add_token-joined (x ∷ []) from mid to escaped =
+    elim (cases_Bool (is_text x.body && (x.«end» == from))) [
+      | inl joins ↦ ap (λ (ys : List Item). add_token ys (text_token mid to false)) (cond-true _ _ _ joins)
+          ∙ add_token-longer x mid to (and_parts _ _ joins).0 ∙ sym (cond-true _ _ _ joins)
+      | inr apart ↦ ap (λ (ys : List Item). add_token ys (text_token mid to false)) (cond-false _ _ _ apart)
+          ∙ ap (λ (ys : List Item). x ∷ ys) (cond-true _ _ _ (eq-eqb mid mid refl)) ∙ sym (cond-false _ _ _ apart)
+    ]
+add_token-joined (x ∷ z ∷ zs) from mid to escaped =
+    add_token-cons x z zs (text_token from mid escaped) (text_token mid to false) ∙ ap (λ (ys : List Item). x ∷ ys) (add_token-joined (z ∷ zs) from mid to escaped)
+
+-- a text that is not empty, and then the one behind it, are one text
+pub add_text-joined : (from mid to : ℕ) (escaped : Bool) (chain : List Item) → from < mid → mid ≤ to → add_text mid to false (add_text from mid escaped chain) ≡ add_text from to escaped chain
+add_text-joined from mid to escaped chain first order =
+    elim (cases_lt mid to) [
+      | inl more ↦ add_text-some mid to false _ more ∙ ap (λ (ys : List Item). add_token ys (text_token mid to false)) (add_text-some from mid escaped chain first)
+          ∙ add_token-joined chain from mid to escaped ∙ sym (add_text-some from to escaped chain (omega arith))
+      | inr none ↦
+          let same : to ≡ mid = omega arith in
+          add_text-none mid to false _ none ∙ ap (λ (x : ℕ). add_text from x escaped chain) (sym same)
+    ]
+
+-- a token that is no text is put behind the chain
+pub add_token-plain : (chain : List Item) (x : Item) → is_text x.body ≡ false → add_token chain x ≡ chain ++ x ∷ []
+add_token-plain [] x plain = refl
+add_token-plain (y ∷ []) x plain = cond-false _ _ _ (and_left _ _ plain)
+add_token-plain (y ∷ z ∷ zs) x plain = ap (λ (ys : List Item). y ∷ ys) (add_token-plain (z ∷ zs) x plain)
+
+pub add_tokens-append : (chain xs ys : List Item) → add_tokens chain (xs ++ ys) ≡ add_tokens (add_tokens chain xs) ys
+add_tokens-append chain [] ys = refl
+add_tokens-append chain (x ∷ xs) ys = add_tokens-append (add_token chain x) xs ys
+
+-- a break is no text
+pub break-plain : (body : ItemBody) → is_break body ≡ true → is_text body ≡ false
+break-plain SoftBreak h = refl
+break-plain (HardBreak b) h = refl
+break-plain _ h = absurd (false≢true h)
+
+-- a write to a node, and then another
+pub modify-modify : (ns : List (ℕ × Item)) (i : ℕ) (g h : Item → Item) → modify (modify ns i g) i h ≡ modify ns i (λ x. h (g x))
+modify-modify [] i g h = refl
+modify-modify (n ∷ ns) zero g h = refl
+modify-modify (n ∷ ns) (suc i) g h = ap (λ (ms : List (ℕ × Item)). n ∷ ms) (modify-modify ns i g h)
+
+pub modified-modified : (f : Forest Item) (ix : TreeIndex) (g h : Item → Item) → modified (modified f ix g) ix h ≡ modified f ix (λ x. h (g x))
+modified-modified f ix g h = ap (λ (ns : List (ℕ × Item)). record f { nodes = ns }) (modify-modify f.nodes ix.0 g h)
+
+item_modified : (ns : List (ℕ × Item)) (i : ℕ) (g : Item → Item) → option_map (λ n. n.1) (slice_get (modify ns i g) i) ≡ option_map g (option_map (λ n. n.1) (slice_get ns i))
+item_modified [] i g = refl
+item_modified (n ∷ ns) zero g = refl
+item_modified (n ∷ ns) (suc i) g = item_modified ns i g
+
+-- a text with another end
+ends_moved : (at e next : ℕ) (o : Option Item) → ends_text_at at o ≡ true → (e == next) ≡ true → ends_text_at next (option_map {T = Item} (λ x. record x { «end» = e }) o) ≡ true
+ends_moved at e next None h same = absurd (false≢true h)
+ends_moved at e next (Some x) h same = and_from _ _ (and_parts _ _ h).0 same
+
+slice_get-behind : (xs : List (ℕ × Item)) (y : ℕ × Item) → slice_get (xs ++ y ∷ []) (length xs) ≡ Some y
+slice_get-behind [] y = refl
+slice_get-behind (x ∷ xs) y = slice_get-behind xs y
+
+-- what can be joined to a node that was just appended
+joins_appended : (f : Forest Item) (y : Item) (at : ℕ) → joins_at (appended f y) at (appended f y).current ≡ (is_text y.body && (y.«end» == at))
+joins_appended f y at = ap (λ (o : Option (ℕ × Item)). ends_text_at at (option_map (λ n. n.1) o)) (slice_get-behind f.nodes (length f.spine + 1, y))
+
+touches_appended : (f : Forest Item) (y x : Item) → (is_text x.body && joins_at (appended f y) x.start (appended f y).current) ≡ touches y x
+touches_appended f y x = ap (λ (b : Bool). is_text x.body && b) (joins_appended f y x.start)
+
+joined_last : (f : Forest Item) (y x : Item) → touches y x ≡ true → with_token (appended f y) x ≡ appended f (record y { «end» = x.«end» })
+joined_last f y x t =
+    cond-true _ _ _ (touches_appended f y x ∙ t)
+    ∙ ap (λ (ns : List (ℕ × Item)). record (appended f y) { nodes = ns }) (modify-at f.nodes [] (length f.spine + 1, y) (length f.nodes) (λ z. record z { «end» = x.«end» }) refl)
+
+joined_current : (f : Forest Item) (o : Option TreeIndex) (y x : Item) → f.current ≡ o → joins_at f y.start o ≡ true → touches y x ≡ true → with_token (with_end f y.«end» o) x ≡ with_end f x.«end» o
+joined_current f None y x is joins t = absurd (false≢true joins)
+joined_current f (Some c) y x is joins t =
+    let g = with_end_at f c y.«end» in
+    let text = and_parts (is_text x.body) (is_text y.body && (y.«end» == x.start)) t in
+    let same = and_parts (is_text y.body) (y.«end» == x.start) text.1 in
+    let moved : joins_at g x.start (Some c) ≡ true =
+    ap (ends_text_at x.start) (item_modified f.nodes c.0 (λ z. record z { «end» = y.«end» })) ∙ ends_moved y.start y.«end» x.start (item_at f c) joins same.1 in
+    cond-true _ _ _ (and_from _ _ text.0 (ap (joins_at g x.start) is ∙ moved)) ∙ ap (with_end g x.«end») is
+    ∙ ap (λ (ns : List (ℕ × Item)). record f { nodes = ns }) (modify-modify f.nodes c.0 (λ z. record z { «end» = y.«end» }) (λ z. record z { «end» = x.«end» }))
+
+-- two tokens that touch are one
+with_token-joined : (f : Forest Item) (y x : Item) → touches y x ≡ true → with_token f (record y { «end» = x.«end» }) ≡ with_token (with_token f y) x
+with_token-joined f y x t =
+    elim (cases_Bool (is_text y.body && joins_at f y.start f.current)) [
+      | inl joins ↦ cond-true _ _ _ joins ∙ sym (ap (λ (g : Forest Item). with_token g x) (cond-true _ _ _ joins) ∙ joined_current f f.current y x refl (and_parts _ _ joins).1 t)
+      | inr apart ↦ cond-false _ _ _ apart ∙ sym (ap (λ (g : Forest Item). with_token g x) (cond-false _ _ _ apart) ∙ joined_last f y x t)
+    ]
+
+-- the tree with a chain and then a token behind it, and with the chain that has the token
+pub with_tokens-add : (f : Forest Item) (chain : List Item) (x : Item) → with_tokens f (add_token chain x) ≡ with_token (with_tokens f chain) x
+with_tokens-add f [] x = refl
+with_tokens-add f (y ∷ []) x =
+    elim (cases_Bool (touches y x)) [
+      | inl joins ↦ ap (with_tokens f) (cond-true _ _ _ joins) ∙ with_token-joined f y x joins
+      | inr apart ↦ ap (with_tokens f) (cond-false _ _ _ apart)
+    ]
+with_tokens-add f (y ∷ z ∷ zs) x = with_tokens-add (with_token f y) (z ∷ zs) x
+
+pub with_tokens-append : (f : Forest Item) (xs ys : List Item) → with_tokens f (xs ++ ys) ≡ with_tokens (with_tokens f xs) ys
+with_tokens-append f [] ys = refl
+with_tokens-append f (x ∷ xs) ys = with_tokens-append (with_token f x) xs ys
+
+pub with_text-none : (f : Forest Item) (s e : ℕ) (b : Bool) → s ≡ e → with_text f s e b ≡ f
+with_text-none f s e b same = cond-true _ _ _ (eq-eqb s e same)
+
+pub with_text-some : (f : Forest Item) (s e : ℕ) (b : Bool) → s < e → with_text f s e b ≡ with_token f (text_token s e b)
+with_text-some f s e b some = cond-false _ _ _ (ne_eqb s e (λ same. omega arith))
+
+-- a text appended to the tree with a chain
+pub with_tokens-text : (f : Forest Item) (chain : List Item) (s e : ℕ) (b : Bool) → s ≤ e → with_tokens f (add_text s e b chain) ≡ with_text (with_tokens f chain) s e b
+with_tokens-text f chain s e b order =
+    elim (cases_lt s e) [
+      | inl some ↦ ap (with_tokens f) (add_text-some s e b chain some) ∙ with_tokens-add f chain (text_token s e b) ∙ sym (with_text-some (with_tokens f chain) s e b some)
+      | inr none ↦ ap (with_tokens f) (add_text-none s e b chain none) ∙ sym (with_text-none (with_tokens f chain) s e b (omega arith))
+    ]
+
+pub with_token-plain : (f : Forest Item) (x : Item) → is_text x.body ≡ false → with_token f x ≡ appended f x
+with_token-plain f x plain = cond-false _ _ _ (and_left _ _ plain)
+
+-- where no node is current, or one that is no text, nothing is joined
+pub joins_none-fresh : (f : Forest Item) → f.current ≡ None → JoinsNone f
+joins_none-fresh f none at = ap (joins_at f at) none
+
+pub joins_none-appended : (f : Forest Item) (x : Item) → is_text x.body ≡ false → JoinsNone (appended f x)
+joins_none-appended f x plain at = joins_appended f x at ∙ and_left _ _ plain
+
+-- a token behind a chain of one token at least
+pub with_token-behind : (f : Forest Item) (y : Item) (ys : List Item) (x : Item) → with_token (chained f (y ∷ ys)) x ≡ chained f (add_token (y ∷ ys) x)
+with_token-behind f y [] x =
+    elim (cases_Bool (touches y x)) [
+      | inl joins ↦ joined_last f y x joins ∙ ap (chained f) (sym (cond-true _ _ _ joins))
+      | inr apart ↦ cond-false _ _ _ (touches_appended f y x ∙ apart) ∙ ap (chained f) (sym (cond-false _ _ _ apart))
+    ]
+with_token-behind f y (z ∷ zs) x = with_token-behind (appended f y) z zs x
+
+pub with_token-chained : (f : Forest Item) (chain : List Item) (x : Item) → JoinsNone f → with_token (chained f chain) x ≡ chained f (add_token chain x)
+with_token-chained f [] x none = cond-false _ _ _ (and_right _ _ (none x.start))
+with_token-chained f (y ∷ ys) x none = with_token-behind f y ys x
+
+pub with_tokens-chained : (f : Forest Item) (chain tokens : List Item) → JoinsNone f → with_tokens (chained f chain) tokens ≡ chained f (add_tokens chain tokens)
+with_tokens-chained f chain [] none = refl
+with_tokens-chained f chain (x ∷ xs) none =
+    ap (λ (g : Forest Item). with_tokens g xs) (with_token-chained f chain x none) ∙ with_tokens-chained f (add_token chain x) xs none
+
+pub with_text-chained : (f : Forest Item) (chain : List Item) (s e : ℕ) (b : Bool) → JoinsNone f → s ≤ e → with_text (chained f chain) s e b ≡ chained f (add_text s e b chain)
+with_text-chained f chain s e b none order =
+    elim (cases_lt s e) [
+      | inl some ↦ with_text-some (chained f chain) s e b some ∙ with_token-chained f chain (text_token s e b) none ∙ ap (chained f) (sym (add_text-some s e b chain some))
+      | inr empty ↦ with_text-none (chained f chain) s e b (omega arith) ∙ ap (chained f) (sym (add_text-none s e b chain empty))
+    ]
+
+pub appended-chained : (f : Forest Item) (chain : List Item) (x : Item) → appended (chained f chain) x ≡ chained f (chain ++ x ∷ [])
+appended-chained f [] x = refl
+appended-chained f (y ∷ ys) x = appended-chained (appended f y) ys x
+
+pub chained-append : (f : Forest Item) (xs ys : List Item) → chained (chained f xs) ys ≡ chained f (xs ++ ys)
+chained-append f [] ys = refl
+chained-append f (x ∷ xs) ys = chained-append (appended f x) xs ys
+
+-- the parts of a tree with a chain
+pub chained-spine : (f : Forest Item) (chain : List Item) → (chained f chain).spine ≡ f.spine
+chained-spine f [] = refl
+chained-spine f (x ∷ xs) = chained-spine (appended f x) xs
+
+pub chained-nodes : (f : Forest Item) (chain : List Item) → (chained f chain).nodes ≡ f.nodes ++ at_depth (length f.spine + 1) (leaves chain)
+chained-nodes f [] = sym (append-nil f.nodes)
+chained-nodes f (x ∷ xs) =
+    let d = length f.spine + 1 in
+    let z : d ≡ d + 0 = omega arith in
+    chained-nodes (appended f x) xs ∙ append_assoc f.nodes ((d, x) ∷ []) (at_depth d (leaves xs)) ∙ ap (λ (k : ℕ). f.nodes ++ (k, x) ∷ at_depth d (leaves xs)) z
+
+pub length-leaves : (d : ℕ) (chain : List Item) → length (at_depth d (leaves chain)) ≡ length chain
+length-leaves d [] = refl
+length-leaves d (x ∷ xs) = ap suc (length-leaves d xs)
+
+pub chained-length : (f : Forest Item) (chain : List Item) → length (chained f chain).nodes ≡ length f.nodes + length chain
+chained-length f chain = ap length (chained-nodes f chain) ∙ length-append f.nodes (at_depth (length f.spine + 1) (leaves chain)) ∙ ap (λ (n : ℕ). length f.nodes + n) (length-leaves (length f.spine + 1) chain)
+
+abbrev place_at : ℕ → TreeIndex
+place_at m = record { 0 = m }
+
+-- the last item of a chain is current
+pub chained-current : (f : Forest Item) (x : Item) (xs : List Item) → (chained f (x ∷ xs)).current ≡ Some (record { 0 = length f.nodes + length xs })
+chained-current f x [] =
+    let z : length f.nodes ≡ length f.nodes + 0 = omega arith in
+    ap (λ (m : ℕ). Some (place_at m)) z
+chained-current f x (y ∷ ys) =
+    let l = length-append f.nodes ((length f.spine + 1, x) ∷ []) in
+    let z : length (appended f x).nodes + length ys ≡ length f.nodes + suc (length ys) = omega arith in
+    chained-current (appended f x) y ys ∙ ap (λ (m : ℕ). Some (place_at m)) z
+
+-- a node that was just opened has nothing behind it, and none of its children is current
+pub pushed-fresh : (g : Forest Item) (x : Item) (ix : TreeIndex) → ix.0 ≡ length g.nodes → (open_place (pushed (appended g x) ix).spine + 1 ≡ length (pushed (appended g x) ix).nodes) × ((pushed (appended g x) ix).current ≡ None)
+pushed-fresh g x ix at = (omega (arith, at, length-append g.nodes ((length g.spine + 1, x) ∷ [])), refl)
+
+leaf_depth : (d : ℕ) (chain : List Item) (k : ℕ) → k < length (at_depth d (leaves chain)) → slice_index (depths (at_depth d (leaves chain))) k ≡ d
+leaf_depth d [] k within = absurd (omega arith)
+leaf_depth d (x ∷ xs) zero within = omega arith
+leaf_depth d (x ∷ xs) (suc k) within = leaf_depth d xs k (omega arith)
+
+behind_depth : (ns : List (ℕ × Item)) (d : ℕ) (chain : List Item) (k : ℕ) → length ns ≤ k → k < length (ns ++ at_depth d (leaves chain)) → slice_index (depths (ns ++ at_depth d (leaves chain))) k ≡ d
+behind_depth [] d chain k low high = leaf_depth d chain k high
+behind_depth (n ∷ ns) d chain zero low high = absurd (omega arith)
+behind_depth (n ∷ ns) d chain (suc k) low high = behind_depth ns d chain k (omega arith) (omega arith)
+
+-- the children are leaves, where the innermost open node was the last node
+pub has_leaves-chained : (f : Forest Item) (chain : List Item) → open_place f.spine + 1 ≡ length f.nodes → HasLeaves (chained f chain)
+has_leaves-chained f chain last k low high =
+    let nodes = chained-nodes f chain in
+    let spine = chained-spine f chain in
+    let low' : length f.nodes ≤ k = omega (arith, low, last, ap open_place spine) in
+    let high' : k < length (f.nodes ++ at_depth (length f.spine + 1) (leaves chain)) = omega (arith, high, ap length nodes) in
+    ap (λ (ns : List (ℕ × Item)). slice_index (depths ns) k) nodes ∙ behind_depth f.nodes (length f.spine + 1) chain k low' high' ∙ ap (λ (is : List TreeIndex). length is + 1) (sym spine)
+
+-- a cut
+pub cut_tokens-leaves : (e d : ℕ) (chain : List Item) → cut_tokens e (at_depth d (leaves chain)) ≡ at_depth d (leaves (cut e chain))
+cut_tokens-leaves e d [] = refl
+cut_tokens-leaves e d (x ∷ xs) =
+    elim (cases_Bool (nat_lt x.start e)) [
+      | inl before ↦ cond-true _ _ _ before ∙ ap (λ (ns : List (ℕ × Item)). (d + 0, cut_item e x) ∷ ns) (cut_tokens-leaves e d xs)
+          ∙ ap (λ (c : List Item). at_depth d (leaves c)) (sym (cond-true _ _ _ before))
+      | inr behind ↦ cond-false _ _ _ behind
+          ∙ elim (cases_Bool (is_escaped x.body && (x.start == e))) [
+            | inl escaped ↦ cond-true _ _ _ escaped ∙ ap (λ (c : List Item). at_depth d (leaves c)) (sym (cond-true _ _ _ escaped))
+            | inr other ↦ cond-false _ _ _ other ∙ ap (λ (c : List Item). at_depth d (leaves c)) (sym (cond-false _ _ _ other))
+          ]
+          ∙ ap (λ (c : List Item). at_depth d (leaves c)) (sym (cond-false _ _ _ behind))
+    ]
+
+-- the current node of a chain is the last child
+last_chained : (f : Forest Item) (chain : List Item) → open_place f.spine + 1 ≡ length f.nodes → f.current ≡ None → last_child f.spine (length (chained f chain).nodes) ≡ (chained f chain).current
+last_chained f [] last none = cond-false _ _ _ (le-ltb (open_place f.spine + 1) (length f.nodes) (omega arith)) ∙ sym none
+last_chained f (x ∷ xs) last none =
+    let len = chained-length f (x ∷ xs) in
+    let place : length (chained f (x ∷ xs)).nodes - 1 ≡ length f.nodes + length xs = omega arith in
+    cond-true _ _ _ (lt-ltb (open_place f.spine + 1) (length (chained f (x ∷ xs)).nodes) (omega arith)) ∙ ap (λ (m : ℕ). Some (place_at m)) place ∙ sym (chained-current f x xs)
+
+pub cut_siblings-chained : (f : Forest Item) (chain : List Item) (e : ℕ) → open_place f.spine + 1 ≡ length f.nodes → f.current ≡ None → cut_siblings (chained f chain) e ≡ chained f (cut e chain)
+cut_siblings-chained f chain e last none =
+    let d = length f.spine + 1 in
+    let g = chained f chain in
+    let spine = chained-spine f chain in
+    let place : open_place g.spine + 1 ≡ length f.nodes = omega (arith, last, ap open_place spine) in
+    let front : take (open_place g.spine + 1) g.nodes ≡ f.nodes =
+    ap (λ (n : ℕ). take n g.nodes) place ∙ ap (take (length f.nodes)) (chained-nodes f chain) ∙ take-append_seam f.nodes (at_depth d (leaves chain)) in
+    let back : drop (open_place g.spine + 1) g.nodes ≡ at_depth d (leaves chain) =
+    ap (λ (n : ℕ). drop n g.nodes) place ∙ ap (drop (length f.nodes)) (chained-nodes f chain) ∙ drop-append_seam f.nodes (at_depth d (leaves chain)) in
+    let nodes : (cut_siblings g e).nodes ≡ (chained f (cut e chain)).nodes =
+    ap (λ (ns : List (ℕ × Item)). ns ++ cut_tokens e (drop (open_place g.spine + 1) g.nodes)) front ∙ ap (λ (ns : List (ℕ × Item)). f.nodes ++ cut_tokens e ns) back
+    ∙ ap (λ (ns : List (ℕ × Item)). f.nodes ++ ns) (cut_tokens-leaves e d chain) ∙ sym (chained-nodes f (cut e chain)) in
+    forest-eq (cut_siblings g e) (chained f (cut e chain)) nodes (spine ∙ sym (chained-spine f (cut e chain)))
+    (ap (λ (is : List TreeIndex). last_child is (length (cut_siblings g e).nodes)) spine ∙ ap (λ (ns : List (ℕ × Item)). last_child f.spine (length ns)) nodes ∙ last_chained f (cut e chain) last none)
+
+-- the nodes before a chain
+taken_chained : (f : Forest Item) (chain : List Item) (n : ℕ) → n ≡ length f.nodes → take n (chained f chain).nodes ≡ f.nodes
+taken_chained f chain n same =
+    ap (λ (m : ℕ). take m (chained f chain).nodes) same ∙ ap (take (length f.nodes)) (chained-nodes f chain) ∙ take-append_seam f.nodes (at_depth (length f.spine + 1) (leaves chain))
+
+-- the innermost open node without its chain
+pub childless-chained : (f : Forest Item) (chain : List Item) (ix : TreeIndex) → ix.0 + 1 ≡ length f.nodes → f.current ≡ None → childless (chained f chain) ix ≡ f
+childless-chained f chain ix last none = forest-eq (childless (chained f chain) ix) f (taken_chained f chain (ix.0 + 1) last) (chained-spine f chain) (sym none)
+
+-- the same, closed
+pub removed-chained : (f : Forest Item) (chain : List Item) (ix : TreeIndex) (rest : List TreeIndex) → ix.0 + 1 ≡ length f.nodes → cut_to (popped (chained f chain) ix rest) (ix.0 + 1) ≡ popped f ix rest
+removed-chained f chain ix rest last =
+    forest-eq (cut_to (popped (chained f chain) ix rest) (ix.0 + 1)) (popped f ix rest) (taken_chained f chain (ix.0 + 1) last) refl refl
+
+-- a node is appended and opened, a chain is put under it, it is closed, and its item is changed: the block is added
+pub closed-calls : (f f₁ f₂ f₃ f₄ : Forest Item) (x : Item) (h : Item → Item) (chain : List Item) (place opened : TreeIndex) (r : Option TreeIndex) → place.0 ≡ length f.nodes → f₁ ≡ appended f x → f₁.current ≡ Some opened → f₂ ≡ pushed f₁ opened → f₃ ≡ chained f₂ chain
+    → MatchOption r ((f₃.spine ≡ []) × (f₄ ≡ f₃)) (λ ix. (f₃.spine ≡ ix ∷ f₄.spine) × (f₄ ≡ popped f₃ ix f₄.spine)) → modified f₄ place h ≡ added f (block_of (h x) (leaves chain))
+closed-calls f f₁ f₂ f₃ f₄ x h chain place opened r i e₁ c₁ e₂ e₃ m =
+    block-calls f f₁ f₂ f₃ f₄ x h (leaves chain) place opened r i e₁ c₁ e₂
+    (ap (λ (v : Forest Item). v.nodes) e₃ ∙ chained-nodes f₂ chain) (ap (λ (v : Forest Item). v.spine) e₃ ∙ chained-spine f₂ chain) m
+
+-- the same for trees that are spelled out
+pub closed-chained : (g : Forest Item) (x : Item) (h : Item → Item) (chain : List Item) (ix : TreeIndex) → ix.0 ≡ length g.nodes → modified (popped (chained (pushed (appended g x) ix) chain) ix g.spine) ix h ≡ added g (block_of (h x) (leaves chain))
+closed-chained g x h chain ix at =
+    let f₂ = pushed (appended g x) ix in
+    let same : ix ≡ place_at (length g.nodes) = ap place_at at in
+    closed-calls g (appended g x) f₂ (chained f₂ chain) (popped (chained f₂ chain) ix g.spine) x h chain ix ix (Some ix) at refl (ap (λ (j : TreeIndex). Some j) (sym same)) refl refl (chained-spine f₂ chain, refl)

@@ -1,0 +1,3 @@
+pub mod ChainLemmas
+pub mod LineLemmas
+pub mod SoFar

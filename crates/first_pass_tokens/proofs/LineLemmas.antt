@@ -1,0 +1,292 @@
+-- The division of a content: one more piece, that there is one division, that no line end stands in it, and where the line ends.
+use Rattle.std.proofs.Common.{ℕ, zero, suc, ◌≡◌, ◌⊎◌, ◌+◌, ◌-◌, ◌≤◌, ◌<◌, ◌==◌, ◌&&◌, ◌%◌, if◌then◌else◌, Bool, true, false, List, [], ◌∷◌, ◌++◌, length, take, drop, get_or, slice_index, nat_lt, nat_le, Option, None, IfSome, Result, Ok, Err, IfOk, unwrap_or, refl, sym, ap, subst, ◌∙◌, inl, inr, arith, length-drop}
+use Rattle.std.specs.List.{suffix_len, slice_range, prefix_len}
+use Rattle.std.specs.Char.{is_ascii_punctuation}
+use Rattle.std.specs.declared.alloc.AllocError.{AllocError}
+use Rattle.std.proofs.lemmas.List.{get_or-drop, get_or_past, drop-drop, at_drop_all, at_drop_more}
+use Rattle.std.proofs.lemmas.List.Sums.{suffix_len-le-length, suffix_len-take_yes, suffix_len-take_no, prefix_len_is}
+use Rattle.std.proofs.lemmas.Bool.{true≢false, false≢true, cases_lt, cases_Bool, cond_both, cond-true, cond-false, eqb-true, or_parts, or_cases, and_parts, lt-leb, le-leb, leb-false, leb-true, not_from_true, not_from_false}
+use Rattle.first_pass_items.specs.declared.item.Item.{Item}
+use Rattle.first_pass_tree.specs.Forest.{Forest}
+use Rattle.first_pass_scan.specs.Lines.{is_line_end, is_content, is_white, begins, eol_len, line_len}
+use Rattle.first_pass_below.specs.Walk.{is_special}
+use Rattle.first_pass_tokens.specs.declared.pieces.Piece.{Piece}
+use Rattle.first_pass_tokens.specs.declared.pieces.Piece.TheVariants.{Left}
+use Rattle.first_pass_tokens.specs.Pieces.{Source, piece_at, special_piece, backslash_piece, size}
+use Rattle.first_pass_tokens.specs.LineTokens.{ends_at, ArePieces, IsDivision, IsLine, IsBreak, EndsLine, add_piece, add_pieces, line_end_len, line_break, breaks_by_backslash, backslashes_at_end, blanks_at_end}
+use Rattle.first_pass_tokens.specs.TreeTokens.{AppendsLine}
+
+-- one more piece
+pub are_more : (s : Source) (at : ℕ) (ps : List Piece) (mid : ℕ) → ArePieces s at ps mid → ends_at s mid ≡ false → ArePieces s at (ps ++ piece_at s mid ∷ []) (mid + size (piece_at s mid))
+are_more s at [] mid same on = (rw same on, ap (piece_at s) (sym same), ap (λ (x : ℕ). x + size (piece_at s mid)) same)
+are_more s at (p ∷ ps) mid h on = (h.0, h.1, are_more s (at + size p) ps mid h.2 on)
+
+pub add_pieces_more : (s : Source) (stop at : ℕ) (ps : List Piece) (mid : ℕ) (chain : List Item) (p : Piece) → ArePieces s at ps mid
+    → add_pieces stop at (ps ++ p ∷ []) chain ≡ add_piece stop mid p (add_pieces stop at ps chain)
+add_pieces_more s stop at [] mid chain p same = ap (λ (x : ℕ). add_piece stop x p chain) same
+add_pieces_more s stop at (q ∷ ps) mid chain p h = add_pieces_more s stop (at + size q) ps mid (add_piece stop at q chain) p h.2
+
+-- a content has one division
+one_way : (s : Source) (at : ℕ) (ps : List Piece) (end : ℕ) (qs : List Piece) (stop : ℕ) → ArePieces s at ps end → ends_at s end ≡ true
+    → ArePieces s at qs stop → ends_at s stop ≡ true → (ps ≡ qs) × (end ≡ stop)
+one_way s at [] end [] stop h f k g = (refl, sym h ∙ k)
+one_way s at [] end (q ∷ qs) stop h f k g = absurd (true≢false (sym f ∙ ap (ends_at s) (sym h) ∙ k.0))
+one_way s at (p ∷ ps) end [] stop h f k g = absurd (true≢false (sym g ∙ ap (ends_at s) (sym k) ∙ h.0))
+one_way s at (p ∷ ps) end (q ∷ qs) stop h f k g =
+    let same : p ≡ q = h.1 ∙ sym k.1 in
+    let rest = one_way s (at + size p) ps end qs stop h.2 f (subst (λ (x : Piece). ArePieces s (at + size x) qs stop) (sym same) k.2) g in
+    (cc, rest.1)
+
+pub one_division : {s : Source} {ps qs : List Piece} {end stop : ℕ} → IsDivision s ps end → IsDivision s qs stop → (ps ≡ qs) × (end ≡ stop)
+one_division h k = one_way _ _ _ _ _ _ h.divided h.ended k.divided k.ended
+
+-- a line has one list of tokens, and one answer
+pub one_line : {s : Source} {tokens others : List Item} {a b : ℕ × Option Item} → IsLine s tokens a → IsLine s others b → (tokens ≡ others) × (a ≡ b)
+one_line h k =
+    let same = one_division h.division k.division in
+    (h.tokens_are ∙ rw (same.0, same.1) (sym k.tokens_are), h.answer_is ∙ rw same.1 (sym k.answer_is))
+
+-- a punctuation character is no line end, and stands in the text
+not_line_end : (b : ℕ) → is_ascii_punctuation b ≡ true → is_line_end b ≡ false
+not_line_end b punctuation =
+    elim (cases_Bool (is_line_end b)) [
+      | inl line ↦ elim (or_cases (b == 10) (b == 13) line) [
+        | inl lf ↦ absurd (false≢true (ap is_ascii_punctuation (sym (eqb-true b 10 lf)) ∙ punctuation))
+        | inr cr ↦ absurd (false≢true (ap is_ascii_punctuation (sym (eqb-true b 13 cr)) ∙ punctuation))
+      ]
+      | inr other ↦ other
+    ]
+
+punctuation_within : (text : List ℕ) (at : ℕ) → is_ascii_punctuation (slice_index text at) ≡ true → at < length text
+punctuation_within text at punctuation =
+    elim (cases_lt at (length text)) [
+      | inl within ↦ within
+      | inr past ↦ absurd (false≢true (ap is_ascii_punctuation (sym (get_or_past text at 0 past)) ∙ punctuation))
+    ]
+
+-- a piece lies in the text, and no line end stands in it
+pub record IsInLine (text : List ℕ) (at : ℕ) (p : Piece) : Type 0 where
+  pub fits : at + size p ≤ length text
+  pub plain : (k : ℕ) → at ≤ k → k < at + size p → is_line_end (slice_index text k) ≡ false
+
+module _ (text : List ℕ) (at : ℕ) (within : at < length text) (here : is_line_end (slice_index text at) ≡ false) where
+  one_in_line : (k : ℕ) → at ≤ k → k < at + 1 → is_line_end (slice_index text k) ≡ false
+  one_in_line k low high =
+      let same : k ≡ at = omega arith in
+      ap (λ (x : ℕ). is_line_end (slice_index text x)) same ∙ here
+
+  two_in_line : is_line_end (slice_index text (at + 1)) ≡ false → (k : ℕ) → at ≤ k → k < at + 2 → is_line_end (slice_index text k) ≡ false
+  two_in_line next k low high =
+      elim (cases_lt k (at + 1)) [
+        | inl first ↦ one_in_line k low first
+        | inr later ↦ let same : k ≡ at + 1 = omega arith in ap (λ (x : ℕ). is_line_end (slice_index text x)) same ∙ next
+      ]
+
+  backslash_in_line : IsInLine text at (backslash_piece text at)
+  unfolding backslash_piece
+  backslash_in_line =
+      cond_both (is_ascii_punctuation (slice_index text (at + 1))) _ _ (λ (p : Piece). IsInLine text at p)
+      (λ punctuation. record {
+        fits = let next = punctuation_within text (at + 1) punctuation in omega arith;
+        plain = two_in_line (not_line_end (slice_index text (at + 1)) punctuation);
+      })
+      (λ other. record { fits = omega arith; plain = one_in_line })
+
+  special_in_line : IsInLine text at (special_piece text at)
+  unfolding special_piece
+  special_in_line = cond_both (slice_index text at == 92) _ _ (λ (p : Piece). IsInLine text at p) (λ b. backslash_in_line) (λ b. record { fits = omega arith; plain = one_in_line })
+
+-- where no content ends
+pub not_ended : (s : Source) (at : ℕ) → ends_at s at ≡ false → (at < length s.text) × (is_line_end (slice_index s.text at) ≡ false)
+unfolding ends_at
+not_ended s at on =
+    let parts = or_parts (nat_le (length s.text) at) (is_line_end (slice_index s.text at)) on in
+    (leb-false (length s.text) at parts.0, parts.1)
+
+piece_in_line : (s : Source) (at : ℕ) → ends_at s at ≡ false → IsInLine s.text at (piece_at s at)
+unfolding piece_at
+piece_in_line s at on =
+    let parts = not_ended s at on in
+    cond_both (is_special s.options (slice_index s.text at)) (special_piece s.text at) (Left 1) (λ (p : Piece). IsInLine s.text at p) (λ b. special_in_line s.text at parts.0 parts.1)
+    (λ b. record { fits = let within = parts.0 in omega arith; plain = one_in_line s.text at parts.0 parts.1 })
+
+-- a content lies in the text, and no line end stands in it
+pub record IsContent (text : List ℕ) (start end : ℕ) : Type 0 where
+  pub order : start ≤ end
+  pub within : end ≤ length text
+  pub plain : (k : ℕ) → start ≤ k → k < end → is_line_end (slice_index text k) ≡ false
+
+content_from : (s : Source) (at : ℕ) (ps : List Piece) (end : ℕ) → at ≤ length s.text → ArePieces s at ps end → IsContent s.text at end
+content_from s at [] end within same = record { order = omega arith; within = omega arith; plain = λ k low high. absurd (omega arith) }
+content_from s at (p ∷ ps) end within h =
+    let first = subst (λ (q : Piece). IsInLine s.text at q) (sym h.1) (piece_in_line s at h.0) in
+    let rest = content_from s (at + size p) ps end first.fits h.2 in
+    record {
+      order = omega (arith, rest.order);
+      within = rest.within;
+      plain = λ k low high. elim (cases_lt k (at + size p)) [ inl inside ↦ first.plain k low inside | inr behind ↦ rest.plain k behind high ];
+    }
+
+pub content_of : {s : Source} {ps : List Piece} {end : ℕ} → s.start ≤ length s.text → IsDivision s ps end → IsContent s.text s.start end
+content_of within d = content_from _ _ _ _ within d.divided
+
+-- where a content ends
+ended_by : (s : Source) (end : ℕ) → ends_at s end ≡ true → (length s.text ≤ end) ⊎ (is_line_end (slice_index s.text end) ≡ true)
+unfolding ends_at
+ended_by s end h =
+    elim (or_cases (nat_le (length s.text) end) (is_line_end (slice_index s.text end)) h) [
+      | inl text ↦ inl (leb-true (length s.text) end text)
+      | inr byte ↦ inr byte
+    ]
+
+-- the line end in what is left of a text
+end_here : (b : ℕ) (bs : List ℕ) → is_line_end b ≡ true → unwrap_or (eol_len (b ∷ bs)) 0 ≡ (if b == 13 && begins 10 bs then 2 else 1)
+end_here b bs line =
+    elim (or_cases (b == 10) (b == 13) line) [
+      | inl lf ↦ subst (λ (x : ℕ). unwrap_or (eol_len (x ∷ bs)) 0 ≡ (if x == 13 && begins 10 bs then 2 else 1)) (sym (eqb-true b 10 lf)) refl
+      | inr cr ↦ subst (λ (x : ℕ). unwrap_or (eol_len (x ∷ bs)) 0 ≡ (if x == 13 && begins 10 bs then 2 else 1)) (sym (eqb-true b 13 cr)) refl
+    ]
+
+begins_drop : (text : List ℕ) (at : ℕ) → begins 10 (drop at text) ≡ (slice_index text at == 10)
+begins_drop text at =
+    elim (cases_lt at (length text)) [
+      | inl within ↦ at_drop_more (begins 10) text at 0 within
+      | inr past ↦ at_drop_all (begins 10) text at past ∙ ap (λ (b : ℕ). b == 10) (sym (get_or_past text at 0 past))
+    ]
+
+line_end_at : (s : Source) (end : ℕ) → ends_at s end ≡ true → unwrap_or (eol_len (drop end s.text)) 0 ≡ line_end_len s end
+unfolding line_end_len
+line_end_at s end h =
+    elim (cases_lt end (length s.text)) [
+      | inl within ↦
+          let b = slice_index s.text end in
+          elim (ended_by s end h) [
+            | inl past ↦ absurd (omega arith)
+            | inr line ↦
+                at_drop_more (λ (bs : List ℕ). unwrap_or (eol_len bs) 0) s.text end 0 within ∙ end_here b (drop (end + 1) s.text) line
+                ∙ ap (λ (next : Bool). if b == 13 && next then 2 else 1) (begins_drop s.text (end + 1)) ∙ sym (cond-false _ _ _ (lt-leb (length s.text) end within))
+          ]
+      | inr past ↦ at_drop_all (λ (bs : List ℕ). unwrap_or (eol_len bs) 0) s.text end past ∙ sym (cond-true _ _ _ (le-leb (length s.text) end past))
+    ]
+
+content_len : (s : Source) (end : ℕ) → IsContent s.text s.start end → ends_at s end ≡ true → prefix_len is_content (drop s.start s.text) ≡ end - s.start
+content_len s end c ended =
+    let order = c.order in
+    let within = c.within in
+    let len = length-drop s.start s.text in
+    prefix_len_is is_content (drop s.start s.text) (end - s.start) 0 (omega arith)
+    (λ k below. ap is_content (get_or-drop s.start s.text k 0) ∙ not_from_false _ (c.plain (s.start + k) (omega arith) (omega arith)))
+    (λ below.
+    let place : s.start + (end - s.start) ≡ end = omega arith in
+    ap is_content (get_or-drop s.start s.text (end - s.start) 0 ∙ ap (slice_index s.text) place)
+    ∙ elim (ended_by s end ended) [ inl past ↦ absurd (omega arith) | inr line ↦ not_from_true _ line ])
+
+-- a line goes up to the end of its content, and takes its line end
+line_place : (s : Source) (end : ℕ) → IsContent s.text s.start end → ends_at s end ≡ true → end + line_end_len s end ≡ s.start + line_len (drop s.start s.text)
+unfolding line_len
+line_place s end c ended =
+    let order = c.order in
+    let n = content_len s end c ended in
+    let place : s.start + (end - s.start) ≡ end = omega arith in
+    let rest : drop (prefix_len is_content (drop s.start s.text)) (drop s.start s.text) ≡ drop end s.text =
+    ap (λ (k : ℕ). drop k (drop s.start s.text)) n ∙ drop-drop (end - s.start) s.start s.text ∙ ap (λ (k : ℕ). drop k s.text) place in
+    let behind : unwrap_or (eol_len (drop (prefix_len is_content (drop s.start s.text)) (drop s.start s.text))) 0 ≡ line_end_len s end =
+    ap (λ (bs : List ℕ). unwrap_or (eol_len bs) 0) rest ∙ line_end_at s end ended in
+    omega arith
+
+-- a line end lies in the text, and is not empty
+line_end_fits : (s : Source) (end : ℕ) → end ≤ length s.text → end + line_end_len s end ≤ length s.text
+unfolding line_end_len
+line_end_fits s end within =
+    cond_both (nat_le (length s.text) end) 0 _ (λ (n : ℕ). end + n ≤ length s.text) (λ b. omega arith)
+    (λ b. let inside = leb-false (length s.text) end b in
+    cond_both (slice_index s.text end == 13 && slice_index s.text (end + 1) == 10) 2 1 (λ (n : ℕ). end + n ≤ length s.text)
+    (λ two. elim (cases_lt (end + 1) (length s.text)) [
+      | inl more ↦ omega arith
+      | inr past ↦ absurd (false≢true (ap (λ (x : ℕ). x == 10) (sym (get_or_past s.text (end + 1) 0 past)) ∙ (and_parts (slice_index s.text end == 13) (slice_index s.text (end + 1) == 10) two).1))
+    ])
+    (λ one. omega arith))
+
+line_end_some : (s : Source) (end : ℕ) → end < length s.text → 0 < line_end_len s end
+unfolding line_end_len
+line_end_some s end within =
+    cond_both (nat_le (length s.text) end) 0 _ (λ (n : ℕ). 0 < n) (λ b. let past = leb-true (length s.text) end b in absurd (omega arith))
+    (λ b. cond_both (slice_index s.text end == 13 && slice_index s.text (end + 1) == 10) 2 1 (λ (n : ℕ). 0 < n) (λ two. omega arith) (λ one. omega arith))
+
+-- how many bytes pass at the end of a front of a list, if one does not or there are no more
+suffix_bounded : (p : ℕ → Bool) (xs : List ℕ) (n k : ℕ) → n ≤ length xs → k ≤ n → (k ≡ 0) ⊎ ((0 < k) × (p (get_or xs (k - 1) 0) ≡ false)) → suffix_len p (take n xs) ≤ n - k
+suffix_bounded p xs zero k within order stops = omega (arith, suffix_len-le-length p (take 0 xs))
+suffix_bounded p xs (suc n) k within order stops =
+    elim (cases_lt k (suc n)) [
+      | inl more ↦
+          let back : suc n - 1 ≡ n = omega arith in
+          elim (cases_Bool (p (get_or xs (suc n - 1) 0))) [
+            | inl passes ↦
+                let one = suffix_len-take_yes p xs (suc n) 0 (omega arith) within passes in
+                let rest = suffix_bounded p xs n k (omega arith) (omega arith) stops in
+                let same : suffix_len p (take (suc n - 1) xs) ≡ suffix_len p (take n xs) = ap (λ (x : ℕ). suffix_len p (take x xs)) back in
+                omega arith
+            | inr fails ↦ let none = suffix_len-take_no p xs (suc n) 0 (omega arith) within fails in omega arith
+          ]
+      | inr whole ↦
+          let all : k ≡ suc n = omega arith in
+          elim stops [
+            | inl none ↦ absurd (omega arith)
+            | inr at ↦ let none = suffix_len-take_no p xs (suc n) 0 (omega arith) within (ap (λ (x : ℕ). p (get_or xs (x - 1) 0)) (sym all) ∙ at.1) in omega arith
+          ]
+    ]
+
+-- the same at the end of a content
+pub end_bounded : (p : ℕ → Bool) (text : List ℕ) (start begin end : ℕ) → start ≤ begin → begin ≤ end → end ≤ length text
+    → (begin ≡ start) ⊎ ((0 < begin) × (p (slice_index text (begin - 1)) ≡ false)) → suffix_len p (slice_range text start end) ≤ end - begin
+end_bounded p text start begin end low high within stops =
+    let len = length-drop start text in
+    let bound = suffix_bounded p (drop start text) (end - start) (begin - start) (omega arith) (omega arith)
+    (elim stops [
+      | inl same ↦ inl (omega arith)
+      | inr at ↦ elim (cases_lt start begin) [
+        | inl more ↦
+            let place : start + (begin - start - 1) ≡ begin - 1 = omega arith in
+            inr (omega arith, ap p (get_or-drop start text (begin - start - 1) 0 ∙ ap (slice_index text) place) ∙ at.1)
+        | inr none ↦ inl (omega arith)
+      ]
+    ]) in
+    omega arith
+
+-- a break lies in its line, and ends with it
+break_in_line : (s : Source) (end : ℕ) → s.start ≤ end → end ≤ length s.text → IfSome (line_break s end) (λ x. IsBreak s.start (end + line_end_len s end) x)
+unfolding line_break breaks_by_backslash backslashes_at_end blanks_at_end
+break_in_line s end order within =
+    let next = end + line_end_len s end in
+    let white : suffix_len is_white (slice_range s.text s.start end) ≤ end - s.start = end_bounded is_white s.text s.start s.start end (omega arith) order within (inl refl) in
+    let slashes : suffix_len (λ b. b == 92) (slice_range s.text s.start end) ≤ end - s.start = end_bounded (λ b. b == 92) s.text s.start s.start end (omega arith) order within (inl refl) in
+    cond_both (nat_le (length s.text) end) None _ (λ (o : Option Item). IfSome o (λ x. IsBreak s.start next x)) (λ b. tt)
+    (λ b. let some = line_end_some s end (leb-false (length s.text) end b) in
+    cond_both (breaks_by_backslash s end) _ _ (λ (x : Item). IsBreak s.start next x)
+    (λ breaks.
+    let odd = eqb-true (backslashes_at_end s end % 2) 1 (and_parts (backslashes_at_end s end % 2 == 1) (nat_lt next (length s.text)) breaks).0 in
+    record { from = omega arith; before = omega arith; to = refl; kind = refl })
+    (λ other. cond_both (nat_le 2 (blanks_at_end s end)) _ _ (λ (x : Item). IsBreak s.start next x)
+    (λ hard. let two = leb-true 2 (blanks_at_end s end) hard in record { from = omega arith; before = omega arith; to = refl; kind = refl })
+    (λ soft. record { from = order; before = omega arith; to = refl; kind = refl })))
+
+-- where a line ends
+pub ends_line : {s : Source} {tokens : List Item} {answer : ℕ × Option Item} → s.start ≤ length s.text → IsLine s tokens answer → EndsLine s answer
+ends_line {s} {tokens} {answer} within line =
+    let end = line.content_end in
+    let c = content_of within line.division in
+    subst (λ (a : ℕ × Option Item). EndsLine s a) (sym line.answer_is) (record {
+      within = line_end_fits s end c.within;
+      from = omega (arith, c.order);
+      later = λ some. elim (cases_lt end (length s.text)) [
+        | inl more ↦ omega (arith, c.order, line_end_some s end more)
+        | inr past ↦ omega arith
+      ];
+      place = line_place s end c line.division.ended;
+      broken = break_in_line s end c.order c.within;
+    })
+
+-- the same of what a call answers
+pub ends_line-if : (s : Source) (old new : Forest Item) (r : Result (ℕ × Option Item) AllocError) → s.start ≤ length s.text → IfOk r (λ a. AppendsLine s old new a) → IfOk r (λ a. EndsLine s a)
+ends_line-if s old new (Ok a) within h = ends_line within h.line
+ends_line-if s old new (Err e) within h = tt

@@ -1,0 +1,272 @@
+-- What is read of a content, and what is appended of it.
+use Rattle.std.proofs.Common.{ℕ, zero, suc, ◌≡◌, ◌⊎◌, ◌+◌, ◌-◌, ◌≤◌, ◌<◌, ◌==◌, ◌%◌, min, Bool, true, false, List, [], ◌∷◌, ◌++◌, length, slice_index, nat_lt, Option, Result, Ok, Err, OnOk, IfOk, refl, sym, ap, subst, ◌∙◌, inl, inr, arith}
+use Rattle.std.specs.List.{suffix_len, slice_range}
+use Rattle.std.specs.declared.alloc.AllocError.{AllocError}
+use Rattle.std.proofs.lemmas.Bool.{cases_lt, cases_Bool, lt-leb, le-leb, or_from, or_left, or_right, cond_both, cond-true, cond-false, and_parts, eqb-true, false≢true}
+use Rattle.first_pass_items.specs.declared.item.Item.{Item}
+use Rattle.first_pass_items.specs.declared.option_set.Options.{Options}
+use Rattle.first_pass_tree.specs.Forest.{Forest, with_text}
+use Rattle.first_pass_scan.specs.Lines.{is_line_end, is_white}
+use Rattle.first_pass_below.specs.Walk.{is_special}
+use Rattle.first_pass_tokens.specs.declared.line.Pending.{Pending}
+use Rattle.first_pass_tokens.specs.declared.pieces.Piece.{Piece}
+use Rattle.first_pass_tokens.specs.declared.pieces.Piece.TheVariants.{Left, Begins}
+use Rattle.first_pass_tokens.specs.Chains.{add_text}
+use Rattle.first_pass_tokens.specs.Pieces.{Source, piece_at, special_piece, size, EndsSolid}
+use Rattle.first_pass_tokens.specs.LineTokens.{ends_at, ArePieces, add_piece, add_pieces, text_end, breaks_by_backslash, backslashes_at_end, blanks_at_end, line_end_len, line_break}
+use Rattle.first_pass_tokens.specs.TreeTokens.{with_tokens, AppendsLine}
+use Rattle.first_pass_tokens.specs.Steps.{pending_after, tree_after}
+use Rattle.first_pass_tokens.proofs.ChainLemmas.{add_text-none, add_text-joined, with_tokens-text}
+use Rattle.first_pass_tokens.proofs.LineLemmas.{are_more, add_pieces_more, end_bounded}
+
+-- the text that is not appended begins with the content, or behind a byte that is no white space, and no backslash if the text is empty
+abbrev pub BeginsText : List ℕ → ℕ → ℕ → ℕ → Type 0
+BeginsText text start begin at =
+    (begin ≡ start) ⊎ ((0 < begin) × (is_white (slice_index text (begin - 1)) ≡ false) × ((begin < at) ⊎ ((slice_index text (begin - 1) == 92) ≡ false)))
+
+-- The content is read up to a place: the chain then, and a text that is not appended yet.
+pub record SoFar (z : Source) (chain : List Item) (pending : Pending) (at : ℕ) : Type 0 where
+  pub pieces : List Piece
+  pub divided : ArePieces z z.start pieces at
+  pub from : z.start ≤ pending.begin
+  pub upto : pending.begin ≤ at
+  pub within : at ≤ length z.text
+  pub mark : (pending.begin < at) ⊎ (pending.escaped ≡ false)
+  pub begins : BeginsText z.text z.start pending.begin at
+  pub shown : (stop : ℕ) → pending.begin ≤ stop → add_pieces stop z.start pieces [] ≡ add_text pending.begin (min at stop) pending.escaped chain
+
+-- the chain behind a piece
+abbrev pub chain_after : ℕ → Piece → Pending → List Item → List Item
+chain_after at (Left n) p chain = chain
+chain_after at (Begins dropped escaped) p chain = add_text p.begin at p.escaped chain
+
+-- a byte that is not special is not that special byte
+off : (b c : ℕ) (options : Options) → is_special options c ≡ true → is_special options b ≡ false → (b == c) ≡ false
+off b c options marked plain =
+    elim (cases_Bool (b == c)) [
+      | inl same ↦ absurd (false≢true (sym plain ∙ ap (is_special options) (eqb-true b c same) ∙ marked))
+      | inr other ↦ other
+    ]
+
+special_lf : (options : Options) → is_special options 10 ≡ true
+unfolding is_special
+special_lf options = refl
+
+special_cr : (options : Options) → is_special options 13 ≡ true
+unfolding is_special
+special_cr options = refl
+
+-- a byte that is not special is a piece by itself, and ends no content
+plain_piece : (z : Source) (at : ℕ) → at < length z.text → is_special z.options (slice_index z.text at) ≡ false → (ends_at z at ≡ false) × (piece_at z at ≡ Left 1)
+unfolding ends_at piece_at
+plain_piece z at within plain =
+    let b = slice_index z.text at in
+    let line = or_from _ _ (off b 10 z.options (special_lf z.options) plain) (off b 13 z.options (special_cr z.options) plain) in
+    (or_from _ _ (lt-leb (length z.text) at within) line, cond-false _ _ _ plain)
+
+-- the piece at a special byte
+pub piece_special : (z : Source) (at : ℕ) → is_special z.options (slice_index z.text at) ≡ true → special_piece z.text at ≡ piece_at z at
+unfolding piece_at
+piece_special z at special = sym (cond-true _ _ _ special)
+
+pub so_far_start : (z : Source) → z.start ≤ length z.text → SoFar z [] (record { begin = z.start; escaped = false }) z.start
+so_far_start z within = record {
+  pieces = [];
+  divided = refl;
+  from = omega arith;
+  upto = omega arith;
+  within = within;
+  mark = inr refl;
+  begins = inl refl;
+  shown = λ stop h. sym (add_text-none z.start (min z.start stop) false [] (omega arith));
+}
+
+-- a text grows by the bytes behind it
+add_text_grows : (begin at n stop : ℕ) (escaped : Bool) (chain : List Item) → begin ≤ at → (begin < at) ⊎ (escaped ≡ false) → begin ≤ stop
+    → add_text at (min (at + n) stop) false (add_text begin (min at stop) escaped chain) ≡ add_text begin (min (at + n) stop) escaped chain
+add_text_grows begin at n stop escaped chain upto mark ahead =
+    elim (cases_lt at stop) [
+      | inl more ↦
+          let here : min at stop ≡ at = omega arith in
+          ap (λ (x : ℕ). add_text at (min (at + n) stop) false (add_text begin x escaped chain)) here
+          ∙ elim mark [
+            | inl longer ↦ add_text-joined begin at (min (at + n) stop) escaped chain longer (omega arith)
+            | inr plain ↦ elim (cases_lt begin at) [
+              | inl longer ↦ add_text-joined begin at (min (at + n) stop) escaped chain longer (omega arith)
+              | inr empty ↦
+                  let same : at ≡ begin = omega arith in
+                  ap (add_text at (min (at + n) stop) false) (add_text-none begin at escaped chain empty)
+                  ∙ ap (λ (x : ℕ). add_text x (min (at + n) stop) false chain) same ∙ ap (λ (b : Bool). add_text begin (min (at + n) stop) b chain) (sym plain)
+            ]
+          ]
+      | inr past ↦
+          let none : min (at + n) stop ≤ at = omega arith in
+          let same : min at stop ≡ min (at + n) stop = omega arith in
+          add_text-none at (min (at + n) stop) false _ none ∙ ap (λ (x : ℕ). add_text begin x escaped chain) same
+    ]
+
+begins_on : (text : List ℕ) (start begin at n : ℕ) → BeginsText text start begin at → BeginsText text start begin (at + n)
+begins_on text start begin at n (inl same) = inl same
+begins_on text start begin at n (inr (positive, solid, inl longer)) = inr (positive, solid, inl (omega arith))
+begins_on text start begin at n (inr (positive, solid, inr other)) = inr (positive, solid, inr other)
+
+-- a text that is appended up to a place before stop
+shown_here : (begin at stop : ℕ) (escaped : Bool) (chain : List Item) → at ≤ stop → add_text begin (min at stop) escaped chain ≡ add_text begin at escaped chain
+shown_here begin at stop escaped chain order =
+    let here : min at stop ≡ at = omega arith in
+    ap (λ (x : ℕ). add_text begin x escaped chain) here
+
+module _ (z : Source) (chain : List Item) (pending : Pending) (at : ℕ) (s : SoFar z chain pending at) (on : ends_at z at ≡ false) where
+  divided_on : (p : Piece) → p ≡ piece_at z at → ArePieces z z.start (s.pieces ++ p ∷ []) (at + size p)
+  divided_on p is = subst (λ (q : Piece). ArePieces z z.start (s.pieces ++ q ∷ []) (at + size q)) (sym is) (are_more z z.start s.pieces at s.divided on)
+
+  shown_on : (p : Piece) (stop : ℕ) → pending.begin ≤ stop → add_pieces stop z.start (s.pieces ++ p ∷ []) [] ≡ add_piece stop at p (add_text pending.begin (min at stop) pending.escaped chain)
+  shown_on p stop ahead = add_pieces_more z stop z.start s.pieces at [] p s.divided ∙ ap (add_piece stop at p) (s.shown stop ahead)
+
+  -- the same, where the text before the piece is appended
+  shown_past : (p : Piece) (stop : ℕ) → at ≤ stop → add_pieces stop z.start (s.pieces ++ p ∷ []) [] ≡ add_piece stop at p (add_text pending.begin at pending.escaped chain)
+  shown_past p stop past = shown_on p stop (omega (arith, s.upto)) ∙ ap (add_piece stop at p) (shown_here pending.begin at stop pending.escaped chain past)
+
+  -- one more piece
+  pub so_far_piece : (p : Piece) → p ≡ piece_at z at → at + size p ≤ length z.text → EndsSolid z.text at p → SoFar z (chain_after at p pending chain) (pending_after at p pending) (at + size p)
+  so_far_piece (Left n) is fits ends = record {
+    pieces = s.pieces ++ Left n ∷ [];
+    divided = divided_on (Left n) is;
+    from = s.from;
+    upto = omega arith;
+    within = fits;
+    mark = elim s.mark [ inl longer ↦ inl (omega arith) | inr plain ↦ inr plain ];
+    begins = begins_on z.text z.start pending.begin at n s.begins;
+    shown = λ stop ahead. shown_on (Left n) stop ahead ∙ add_text_grows pending.begin at n stop pending.escaped chain s.upto s.mark ahead;
+  }
+  so_far_piece (Begins dropped escaped) is fits ends = record {
+    pieces = s.pieces ++ Begins dropped escaped ∷ [];
+    divided = divided_on (Begins dropped escaped) is;
+    from = omega arith;
+    upto = omega arith;
+    within = fits;
+    mark = inl (omega arith);
+    begins = inr (omega (arith, ends.0), rw ends.1 refl, inl (omega arith));
+    shown = λ stop ahead. shown_past (Begins dropped escaped) stop (omega arith);
+  }
+
+-- n bytes that are single pieces
+so_far_bytes : (z : Source) (chain : List Item) (pending : Pending) (n at : ℕ) → SoFar z chain pending at → at + n ≤ length z.text
+    → ((k : ℕ) → at ≤ k → k < at + n → (ends_at z k ≡ false) × (piece_at z k ≡ Left 1)) → SoFar z chain pending (at + n)
+so_far_bytes z chain pending zero at s fits single =
+    let here : at ≡ at + 0 = omega arith in
+    subst (SoFar z chain pending) here s
+so_far_bytes z chain pending (suc n) at s fits single =
+    let first = single at (omega arith) (omega arith) in
+    let more = so_far_piece z chain pending at s first.0 (Left 1) (sym first.1) (omega arith) (omega arith) in
+    let rest = so_far_bytes z chain pending n (at + 1) more (omega arith) (λ k low high. single k (omega arith) (omega arith)) in
+    let here : at + 1 + n ≡ at + suc n = omega arith in
+    subst (SoFar z chain pending) here rest
+
+-- up to a place that no special byte stands before
+so_far_upto : (z : Source) (chain : List Item) (pending : Pending) (at to : ℕ) → SoFar z chain pending at → at ≤ to → to ≤ length z.text
+    → ((k : ℕ) → at ≤ k → k < to → is_special z.options (slice_index z.text k) ≡ false) → SoFar z chain pending to
+so_far_upto z chain pending at to s order within plain =
+    let there : at + (to - at) ≡ to = omega arith in
+    subst (SoFar z chain pending) there
+    (so_far_bytes z chain pending (to - at) at s (omega arith) (λ k low high. plain_piece z k (omega arith) (plain k low (omega arith))))
+
+-- the text that is left ends where it begins or behind that
+begins_before : (z : Source) (begin end : ℕ) → z.start ≤ begin → begin ≤ end → end ≤ length z.text → BeginsText z.text z.start begin end → begin ≤ text_end z end
+unfolding text_end breaks_by_backslash backslashes_at_end blanks_at_end
+begins_before z begin end low high within begins =
+    elim (cases_Bool (breaks_by_backslash z end)) [
+      | inl breaks ↦
+          rw breaks
+          (let odd = eqb-true (backslashes_at_end z end % 2) 1 (and_parts (backslashes_at_end z end % 2 == 1) (nat_lt (end + line_end_len z end) (length z.text)) breaks).0 in
+          elim begins [
+            | inl same ↦
+                let bound = end_bounded (λ b. b == 92) z.text z.start begin end low high within (inl same) in
+                omega arith
+            | inr at ↦ elim at.2 [
+              | inl longer ↦ omega arith
+              | inr other ↦
+                  let bound = end_bounded (λ b. b == 92) z.text z.start begin end low high within (inr (at.0, other)) in
+                  omega arith
+            ]
+          ])
+      | inr plain ↦
+          rw plain
+          (let bound : suffix_len is_white (slice_range z.text z.start end) ≤ end - begin = end_bounded is_white z.text z.start begin end low high within (elim begins [ inl same ↦ inl same | inr at ↦ inr (at.0, at.1) ]) in
+          omega arith)
+    ]
+
+text_end_within : (z : Source) (end : ℕ) → text_end z end ≤ end
+unfolding text_end
+text_end_within z end = cond_both (breaks_by_backslash z end) (end - 1) (end - blanks_at_end z end) (λ (x : ℕ). x ≤ end) (λ b. omega arith) (λ b. omega arith)
+
+-- The content is read up to a place, and its tokens up to there are in the tree, but for a text that is not appended yet.
+pub record IsRead (z : Source) (old tree : Forest Item) (pending : Pending) (at : ℕ) : Type 0 where
+  pub tokens : List Item
+  pub read : SoFar z tokens pending at
+  pub tree_is : tree ≡ with_tokens old tokens
+
+pub read_start : (z : Source) (old : Forest Item) → z.start ≤ length z.text → IsRead z old old (record { begin = z.start; escaped = false }) z.start
+read_start z old within = record { tokens = []; read = so_far_start z within; tree_is = refl }
+
+pub read_upto : {z : Source} {old tree : Forest Item} {pending : Pending} (at to : ℕ) → IsRead z old tree pending at → at ≤ to → to ≤ length z.text
+    → ((k : ℕ) → at ≤ k → k < to → is_special z.options (slice_index z.text k) ≡ false) → IsRead z old tree pending to
+read_upto {z} {old} {tree} {pending} at to r order within plain = record { tokens = r.tokens; read = so_far_upto z r.tokens pending at to r.read order within plain; tree_is = r.tree_is }
+
+-- the tree behind a piece has the chain behind it
+tree_is_after : (old tree : Forest Item) (chain : List Item) (pending : Pending) (at : ℕ) (p : Piece) → pending.begin ≤ at → tree ≡ with_tokens old chain → tree_after at p pending tree ≡ with_tokens old (chain_after at p pending chain)
+tree_is_after old tree chain pending at (Left n) order same = same
+tree_is_after old tree chain pending at (Begins dropped escaped) order same =
+    ap (λ (f : Forest Item). with_text f pending.begin at pending.escaped) same ∙ sym (with_tokens-text old chain pending.begin at pending.escaped order)
+
+pub read_piece : {z : Source} {old tree new : Forest Item} {pending next : Pending} {at to : ℕ} (p : Piece) → IsRead z old tree pending at → ends_at z at ≡ false → p ≡ piece_at z at → at + size p ≤ length z.text → EndsSolid z.text at p
+    → new ≡ tree_after at p pending tree → next ≡ pending_after at p pending → to ≡ at + size p → IsRead z old new next to
+read_piece {z} {old} {tree} {new} {pending} {next} {at} p r on is fits ends tree_new next_is to_is =
+    rw (next_is, to_is) (record {
+      tokens = chain_after at p pending r.tokens;
+      read = so_far_piece z r.tokens pending at r.read on p is fits ends;
+      tree_is = tree_new ∙ tree_is_after old tree r.tokens pending at p r.read.upto r.tree_is;
+    })
+
+-- the whole content
+read_end : (z : Source) (old tree new : Forest Item) (pending : Pending) (end : ℕ) → IsRead z old tree pending end → ends_at z end ≡ true → new ≡ with_text tree pending.begin (text_end z end) pending.escaped
+    → AppendsLine z old new (end + line_end_len z end, line_break z end)
+read_end z old tree new pending end r ended new_is =
+    let s = r.read in
+    let before = begins_before z pending.begin end s.from s.upto s.within s.begins in
+    record {
+      tokens = add_text pending.begin (text_end z end) pending.escaped r.tokens;
+      line = record {
+        pieces = s.pieces;
+        content_end = end;
+        division = record { divided = s.divided; ended = ended };
+        tokens_are =
+            let here : min end (text_end z end) ≡ text_end z end = omega (arith, text_end_within z end) in
+            sym (s.shown (text_end z end) before ∙ ap (λ (x : ℕ). add_text pending.begin x pending.escaped r.tokens) here);
+        answer_is = refl;
+      };
+      tree_is = new_is ∙ ap (λ (f : Forest Item). with_text f pending.begin (text_end z end) pending.escaped) r.tree_is
+          ∙ sym (with_tokens-text old r.tokens pending.begin (text_end z end) pending.escaped before);
+    }
+
+-- the same of what a line's end answers
+pub read_ended : (z : Source) (old tree new : Forest Item) (pending : Pending) (end : ℕ) (r : Result (ℕ × Option Item) AllocError) → IsRead z old tree pending end → ends_at z end ≡ true
+    → OnOk r (new ≡ with_text tree pending.begin (text_end z end) pending.escaped) → IfOk r (λ a. a ≡ (end + line_end_len z end, line_break z end)) → IfOk r (λ a. AppendsLine z old new a)
+read_ended z old tree new pending end (Ok a) read ended new_is is = subst (λ (b : ℕ × Option Item). AppendsLine z old new b) (sym is) (read_end z old tree new pending end read ended new_is)
+read_ended z old tree new pending end (Err e) read ended new_is is = tt
+
+pub runs_on : (z : Source) (at : ℕ) → at < length z.text → is_line_end (slice_index z.text at) ≡ false → ends_at z at ≡ false
+unfolding ends_at
+runs_on z at within plain = or_from _ _ (lt-leb (length z.text) at within) plain
+
+pub ended_by_byte : (z : Source) (at : ℕ) → is_line_end (slice_index z.text at) ≡ true → ends_at z at ≡ true
+unfolding ends_at
+ended_by_byte z at byte = or_right _ _ byte
+
+pub ended_by_text : (z : Source) → ends_at z (length z.text) ≡ true
+unfolding ends_at
+ended_by_text z = or_left _ _ (le-leb (length z.text) (length z.text) (omega arith))
+
+pub size_positive : (text : List ℕ) (at : ℕ) (p : Piece) → EndsSolid text at p → 0 < size p
+size_positive text at (Left n) ends = ends
+size_positive text at (Begins dropped escaped) ends = omega arith

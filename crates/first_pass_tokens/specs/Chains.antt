@@ -1,0 +1,48 @@
+-- Chains of tokens: lists of items in the order of the text, the leaves of a block.
+use Rattle.std.specs.Prelude.{ℕ, ◌+◌, ◌-◌, ◌==◌, ◌&&◌, Bool, false, List, [], ◌∷◌, Option, Some, None, nat_lt, if◌then◌else◌}
+use Rattle.first_pass_items.specs.declared.item.Item.{Item}
+use Rattle.first_pass_items.specs.declared.item.ItemBody.{ItemBody}
+use Rattle.first_pass_items.specs.declared.item.ItemBody.TheVariants.{Text, HardBreak}
+use Rattle.first_pass_tree.specs.Forest.{is_text, is_escaped, cut_item}
+
+-- the text from one offset up to another, marked where its first byte was escaped (CommonMark 2.4)
+abbrev pub text_token : ℕ → ℕ → Bool → Item
+text_token from to escaped = record { start = from; «end» = to; body = Text escaped }
+
+-- the second is a text that begins where the first, a text, ends (this project)
+abbrev pub touches : Item → Item → Bool
+touches x y = is_text y.body && (is_text x.body && (x.«end» == y.start))
+
+-- the chain with a token behind it: a text that touches the last one is joined to it, and keeps that one's mark (this project)
+abbrev pub add_token : List Item → Item → List Item
+add_token [] y = y ∷ []
+add_token (x ∷ []) y = if touches x y then record x { «end» = y.«end» } ∷ [] else x ∷ y ∷ []
+add_token (x ∷ z ∷ zs) y = x ∷ add_token (z ∷ zs) y
+
+-- the chain with these tokens behind it, one after the other (this project)
+abbrev pub add_tokens : List Item → List Item → List Item
+add_tokens chain [] = chain
+add_tokens chain (x ∷ xs) = add_tokens (add_token chain x) xs
+
+-- the chain with a text behind it, unless it is empty (this project)
+abbrev pub add_text : ℕ → ℕ → Bool → List Item → List Item
+add_text from to escaped chain = if nat_lt from to then add_token chain (text_token from to escaped) else chain
+
+-- a hard break that a backslash makes (CommonMark 6.7)
+abbrev pub is_backslash_break : ItemBody → Bool
+is_backslash_break (HardBreak by_backslash) = by_backslash
+is_backslash_break _ = false
+
+-- the chain of a block's last line, which does not break: a backslash at its end is text (CommonMark 6.7)
+abbrev pub close_break : Option Item → List Item → List Item
+close_break None chain = chain
+close_break (Some x) chain = if is_backslash_break x.body then add_text x.start (x.start + 1) false chain else chain
+
+-- the chain before an offset: the tokens that begin before it, none beyond it;
+-- where the next one is an escaped text that begins there, its backslash stays as a text of its own (this project)
+abbrev pub cut : ℕ → List Item → List Item
+cut e [] = []
+cut e (x ∷ xs) =
+    if nat_lt x.start e
+    then cut_item e x ∷ cut e xs
+    else (if is_escaped x.body && (x.start == e) then text_token (e - 1) e false ∷ [] else [])

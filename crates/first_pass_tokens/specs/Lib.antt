@@ -1,0 +1,5 @@
+pub mod Pieces
+pub mod Chains
+pub mod LineTokens
+pub mod TreeTokens
+pub mod Steps

@@ -1,0 +1,99 @@
+-- The tokens of a line: its content divided into pieces, the texts that they give, and the break behind them.
+use Rattle.std.specs.Prelude.{◌≡◌, ℕ, ◌+◌, ◌-◌, ◌%◌, ◌==◌, ◌<◌, ◌≤◌, ◌&&◌, ◌||◌, Bool, true, false, List, [], ◌∷◌, length, drop, slice_index, Option, Some, None, IfSome, nat_lt, nat_le, min, if◌then◌else◌}
+use Rattle.std.specs.List.{slice_range, suffix_len}
+use Rattle.first_pass_items.specs.declared.item.Item.{Item}
+use Rattle.first_pass_items.specs.declared.item.ItemBody.{ItemBody}
+use Rattle.first_pass_items.specs.declared.item.ItemBody.TheVariants.{SoftBreak, HardBreak}
+use Rattle.first_pass_scan.specs.Lines.{is_line_end, is_white, line_len}
+use Rattle.first_pass_tokens.specs.declared.pieces.Piece.{Piece}
+use Rattle.first_pass_tokens.specs.declared.pieces.Piece.TheVariants.{Left, Begins}
+use Rattle.first_pass_tokens.specs.Chains.{add_text}
+use Rattle.first_pass_tokens.specs.Pieces.{Source, piece_at, size}
+
+-- a line end stands there, or the text ends (CommonMark 2.1)
+unfoldable pub ends_at : Source → ℕ → Bool
+ends_at s at = nat_le (length s.text) at || is_line_end (slice_index s.text at)
+
+-- the pieces of a content from one place up to another: each is the piece that begins at its place, and the next one begins behind it (this project)
+abbrev pub ArePieces : Source → ℕ → List Piece → ℕ → Type 0
+ArePieces s at [] end = at ≡ end
+ArePieces s at (p ∷ ps) end = (ends_at s at ≡ false) × (p ≡ piece_at s at) × ArePieces s (at + size p) ps end
+
+-- the content up to the end of its line, divided into its pieces (this project)
+pub record IsDivision (s : Source) (pieces : List Piece) (end : ℕ) : Type 0 where
+  pub divided : ArePieces s s.start pieces end
+  pub ended : ends_at s end ≡ true
+
+-- the chain with the text of a piece behind it, none of it past an offset; a dropped backslash is in no text (CommonMark 2.4)
+abbrev pub add_piece : ℕ → ℕ → Piece → List Item → List Item
+add_piece stop at (Left n) chain = add_text at (min (at + n) stop) false chain
+add_piece stop at (Begins dropped escaped) chain = add_text (at + dropped) (min (at + (dropped + 1)) stop) escaped chain
+
+-- the chain with the texts of these pieces behind it (this project)
+abbrev pub add_pieces : ℕ → ℕ → List Piece → List Item → List Item
+add_pieces stop at [] chain = chain
+add_pieces stop at (p ∷ ps) chain = add_pieces stop (at + size p) ps (add_piece stop at p chain)
+
+-- how many bytes the line end at a place has: none where the text ends, two for `\r\n` (CommonMark 2.1)
+unfoldable pub line_end_len : Source → ℕ → ℕ
+line_end_len s end =
+    if nat_le (length s.text) end then 0
+    else (if slice_index s.text end == 13 && slice_index s.text (end + 1) == 10 then 2 else 1)
+
+-- how many bytes at the content's end are white space (CommonMark 6.7, 6.8)
+unfoldable pub blanks_at_end : Source → ℕ → ℕ
+blanks_at_end s end = suffix_len is_white (slice_range s.text s.start end)
+
+-- how many bytes at the content's end are backslashes (CommonMark 2.4)
+unfoldable pub backslashes_at_end : Source → ℕ → ℕ
+backslashes_at_end s end = suffix_len (λ b. b == 92) (slice_range s.text s.start end)
+
+-- a backslash that none before it escapes stands before the line end, and bytes behind the line end (CommonMark 6.7)
+unfoldable pub breaks_by_backslash : Source → ℕ → Bool
+breaks_by_backslash s end = (backslashes_at_end s end % 2 == 1) && nat_lt (end + line_end_len s end) (length s.text)
+
+-- where the last text of the content ends: before that backslash, or before the white space (CommonMark 6.7, 6.8)
+unfoldable pub text_end : Source → ℕ → ℕ
+text_end s end = if breaks_by_backslash s end then end - 1 else end - blanks_at_end s end
+
+-- the break from the end of a content up to an offset: hard by the last backslash of the content, hard by two or more bytes of white space at its end, or soft (CommonMark 6.7, 6.8)
+abbrev pub break_of : ℕ → ℕ → Bool → ℕ → Item
+break_of end next by_backslash blanks =
+    if by_backslash then record { start = end - 1; «end» = next; body = HardBreak true }
+    else (if nat_le 2 blanks then record { start = end - blanks; «end» = next; body = HardBreak false }
+    else record { start = end; «end» = next; body = SoftBreak })
+
+-- the break behind the content; none where the text ends without a line end (CommonMark 6.7, 6.8)
+unfoldable pub line_break : Source → ℕ → Option Item
+line_break s end =
+    if nat_le (length s.text) end then None
+    else Some (break_of end (end + line_end_len s end) (breaks_by_backslash s end) (blanks_at_end s end))
+
+-- The tokens of the line whose content begins there, and the answer: where the line ends, behind its line end, and its break (CommonMark 2.4, 6.7, 6.8).
+pub record IsLine (s : Source) (tokens : List Item) (answer : ℕ × Option Item) : Type 0 where
+  pub pieces : List Piece
+  pub content_end : ℕ
+  pub division : IsDivision s pieces content_end
+  pub tokens_are : tokens ≡ add_pieces (text_end s content_end) s.start pieces []
+  pub answer_is : answer ≡ (content_end + line_end_len s content_end, line_break s content_end)
+
+-- a soft or a hard break (CommonMark 6.7, 6.8)
+abbrev pub is_break : ItemBody → Bool
+is_break SoftBreak = true
+is_break (HardBreak by_backslash) = true
+is_break _ = false
+
+-- a break of the line from one offset up to another: it begins in the line and ends with it (CommonMark 6.7, 6.8)
+pub record IsBreak (start next : ℕ) (x : Item) : Type 0 where
+  pub from : start ≤ x.start
+  pub before : x.start < x.«end»
+  pub to : x.«end» ≡ next
+  pub kind : is_break x.body ≡ true
+
+-- where a line ends, and its break: behind the first line end from the content's start on, or with the text (CommonMark 2.1, 6.7, 6.8)
+pub record EndsLine (s : Source) (answer : ℕ × Option Item) : Type 0 where
+  pub within : answer.0 ≤ length s.text
+  pub from : s.start ≤ answer.0
+  pub later : s.start < length s.text → s.start < answer.0
+  pub place : answer.0 ≡ s.start + line_len (drop s.start s.text)
+  pub broken : IfSome answer.1 (λ x. IsBreak s.start answer.0 x)

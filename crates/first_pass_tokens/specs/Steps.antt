@@ -1,0 +1,23 @@
+-- What the code does at a piece: where the text that is not appended yet begins, and what is appended (private functions alone cite this).
+use Rattle.std.specs.Prelude.{ℕ, ◌+◌, List}
+use Rattle.first_pass_items.specs.declared.item.Item.{Item}
+use Rattle.first_pass_tree.specs.Forest.{Forest, with_text}
+use Rattle.first_pass_tokens.specs.declared.pieces.Piece.{Piece}
+use Rattle.first_pass_tokens.specs.declared.pieces.Piece.TheVariants.{Left, Begins}
+use Rattle.first_pass_tokens.specs.declared.line.Pending.{Pending}
+use Rattle.first_pass_tokens.specs.declared.line.Content.{Content}
+use Rattle.first_pass_tokens.specs.Pieces.{Source}
+
+-- the content in a text
+abbrev pub source : List ℕ → Content → Source
+source text c = record { options = c.options; text = text; start = c.start }
+
+-- the text that is not appended yet, behind a piece
+abbrev pub pending_after : ℕ → Piece → Pending → Pending
+pending_after at (Left n) p = p
+pending_after at (Begins dropped escaped) p = record { begin = at + dropped; escaped = escaped }
+
+-- the tree behind a piece
+abbrev pub tree_after : ℕ → Piece → Pending → Forest Item → Forest Item
+tree_after at (Left n) p f = f
+tree_after at (Begins dropped escaped) p f = with_text f p.begin at p.escaped

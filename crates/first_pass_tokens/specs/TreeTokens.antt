@@ -1,0 +1,34 @@
+-- Tokens as the last children of the innermost open node of a tree.
+use Rattle.std.specs.Prelude.{◌≡◌, ℕ, ◌&&◌, false, List, [], ◌∷◌, map, Option, if◌then◌else◌}
+use Rattle.first_pass_items.specs.declared.item.Item.{Item}
+use Rattle.first_pass_tree.specs.Forest.{Forest, appended, is_text, joins_at, with_end}
+use Rattle.first_pass_tokens.specs.Pieces.{Source}
+use Rattle.first_pass_tokens.specs.LineTokens.{IsLine}
+
+-- the tree with a token behind its nodes: a text is joined to the current node, where that is a text that ends where it begins (this project)
+abbrev pub with_token : Forest Item → Item → Forest Item
+with_token f x = if is_text x.body && joins_at f x.start f.current then with_end f x.«end» f.current else appended f x
+
+-- the tree with these tokens behind its nodes, one after the other (this project)
+abbrev pub with_tokens : Forest Item → List Item → Forest Item
+with_tokens f [] = f
+with_tokens f (x ∷ xs) = with_tokens (with_token f x) xs
+
+-- the tree with these items as last children of the innermost open node, none of them joined; the last of them is current (this project)
+abbrev pub chained : Forest Item → List Item → Forest Item
+chained f [] = f
+chained f (x ∷ xs) = chained (appended f x) xs
+
+-- the items of a chain as nodes without children, in a block of their own (this project)
+abbrev pub leaves : List Item → List (ℕ × Item)
+leaves chain = map (λ x. (0, x)) chain
+
+-- no text can be joined to the current node: there is none, or it is no text (this project)
+abbrev pub JoinsNone : Forest Item → Type 0
+JoinsNone f = (at : ℕ) → joins_at f at f.current ≡ false
+
+-- the new tree is the old one with the tokens of the line whose content begins there (CommonMark 2.4, 6.7, 6.8)
+pub record AppendsLine (s : Source) (old new : Forest Item) (answer : ℕ × Option Item) : Type 0 where
+  pub tokens : List Item
+  pub line : IsLine s tokens answer
+  pub tree_is : new ≡ with_tokens old tokens

@@ -1,0 +1,6 @@
+//! The tokens of a line: backslash escapes (CommonMark 2.4), hard and soft line breaks (6.7, 6.8).
+#![tactic(auto)]
+
+pub mod laws;
+pub mod line;
+pub mod pieces;
