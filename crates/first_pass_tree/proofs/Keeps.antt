@@ -242,6 +242,11 @@ map_from-more g [] i n l e = absurd (omega arith)
 map_from-more g (m ∷ ns) zero n l e = ap (λ k. g k ∷ map g ns) e
 map_from-more g (m ∷ ns) (suc i) n l e = ap (λ k. m ∷ k) (map_from-more g ns i n (omega arith) e)
 
+pub map_from-next : {T : Type 0} (g : ℕ × T → ℕ × T) (ns : List (ℕ × T)) (i : ℕ) (n : ℕ × T) → i < length ns → n ≡ get_or ns i n → map_from g (i + 1) (set ns i (g n)) ≡ map_from g i ns
+map_from-next g ns i n l e =
+    let h : i + 1 ≡ suc i = omega arith in
+    ap (λ k. map_from g k (set ns i (g n))) h ∙ map_from-more g ns i n l e
+
 pub map_from-end : {T : Type 0} (g : ℕ × T → ℕ × T) (ns : List (ℕ × T)) (i : ℕ) → length ns ≤ i → map_from g i ns ≡ ns
 map_from-end g [] zero l = refl
 map_from-end g [] (suc i) l = refl

@@ -249,8 +249,7 @@ impl Tree<Item> {
     /// them is a text that starts at `end` behind a backslash, that backslash takes its place as a text.
     /// The last token that is left becomes current.
     pub fn truncate_siblings(&mut self, end: usize)
-        requires leaves { HasLeaves self.old }
-        requires positive { 0 < end }
+        requires { HasLeaves self.old }
         ensures { self.new ≡ cut_siblings self.old end }
     {
         let _count = self.nodes.len();

@@ -4,4 +4,6 @@
 
 pub mod forest;
 mod node_list;
+#[cfg(test)]
+mod tests;
 pub mod tree_index;

@@ -103,7 +103,6 @@ pub(crate) fn last_place(first: usize, count: usize) -> Option<TreeIndex>
 /// Cuts the tokens from the place `first` on at the offset `end`: see `Tree::truncate_siblings`.
 pub(crate) fn cut_nodes(nodes: &mut Vec<(usize, Item)>, first: usize, end: usize)
     requires first_in { first ≤ length nodes.old.items }
-    requires positive { 0 < end }
     ensures { nodes.new.items ≡ take first nodes.old.items ++ cut_tokens end (drop first nodes.old.items) }
 {
     let mut kept = first;
@@ -119,7 +118,7 @@ pub(crate) fn cut_nodes(nodes: &mut Vec<(usize, Item)>, first: usize, end: usize
                 )
             {
                 node.1 = Item {
-                    start: end - 1,
+                    start: end.saturating_sub(1),
                     end,
                     body: ItemBody::Text {
                         backslash_escaped: false,

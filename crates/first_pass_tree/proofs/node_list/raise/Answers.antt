@@ -1,11 +1,11 @@
-use Rattle.std.proofs.Common.{arith, add-one, sym, ◌∙◌}
+use Rattle.std.proofs.Common.{arith, sym, ◌∙◌}
 use Rattle.first_pass_tree.specs.Forest.{deeper}
-use Rattle.first_pass_tree.proofs.Keeps.{map_from-more, map_from-end, raise-keeps}
+use Rattle.first_pass_tree.proofs.Keeps.{map_from-next, map_from-end, raise-keeps}
 use Rattle.first_pass_tree.proofs.node_list.raise.Goals as goal
 
 pub loop-next-preserved : goal.loop-next-preserved
 loop-next-preserved c = record {
-  same = rw add-one (map_from-more deeper c.loop-next.nodes.items c.loop-next.next c.index_mut-node.result.now (omega arith) c.index_mut-node.ensures.value) ∙ c.loop-next.invariant.same;
+  same = map_from-next deeper c.loop-next.nodes.items c.loop-next.next c.index_mut-node.result.now (omega arith) c.index_mut-node.ensures.value ∙ c.loop-next.invariant.same;
   small = raise-keeps c.loop-next.nodes.items c.loop-next.next _ c.loop-next.invariant.small;
 }
 

@@ -12,7 +12,7 @@ first_place-first-requires c =
 
 pub invariant_of-self : goal.invariant_of-self
 invariant_of-self c =
-    let q = subst (λ (v : Forest Item). HasLeaves v) (sym c.self.view_is) c.requires.leaves in
+    let q = subst (λ (v : Forest Item). HasLeaves v) (sym c.self.view_is) c.requires in
     let f : Forest Item = record { nodes = c.self.inside.nodes.items; spine = reverse c.self.inside.spine.items; current = c.self.inside.cur } in
     let p = c.first_place-first.ensures ∙ ap (λ (xs : List TreeIndex). open_place (reverse xs) + 1) c.deref.ensures.value in
     let n : c.len.result ≡ length c.cut_nodes.new.nodes.items = omega arith in
