@@ -22,9 +22,9 @@ end_first b bs h =
     let n : prefix_len is_content (b ∷ bs) ≡ 0 = rw h in
     rw n (omega arith)
 
-content_first : (b : ℕ) (bs : List ℕ) → is_content b ≡ true → line_len (b ∷ bs) ≡ line_len bs + 1
+pub line_len-content_first : (b : ℕ) (bs : List ℕ) → is_content b ≡ true → line_len (b ∷ bs) ≡ line_len bs + 1
 unfolding line_len
-content_first b bs h =
+line_len-content_first b bs h =
     let k : ℕ = prefix_len is_content bs in
     let n : prefix_len is_content (b ∷ bs) ≡ k + 1 = rw h (omega arith) in
     let d : drop (k + 1) (b ∷ bs) ≡ drop k bs = rw add-one in
@@ -44,7 +44,7 @@ line_len-return false bs h = rw h
 step_by : (t u : Bool) (b : ℕ) (bs : List ℕ) → (b == 10) ≡ t → (b == 13) ≡ u → line_len (b ∷ bs) ≡ cond (ends_line b bs) 1 (line_len bs + 1)
 step_by true u b bs h h' = line_len-newline b bs h ∙ rw h
 step_by false true b bs h h' = end_first b bs (rw (h, h')) ∙ rw (h, h') (line_len-return (begins 10 bs) bs refl)
-step_by false false b bs h h' = content_first b bs (rw (h, h')) ∙ rw (h, h')
+step_by false false b bs h h' = line_len-content_first b bs (rw (h, h')) ∙ rw (h, h')
 
 pub line_len-step : (b : ℕ) (bs : List ℕ) → line_len (b ∷ bs) ≡ cond (ends_line b bs) 1 (line_len bs + 1)
 line_len-step b bs = step_by (b == 10) (b == 13) b bs refl refl
@@ -116,7 +116,7 @@ line_len-content : (content rest : List ℕ) → list_all is_content content ≡
 line_len-content [] rest h = omega arith
 line_len-content (b ∷ bs) rest h =
     let r = line_len-content bs rest (grind (arith, h)) in
-    let e = content_first b (bs ++ rest) (grind (arith, h)) in
+    let e = line_len-content_first b (bs ++ rest) (grind (arith, h)) in
     omega arith
 
 line_len-line : (line behind : List ℕ) → IsLine line behind → line_len (line ++ behind) ≡ length line
@@ -268,7 +268,7 @@ blank_by true b bs n h f e =
     let d : drop (w + 1) (b ∷ bs) ≡ drop w bs = rw add-one in
     let g : blank_len (b ∷ bs) ≡ option_map (λ k. (w + 1) + k) (eol_len (drop w bs)) = rw p (rw d refl) in
     let m = one_less w n (eol_len (drop w bs)) (sym g ∙ e) in
-    let c = content_first b bs (grind (arith, nat_tests, h)) in
+    let c = line_len-content_first b bs (grind (arith, nat_tests, h)) in
     c ∙ ap (λ k. k + 1) (f m.0 m.1) ∙ sym m.2
 blank_by false b bs n h f e =
     let p : prefix_len is_white (b ∷ bs) ≡ 0 = rw h in

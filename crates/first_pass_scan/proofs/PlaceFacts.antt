@@ -1,14 +1,15 @@
 -- Facts on places in the text, and on the columns of a rest.
 use Rattle.std.proofs.Common.{◌≡◌, ◌⊎◌, inl, inr, ℕ, zero, suc, ◌+◌, ◌-◌, ◌<◌, ◌≤◌, Bool, true, false, ◌==◌, List, [], ◌∷◌, length, drop, get_or, slice_index, Option, Some, None, IsUtf8, IsCharBoundary, refl, sym, ap, subst, ◌∙◌, arith, length-drop, get_or-drop, drop-drop}
-use Rattle.std.specs.List.{prefix_len}
+use Rattle.std.specs.List.{prefix_len, All}
+use Rattle.std.proofs.lemmas.List.Elements.{All-nil, All-cons}
 use Rattle.std.proofs.lemmas.Str.{IsCharBoundary-after_ascii, IsCharBoundary-before_ascii, IsCharBoundary-end}
 use Rattle.std.proofs.lemmas.List.Sums.{prefix_len_passes, prefix_len_stops, prefix_len-le-length}
 use Rattle.std.proofs.lemmas.Bool.{eqb-true, cases_lt}
 use Rattle.std.proofs.lemmas.Bool.Decides.{nat_tests}
 use Rattle.first_pass_scan.specs.Lines.{begins, ends_line, line_len, is_content, is_white, is_number_sign}
 use Rattle.first_pass_scan.specs.Rest.{Rest, past_byte, column_of_byte, column_of, next_column, after_columns, indent}
-use Rattle.first_pass_scan.specs.Places.{Place, place_at, line_rest, offset, line_place, IsPlaceOf, moved_columns, moved_bytes}
-use Rattle.first_pass_scan.proofs.LineFacts.{line_len-none, line_len-step, line_len-some, line_len-within}
+use Rattle.first_pass_scan.specs.Places.{Place, place_at, line_rest, offset, line_place, IsPlaceOf, moved_columns, moved_bytes, line_end, content_end, start_of, lines_at}
+use Rattle.first_pass_scan.proofs.LineFacts.{line_len-none, line_len-step, line_len-some, line_len-within, line_len-content_first, lines_at-line, lines_at-end}
 use Rattle.first_pass_scan.proofs.Columns.{after-more, after-none, indent-none, indent-some, all-more, all-none}
 
 -- all columns are taken: no column is owed, and neither a space nor a tab is left
@@ -115,14 +116,14 @@ pub signs_keep : (text : List ℕ) (p : Place) → IsUtf8 text → IsPlaceOf tex
 signs_keep text p u i = prefix_keeps is_number_sign (λ b h. grind (arith, nat_tests, h)) text p u i
 
 -- and behind columns
-byte_by : (t u : Bool) (r s : Rest) (b : ℕ) (bs : List ℕ) → (b == 32) ≡ t → (b == 9) ≡ u → column_of_byte r (b ∷ bs) ≡ Some s → (b < 128) × (s.left ≡ bs) × (s.taken ≡ r.taken + 1)
+byte_by : (t u : Bool) (r s : Rest) (b : ℕ) (bs : List ℕ) → (b == 32) ≡ t → (b == 9) ≡ u → column_of_byte r (b ∷ bs) ≡ Some s → (b < 128) × (s.left ≡ bs) × (s.taken ≡ r.taken + 1) × (is_content b ≡ true)
 byte_by true u r s b bs h h' e =
     let small = eqb-true b 32 h in
     let f : past_byte r bs ≡ s = grind (arith, h, e) in
-    (omega arith, sym (ap (λ x. x.left) f), sym (ap (λ x. x.taken) f))
+    (omega arith, sym (ap (λ x. x.left) f), sym (ap (λ x. x.taken) f), grind (arith, nat_tests, h))
 byte_by false true r s b bs h h' e =
     let small = eqb-true b 9 h' in
-    (omega arith, grind (arith, h, h', e), grind (arith, h, h', e))
+    (omega arith, grind (arith, h, h', e), grind (arith, h, h', e), grind (arith, nat_tests, h'))
 byte_by false false r s b bs h h' e = absurd (grind (arith, h, h', e))
 
 byte_moves : (text : List ℕ) (p : Place) (s : Rest) (bs : List ℕ) → IsUtf8 text → IsPlaceOf text p → bs ≡ p.rest.left → column_of_byte p.rest bs ≡ Some s → IsPlaceOf text (place_at p.line s)
@@ -228,3 +229,77 @@ place_length text p i =
     let d : length p.rest.left ≡ length text - offset p = ap length i.left ∙ length-drop (offset p) text in
     let w = i.within in
     omega arith
+
+-- where the line of a place ends, and where its content does, stays the same behind columns and behind content:
+-- both are so many content bytes away
+content_by_step : (f : List ℕ → ℕ) → ((b : ℕ) (bs : List ℕ) → is_content b ≡ true → f (b ∷ bs) ≡ f bs + 1) → (r s : Rest) (bs : List ℕ) → column_of_byte r bs ≡ Some s → s.taken + f s.left ≡ r.taken + f bs
+content_by_step f step r s [] h = cc
+content_by_step f step r s (b ∷ bs) h =
+    let m = byte_by (b == 32) (b == 9) r s b bs refl refl h in
+    let c = step b bs m.3 in
+    let e = ap f m.1 in
+    omega arith
+
+column_away : (f : List ℕ → ℕ) → ((b : ℕ) (bs : List ℕ) → is_content b ≡ true → f (b ∷ bs) ≡ f bs + 1) → (o : ℕ) (r s : Rest) → column_of o r ≡ Some s → s.taken + f s.left ≡ r.taken + f r.left
+column_away f step zero r s h = content_by_step f step r s r.left h
+column_away f step (suc o) r s h = let e : record r { owed = o } ≡ s = cc in ap (λ q. q.taken + f q.left) (sym e)
+
+away_step : (f : List ℕ → ℕ) → ((b : ℕ) (bs : List ℕ) → is_content b ≡ true → f (b ∷ bs) ≡ f bs + 1) → (k : ℕ) (r : Rest) (o : Option Rest) → next_column r ≡ o → ((s : Rest) → (after_columns k s).taken + f (after_columns k s).left ≡ s.taken + f s.left) → (after_columns (suc k) r).taken + f (after_columns (suc k) r).left ≡ r.taken + f r.left
+away_step f step k r None e g = ap (λ q. q.taken + f q.left) (after-none (suc k) r e)
+away_step f step k r (Some s) e g = ap (λ q. q.taken + f q.left) (after-more (suc k) k r s refl e) ∙ g s ∙ column_away f step r.owed r s e
+
+columns_away : (f : List ℕ → ℕ) → ((b : ℕ) (bs : List ℕ) → is_content b ≡ true → f (b ∷ bs) ≡ f bs + 1) → (k : ℕ) (r : Rest) → (after_columns k r).taken + f (after_columns k r).left ≡ r.taken + f r.left
+columns_away f step zero r = refl
+columns_away f step (suc k) r = away_step f step k r (next_column r) refl (columns_away f step k)
+
+content_first : (b : ℕ) (bs : List ℕ) → is_content b ≡ true → prefix_len is_content (b ∷ bs) ≡ prefix_len is_content bs + 1
+content_first b bs h = rw h (omega arith)
+
+pub columns_line_end : (k : ℕ) (p : Place) → line_end (moved_columns k p) ≡ line_end p
+columns_line_end k p = let e = columns_away line_len line_len-content_first k p.rest in omega arith
+
+pub columns_content_end : (k : ℕ) (p : Place) → content_end (moved_columns k p) ≡ content_end p
+columns_content_end k p = let e = columns_away (prefix_len is_content) content_first k p.rest in omega arith
+
+bytes_step : (f : List ℕ → ℕ) → ((b : ℕ) (bs : List ℕ) → is_content b ≡ true → f (b ∷ bs) ≡ f bs + 1) → (t : Bool) (b n : ℕ) (bs : List ℕ) → is_content b ≡ t → suc n ≤ prefix_len is_content (b ∷ bs) → (n ≤ prefix_len is_content bs → n + f (drop n bs) ≡ f bs) → suc n + f (drop n bs) ≡ f (b ∷ bs)
+bytes_step f step true b n bs h w g =
+    let p = content_first b bs h in
+    let c = step b bs h in
+    let i = g (omega arith) in
+    omega arith
+bytes_step f step false b n bs h w g =
+    let p : prefix_len is_content (b ∷ bs) ≡ 0 = rw h in
+    absurd (omega arith)
+
+bytes_away : (f : List ℕ → ℕ) → ((b : ℕ) (bs : List ℕ) → is_content b ≡ true → f (b ∷ bs) ≡ f bs + 1) → (n : ℕ) (bs : List ℕ) → n ≤ prefix_len is_content bs → n + f (drop n bs) ≡ f bs
+bytes_away f step zero bs w = omega arith
+bytes_away f step (suc n) [] w = absurd (omega arith)
+bytes_away f step (suc n) (b ∷ bs) w = bytes_step f step (is_content b) b n bs refl w (bytes_away f step n bs)
+
+pub bytes_line_end : (n : ℕ) (p : Place) → n ≤ prefix_len is_content p.rest.left → line_end (moved_bytes n p) ≡ line_end p
+bytes_line_end n p w = let e = bytes_away line_len line_len-content_first n p.rest.left w in omega arith
+
+pub bytes_content_end : (n : ℕ) (p : Place) → n ≤ prefix_len is_content p.rest.left → content_end (moved_bytes n p) ≡ content_end p
+bytes_content_end n p w = let e = bytes_away (prefix_len is_content) content_first n p.rest.left w in omega arith
+
+-- where the lines from an offset on begin, and that each begins between characters
+start_by : (text : List ℕ) (s : ℕ) → s ≤ length text → (s < length text) ⊎ (length text ≤ s) → start_of (length text) (lines_at s (drop s text)) ≡ s
+start_by text s h (inl l) = ap (start_of (length text)) (lines_at-line text s l)
+start_by text s h (inr l) = ap (start_of (length text)) (lines_at-end text s l) ∙ omega arith
+
+pub start_of-lines : (text : List ℕ) (s : ℕ) → s ≤ length text → start_of (length text) (lines_at s (drop s text)) ≡ s
+start_of-lines text s h = start_by text s h (cases_lt s (length text))
+
+places_step : (text : List ℕ) (most s : ℕ) → IsUtf8 text → IsCharBoundary text s → length text ≤ s + suc most → ((t : ℕ) → IsCharBoundary text t → length text ≤ t + most → All (IsPlaceOf text) (lines_at t (drop t text))) → (s < length text) ⊎ (length text ≤ s) → All (IsPlaceOf text) (lines_at s (drop s text))
+places_step text most s u b m f (inl l) =
+    let w = line_len-within text s l in
+    let further = f (s + line_len (drop s text)) (line_end_boundary text s u b l) (omega arith) in
+    subst (All (IsPlaceOf text)) (sym (lines_at-line text s l)) (All-cons (IsPlaceOf text) _ _ (line_is_place text s b) further)
+places_step text most s u b m f (inr l) = subst (All (IsPlaceOf text)) (sym (lines_at-end text s l)) (All-nil (IsPlaceOf text))
+
+places_up_to : (text : List ℕ) (most s : ℕ) → IsUtf8 text → IsCharBoundary text s → length text ≤ s + most → All (IsPlaceOf text) (lines_at s (drop s text))
+places_up_to text zero s u b m = subst (All (IsPlaceOf text)) (sym (lines_at-end text s (omega arith))) (All-nil (IsPlaceOf text))
+places_up_to text (suc most) s u b m = places_step text most s u b m (λ t c n. places_up_to text most t u c n) (cases_lt s (length text))
+
+pub lines_are_places : (text : List ℕ) (s : ℕ) → IsUtf8 text → IsCharBoundary text s → All (IsPlaceOf text) (lines_at s (drop s text))
+lines_are_places text s u b = places_up_to text (length text) s u b (omega arith)
