@@ -1,0 +1,33 @@
+-- Which lines go on with the containers that are open (CommonMark 5).
+use Rattle.std.specs.Prelude.{Option, Some, None, List, [], ◌∷◌}
+use Rattle.std.specs.Option.{option_map, option_and_then}
+use Rattle.first_pass_scan.specs.Rest.{Rest, after_columns, past_quote}
+use Rattle.first_pass_scan.specs.Places.{Place}
+use Rattle.first_pass_grammar.specs.declared.kind.Container.{Container}
+use Rattle.first_pass_grammar.specs.declared.kind.Container.TheVariants.{BlockQuote}
+
+-- a place in the same line, of which this is left
+abbrev pub at_rest : Place → Rest → Place
+at_rest p r = record { line = p.line; rest = r }
+
+-- the prefix of a block quote: up to three columns, `>` with no column owed before it, and one column if there is one (CommonMark 5.1)
+abbrev pub quote_prefix : Rest → Option Rest
+quote_prefix r = option_map (after_columns 1) (past_quote (after_columns 3 r))
+
+-- what is left of a line behind the prefix by which it goes on with a container, or none where it doesn't
+unfoldable pub prefix : Container → Place → Option Place
+prefix (BlockQuote kind) p = option_map (at_rest p) (quote_prefix p.rest)
+
+-- the same for a path of containers, the innermost first: each takes its prefix in turn
+unfoldable pub after : List Container → Place → Option Place
+after [] p = Some p
+after (c ∷ path) p = option_and_then (prefix c) (after path p)
+
+abbrev pub or_shorter : Option Place → Place → Place
+or_shorter (Some q) p = q
+or_shorter None p = p
+
+-- what is left of a line behind the longest beginning of the path that it goes on with
+unfoldable pub front : List Container → Place → Place
+front [] p = p
+front (c ∷ path) p = or_shorter (after (c ∷ path) p) (front path p)

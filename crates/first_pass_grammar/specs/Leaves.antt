@@ -1,0 +1,84 @@
+-- The leaf blocks (CommonMark 4): which lines they take, and which items stand for them.
+use Rattle.std.specs.Prelude.{◌≡◌, ◌⊎◌, ℕ, ◌+◌, ◌-◌, ◌==◌, ◌||◌, Bool, true, false, nat_lt, Option, Some, None, List, [], ◌∷◌, ◌++◌, length, take, drop, if◌then◌else◌}
+use Rattle.std.specs.List.{prefix_len, suffix_len}
+use Rattle.first_pass_items.specs.declared.option_set.Options.{Options}
+use Rattle.first_pass_items.specs.declared.item.Item.{Item}
+use Rattle.first_pass_items.specs.declared.item.ItemBody.{ItemBody}
+use Rattle.first_pass_items.specs.declared.item.ItemBody.TheVariants.{Heading as HeadingBody, Paragraph as ParagraphBody}
+use Rattle.first_pass_items.specs.declared.item.HeadingLevel.{HeadingLevel}
+use Rattle.first_pass_tree.specs.Forest.{block_of}
+use Rattle.first_pass_scan.specs.Lines.{is_white, line_len, level_number}
+use Rattle.first_pass_scan.specs.Places.{Place, offset, start_of}
+use Rattle.first_pass_tokens.specs.Pieces.{Source}
+use Rattle.first_pass_tokens.specs.LineTokens.{IsLine}
+use Rattle.first_pass_tokens.specs.TreeTokens.{leaves}
+use Rattle.first_pass_tokens.specs.Chains.{add_tokens, close_break, cut}
+use Rattle.first_pass_grammar.specs.declared.kind.Container.{Container}
+use Rattle.first_pass_grammar.specs.Containers.{front}
+use Rattle.first_pass_grammar.specs.Kinds.{unindented, interrupts}
+
+-- a text, and the options under which it is read
+pub record Document : Type 0 where
+  pub text : List ℕ
+  pub options : Options
+
+-- the content that begins at an offset
+abbrev pub content_at : Document → ℕ → Source
+content_at d start = record { options = d.options; text = d.text; start = start }
+
+-- a block: its item, and a chain of tokens as its children
+abbrev pub block_with : ℕ → ℕ → ItemBody → List Item → List (ℕ × Item)
+block_with start «end» body chain = block_of (record { start = start; «end» = «end»; body = body }) (leaves chain)
+
+-- a chain and the break behind it
+abbrev pub add_break : Option Item → List Item → List Item
+add_break None chain = chain
+add_break (Some x) chain = chain ++ x ∷ []
+
+-- The chain of a paragraph of which the lines from an offset on stand behind a chain: the tokens of each line are joined to it, with the
+-- break between two lines. The paragraph takes each line up to the least that interrupts it, whatever containers that line goes on with
+-- (CommonMark 4.8, and 5.1 on lazy continuation lines); columns before a line's text are dropped.
+unfoldable pub IsParagraph : Document → List Container → ℕ → List Item → List Place → List Item → List Place → Type 0
+IsParagraph d path start chain [] whole left =
+    (tokens : List Item) × (answer : ℕ × Option Item) × IsLine (content_at d start) tokens answer
+    × (whole ≡ close_break answer.1 (add_tokens chain tokens)) × (left ≡ [])
+IsParagraph d path start chain (line ∷ lines) whole left =
+    (tokens : List Item) × (answer : ℕ × Option Item) × IsLine (content_at d start) tokens answer
+    × (((interrupts (front path line) ≡ true) × (whole ≡ close_break answer.1 (add_tokens chain tokens)) × (left ≡ line ∷ lines))
+    ⊎ ((interrupts (front path line) ≡ false)
+    × IsParagraph d path (offset (unindented (front path line))) (add_break answer.1 (add_tokens chain tokens)) lines whole left))
+
+-- spaces and line ends
+abbrev pub is_put_aside : ℕ → Bool
+is_put_aside b = (b == 32) || ((b == 10) || (b == 13))
+
+-- How many bytes of an ATX heading's text are left without its closing sequence: spaces and line ends at the end are put aside; then number
+-- signs at the end are taken off where a space stands before them, with all spaces there, or where they are the whole (CommonMark 4.2).
+unfoldable pub kept_len : List ℕ → ℕ
+kept_len text =
+    let trimmed = length text - suffix_len is_put_aside text in
+    let opening = trimmed - suffix_len (λ b. b == 35) (take trimmed text) in
+    let spaces = suffix_len (λ b. b == 32) (take opening text) in
+    if (opening == 0) || nat_lt 0 spaces then opening - spaces else trimmed
+
+-- a heading's chain, of whose text so many bytes are kept: none where nothing is kept
+unfoldable pub heading_chain : ℕ → ℕ → List Item → List Item
+heading_chain kept start chain = if kept == 0 then [] else cut (start + kept) chain
+
+-- where an ATX heading's text begins: behind its number signs and the white space after them
+abbrev pub heading_text_at : List ℕ → ℕ → ℕ → ℕ
+heading_text_at text start level = start + level + prefix_len is_white (drop (start + level) text)
+
+-- The chain of a heading whose text begins at an offset and whose line ends before another: the tokens of that line without its closing sequence.
+pub record IsHeading (d : Document) (start : ℕ) (chain : List Item) (end_of_line : ℕ) : Type 0 where
+  pub tokens : List Item
+  pub break : Option Item
+  pub line : IsLine (content_at d start) tokens (end_of_line, break)
+  pub chain_is : chain ≡ heading_chain (kept_len (take (line_len (drop start d.text)) (drop start d.text))) start (close_break break (add_tokens [] tokens))
+
+-- the items of an ATX heading and of a paragraph
+abbrev pub heading_block : ℕ → ℕ → HeadingLevel → List Item → List (ℕ × Item)
+heading_block start «end» level chain = block_with start «end» (HeadingBody level None) chain
+
+abbrev pub paragraph_block : ℕ → ℕ → List Item → List (ℕ × Item)
+paragraph_block start «end» chain = block_with start «end» ParagraphBody chain

@@ -1,0 +1,6 @@
+pub mod Completion
+pub mod Containers
+pub mod Derivation
+pub mod Kinds
+pub mod Leaves
+pub mod Skeleton

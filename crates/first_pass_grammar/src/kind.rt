@@ -1,0 +1,21 @@
+//! What the grammar tells blocks by.
+
+use first_pass_items::item::{BlockQuoteKind, HeadingLevel};
+
+/// What begins at a place of a line where no container begins.
+#[derive(Clone, Copy, PartialEq, Eq)]
+pub enum Kind {
+    /// A blank line (CommonMark 4.9).
+    Blank,
+    /// An ATX heading (CommonMark 4.2).
+    AtxHeading(HeadingLevel),
+    /// A paragraph (CommonMark 4.8).
+    Paragraph,
+}
+
+/// A container block, in which other blocks stand (CommonMark 5).
+#[derive(Clone, Copy, PartialEq, Eq)]
+pub enum Container {
+    /// A block quote, with the kind that a tag gives it (CommonMark 5.1).
+    BlockQuote(Option<BlockQuoteKind>),
+}
