@@ -1,12 +1,20 @@
 //! Laws of the definitions.
 
-ghost use Rattle.std.specs.Prelude.{◌≡◌, ℕ, List, Option};
+ghost use Rattle.std.specs.Prelude.{◌≡◌, ◌<◌, ◌≤◌, ℕ, List, Option, false, length, slice_index};
 ghost use Rattle.first_pass_items.specs.declared.item.Item.{Item};
+ghost use Rattle.first_pass_scan.specs.Lines.{is_line_end};
+ghost use Rattle.first_pass_tokens.specs.declared.pieces.Piece.{Piece};
 ghost use Rattle.first_pass_tokens.specs.Pieces.{Source};
-ghost use Rattle.first_pass_tokens.specs.LineTokens.{IsLine};
+ghost use Rattle.first_pass_tokens.specs.LineTokens.{IsLine, IsDivision};
 
 /// A line has one list of tokens, and one answer.
 pub fn one_line()
     ensures { (s : Source) (tokens others : List Item) (a b : ℕ × Option Item)
         → IsLine s tokens a → IsLine s others b → (tokens ≡ others) × (a ≡ b) }
+{}
+
+/// No line end stands in the content of a line.
+pub fn content_has_no_line_end()
+    ensures { (s : Source) (pieces : List Piece) (end : ℕ) → s.start ≤ length s.text → IsDivision s pieces end
+        → (k : ℕ) → s.start ≤ k → k < end → is_line_end (slice_index s.text k) ≡ false }
 {}

@@ -4,3 +4,5 @@
 pub mod laws;
 pub mod line;
 pub mod pieces;
+#[cfg(test)]
+mod tests;

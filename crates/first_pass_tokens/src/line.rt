@@ -16,11 +16,42 @@ use first_pass_items::option_set::Options;
 use first_pass_tree::forest::Tree;
 use std::alloc::AllocError;
 
-// The text that is read and not appended yet.
-#[derive(Clone, Copy, Drop)]
-struct Pending {
-    begin: usize,
-    escaped: bool,
+/// Appends the tokens of one line to the innermost open node: the texts of the content that begins at
+/// `start`, an offset into `text`, up to the first line end, or the text's end. `lut` is the table of
+/// the bytes that are special under `options`.
+///
+/// Answers the offset behind the line's line end, and the line break there (CommonMark 6.7, 6.8), which
+/// is not appended; `None` where the text ends without a line end. A backslash before ASCII punctuation
+/// is dropped (2.4), and white space at the content's end is in no text.
+pub fn append_line(
+    text: &[u8],
+    start: usize,
+    options: Options,
+    lut: &[bool; 256],
+    tree: &mut Tree<Item>,
+) -> Result<(usize, Option<Item>), AllocError>
+    requires within { start ≤ length text.now }
+    requires marks { MarksSpecial lut.now options }
+    ensures line { IfOk result (λ answer. AppendsLine
+        (record { options = options; text = text.now; start = start }) tree.old tree.new answer) }
+    ensures ends { IfOk result (λ answer. EndsLine
+        (record { options = options; text = text.now; start = start }) answer) }
+{
+    let content = Content { options, start };
+    let mut pending = Pending {
+        begin: start,
+        escaped: false,
+    };
+    let mut from = start;
+    while let Some(at) = next_special(lut, text, from) {
+        if is_line_end(text[at]) {
+            return end_line(text, content, at, pending, tree);
+        }
+        let piece = special_piece(text, at);
+        append_piece(tree, &mut pending, at, piece)?;
+        from = at + piece_len(piece);
+    }
+    end_line(text, content, text.len(), pending, tree)
 }
 
 // How a content is read, and where it begins in the text.
@@ -30,69 +61,35 @@ struct Content {
     start: usize,
 }
 
-fn is_line_end(byte: u8) -> bool
-    ensures { result ≡ is_line_end byte }
-{
-    byte == b'\n' || byte == b'\r'
+// The text that is read and not appended yet.
+#[derive(Clone, Copy, Drop)]
+struct Pending {
+    begin: usize,
+    escaped: bool,
 }
 
-// White space without line ends.
-fn is_white(byte: u8) -> bool
-    ensures { result ≡ is_white byte }
+// Appends the text that a piece ends.
+fn append_piece(
+    tree: &mut Tree<Item>,
+    pending: &mut Pending,
+    at: usize,
+    piece: Piece,
+) -> Result<(), AllocError>
+    requires { at + size piece < 2 ^ 64 }
+    ensures tree { OnOk result (tree.new ≡ tree_after at piece pending.old tree.old) }
+    ensures pending { OnOk result (pending.new ≡ pending_after at piece pending.old) }
 {
-    matches!(byte, b'\t' | 0x0b | 0x0c | b' ')
-}
-
-// How many bytes the line end at a place has: `\r\n` has two.
-#[tactic(auto, unfolding(crate::specs::LineTokens::line_end_len))]
-fn line_end_len(text: &[u8], content: Content, end: usize) -> usize
-    requires { end ≤ length text.now }
-    ensures value { result ≡ line_end_len (source text.now content) end }
-    ensures fits { end + result ≤ length text.now }
-{
-    if end >= text.len() {
-        0
-    } else if text[end] == b'\r' && end + 1 < text.len() && text[end + 1] == b'\n' {
-        2
-    } else {
-        1
+    match piece {
+        Piece::Left(_) => {}
+        Piece::Begins(dropped, escaped) => {
+            tree.append_text(pending.begin, at, pending.escaped)?;
+            *pending = Pending {
+                begin: at + dropped,
+                escaped,
+            };
+        }
     }
-}
-
-// How many bytes of white space stand at the end of the content.
-#[tactic(auto, unfolding(crate::specs::LineTokens::blanks_at_end))]
-fn blanks_at_end(text: &[u8], content: Content, end: usize) -> usize
-    requires order { content.start ≤ end }
-    requires within { end ≤ length text.now }
-    ensures value { result ≡ blanks_at_end (source text.now content) end }
-    ensures fits { content.start + result ≤ end }
-{
-    let bytes = &text[content.start..end];
-    bytes.iter().rev().take_while(|b| is_white(**b)).count()
-}
-
-// How many backslashes stand at the end of the content.
-#[tactic(auto, unfolding(crate::specs::LineTokens::backslashes_at_end))]
-fn backslashes_at_end(text: &[u8], content: Content, end: usize) -> usize
-    requires order { content.start ≤ end }
-    requires within { end ≤ length text.now }
-    ensures value { result ≡ backslashes_at_end (source text.now content) end }
-    ensures fits { content.start + result ≤ end }
-{
-    let bytes = &text[content.start..end];
-    bytes.iter().rev().take_while(|b| **b == b'\\').count()
-}
-
-// Whether the line, which ends at `next`, breaks by its last backslash.
-#[tactic(auto, unfolding(crate::specs::LineTokens::breaks_by_backslash))]
-fn breaks_by_backslash(text: &[u8], content: Content, end: usize, next: usize) -> bool
-    requires order { content.start ≤ end }
-    requires within { end ≤ length text.now }
-    requires behind { next ≡ end + line_end_len (source text.now content) end }
-    ensures value { result ≡ breaks_by_backslash (source text.now content) end }
-    ensures nonempty { IsTrue result → content.start < end }
-{
-    next < text.len() && backslashes_at_end(text, content, end) % 2 == 1
+    Ok(())
 }
 
 // Ends a line: appends the last text, and answers where the line ends, and its break.
@@ -149,64 +146,67 @@ fn break_of(end: usize, next: usize, by_backslash: bool, blanks: usize) -> Item
     }
 }
 
-// Appends the text that a piece ends.
-fn append_piece(
-    tree: &mut Tree<Item>,
-    pending: &mut Pending,
-    at: usize,
-    piece: Piece,
-) -> Result<(), AllocError>
-    requires { at + size piece < 2 ^ 64 }
-    ensures tree { OnOk result (tree.new ≡ tree_after at piece pending.old tree.old) }
-    ensures pending { OnOk result (pending.new ≡ pending_after at piece pending.old) }
+// Whether the line, which ends at `next`, breaks by its last backslash.
+#[tactic(auto, unfolding(crate::specs::LineTokens::breaks_by_backslash))]
+fn breaks_by_backslash(text: &[u8], content: Content, end: usize, next: usize) -> bool
+    requires order { content.start ≤ end }
+    requires within { end ≤ length text.now }
+    requires behind { next ≡ end + line_end_len (source text.now content) end }
+    ensures value { result ≡ breaks_by_backslash (source text.now content) end }
+    ensures nonempty { IsTrue result → content.start < end }
 {
-    match piece {
-        Piece::Left(_) => {}
-        Piece::Begins(dropped, escaped) => {
-            tree.append_text(pending.begin, at, pending.escaped)?;
-            *pending = Pending {
-                begin: at + dropped,
-                escaped,
-            };
-        }
-    }
-    Ok(())
+    next < text.len() && backslashes_at_end(text, content, end) % 2 == 1
 }
 
-/// Appends the tokens of one line to the innermost open node: the texts of the content that begins at
-/// `start`, an offset into `text`, up to the first line end, or the text's end. `lut` is the table of
-/// the bytes that are special under `options`.
-///
-/// Answers the offset behind the line's line end, and the line break there (CommonMark 6.7, 6.8), which
-/// is not appended; `None` where the text ends without a line end. A backslash before ASCII punctuation
-/// is dropped (2.4), and white space at the content's end is in no text.
-pub fn append_line(
-    text: &[u8],
-    start: usize,
-    options: Options,
-    lut: &[bool; 256],
-    tree: &mut Tree<Item>,
-) -> Result<(usize, Option<Item>), AllocError>
-    requires within { start ≤ length text.now }
-    requires marks { MarksSpecial lut.now options }
-    ensures line { IfOk result (λ answer. AppendsLine
-        (record { options = options; text = text.now; start = start }) tree.old tree.new answer) }
-    ensures ends { IfOk result (λ answer. EndsLine
-        (record { options = options; text = text.now; start = start }) answer) }
+// How many backslashes stand at the end of the content.
+#[tactic(auto, unfolding(crate::specs::LineTokens::backslashes_at_end))]
+fn backslashes_at_end(text: &[u8], content: Content, end: usize) -> usize
+    requires order { content.start ≤ end }
+    requires within { end ≤ length text.now }
+    ensures value { result ≡ backslashes_at_end (source text.now content) end }
+    ensures fits { content.start + result ≤ end }
 {
-    let content = Content { options, start };
-    let mut pending = Pending {
-        begin: start,
-        escaped: false,
-    };
-    let mut from = start;
-    while let Some(at) = next_special(lut, text, from) {
-        if is_line_end(text[at]) {
-            return end_line(text, content, at, pending, tree);
-        }
-        let piece = special_piece(text, at);
-        append_piece(tree, &mut pending, at, piece)?;
-        from = at + piece_len(piece);
+    let bytes = &text[content.start..end];
+    bytes.iter().rev().take_while(|b| **b == b'\\').count()
+}
+
+// How many bytes of white space stand at the end of the content.
+#[tactic(auto, unfolding(crate::specs::LineTokens::blanks_at_end))]
+fn blanks_at_end(text: &[u8], content: Content, end: usize) -> usize
+    requires order { content.start ≤ end }
+    requires within { end ≤ length text.now }
+    ensures value { result ≡ blanks_at_end (source text.now content) end }
+    ensures fits { content.start + result ≤ end }
+{
+    let bytes = &text[content.start..end];
+    bytes.iter().rev().take_while(|b| is_white(**b)).count()
+}
+
+// How many bytes the line end at a place has: `\r\n` has two.
+#[tactic(auto, unfolding(crate::specs::LineTokens::line_end_len))]
+fn line_end_len(text: &[u8], content: Content, end: usize) -> usize
+    requires { end ≤ length text.now }
+    ensures value { result ≡ line_end_len (source text.now content) end }
+    ensures fits { end + result ≤ length text.now }
+{
+    if end >= text.len() {
+        0
+    } else if text[end] == b'\r' && end + 1 < text.len() && text[end + 1] == b'\n' {
+        2
+    } else {
+        1
     }
-    end_line(text, content, text.len(), pending, tree)
+}
+
+fn is_line_end(byte: u8) -> bool
+    ensures { result ≡ is_line_end byte }
+{
+    byte == b'\n' || byte == b'\r'
+}
+
+// White space without line ends.
+fn is_white(byte: u8) -> bool
+    ensures { result ≡ is_white byte }
+{
+    matches!(byte, b'\t' | 0x0b | 0x0c | b' ')
 }

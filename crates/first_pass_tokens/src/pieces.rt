@@ -12,28 +12,6 @@ pub enum Piece {
     Begins(usize, bool),
 }
 
-// The byte at a place, and 0 past the end.
-fn byte_at(text: &[u8], at: usize) -> u8
-    ensures { result ≡ slice_index text.now at }
-{
-    if at < text.len() { text[at] } else { 0 }
-}
-
-#[tactic(auto, unfolding(crate::specs::Pieces::backslash_piece))]
-fn backslash_piece(text: &[u8], at: usize) -> Piece
-    requires within { at < length text.now }
-    requires here { slice_index text.now at ≡ 92 }
-    ensures value { result ≡ backslash_piece text.now at }
-    ensures fits { at + size result ≤ length text.now }
-    ensures ends { EndsSolid text.now at result }
-{
-    if byte_at(text, at + 1).is_ascii_punctuation() {
-        Piece::Begins(1, true)
-    } else {
-        Piece::Left(1)
-    }
-}
-
 /// The piece at a special byte of a text: a backslash before ASCII punctuation is dropped and escapes it
 /// (CommonMark 2.4); any other byte is left over. `at` is an offset within the text.
 #[tactic(auto, unfolding(crate::specs::Pieces::special_piece))]
@@ -58,4 +36,26 @@ pub fn piece_len(piece: Piece) -> usize
         Piece::Left(n) => n,
         Piece::Begins(dropped, _) => dropped + 1,
     }
+}
+
+#[tactic(auto, unfolding(crate::specs::Pieces::backslash_piece))]
+fn backslash_piece(text: &[u8], at: usize) -> Piece
+    requires within { at < length text.now }
+    requires here { slice_index text.now at ≡ 92 }
+    ensures value { result ≡ backslash_piece text.now at }
+    ensures fits { at + size result ≤ length text.now }
+    ensures ends { EndsSolid text.now at result }
+{
+    if byte_at(text, at + 1).is_ascii_punctuation() {
+        Piece::Begins(1, true)
+    } else {
+        Piece::Left(1)
+    }
+}
+
+// The byte at a place, and 0 past the end.
+fn byte_at(text: &[u8], at: usize) -> u8
+    ensures { result ≡ slice_index text.now at }
+{
+    if at < text.len() { text[at] } else { 0 }
 }
