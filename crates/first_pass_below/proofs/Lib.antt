@@ -2,6 +2,7 @@ pub use Rattle.first_pass_tree.proofs.Depths
 pub use Rattle.first_pass_tree.proofs.Keeps
 pub use Rattle.first_pass_tree.proofs.Blocks
 pub use Rattle.first_pass_tree.proofs.Moves
+pub use Rattle.first_pass_tree.proofs.Callers
 pub use Rattle.first_pass_scan.proofs.Columns
 pub use Rattle.first_pass_scan.proofs.HeadingFacts
 pub use Rattle.first_pass_scan.proofs.LineFacts

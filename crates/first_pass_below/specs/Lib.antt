@@ -1,3 +1,4 @@
+pub use Rattle.first_pass_items.specs.CowText
 pub use Rattle.first_pass_items.specs.OptionWords
 pub use Rattle.first_pass_tree.specs.Forest
 pub use Rattle.first_pass_tree.specs.Lending

@@ -1,5 +1,6 @@
-//! The names of the crates below: options and items, the tree, and the line scanners.
+//! The names of the crates below: options, items and texts, the tree, and the line scanners.
 
+pub use first_pass_items::cow_str::{CowStr, InlineStr};
 pub use first_pass_items::item::{
     Alignment, AlignmentIndex, BlockQuoteKind, CowIndex, HeadingIndex, HeadingLevel, Item,
     ItemBody, ListFlags, MetadataBlockKind,

@@ -1,5 +1,5 @@
-//! What the block pass stands on: options and items, the tree, the line scanners, and the walk over the
-//! bytes at which a token may begin.
+//! What the block pass stands on: options, items and texts, the tree, the line scanners, and the walk
+//! over the bytes at which a token may begin.
 #![tactic(auto)]
 
 pub mod below;
