@@ -22,6 +22,9 @@ pub record Document : Type 0 where
   pub text : List ℕ
   pub options : Options
 
+abbrev pub document : List ℕ → Options → Document
+document text options = record { text = text; options = options }
+
 -- the content that begins at an offset
 abbrev pub content_at : Document → ℕ → Source
 content_at d start = record { options = d.options; text = d.text; start = start }
