@@ -10,7 +10,7 @@ use Rattle.first_pass_items.specs.declared.item.ItemBody.TheVariants.{SoftBreak,
 use Rattle.first_pass_tree.specs.declared.tree_index.TreeIndex.{TreeIndex}
 use Rattle.first_pass_tree.specs.Forest.{Forest, depths, item_at, modify, modified, appended, pushed, popped, cut_to, childless, is_text, is_escaped, cut_item, cut_tokens, cut_siblings, last_child, open_place, HasLeaves, ends_text_at, joins_at, with_end, with_end_at, with_text, at_depth, added, block_of}
 use Rattle.first_pass_tree.proofs.Blocks.{modify-at, forest-eq, block-calls}
-use Rattle.first_pass_tokens.specs.Chains.{text_token, touches, add_token, add_tokens, add_text, cut}
+use Rattle.first_pass_tokens.specs.Chains.{text_token, touches, AreApart, add_token, add_tokens, add_text, cut}
 use Rattle.first_pass_tokens.specs.LineTokens.{is_break}
 use Rattle.first_pass_tokens.specs.TreeTokens.{with_token, with_tokens, chained, leaves, JoinsNone}
 
@@ -52,6 +52,41 @@ add_text-joined from mid to escaped chain first order =
           let same : to ≡ mid = omega arith in
           add_text-none mid to false _ none ∙ ap (λ (x : ℕ). add_text from x escaped chain) (sym same)
     ]
+
+-- a chain in which nothing touches
+apart_behind : (x z : Item) (zs : List Item) (t : Item) → touches x z ≡ false → AreApart (add_token (z ∷ zs) t) → AreApart (x ∷ add_token (z ∷ zs) t)
+apart_behind x z [] t apart =
+    cond_both (touches z t) (record z { «end» = t.«end» } ∷ []) (z ∷ t ∷ []) (λ (ys : List Item). AreApart ys → AreApart (x ∷ ys)) (λ b h. (apart, tt)) (λ b h. (apart, h))
+apart_behind x z (w ∷ ws) t apart = λ h. (apart, h)
+
+pub add_token-apart : (chain : List Item) (t : Item) → AreApart chain → AreApart (add_token chain t)
+add_token-apart [] t h = tt
+add_token-apart (x ∷ []) t h = cond_both (touches x t) (record x { «end» = t.«end» } ∷ []) (x ∷ t ∷ []) AreApart (λ b. tt) (λ b. (b, tt))
+add_token-apart (x ∷ z ∷ zs) t h = apart_behind x z zs t h.0 (add_token-apart (z ∷ zs) t h.1)
+
+pub add_tokens-apart : (chain tokens : List Item) → AreApart chain → AreApart (add_tokens chain tokens)
+add_tokens-apart chain [] h = h
+add_tokens-apart chain (x ∷ xs) h = add_tokens-apart (add_token chain x) xs (add_token-apart chain x h)
+
+pub add_text-apart : (from to : ℕ) (escaped : Bool) (chain : List Item) → AreApart chain → AreApart (add_text from to escaped chain)
+add_text-apart from to escaped chain h =
+    cond_both (nat_lt from to) (add_token chain (text_token from to escaped)) chain AreApart (λ b. add_token-apart chain (text_token from to escaped) h) (λ b. h)
+
+-- a token that does not touch the last one is put behind the chain
+add_token-behind : (front : List Item) (x y : Item) → touches x y ≡ false → add_token (front ++ x ∷ []) y ≡ (front ++ x ∷ []) ++ y ∷ []
+add_token-behind [] x y apart = cond-false _ _ _ apart
+add_token-behind (p ∷ []) x y apart = ap (λ (ys : List Item). p ∷ ys) (add_token-behind [] x y apart)
+add_token-behind (p ∷ q ∷ qs) x y apart = ap (λ (ys : List Item). p ∷ ys) (add_token-behind (q ∷ qs) x y apart)
+
+add_tokens-behind : (front : List Item) (x : Item) (xs : List Item) → AreApart (x ∷ xs) → add_tokens (front ++ x ∷ []) xs ≡ front ++ x ∷ xs
+add_tokens-behind front x [] h = refl
+add_tokens-behind front x (y ∷ ys) h =
+    ap (λ (chain : List Item). add_tokens chain ys) (add_token-behind front x y h.0) ∙ add_tokens-behind (front ++ x ∷ []) y ys h.1 ∙ append_assoc front (x ∷ []) (y ∷ ys)
+
+-- tokens of which none touches the one before it, put behind nothing
+pub add_tokens-none : (tokens : List Item) → AreApart tokens → add_tokens [] tokens ≡ tokens
+add_tokens-none [] h = refl
+add_tokens-none (x ∷ xs) h = add_tokens-behind [] x xs h
 
 -- a token that is no text is put behind the chain
 pub add_token-plain : (chain : List Item) (x : Item) → is_text x.body ≡ false → add_token chain x ≡ chain ++ x ∷ []
@@ -230,6 +265,18 @@ chained-current f x (y ∷ ys) =
 pub pushed-fresh : (g : Forest Item) (x : Item) (ix : TreeIndex) → ix.0 ≡ length g.nodes → (open_place (pushed (appended g x) ix).spine + 1 ≡ length (pushed (appended g x) ix).nodes) × ((pushed (appended g x) ix).current ≡ None)
 pushed-fresh g x ix at = (omega (arith, at, length-append g.nodes ((length g.spine + 1, x) ∷ [])), refl)
 
+-- the same from the clauses of the calls as they come: append, push
+pub pushed-fresh-calls : (f f₁ f₂ : Forest Item) (x : Item) (opened : TreeIndex) → f₁ ≡ appended f x → f₁.current ≡ Some opened → f₂ ≡ pushed f₁ opened
+    → (opened.0 ≡ length f.nodes) × (open_place f₂.spine + 1 ≡ length f₂.nodes) × (f₂.current ≡ None)
+pushed-fresh-calls f f₁ f₂ x opened e₁ c₁ e₂ =
+    let current : f₁.current ≡ Some (place_at (length f.nodes)) = ap (λ (v : Forest Item). v.current) e₁ in
+    let same : opened ≡ place_at (length f.nodes) = cc in
+    let at : opened.0 ≡ length f.nodes = ap (λ (j : TreeIndex). j.0) same in
+    let spine : f₂.spine ≡ opened ∷ f₁.spine = ap (λ (v : Forest Item). v.spine) e₂ in
+    let nodes : f₂.nodes ≡ f.nodes ++ (length f.spine + 1, x) ∷ [] = ap (λ (v : Forest Item). v.nodes) e₂ ∙ ap (λ (v : Forest Item). v.nodes) e₁ in
+    let place : open_place f₂.spine ≡ opened.0 = ap open_place spine in
+    (at, omega (arith, place, at, ap length nodes, length-append f.nodes ((length f.spine + 1, x) ∷ [])), ap (λ (v : Forest Item). v.current) e₂)
+
 leaf_depth : (d : ℕ) (chain : List Item) (k : ℕ) → k < length (at_depth d (leaves chain)) → slice_index (depths (at_depth d (leaves chain))) k ≡ d
 leaf_depth d [] k within = absurd (omega arith)
 leaf_depth d (x ∷ xs) zero within = omega arith
@@ -293,6 +340,9 @@ taken_chained : (f : Forest Item) (chain : List Item) (n : ℕ) → n ≡ length
 taken_chained f chain n same =
     ap (λ (m : ℕ). take m (chained f chain).nodes) same ∙ ap (take (length f.nodes)) (chained-nodes f chain) ∙ take-append_seam f.nodes (at_depth (length f.spine + 1) (leaves chain))
 
+no_open : (s : List TreeIndex) (i : TreeIndex) (is : List TreeIndex) → s ≡ [] → s ≡ i ∷ is → ⊥
+no_open s i is a b = cc
+
 -- the innermost open node without its chain
 pub childless-chained : (f : Forest Item) (chain : List Item) (ix : TreeIndex) → ix.0 + 1 ≡ length f.nodes → f.current ≡ None → childless (chained f chain) ix ≡ f
 childless-chained f chain ix last none = forest-eq (childless (chained f chain) ix) f (taken_chained f chain (ix.0 + 1) last) (chained-spine f chain) (sym none)
@@ -301,6 +351,25 @@ childless-chained f chain ix last none = forest-eq (childless (chained f chain) 
 pub removed-chained : (f : Forest Item) (chain : List Item) (ix : TreeIndex) (rest : List TreeIndex) → ix.0 + 1 ≡ length f.nodes → cut_to (popped (chained f chain) ix rest) (ix.0 + 1) ≡ popped f ix rest
 removed-chained f chain ix rest last =
     forest-eq (cut_to (popped (chained f chain) ix rest) (ix.0 + 1)) (popped f ix rest) (taken_chained f chain (ix.0 + 1) last) refl refl
+
+-- the same from the clauses of the calls as they come: append, push, a chain, remove
+pub removed-calls : (f f₁ f₂ f₃ f₄ : Forest Item) (x : Item) (chain : List Item) (opened : TreeIndex) (r : Option TreeIndex) → f₁ ≡ appended f x → f₁.current ≡ Some opened → f₂ ≡ pushed f₁ opened → f₃ ≡ chained f₂ chain
+    → MatchOption r ((f₃.spine ≡ []) × (f₄ ≡ f₃)) (λ ix. (f₃.spine ≡ ix ∷ f₄.spine) × (f₄ ≡ cut_to (popped f₃ ix f₄.spine) (ix.0 + 1))) → f₄ ≡ appended f x
+removed-calls f f₁ f₂ f₃ f₄ x chain opened None e₁ c₁ e₂ e₃ m =
+    let spine : f₃.spine ≡ opened ∷ f₁.spine = ap (λ (v : Forest Item). v.spine) e₃ ∙ chained-spine f₂ chain ∙ ap (λ (v : Forest Item). v.spine) e₂ in
+    absurd (no_open f₃.spine opened f₁.spine m.0 spine)
+removed-calls f f₁ f₂ f₃ f₄ x chain opened (Some ix) e₁ c₁ e₂ e₃ m =
+    let spine : f₃.spine ≡ opened ∷ f₁.spine = ap (λ (v : Forest Item). v.spine) e₃ ∙ chained-spine f₂ chain ∙ ap (λ (v : Forest Item). v.spine) e₂ in
+    let current : f₁.current ≡ Some (place_at (length f.nodes)) = ap (λ (v : Forest Item). v.current) e₁ in
+    let outer : f₁.spine ≡ f.spine = ap (λ (v : Forest Item). v.spine) e₁ in
+    let rest : f₄.spine ≡ f.spine = cc in
+    let at : ix ≡ place_at (length f.nodes) = cc in
+    let nodes : f₂.nodes ≡ f.nodes ++ (length f.spine + 1, x) ∷ [] = ap (λ (v : Forest Item). v.nodes) e₂ ∙ ap (λ (v : Forest Item). v.nodes) e₁ in
+    let last : ix.0 + 1 ≡ length f₂.nodes = ap (λ (j : TreeIndex). j.0 + 1) at ∙ sym (length-append f.nodes ((length f.spine + 1, x) ∷ [])) ∙ sym (ap length nodes) in
+    forest-eq f₄ (appended f x)
+    (ap (λ (v : Forest Item). v.nodes) m.1 ∙ ap (λ (v : Forest Item). take (ix.0 + 1) v.nodes) e₃ ∙ taken_chained f₂ chain (ix.0 + 1) last ∙ nodes)
+    rest
+    (ap (λ (v : Forest Item). v.current) m.1 ∙ ap (λ (j : TreeIndex). Some j) at)
 
 -- a node is appended and opened, a chain is put under it, it is closed, and its item is changed: the block is added
 pub closed-calls : (f f₁ f₂ f₃ f₄ : Forest Item) (x : Item) (h : Item → Item) (chain : List Item) (place opened : TreeIndex) (r : Option TreeIndex) → place.0 ≡ length f.nodes → f₁ ≡ appended f x → f₁.current ≡ Some opened → f₂ ≡ pushed f₁ opened → f₃ ≡ chained f₂ chain
