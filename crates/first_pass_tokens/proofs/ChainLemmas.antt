@@ -10,7 +10,7 @@ use Rattle.first_pass_items.specs.declared.item.ItemBody.TheVariants.{SoftBreak,
 use Rattle.first_pass_tree.specs.declared.tree_index.TreeIndex.{TreeIndex}
 use Rattle.first_pass_tree.specs.Forest.{Forest, depths, item_at, modify, modified, appended, pushed, popped, cut_to, childless, is_text, is_escaped, cut_item, cut_tokens, cut_siblings, last_child, open_place, HasLeaves, ends_text_at, joins_at, with_end, with_end_at, with_text, at_depth, added, block_of}
 use Rattle.first_pass_tree.proofs.Blocks.{modify-at, forest-eq, block-calls}
-use Rattle.first_pass_tokens.specs.Chains.{text_token, touches, AreApart, add_token, add_tokens, add_text, cut}
+use Rattle.first_pass_tokens.specs.Chains.{is_backslash_break, close_break, text_token, touches, AreApart, add_token, add_tokens, add_text, cut}
 use Rattle.first_pass_tokens.specs.LineTokens.{is_break}
 use Rattle.first_pass_tokens.specs.TreeTokens.{with_token, with_tokens, chained, leaves, JoinsNone}
 
@@ -225,6 +225,17 @@ pub appended-chained : (f : Forest Item) (chain : List Item) (x : Item) → appe
 appended-chained f [] x = refl
 appended-chained f (y ∷ ys) x = appended-chained (appended f y) ys x
 
+-- a break behind a chain
+pub appended-break : (f : Forest Item) (chain : List Item) (x : Item) → is_break x.body ≡ true → appended (chained f chain) x ≡ chained f (add_token chain x)
+appended-break f chain x is = appended-chained f chain x ∙ ap (chained f) (sym (add_token-plain chain x (break-plain x.body is)))
+
+-- a chain that a break by a backslash would stand behind, where the block ends, and any other chain
+pub close_break-backslash : (f : Forest Item) (chain : List Item) (x : Item) → JoinsNone f → is_backslash_break x.body ≡ true → with_text (chained f chain) x.start (x.start + 1) false ≡ chained f (close_break (Some x) chain)
+close_break-backslash f chain x none is = with_text-chained f chain x.start (x.start + 1) false none (omega arith) ∙ ap (chained f) (sym (cond-true _ _ _ is))
+
+pub close_break-other : (chain : List Item) (x : Item) → is_backslash_break x.body ≡ false → close_break (Some x) chain ≡ chain
+close_break-other chain x other = cond-false _ _ _ other
+
 pub chained-append : (f : Forest Item) (xs ys : List Item) → chained (chained f xs) ys ≡ chained f (xs ++ ys)
 chained-append f [] ys = refl
 chained-append f (x ∷ xs) ys = chained-append (appended f x) xs ys
@@ -265,17 +276,32 @@ chained-current f x (y ∷ ys) =
 pub pushed-fresh : (g : Forest Item) (x : Item) (ix : TreeIndex) → ix.0 ≡ length g.nodes → (open_place (pushed (appended g x) ix).spine + 1 ≡ length (pushed (appended g x) ix).nodes) × ((pushed (appended g x) ix).current ≡ None)
 pushed-fresh g x ix at = (omega (arith, at, length-append g.nodes ((length g.spine + 1, x) ∷ [])), refl)
 
--- the same from the clauses of the calls as they come: append, push
-pub pushed-fresh-calls : (f f₁ f₂ : Forest Item) (x : Item) (opened : TreeIndex) → f₁ ≡ appended f x → f₁.current ≡ Some opened → f₂ ≡ pushed f₁ opened
-    → (opened.0 ≡ length f.nodes) × (open_place f₂.spine + 1 ≡ length f₂.nodes) × (f₂.current ≡ None)
-pushed-fresh-calls f f₁ f₂ x opened e₁ c₁ e₂ =
+-- a node that was appended and opened
+pub record IsOpened (f : Forest Item) (x : Item) (place : TreeIndex) (f₂ : Forest Item) : Type 0 where
+  pub at : place.0 ≡ length f.nodes
+  pub is : f₂ ≡ pushed (appended f x) place
+
+-- the clauses of append and push, as they come
+pub opened-calls : (f f₁ f₂ : Forest Item) (x : Item) (place opened : TreeIndex) → place.0 ≡ length f.nodes → f₁ ≡ appended f x → f₁.current ≡ Some opened → f₂ ≡ pushed f₁ opened → IsOpened f x place f₂
+opened-calls f f₁ f₂ x place opened at e₁ c₁ e₂ =
     let current : f₁.current ≡ Some (place_at (length f.nodes)) = ap (λ (v : Forest Item). v.current) e₁ in
-    let same : opened ≡ place_at (length f.nodes) = cc in
-    let at : opened.0 ≡ length f.nodes = ap (λ (j : TreeIndex). j.0) same in
-    let spine : f₂.spine ≡ opened ∷ f₁.spine = ap (λ (v : Forest Item). v.spine) e₂ in
-    let nodes : f₂.nodes ≡ f.nodes ++ (length f.spine + 1, x) ∷ [] = ap (λ (v : Forest Item). v.nodes) e₂ ∙ ap (λ (v : Forest Item). v.nodes) e₁ in
-    let place : open_place f₂.spine ≡ opened.0 = ap open_place spine in
-    (at, omega (arith, place, at, ap length nodes, length-append f.nodes ((length f.spine + 1, x) ∷ [])), ap (λ (v : Forest Item). v.current) e₂)
+    let there : place ≡ place_at (length f.nodes) = ap place_at at in
+    let same : opened ≡ place = cc in
+    record { at = at; is = e₂ ∙ ap (pushed f₁) same ∙ ap (λ (v : Forest Item). pushed v place) e₁ }
+
+module _ {f f₂ : Forest Item} {x : Item} {place : TreeIndex} (o : IsOpened f x place f₂) where
+  pub opened-spine : f₂.spine ≡ place ∷ f.spine
+  opened-spine = ap (λ (v : Forest Item). v.spine) o.is
+
+  pub opened-current : f₂.current ≡ None
+  opened-current = ap (λ (v : Forest Item). v.current) o.is
+
+  -- the node is the last one
+  pub opened-last : open_place f₂.spine + 1 ≡ length f₂.nodes
+  opened-last = ap (λ (v : Forest Item). open_place v.spine + 1) o.is ∙ (pushed-fresh f x place o.at).0 ∙ sym (ap (λ (v : Forest Item). length v.nodes) o.is)
+
+  pub opened-joins_none : JoinsNone f₂
+  opened-joins_none = joins_none-fresh f₂ opened-current
 
 leaf_depth : (d : ℕ) (chain : List Item) (k : ℕ) → k < length (at_depth d (leaves chain)) → slice_index (depths (at_depth d (leaves chain))) k ≡ d
 leaf_depth d [] k within = absurd (omega arith)
@@ -352,35 +378,49 @@ pub removed-chained : (f : Forest Item) (chain : List Item) (ix : TreeIndex) (re
 removed-chained f chain ix rest last =
     forest-eq (cut_to (popped (chained f chain) ix rest) (ix.0 + 1)) (popped f ix rest) (taken_chained f chain (ix.0 + 1) last) refl refl
 
--- the same from the clauses of the calls as they come: append, push, a chain, remove
-pub removed-calls : (f f₁ f₂ f₃ f₄ : Forest Item) (x : Item) (chain : List Item) (opened : TreeIndex) (r : Option TreeIndex) → f₁ ≡ appended f x → f₁.current ≡ Some opened → f₂ ≡ pushed f₁ opened → f₃ ≡ chained f₂ chain
-    → MatchOption r ((f₃.spine ≡ []) × (f₄ ≡ f₃)) (λ ix. (f₃.spine ≡ ix ∷ f₄.spine) × (f₄ ≡ cut_to (popped f₃ ix f₄.spine) (ix.0 + 1))) → f₄ ≡ appended f x
-removed-calls f f₁ f₂ f₃ f₄ x chain opened None e₁ c₁ e₂ e₃ m =
-    let spine : f₃.spine ≡ opened ∷ f₁.spine = ap (λ (v : Forest Item). v.spine) e₃ ∙ chained-spine f₂ chain ∙ ap (λ (v : Forest Item). v.spine) e₂ in
-    absurd (no_open f₃.spine opened f₁.spine m.0 spine)
-removed-calls f f₁ f₂ f₃ f₄ x chain opened (Some ix) e₁ c₁ e₂ e₃ m =
-    let spine : f₃.spine ≡ opened ∷ f₁.spine = ap (λ (v : Forest Item). v.spine) e₃ ∙ chained-spine f₂ chain ∙ ap (λ (v : Forest Item). v.spine) e₂ in
-    let current : f₁.current ≡ Some (place_at (length f.nodes)) = ap (λ (v : Forest Item). v.current) e₁ in
-    let outer : f₁.spine ≡ f.spine = ap (λ (v : Forest Item). v.spine) e₁ in
-    let rest : f₄.spine ≡ f.spine = cc in
-    let at : ix ≡ place_at (length f.nodes) = cc in
-    let nodes : f₂.nodes ≡ f.nodes ++ (length f.spine + 1, x) ∷ [] = ap (λ (v : Forest Item). v.nodes) e₂ ∙ ap (λ (v : Forest Item). v.nodes) e₁ in
-    let last : ix.0 + 1 ≡ length f₂.nodes = ap (λ (j : TreeIndex). j.0 + 1) at ∙ sym (length-append f.nodes ((length f.spine + 1, x) ∷ [])) ∙ sym (ap length nodes) in
-    forest-eq f₄ (appended f x)
-    (ap (λ (v : Forest Item). v.nodes) m.1 ∙ ap (λ (v : Forest Item). take (ix.0 + 1) v.nodes) e₃ ∙ taken_chained f₂ chain (ix.0 + 1) last ∙ nodes)
-    rest
-    (ap (λ (v : Forest Item). v.current) m.1 ∙ ap (λ (j : TreeIndex). Some j) at)
+-- a chain under the node that was opened, and the node closed: the block is added, with any change of its item
+pub record IsClosed (f : Forest Item) (x : Item) (chain : List Item) (place : TreeIndex) (f₄ : Forest Item) : Type 0 where
+  pub within : place.0 < length f₄.nodes
+  pub block : (h : Item → Item) → modified f₄ place h ≡ added f (block_of (h x) (leaves chain))
 
--- a node is appended and opened, a chain is put under it, it is closed, and its item is changed: the block is added
-pub closed-calls : (f f₁ f₂ f₃ f₄ : Forest Item) (x : Item) (h : Item → Item) (chain : List Item) (place opened : TreeIndex) (r : Option TreeIndex) → place.0 ≡ length f.nodes → f₁ ≡ appended f x → f₁.current ≡ Some opened → f₂ ≡ pushed f₁ opened → f₃ ≡ chained f₂ chain
-    → MatchOption r ((f₃.spine ≡ []) × (f₄ ≡ f₃)) (λ ix. (f₃.spine ≡ ix ∷ f₄.spine) × (f₄ ≡ popped f₃ ix f₄.spine)) → modified f₄ place h ≡ added f (block_of (h x) (leaves chain))
-closed-calls f f₁ f₂ f₃ f₄ x h chain place opened r i e₁ c₁ e₂ e₃ m =
-    block-calls f f₁ f₂ f₃ f₄ x h (leaves chain) place opened r i e₁ c₁ e₂
-    (ap (λ (v : Forest Item). v.nodes) e₃ ∙ chained-nodes f₂ chain) (ap (λ (v : Forest Item). v.spine) e₃ ∙ chained-spine f₂ chain) m
+module _ {f f₂ : Forest Item} {x : Item} {place : TreeIndex} (o : IsOpened f x place f₂) (f₃ f₄ : Forest Item) (chain : List Item) (chain_is : f₃ ≡ chained f₂ chain) where
+  closed_spine : f₃.spine ≡ place ∷ f.spine
+  closed_spine = ap (λ (v : Forest Item). v.spine) chain_is ∙ chained-spine f₂ chain ∙ opened-spine o
+
+  closed_length : length f₃.nodes ≡ length f.nodes + 1 + length chain
+  closed_length =
+      ap (λ (v : Forest Item). length v.nodes) chain_is ∙ chained-length f₂ chain
+      ∙ ap (λ (v : Forest Item). length v.nodes + length chain) o.is ∙ ap (λ (n : ℕ). n + length chain) (length-append f.nodes ((length f.spine + 1, x) ∷ []))
+
+  -- the clause of pop, as it comes
+  pub closed-calls : (r : Option TreeIndex) → MatchOption r ((f₃.spine ≡ []) × (f₄ ≡ f₃)) (λ ix. (f₃.spine ≡ ix ∷ f₄.spine) × (f₄ ≡ popped f₃ ix f₄.spine)) → IsClosed f x chain place f₄
+  closed-calls None m = absurd (no_open f₃.spine place f.spine m.0 closed_spine)
+  closed-calls (Some ix) m =
+      let nodes : f₄.nodes ≡ f₃.nodes = ap (λ (v : Forest Item). v.nodes) m.1 in
+      record {
+        within = omega (arith, o.at, closed_length, ap length nodes);
+        block = λ h. block-calls f (appended f x) f₂ f₃ f₄ x h (leaves chain) place place (Some ix) o.at refl (ap (λ (n : ℕ). Some (place_at n)) (sym o.at)) o.is
+            (ap (λ (v : Forest Item). v.nodes) chain_is ∙ chained-nodes f₂ chain) (ap (λ (v : Forest Item). v.spine) chain_is ∙ chained-spine f₂ chain) m;
+      }
+
+  -- the clause of remove_node, as it comes: the node alone is left
+  pub removed-calls : (r : Option TreeIndex) → MatchOption r ((f₃.spine ≡ []) × (f₄ ≡ f₃)) (λ ix. (f₃.spine ≡ ix ∷ f₄.spine) × (f₄ ≡ cut_to (popped f₃ ix f₄.spine) (ix.0 + 1))) → f₄ ≡ appended f x
+  removed-calls None m = absurd (no_open f₃.spine place f.spine m.0 closed_spine)
+  removed-calls (Some ix) m =
+      let spine = closed_spine in
+      let rest : f₄.spine ≡ f.spine = cc in
+      let same : ix ≡ place = cc in
+      let there : place ≡ place_at (length f.nodes) = ap place_at o.at in
+      let nodes : f₂.nodes ≡ f.nodes ++ (length f.spine + 1, x) ∷ [] = ap (λ (v : Forest Item). v.nodes) o.is in
+      let last : ix.0 + 1 ≡ length f₂.nodes = ap (λ (j : TreeIndex). j.0 + 1) (same ∙ there) ∙ sym (length-append f.nodes ((length f.spine + 1, x) ∷ [])) ∙ sym (ap length nodes) in
+      forest-eq f₄ (appended f x)
+      (ap (λ (v : Forest Item). v.nodes) m.1 ∙ ap (λ (v : Forest Item). take (ix.0 + 1) v.nodes) chain_is ∙ taken_chained f₂ chain (ix.0 + 1) last ∙ nodes)
+      rest
+      (ap (λ (v : Forest Item). v.current) m.1 ∙ ap (λ (j : TreeIndex). Some j) (same ∙ there))
 
 -- the same for trees that are spelled out
 pub closed-chained : (g : Forest Item) (x : Item) (h : Item → Item) (chain : List Item) (ix : TreeIndex) → ix.0 ≡ length g.nodes → modified (popped (chained (pushed (appended g x) ix) chain) ix g.spine) ix h ≡ added g (block_of (h x) (leaves chain))
 closed-chained g x h chain ix at =
     let f₂ = pushed (appended g x) ix in
-    let same : ix ≡ place_at (length g.nodes) = ap place_at at in
-    closed-calls g (appended g x) f₂ (chained f₂ chain) (popped (chained f₂ chain) ix g.spine) x h chain ix ix (Some ix) at refl (ap (λ (j : TreeIndex). Some j) (sym same)) refl refl (chained-spine f₂ chain, refl)
+    let o : IsOpened g x ix f₂ = record { at = at; is = refl } in
+    (closed-calls o (chained f₂ chain) (popped (chained f₂ chain) ix g.spine) chain refl (Some ix) (chained-spine f₂ chain, refl)).block h
