@@ -10,7 +10,7 @@ use Rattle.first_pass_items.specs.declared.item.ItemBody.TheVariants.{SoftBreak,
 use Rattle.first_pass_tree.specs.declared.tree_index.TreeIndex.{TreeIndex}
 use Rattle.first_pass_tree.specs.Forest.{Forest, depths, item_at, modify, modified, appended, pushed, popped, cut_to, childless, is_text, is_escaped, cut_item, cut_tokens, cut_siblings, last_child, open_place, HasLeaves, ends_text_at, joins_at, with_end, with_end_at, with_text, at_depth, added, block_of}
 use Rattle.first_pass_tree.proofs.Blocks.{modify-at, forest-eq, block-calls}
-use Rattle.first_pass_tokens.specs.Chains.{text_token, touches, add_token, add_tokens, add_text, cut}
+use Rattle.first_pass_tokens.specs.Chains.{is_backslash_break, close_break, text_token, touches, AreApart, add_token, add_tokens, add_text, cut}
 use Rattle.first_pass_tokens.specs.LineTokens.{is_break}
 use Rattle.first_pass_tokens.specs.TreeTokens.{with_token, with_tokens, chained, leaves, JoinsNone}
 
@@ -52,6 +52,41 @@ add_text-joined from mid to escaped chain first order =
           let same : to ≡ mid = omega arith in
           add_text-none mid to false _ none ∙ ap (λ (x : ℕ). add_text from x escaped chain) (sym same)
     ]
+
+-- a chain in which nothing touches
+apart_behind : (x z : Item) (zs : List Item) (t : Item) → touches x z ≡ false → AreApart (add_token (z ∷ zs) t) → AreApart (x ∷ add_token (z ∷ zs) t)
+apart_behind x z [] t apart =
+    cond_both (touches z t) (record z { «end» = t.«end» } ∷ []) (z ∷ t ∷ []) (λ (ys : List Item). AreApart ys → AreApart (x ∷ ys)) (λ b h. (apart, tt)) (λ b h. (apart, h))
+apart_behind x z (w ∷ ws) t apart = λ h. (apart, h)
+
+pub add_token-apart : (chain : List Item) (t : Item) → AreApart chain → AreApart (add_token chain t)
+add_token-apart [] t h = tt
+add_token-apart (x ∷ []) t h = cond_both (touches x t) (record x { «end» = t.«end» } ∷ []) (x ∷ t ∷ []) AreApart (λ b. tt) (λ b. (b, tt))
+add_token-apart (x ∷ z ∷ zs) t h = apart_behind x z zs t h.0 (add_token-apart (z ∷ zs) t h.1)
+
+pub add_tokens-apart : (chain tokens : List Item) → AreApart chain → AreApart (add_tokens chain tokens)
+add_tokens-apart chain [] h = h
+add_tokens-apart chain (x ∷ xs) h = add_tokens-apart (add_token chain x) xs (add_token-apart chain x h)
+
+pub add_text-apart : (from to : ℕ) (escaped : Bool) (chain : List Item) → AreApart chain → AreApart (add_text from to escaped chain)
+add_text-apart from to escaped chain h =
+    cond_both (nat_lt from to) (add_token chain (text_token from to escaped)) chain AreApart (λ b. add_token-apart chain (text_token from to escaped) h) (λ b. h)
+
+-- a token that does not touch the last one is put behind the chain
+add_token-behind : (front : List Item) (x y : Item) → touches x y ≡ false → add_token (front ++ x ∷ []) y ≡ (front ++ x ∷ []) ++ y ∷ []
+add_token-behind [] x y apart = cond-false _ _ _ apart
+add_token-behind (p ∷ []) x y apart = ap (λ (ys : List Item). p ∷ ys) (add_token-behind [] x y apart)
+add_token-behind (p ∷ q ∷ qs) x y apart = ap (λ (ys : List Item). p ∷ ys) (add_token-behind (q ∷ qs) x y apart)
+
+add_tokens-behind : (front : List Item) (x : Item) (xs : List Item) → AreApart (x ∷ xs) → add_tokens (front ++ x ∷ []) xs ≡ front ++ x ∷ xs
+add_tokens-behind front x [] h = refl
+add_tokens-behind front x (y ∷ ys) h =
+    ap (λ (chain : List Item). add_tokens chain ys) (add_token-behind front x y h.0) ∙ add_tokens-behind (front ++ x ∷ []) y ys h.1 ∙ append_assoc front (x ∷ []) (y ∷ ys)
+
+-- tokens of which none touches the one before it, put behind nothing
+pub add_tokens-none : (tokens : List Item) → AreApart tokens → add_tokens [] tokens ≡ tokens
+add_tokens-none [] h = refl
+add_tokens-none (x ∷ xs) h = add_tokens-behind [] x xs h
 
 -- a token that is no text is put behind the chain
 pub add_token-plain : (chain : List Item) (x : Item) → is_text x.body ≡ false → add_token chain x ≡ chain ++ x ∷ []
@@ -190,6 +225,17 @@ pub appended-chained : (f : Forest Item) (chain : List Item) (x : Item) → appe
 appended-chained f [] x = refl
 appended-chained f (y ∷ ys) x = appended-chained (appended f y) ys x
 
+-- a break behind a chain
+pub appended-break : (f : Forest Item) (chain : List Item) (x : Item) → is_break x.body ≡ true → appended (chained f chain) x ≡ chained f (add_token chain x)
+appended-break f chain x is = appended-chained f chain x ∙ ap (chained f) (sym (add_token-plain chain x (break-plain x.body is)))
+
+-- a chain that a break by a backslash would stand behind, where the block ends, and any other chain
+pub close_break-backslash : (f : Forest Item) (chain : List Item) (x : Item) → JoinsNone f → is_backslash_break x.body ≡ true → with_text (chained f chain) x.start (x.start + 1) false ≡ chained f (close_break (Some x) chain)
+close_break-backslash f chain x none is = with_text-chained f chain x.start (x.start + 1) false none (omega arith) ∙ ap (chained f) (sym (cond-true _ _ _ is))
+
+pub close_break-other : (chain : List Item) (x : Item) → is_backslash_break x.body ≡ false → close_break (Some x) chain ≡ chain
+close_break-other chain x other = cond-false _ _ _ other
+
 pub chained-append : (f : Forest Item) (xs ys : List Item) → chained (chained f xs) ys ≡ chained f (xs ++ ys)
 chained-append f [] ys = refl
 chained-append f (x ∷ xs) ys = chained-append (appended f x) xs ys
@@ -229,6 +275,33 @@ chained-current f x (y ∷ ys) =
 -- a node that was just opened has nothing behind it, and none of its children is current
 pub pushed-fresh : (g : Forest Item) (x : Item) (ix : TreeIndex) → ix.0 ≡ length g.nodes → (open_place (pushed (appended g x) ix).spine + 1 ≡ length (pushed (appended g x) ix).nodes) × ((pushed (appended g x) ix).current ≡ None)
 pushed-fresh g x ix at = (omega (arith, at, length-append g.nodes ((length g.spine + 1, x) ∷ [])), refl)
+
+-- a node that was appended and opened
+pub record IsOpened (f : Forest Item) (x : Item) (place : TreeIndex) (f₂ : Forest Item) : Type 0 where
+  pub at : place.0 ≡ length f.nodes
+  pub is : f₂ ≡ pushed (appended f x) place
+
+-- the clauses of append and push, as they come
+pub opened-calls : (f f₁ f₂ : Forest Item) (x : Item) (place opened : TreeIndex) → place.0 ≡ length f.nodes → f₁ ≡ appended f x → f₁.current ≡ Some opened → f₂ ≡ pushed f₁ opened → IsOpened f x place f₂
+opened-calls f f₁ f₂ x place opened at e₁ c₁ e₂ =
+    let current : f₁.current ≡ Some (place_at (length f.nodes)) = ap (λ (v : Forest Item). v.current) e₁ in
+    let there : place ≡ place_at (length f.nodes) = ap place_at at in
+    let same : opened ≡ place = cc in
+    record { at = at; is = e₂ ∙ ap (pushed f₁) same ∙ ap (λ (v : Forest Item). pushed v place) e₁ }
+
+module _ {f f₂ : Forest Item} {x : Item} {place : TreeIndex} (o : IsOpened f x place f₂) where
+  pub opened-spine : f₂.spine ≡ place ∷ f.spine
+  opened-spine = ap (λ (v : Forest Item). v.spine) o.is
+
+  pub opened-current : f₂.current ≡ None
+  opened-current = ap (λ (v : Forest Item). v.current) o.is
+
+  -- the node is the last one
+  pub opened-last : open_place f₂.spine + 1 ≡ length f₂.nodes
+  opened-last = ap (λ (v : Forest Item). open_place v.spine + 1) o.is ∙ (pushed-fresh f x place o.at).0 ∙ sym (ap (λ (v : Forest Item). length v.nodes) o.is)
+
+  pub opened-joins_none : JoinsNone f₂
+  opened-joins_none = joins_none-fresh f₂ opened-current
 
 leaf_depth : (d : ℕ) (chain : List Item) (k : ℕ) → k < length (at_depth d (leaves chain)) → slice_index (depths (at_depth d (leaves chain))) k ≡ d
 leaf_depth d [] k within = absurd (omega arith)
@@ -293,6 +366,9 @@ taken_chained : (f : Forest Item) (chain : List Item) (n : ℕ) → n ≡ length
 taken_chained f chain n same =
     ap (λ (m : ℕ). take m (chained f chain).nodes) same ∙ ap (take (length f.nodes)) (chained-nodes f chain) ∙ take-append_seam f.nodes (at_depth (length f.spine + 1) (leaves chain))
 
+no_open : (s : List TreeIndex) (i : TreeIndex) (is : List TreeIndex) → s ≡ [] → s ≡ i ∷ is → ⊥
+no_open s i is a b = cc
+
 -- the innermost open node without its chain
 pub childless-chained : (f : Forest Item) (chain : List Item) (ix : TreeIndex) → ix.0 + 1 ≡ length f.nodes → f.current ≡ None → childless (chained f chain) ix ≡ f
 childless-chained f chain ix last none = forest-eq (childless (chained f chain) ix) f (taken_chained f chain (ix.0 + 1) last) (chained-spine f chain) (sym none)
@@ -302,16 +378,49 @@ pub removed-chained : (f : Forest Item) (chain : List Item) (ix : TreeIndex) (re
 removed-chained f chain ix rest last =
     forest-eq (cut_to (popped (chained f chain) ix rest) (ix.0 + 1)) (popped f ix rest) (taken_chained f chain (ix.0 + 1) last) refl refl
 
--- a node is appended and opened, a chain is put under it, it is closed, and its item is changed: the block is added
-pub closed-calls : (f f₁ f₂ f₃ f₄ : Forest Item) (x : Item) (h : Item → Item) (chain : List Item) (place opened : TreeIndex) (r : Option TreeIndex) → place.0 ≡ length f.nodes → f₁ ≡ appended f x → f₁.current ≡ Some opened → f₂ ≡ pushed f₁ opened → f₃ ≡ chained f₂ chain
-    → MatchOption r ((f₃.spine ≡ []) × (f₄ ≡ f₃)) (λ ix. (f₃.spine ≡ ix ∷ f₄.spine) × (f₄ ≡ popped f₃ ix f₄.spine)) → modified f₄ place h ≡ added f (block_of (h x) (leaves chain))
-closed-calls f f₁ f₂ f₃ f₄ x h chain place opened r i e₁ c₁ e₂ e₃ m =
-    block-calls f f₁ f₂ f₃ f₄ x h (leaves chain) place opened r i e₁ c₁ e₂
-    (ap (λ (v : Forest Item). v.nodes) e₃ ∙ chained-nodes f₂ chain) (ap (λ (v : Forest Item). v.spine) e₃ ∙ chained-spine f₂ chain) m
+-- a chain under the node that was opened, and the node closed: the block is added, with any change of its item
+pub record IsClosed (f : Forest Item) (x : Item) (chain : List Item) (place : TreeIndex) (f₄ : Forest Item) : Type 0 where
+  pub within : place.0 < length f₄.nodes
+  pub block : (h : Item → Item) → modified f₄ place h ≡ added f (block_of (h x) (leaves chain))
+
+module _ {f f₂ : Forest Item} {x : Item} {place : TreeIndex} (o : IsOpened f x place f₂) (f₃ f₄ : Forest Item) (chain : List Item) (chain_is : f₃ ≡ chained f₂ chain) where
+  closed_spine : f₃.spine ≡ place ∷ f.spine
+  closed_spine = ap (λ (v : Forest Item). v.spine) chain_is ∙ chained-spine f₂ chain ∙ opened-spine o
+
+  closed_length : length f₃.nodes ≡ length f.nodes + 1 + length chain
+  closed_length =
+      ap (λ (v : Forest Item). length v.nodes) chain_is ∙ chained-length f₂ chain
+      ∙ ap (λ (v : Forest Item). length v.nodes + length chain) o.is ∙ ap (λ (n : ℕ). n + length chain) (length-append f.nodes ((length f.spine + 1, x) ∷ []))
+
+  -- the clause of pop, as it comes
+  pub closed-calls : (r : Option TreeIndex) → MatchOption r ((f₃.spine ≡ []) × (f₄ ≡ f₃)) (λ ix. (f₃.spine ≡ ix ∷ f₄.spine) × (f₄ ≡ popped f₃ ix f₄.spine)) → IsClosed f x chain place f₄
+  closed-calls None m = absurd (no_open f₃.spine place f.spine m.0 closed_spine)
+  closed-calls (Some ix) m =
+      let nodes : f₄.nodes ≡ f₃.nodes = ap (λ (v : Forest Item). v.nodes) m.1 in
+      record {
+        within = omega (arith, o.at, closed_length, ap length nodes);
+        block = λ h. block-calls f (appended f x) f₂ f₃ f₄ x h (leaves chain) place place (Some ix) o.at refl (ap (λ (n : ℕ). Some (place_at n)) (sym o.at)) o.is
+            (ap (λ (v : Forest Item). v.nodes) chain_is ∙ chained-nodes f₂ chain) (ap (λ (v : Forest Item). v.spine) chain_is ∙ chained-spine f₂ chain) m;
+      }
+
+  -- the clause of remove_node, as it comes: the node alone is left
+  pub removed-calls : (r : Option TreeIndex) → MatchOption r ((f₃.spine ≡ []) × (f₄ ≡ f₃)) (λ ix. (f₃.spine ≡ ix ∷ f₄.spine) × (f₄ ≡ cut_to (popped f₃ ix f₄.spine) (ix.0 + 1))) → f₄ ≡ appended f x
+  removed-calls None m = absurd (no_open f₃.spine place f.spine m.0 closed_spine)
+  removed-calls (Some ix) m =
+      let spine = closed_spine in
+      let rest : f₄.spine ≡ f.spine = cc in
+      let same : ix ≡ place = cc in
+      let there : place ≡ place_at (length f.nodes) = ap place_at o.at in
+      let nodes : f₂.nodes ≡ f.nodes ++ (length f.spine + 1, x) ∷ [] = ap (λ (v : Forest Item). v.nodes) o.is in
+      let last : ix.0 + 1 ≡ length f₂.nodes = ap (λ (j : TreeIndex). j.0 + 1) (same ∙ there) ∙ sym (length-append f.nodes ((length f.spine + 1, x) ∷ [])) ∙ sym (ap length nodes) in
+      forest-eq f₄ (appended f x)
+      (ap (λ (v : Forest Item). v.nodes) m.1 ∙ ap (λ (v : Forest Item). take (ix.0 + 1) v.nodes) chain_is ∙ taken_chained f₂ chain (ix.0 + 1) last ∙ nodes)
+      rest
+      (ap (λ (v : Forest Item). v.current) m.1 ∙ ap (λ (j : TreeIndex). Some j) (same ∙ there))
 
 -- the same for trees that are spelled out
 pub closed-chained : (g : Forest Item) (x : Item) (h : Item → Item) (chain : List Item) (ix : TreeIndex) → ix.0 ≡ length g.nodes → modified (popped (chained (pushed (appended g x) ix) chain) ix g.spine) ix h ≡ added g (block_of (h x) (leaves chain))
 closed-chained g x h chain ix at =
     let f₂ = pushed (appended g x) ix in
-    let same : ix ≡ place_at (length g.nodes) = ap place_at at in
-    closed-calls g (appended g x) f₂ (chained f₂ chain) (popped (chained f₂ chain) ix g.spine) x h chain ix ix (Some ix) at refl (ap (λ (j : TreeIndex). Some j) (sym same)) refl refl (chained-spine f₂ chain, refl)
+    let o : IsOpened g x ix f₂ = record { at = at; is = refl } in
+    (closed-calls o (chained f₂ chain) (popped (chained f₂ chain) ix g.spine) chain refl (Some ix) (chained-spine f₂ chain, refl)).block h

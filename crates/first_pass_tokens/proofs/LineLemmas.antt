@@ -1,5 +1,5 @@
 -- The division of a content: one more piece, that there is one division, that no line end stands in it, and where the line ends.
-use Rattle.std.proofs.Common.{ℕ, zero, suc, ◌≡◌, ◌⊎◌, ◌+◌, ◌-◌, ◌≤◌, ◌<◌, ◌==◌, ◌&&◌, ◌%◌, if◌then◌else◌, Bool, true, false, List, [], ◌∷◌, ◌++◌, length, take, drop, get_or, slice_index, nat_lt, nat_le, Option, None, IfSome, Result, Ok, Err, IfOk, unwrap_or, refl, sym, ap, subst, ◌∙◌, inl, inr, arith, length-drop}
+use Rattle.std.proofs.Common.{ℕ, min, zero, suc, ◌≡◌, ◌⊎◌, ◌+◌, ◌-◌, ◌≤◌, ◌<◌, ◌==◌, ◌&&◌, ◌%◌, if◌then◌else◌, Bool, true, false, List, [], ◌∷◌, ◌++◌, length, take, drop, get_or, slice_index, nat_lt, nat_le, Option, None, IfSome, Result, Ok, Err, IfOk, unwrap_or, refl, sym, ap, subst, ◌∙◌, inl, inr, arith, length-drop}
 use Rattle.std.specs.List.{suffix_len, slice_range, prefix_len}
 use Rattle.std.specs.Char.{is_ascii_punctuation}
 use Rattle.std.specs.declared.alloc.AllocError.{AllocError}
@@ -11,10 +11,12 @@ use Rattle.first_pass_tree.specs.Forest.{Forest}
 use Rattle.first_pass_scan.specs.Lines.{is_line_end, is_content, is_white, begins, eol_len, line_len}
 use Rattle.first_pass_below.specs.Walk.{is_special}
 use Rattle.first_pass_tokens.specs.declared.pieces.Piece.{Piece}
-use Rattle.first_pass_tokens.specs.declared.pieces.Piece.TheVariants.{Left}
+use Rattle.first_pass_tokens.specs.declared.pieces.Piece.TheVariants.{Left, Begins}
 use Rattle.first_pass_tokens.specs.Pieces.{Source, piece_at, special_piece, backslash_piece, size}
-use Rattle.first_pass_tokens.specs.LineTokens.{ends_at, ArePieces, IsDivision, IsLine, IsBreak, EndsLine, add_piece, add_pieces, line_end_len, line_break, breaks_by_backslash, backslashes_at_end, blanks_at_end}
-use Rattle.first_pass_tokens.specs.TreeTokens.{AppendsLine}
+use Rattle.first_pass_tokens.specs.LineTokens.{text_end, ends_at, ArePieces, IsDivision, IsLine, IsBreak, EndsLine, add_piece, add_pieces, line_end_len, line_break, breaks_by_backslash, backslashes_at_end, blanks_at_end}
+use Rattle.first_pass_tokens.specs.TreeTokens.{AppendsLine, with_tokens, chained, JoinsNone}
+use Rattle.first_pass_tokens.specs.Chains.{add_tokens, AreApart}
+use Rattle.first_pass_tokens.proofs.ChainLemmas.{add_text-apart, add_tokens-none, with_tokens-chained}
 
 -- one more piece
 pub are_more : (s : Source) (at : ℕ) (ps : List Piece) (mid : ℕ) → ArePieces s at ps mid → ends_at s mid ≡ false → ArePieces s at (ps ++ piece_at s mid ∷ []) (mid + size (piece_at s mid))
@@ -290,3 +292,20 @@ ends_line {s} {tokens} {answer} within line =
 pub ends_line-if : (s : Source) (old new : Forest Item) (r : Result (ℕ × Option Item) AllocError) → s.start ≤ length s.text → IfOk r (λ a. AppendsLine s old new a) → IfOk r (λ a. EndsLine s a)
 ends_line-if s old new (Ok a) within h = ends_line within h.line
 ends_line-if s old new (Err e) within h = tt
+
+-- no token of a line touches the one before it
+add_pieces-apart : (stop at : ℕ) (ps : List Piece) (chain : List Item) → AreApart chain → AreApart (add_pieces stop at ps chain)
+add_pieces-apart stop at [] chain h = h
+add_pieces-apart stop at (Left n ∷ ps) chain h = add_pieces-apart stop (at + n) ps _ (add_text-apart at (min (at + n) stop) false chain h)
+add_pieces-apart stop at (Begins dropped escaped ∷ ps) chain h = add_pieces-apart stop (at + (dropped + 1)) ps _ (add_text-apart (at + dropped) (min (at + (dropped + 1)) stop) escaped chain h)
+
+pub line_apart : {s : Source} {tokens : List Item} {answer : ℕ × Option Item} → IsLine s tokens answer → AreApart tokens
+line_apart {s} line = subst AreApart (sym line.tokens_are) (add_pieces-apart (text_end s line.content_end) s.start line.pieces [] tt)
+
+-- the tokens of a line alone
+pub line_alone : {s : Source} {tokens : List Item} {answer : ℕ × Option Item} → IsLine s tokens answer → add_tokens [] tokens ≡ tokens
+line_alone {s} {tokens} line = add_tokens-none tokens (line_apart line)
+
+-- a line appended behind a chain
+pub appended_line : {s : Source} {old new : Forest Item} {answer : ℕ × Option Item} (f : Forest Item) (chain : List Item) (h : AppendsLine s old new answer) → old ≡ chained f chain → JoinsNone f → new ≡ chained f (add_tokens chain h.tokens)
+appended_line f chain h is none = h.tree_is ∙ ap (λ (g : Forest Item). with_tokens g h.tokens) is ∙ with_tokens-chained f chain h.tokens none

@@ -15,7 +15,7 @@ use Rattle.first_pass_tokens.specs.Chains.{add_text}
 use Rattle.first_pass_tokens.specs.Pieces.{Source, piece_at, special_piece, size, EndsSolid}
 use Rattle.first_pass_tokens.specs.LineTokens.{ends_at, ArePieces, add_piece, add_pieces, text_end, breaks_by_backslash, backslashes_at_end, blanks_at_end, line_end_len, line_break}
 use Rattle.first_pass_tokens.specs.TreeTokens.{with_tokens, AppendsLine}
-use Rattle.first_pass_tokens.specs.Steps.{pending_after, tree_after}
+use Rattle.first_pass_tokens.specs.Pending.{pending_after, tree_after}
 use Rattle.first_pass_tokens.proofs.ChainLemmas.{add_text-none, add_text-joined, with_tokens-text}
 use Rattle.first_pass_tokens.proofs.LineLemmas.{are_more, add_pieces_more, end_bounded}
 

@@ -1,5 +1,5 @@
 -- Chains of tokens: lists of items in the order of the text, the leaves of a block.
-use Rattle.std.specs.Prelude.{ℕ, ◌+◌, ◌-◌, ◌==◌, ◌&&◌, Bool, false, List, [], ◌∷◌, Option, Some, None, nat_lt, if◌then◌else◌}
+use Rattle.std.specs.Prelude.{◌≡◌, ℕ, ◌+◌, ◌-◌, ◌==◌, ◌&&◌, Bool, false, List, [], ◌∷◌, Option, Some, None, nat_lt, if◌then◌else◌}
 use Rattle.first_pass_items.specs.declared.item.Item.{Item}
 use Rattle.first_pass_items.specs.declared.item.ItemBody.{ItemBody}
 use Rattle.first_pass_items.specs.declared.item.ItemBody.TheVariants.{Text, HardBreak}
@@ -12,6 +12,12 @@ text_token from to escaped = record { start = from; «end» = to; body = Text es
 -- the second is a text that begins where the first, a text, ends (this project)
 abbrev pub touches : Item → Item → Bool
 touches x y = is_text y.body && (is_text x.body && (x.«end» == y.start))
+
+-- no token of the chain touches the one before it (this project)
+abbrev pub AreApart : List Item → Type 0
+AreApart [] = Unit
+AreApart (x ∷ []) = Unit
+AreApart (x ∷ y ∷ ys) = (touches x y ≡ false) × AreApart (y ∷ ys)
 
 -- the chain with a token behind it: a text that touches the last one is joined to it, and keeps that one's mark (this project)
 abbrev pub add_token : List Item → Item → List Item

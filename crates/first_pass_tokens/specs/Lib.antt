@@ -2,4 +2,4 @@ pub mod Pieces
 pub mod Chains
 pub mod LineTokens
 pub mod TreeTokens
-pub mod Steps
+pub mod Pending

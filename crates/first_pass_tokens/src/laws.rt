@@ -5,6 +5,7 @@ ghost use Rattle.first_pass_items.specs.declared.item.Item.{Item};
 ghost use Rattle.first_pass_scan.specs.Lines.{is_line_end};
 ghost use Rattle.first_pass_tokens.specs.declared.pieces.Piece.{Piece};
 ghost use Rattle.first_pass_tokens.specs.Pieces.{Source};
+ghost use Rattle.first_pass_tokens.specs.Chains.{AreApart};
 ghost use Rattle.first_pass_tokens.specs.LineTokens.{IsLine, IsDivision};
 
 /// A line has one list of tokens, and one answer.
@@ -17,4 +18,9 @@ pub fn one_line()
 pub fn content_has_no_line_end()
     ensures { (s : Source) (pieces : List Piece) (end : ℕ) → s.start ≤ length s.text → IsDivision s pieces end
         → (k : ℕ) → s.start ≤ k → k < end → is_line_end (slice_index s.text k) ≡ false }
+{}
+
+/// No token of a line touches the one before it: texts that touch are one text.
+pub fn line_is_joined()
+    ensures { (s : Source) (tokens : List Item) (answer : ℕ × Option Item) → IsLine s tokens answer → AreApart tokens }
 {}

@@ -7,7 +7,7 @@ ghost use Rattle.first_pass_tree.specs.Forest.{with_text};
 ghost use Rattle.first_pass_tokens.specs.Pieces.{Source, size};
 ghost use Rattle.first_pass_tokens.specs.LineTokens.{line_end_len, blanks_at_end, backslashes_at_end, breaks_by_backslash, text_end, break_of, line_break, EndsLine};
 ghost use Rattle.first_pass_tokens.specs.TreeTokens.{AppendsLine};
-ghost use Rattle.first_pass_tokens.specs.Steps.{source, pending_after, tree_after};
+ghost use Rattle.first_pass_tokens.specs.Pending.{source, pending_after, tree_after};
 
 use crate::pieces::{Piece, piece_len, special_piece};
 use first_pass_below::walk::next_special;
@@ -22,7 +22,7 @@ use std::alloc::AllocError;
 ///
 /// Answers the offset behind the line's line end, and the line break there (CommonMark 6.7, 6.8), which
 /// is not appended; `None` where the text ends without a line end. A backslash before ASCII punctuation
-/// is dropped (2.4), and white space at the content's end is in no text.
+/// is dropped (2.4), and white space at the content's end is in no text. The error is want of memory.
 pub fn append_line(
     text: &[u8],
     start: usize,
@@ -61,14 +61,14 @@ struct Content {
     start: usize,
 }
 
-// The text that is read and not appended yet.
+// A text that began at an offset and may go on, and is not in the tree yet.
 #[derive(Clone, Copy, Drop)]
 struct Pending {
     begin: usize,
     escaped: bool,
 }
 
-// Appends the text that a piece ends.
+// Appends the pending text, where the piece at `at` begins another one.
 fn append_piece(
     tree: &mut Tree<Item>,
     pending: &mut Pending,
