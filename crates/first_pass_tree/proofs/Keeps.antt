@@ -54,6 +54,10 @@ same_depths-is f ns e h =
 pub modified-is : {T : Type 0} (f : Forest T) (i : ℕ) (g : T → T) → IsForest f → IsForest (record f { nodes = modify f.nodes i g })
 modified-is f i g h = same_depths-is f (modify f.nodes i g) (depths-modify f.nodes i g) h
 
+-- whatever item is written at a place
+pub set-is : {T : Type 0} (f : Forest T) (i : ℕ) (n : ℕ × T) (y : T) → n ≡ get_or f.nodes i n → IsForest f → IsForest (record f { nodes = set f.nodes i (n.0, y) })
+set-is f i n y e h = rw (modify-set f.nodes i n (λ _. y) e) (modified-is f i (λ _. y) h)
+
 -- the tree up to its innermost open node, which is closed
 pub closed-is : {T : Type 0} (f : Forest T) (c : TreeIndex) (rest : List TreeIndex) → f.spine ≡ c ∷ rest → IsForest f → IsForest (cut_to (popped f c rest) (c.0 + 1))
 closed-is f c rest e h =
