@@ -1,17 +1,16 @@
 -- The grammar derives one forest from a text, and one pair of tables.
-use Rattle.std.proofs.Common.{◌≡◌, ◌⊎◌, inl, inr, ℕ, ◌+◌, Bool, true, false, List, [], ◌∷◌, length, Option, Some, None, refl, sym, ap, ◌∙◌, subst}
+use Rattle.std.proofs.Common.{◌≡◌, inl, inr, ℕ, true, false, List, [], ◌∷◌, length, Option, Some, None, refl, sym, ap, ◌∙◌, subst}
 use Rattle.first_pass_items.specs.declared.item.Item.{Item}
 use Rattle.first_pass_scan.specs.Places.{Place, offset, lines_at, start_of}
-use Rattle.first_pass_tokens.specs.LineTokens.{IsLine}
-use Rattle.first_pass_tokens.specs.Chains.{add_tokens, close_break}
+use Rattle.first_pass_tokens.specs.Chains.{add_tokens}
 use Rattle.first_pass_tokens.proofs.LineLemmas.{one_line}
 use Rattle.first_pass_grammar.specs.declared.kind.Container.{Container}
 use Rattle.first_pass_grammar.specs.declared.kind.Kind.{Kind}
 use Rattle.first_pass_grammar.specs.declared.kind.Kind.TheVariants.{Blank, AtxHeading, Paragraph}
-use Rattle.first_pass_grammar.specs.Containers.{after, front}
-use Rattle.first_pass_grammar.specs.Kinds.{unindented, kind_of, interrupts}
-use Rattle.first_pass_grammar.specs.Leaves.{Document, content_at, add_break, IsParagraph, IsHeading, heading_block, paragraph_block}
-use Rattle.first_pass_grammar.specs.Skeleton.{Leaf, BlankLine, Block, Opening, OpensLeaf, OpensNode, OpensAs, Opens, Skeleton, Nil, Then, Node, Begins, Ends, IsLeafHere, IsNodeHere, IsSequence}
+use Rattle.first_pass_grammar.specs.Containers.{front}
+use Rattle.first_pass_grammar.specs.Kinds.{unindented}
+use Rattle.first_pass_grammar.specs.Leaves.{Document, add_break, IsParagraph, IsHeading}
+use Rattle.first_pass_grammar.specs.Skeleton.{Leaf, Opening, OpensLeaf, OpensNode, OpensAs, Opens, Skeleton, Nil, Then, Node, Begins, Ends, IsLeafHere, IsNodeHere, IsSequence}
 use Rattle.first_pass_grammar.specs.Derivation.{Tables, forest_of, tables_of, root_of, Derives}
 
 -- a paragraph has one chain and leaves one list of lines

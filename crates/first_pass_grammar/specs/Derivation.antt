@@ -1,10 +1,10 @@
 -- The tree that the grammar derives from a text, and what the text defines.
-use Rattle.std.specs.Prelude.{◌≡◌, ℕ, ◌+◌, suc, Option, None, List, [], ◌∷◌, ◌++◌, length}
+use Rattle.std.specs.Prelude.{◌≡◌, ℕ, suc, Option, None, List, [], ◌∷◌, ◌++◌, length}
 use Rattle.first_pass_items.specs.declared.item.Item.{Item}
 use Rattle.first_pass_items.specs.declared.item.ItemBody.{ItemBody}
 use Rattle.first_pass_items.specs.declared.item.ItemBody.TheVariants.{Root, BlockQuote as BlockQuoteBody}
 use Rattle.first_pass_tree.specs.Forest.{at_depth}
-use Rattle.first_pass_scan.specs.Places.{Place, lines_at}
+use Rattle.first_pass_scan.specs.Places.{lines_at}
 use Rattle.first_pass_grammar.specs.declared.kind.Container.{Container}
 use Rattle.first_pass_grammar.specs.declared.kind.Container.TheVariants.{BlockQuote}
 use Rattle.first_pass_grammar.specs.Leaves.{Document}

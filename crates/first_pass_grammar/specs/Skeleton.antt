@@ -1,5 +1,5 @@
 -- Sequences of blocks, and the blocks in them (CommonMark 3.1).
-use Rattle.std.specs.Prelude.{◌≡◌, ℕ, ◌+◌, Option, Some, None, List, [], ◌∷◌, length}
+use Rattle.std.specs.Prelude.{◌≡◌, ℕ, Option, Some, None, List, [], ◌∷◌, length}
 use Rattle.first_pass_items.specs.declared.item.Item.{Item}
 use Rattle.first_pass_scan.specs.Lines.{level_number}
 use Rattle.first_pass_scan.specs.Places.{Place, offset, start_of}

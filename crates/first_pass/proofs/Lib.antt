@@ -1,0 +1,5 @@
+pub mod BlockLemmas
+pub mod HeadingLemmas
+pub mod ParagraphLemmas
+pub mod PlaceLemmas
+pub mod StateLemmas

@@ -1,0 +1,207 @@
+-- The lines of a paragraph, one after the other.
+use Rattle.std.proofs.Common.{◌≡◌, ◌⊎◌, inl, inr, ℕ, zero, suc, ◌+◌, ◌<◌, ◌≤◌, Bool, true, false, List, [], ◌∷◌, length, drop, ◌^◌, if◌then◌else◌, Option, Some, None, IfSome, IsUtf8, IsCharBoundary, refl, sym, ap, subst, ◌∙◌, arith}
+use Rattle.std.proofs.lemmas.Bool.{cases_lt, false≢true}
+use Rattle.std.proofs.lemmas.Str.{IsCharBoundary-end}
+use Rattle.first_pass_items.specs.declared.item.Item.{Item}
+use Rattle.first_pass_items.specs.declared.option_set.Options.{Options}
+use Rattle.first_pass_tree.specs.Forest.{Forest}
+use Rattle.first_pass_scan.specs.Lines.{line_len}
+use Rattle.first_pass_scan.specs.Rest.{Rest, indent}
+use Rattle.first_pass_scan.specs.Places.{Place, offset, line_rest, line_place, IsPlaceOf}
+use Rattle.first_pass_scan.proofs.LineFacts.{lines_at-line, lines_at-end}
+use Rattle.first_pass_scan.proofs.PlaceFacts.{line_end_boundary, columns_line_end}
+use Rattle.first_pass_tokens.specs.LineTokens.{IsLine, EndsLine, IsBreak}
+use Rattle.first_pass_tokens.specs.Chains.{add_tokens, close_break, is_backslash_break}
+use Rattle.first_pass_tokens.specs.TreeTokens.{chained, with_tokens, JoinsNone, AppendsLine}
+use Rattle.first_pass_tokens.proofs.ChainLemmas.{with_tokens-chained, with_text-chained, appended-chained}
+use Rattle.first_pass_grammar.specs.Containers.{front}
+use Rattle.first_pass_grammar.specs.Kinds.{unindented, interrupts}
+use Rattle.first_pass_grammar.specs.Leaves.{Document, document, content_at, add_break, IsParagraph}
+use Rattle.first_pass_grammar.specs.Completion.{lines_from}
+use Rattle.first_pass.specs.Appends.{line_end_at, with_break, with_closed_break, AppendsParagraph}
+use Rattle.first_pass.specs.Reading.{ParagraphSoFar}
+
+-- At the end of the text a paragraph ends.
+interrupts-end : (n : ℕ) → interrupts (line_place n []) ≡ true
+unfolding interrupts
+interrupts-end n = refl
+
+ends_past : (text : List ℕ) (n : ℕ) → length text ≤ n → drop n text ≡ []
+ends_past [] zero h = refl
+ends_past [] (suc n) h = refl
+ends_past (b ∷ bs) zero h = absurd (omega arith)
+ends_past (b ∷ bs) (suc n) h = ends_past bs n (omega arith)
+
+pub goes_within : (text : List ℕ) (n : ℕ) → interrupts (line_place n (drop n text)) ≡ false → n < length text
+goes_within text n h =
+    elim (cases_lt n (length text)) [
+      | inl more ↦ more
+      | inr past ↦ absurd (false≢true (sym h ∙ ap (λ bs. interrupts (line_place n bs)) (ends_past text n past) ∙ interrupts-end n))
+    ]
+
+-- The text of a line ends where the line ends.
+pub line_end-unindented : (text : List ℕ) (n : ℕ) → IsPlaceOf text (unindented (line_place n (drop n text))) → line_end_at text (offset (unindented (line_place n (drop n text)))) ≡ line_end_at text n
+line_end-unindented text n i =
+    let r : Rest = line_rest (drop n text) in
+    let e = columns_line_end (indent r) (line_place n (drop n text)) in
+    let f = ap line_len i.left in
+    omega arith
+
+-- one more line of a paragraph
+paragraph_more : (d : Document) (ix n : ℕ) (chain tokens whole : List Item) (line_break : Option Item) (left : List Place) → IsLine (content_at d ix) tokens (n, line_break) → n ≡ line_end_at d.text ix
+    → interrupts (line_place n (drop n d.text)) ≡ false → IsPlaceOf d.text (unindented (line_place n (drop n d.text)))
+    → (let at : ℕ = offset (unindented (line_place n (drop n d.text))) in IsParagraph d [] at (add_break line_break (add_tokens chain tokens)) (lines_from d.text (line_end_at d.text at)) whole left)
+    → IsParagraph d [] ix chain (lines_from d.text (line_end_at d.text ix)) whole left
+unfolding IsParagraph front
+paragraph_more d ix n chain tokens whole line_break left line place goes i more =
+    let within = goes_within d.text n goes in
+    let first : lines_from d.text n ≡ line_place n (drop n d.text) ∷ lines_from d.text (line_end_at d.text n) = lines_at-line d.text n within in
+    let rest : IsParagraph d [] (offset (unindented (line_place n (drop n d.text)))) (add_break line_break (add_tokens chain tokens)) (lines_from d.text (line_end_at d.text n)) whole left =
+    subst (λ e. IsParagraph d [] (offset (unindented (line_place n (drop n d.text)))) (add_break line_break (add_tokens chain tokens)) (lines_from d.text e) whole left) (line_end-unindented d.text n i) more in
+    let all : IsParagraph d [] ix chain (line_place n (drop n d.text) ∷ lines_from d.text (line_end_at d.text n)) whole left = (tokens, (n, line_break), line, inr (goes, rest)) in
+    subst (λ lines. IsParagraph d [] ix chain lines whole left) (sym first ∙ ap (lines_from d.text) place) all
+
+-- the last line of a paragraph
+last_by : (d : Document) (ix n : ℕ) (chain tokens : List Item) (line_break : Option Item) (lines : List Place) → IsLine (content_at d ix) tokens (n, line_break)
+    → (lines ≡ []) ⊎ ((more : List Place) × (lines ≡ line_place n (drop n d.text) ∷ more)) → interrupts (line_place n (drop n d.text)) ≡ true
+    → IsParagraph d [] ix chain lines (close_break line_break (add_tokens chain tokens)) lines
+unfolding IsParagraph front
+last_by d ix n chain tokens line_break lines line (inl none) ends =
+    let whole : List Item = close_break line_break (add_tokens chain tokens) in
+    let p : IsParagraph d [] ix chain [] whole [] = (tokens, (n, line_break), line, refl, refl) in
+    subst (λ ls. IsParagraph d [] ix chain ls whole ls) (sym none) p
+last_by d ix n chain tokens line_break lines line (inr (more, some)) ends =
+    let whole : List Item = close_break line_break (add_tokens chain tokens) in
+    let here : List Place = line_place n (drop n d.text) ∷ more in
+    let p : IsParagraph d [] ix chain here whole here = (tokens, (n, line_break), line, inl (ends, refl, refl)) in
+    subst (λ ls. IsParagraph d [] ix chain ls whole ls) (sym some) p
+
+paragraph_last : (d : Document) (ix n : ℕ) (chain tokens : List Item) (line_break : Option Item) → IsLine (content_at d ix) tokens (n, line_break) → n ≡ line_end_at d.text ix
+    → interrupts (line_place n (drop n d.text)) ≡ true
+    → IsParagraph d [] ix chain (lines_from d.text (line_end_at d.text ix)) (close_break line_break (add_tokens chain tokens)) (lines_from d.text n)
+paragraph_last d ix n chain tokens line_break line place ends =
+    let lines : (lines_from d.text n ≡ []) ⊎ ((more : List Place) × (lines_from d.text n ≡ line_place n (drop n d.text) ∷ more)) =
+    elim (cases_lt n (length d.text)) [
+      | inl within ↦ inr (lines_from d.text (line_end_at d.text n), lines_at-line d.text n within)
+      | inr past ↦ inl (lines_at-end d.text n past)
+    ] in
+    subst (λ e. IsParagraph d [] ix chain (lines_from d.text e) (close_break line_break (add_tokens chain tokens)) (lines_from d.text n)) place (last_by d ix n chain tokens line_break (lines_from d.text n) line lines ends)
+
+-- the break behind a chain in the tree
+pub with_break-chained : (f : Forest Item) (chain : List Item) (line_break : Option Item) → with_break (chained f chain) line_break ≡ chained f (add_break line_break chain)
+with_break-chained f chain None = refl
+with_break-chained f chain (Some x) = appended-chained f chain x
+
+closed_by : (t : Bool) (f : Forest Item) (chain : List Item) (x : Item) → is_backslash_break x.body ≡ t → JoinsNone f → with_closed_break (chained f chain) (Some x) ≡ chained f (close_break (Some x) chain)
+closed_by true f chain x h apart = rw h (with_text-chained f chain x.start (x.start + 1) false apart (omega arith))
+closed_by false f chain x h apart = rw h refl
+
+pub with_closed_break-chained : (f : Forest Item) (chain : List Item) (line_break : Option Item) → JoinsNone f → with_closed_break (chained f chain) line_break ≡ chained f (close_break line_break chain)
+with_closed_break-chained f chain None apart = refl
+with_closed_break-chained f chain (Some x) apart = closed_by (is_backslash_break x.body) f chain x refl apart
+
+-- before the first line
+pub so_far_start : (d : Document) (start : ℕ) (old : Forest Item) → IsCharBoundary d.text start → ParagraphSoFar d start old old start
+so_far_start d start old boundary = record { chain = []; tree_is = refl; boundary = boundary; from = inl refl; goes_on = λ whole left p. p }
+
+-- behind a line, where the paragraph goes on
+pub so_far_more : (d : Document) (start ix n at : ℕ) (old now read new : Forest Item) (line_break : Option Item) → ParagraphSoFar d start old now ix → JoinsNone old
+    → AppendsLine (content_at d ix) now read (n, line_break) → EndsLine (content_at d ix) (n, line_break)
+    → interrupts (line_place n (drop n d.text)) ≡ false → at ≡ offset (unindented (line_place n (drop n d.text))) → IsPlaceOf d.text (unindented (line_place n (drop n d.text)))
+    → new ≡ with_break read line_break → (ParagraphSoFar d start old new at) × (ix < at)
+so_far_more d start ix n at old now read new line_break s apart line ends goes at_is i new_is =
+    let within = goes_within d.text n goes in
+    let later : ix < length d.text → ix < n = ends.later in
+    let from : ix ≤ n = ends.from in
+    let chain : List Item = add_tokens s.chain line.tokens in
+    let tree : read ≡ chained old chain = line.tree_is ∙ ap (λ f. with_tokens f line.tokens) s.tree_is ∙ with_tokens-chained old s.chain line.tokens apart in (
+      record {
+        chain = add_break line_break chain;
+        tree_is = new_is ∙ ap (λ f. with_break f line_break) tree ∙ with_break-chained old chain line_break;
+        boundary = subst (IsCharBoundary d.text) (sym at_is) i.boundary;
+        from = inr (elim s.from [ inl same ↦ (let e = ap (line_end_at d.text) same in let p : n ≡ line_end_at d.text ix = ends.place in omega arith) | inr past ↦ omega arith ]);
+        goes_on = λ whole left p. s.goes_on whole left (paragraph_more d ix n s.chain line.tokens whole line_break left line.line ends.place goes i
+            (subst (λ z. IsParagraph d [] z (add_break line_break chain) (lines_from d.text (line_end_at d.text z)) whole left) at_is p));
+      },
+      omega arith,
+    )
+
+-- behind the last line
+pub so_far_end : (d : Document) (start ix n : ℕ) (old now read new : Forest Item) (line_break : Option Item) → ParagraphSoFar d start old now ix → JoinsNone old
+    → AppendsLine (content_at d ix) now read (n, line_break) → EndsLine (content_at d ix) (n, line_break)
+    → interrupts (line_place n (drop n d.text)) ≡ true → IsCharBoundary d.text n
+    → new ≡ with_closed_break read line_break → AppendsParagraph d start old new n
+so_far_end d start ix n old now read new line_break s apart line ends stops boundary new_is =
+    let chain : List Item = add_tokens s.chain line.tokens in
+    let tree : read ≡ chained old chain = line.tree_is ∙ ap (λ f. with_tokens f line.tokens) s.tree_is ∙ with_tokens-chained old s.chain line.tokens apart in
+    record {
+      chain = close_break line_break chain;
+      lines = s.goes_on (close_break line_break chain) (lines_from d.text n) (paragraph_last d ix n s.chain line.tokens line_break line.line ends.place stops);
+      tree_is = new_is ∙ ap (λ f. with_closed_break f line_break) tree ∙ with_closed_break-chained old chain line_break apart;
+      later = elim s.from [ inl same ↦ (let e = ap (line_end_at d.text) same in let p : n ≡ line_end_at d.text ix = ends.place in omega arith) | inr past ↦ (let from : ix ≤ n = ends.from in omega arith) ];
+      boundary = boundary;
+    }
+
+-- A line ends between characters.
+pub next_boundary : (d : Document) (ix n : ℕ) (line_break : Option Item) → IsUtf8 d.text → IsCharBoundary d.text ix → EndsLine (content_at d ix) (n, line_break) → IsCharBoundary d.text n
+next_boundary d ix n line_break utf8 boundary ends =
+    let place : n ≡ line_end_at d.text ix = ends.place in
+    let within : n ≤ length d.text = ends.within in
+    let from : ix ≤ n = ends.from in
+    elim (cases_lt ix (length d.text)) [
+      | inl more ↦ subst (IsCharBoundary d.text) (sym place) (line_end_boundary d.text ix utf8 boundary more)
+      | inr past ↦ let e : n ≡ length d.text = omega arith in subst (IsCharBoundary d.text) (sym e) (IsCharBoundary-end d.text)
+    ]
+
+-- what the text of the next line says
+pub goes_by : (t : Bool) (o : Option ℕ) (v at : ℕ) → o ≡ (if t then None else Some v) → o ≡ Some at → (t ≡ false) × (at ≡ v)
+goes_by true o v at e f = cc
+goes_by false o v at e f = (refl, cc)
+
+pub stops_by : (t : Bool) (o : Option ℕ) (v : ℕ) → o ≡ (if t then None else Some v) → o ≡ None → t ≡ true
+stops_by true o v e f = refl
+stops_by false o v e f = cc
+
+-- the backslash of a hard break is in the text
+pub break_fits : (d : Document) (ix n : ℕ) (line_break : Option Item) → length d.text < 2 ^ 63 → EndsLine (content_at d ix) (n, line_break) → IfSome line_break (λ x. x.start < 2 ^ 63)
+break_fits d ix n None small ends = tt
+break_fits d ix n (Some x) small ends =
+    let within : n ≤ length d.text = ends.within in
+    let b : IsBreak ix n x = ends.broken in
+    let p = b.before in
+    let q = b.to in
+    omega arith
+
+-- the same source, where the text and the options are still those
+pub same_line : (t u : List ℕ) (o w : Options) (ix : ℕ) (old new : Forest Item) (answer : ℕ × Option Item) → t ≡ u → o ≡ w
+    → AppendsLine (record { options = o; text = t; start = ix }) old new answer → AppendsLine (content_at (document u w) ix) old new answer
+same_line t u o w ix old new answer e f line = subst (λ z. AppendsLine (record { options = z; text = u; start = ix }) old new answer) f (subst (λ z. AppendsLine (record { options = o; text = z; start = ix }) old new answer) e line)
+
+pub same_end : (t u : List ℕ) (o w : Options) (ix : ℕ) (answer : ℕ × Option Item) → t ≡ u → o ≡ w
+    → EndsLine (record { options = o; text = t; start = ix }) answer → EndsLine (content_at (document u w) ix) answer
+same_end t u o w ix answer e f ends = subst (λ z. EndsLine (record { options = z; text = u; start = ix }) answer) f (subst (λ z. EndsLine (record { options = o; text = z; start = ix }) answer) e ends)
+
+-- the two steps, of a text that is held by other names before and after the line is read
+pub so_far_next : (first text now_text : List ℕ) (o w : Options) (start ix n at : ℕ) (old now read new : Forest Item) (line_break : Option Item) (found : Option ℕ)
+    → text ≡ first → o ≡ w → now_text ≡ text → ParagraphSoFar (document first w) start old now ix → JoinsNone old
+    → AppendsLine (record { options = o; text = text; start = ix }) now read (n, line_break) → EndsLine (record { options = o; text = text; start = ix }) (n, line_break)
+    → found ≡ (if interrupts (line_place n (drop n now_text)) then None else Some (offset (unindented (line_place n (drop n now_text))))) → found ≡ Some at
+    → IsPlaceOf now_text (unindented (line_place n (drop n now_text))) → new ≡ with_break read line_break
+    → (ParagraphSoFar (document first w) start old new at) × (ix < at)
+so_far_next first text now_text o w start ix n at old now read new line_break found same same_options kept s apart line ends value is place new_is =
+    let e : now_text ≡ first = kept ∙ same in
+    let goes = goes_by _ _ _ _ (subst (λ t. found ≡ (if interrupts (line_place n (drop n t)) then None else Some (offset (unindented (line_place n (drop n t)))))) e value) is in
+    so_far_more (document first w) start ix n at old now read new line_break s apart (same_line text first o w ix now read (n, line_break) same same_options line)
+    (same_end text first o w ix (n, line_break) same same_options ends) goes.0 goes.1 (subst (λ t. IsPlaceOf t (unindented (line_place n (drop n t)))) e place) new_is
+
+pub so_far_stop : (first text now_text : List ℕ) (o w : Options) (start ix n : ℕ) (old now read new : Forest Item) (line_break : Option Item) (found : Option ℕ)
+    → text ≡ first → o ≡ w → now_text ≡ text → ParagraphSoFar (document first w) start old now ix → JoinsNone old
+    → AppendsLine (record { options = o; text = text; start = ix }) now read (n, line_break) → EndsLine (record { options = o; text = text; start = ix }) (n, line_break)
+    → found ≡ (if interrupts (line_place n (drop n now_text)) then None else Some (offset (unindented (line_place n (drop n now_text))))) → found ≡ None
+    → IsCharBoundary text n → new ≡ with_closed_break read line_break
+    → AppendsParagraph (document first w) start old new n
+so_far_stop first text now_text o w start ix n old now read new line_break found same same_options kept s apart line ends value is boundary new_is =
+    let e : now_text ≡ first = kept ∙ same in
+    let stops = stops_by _ _ _ (subst (λ t. found ≡ (if interrupts (line_place n (drop n t)) then None else Some (offset (unindented (line_place n (drop n t)))))) e value) is in
+    so_far_end (document first w) start ix n old now read new line_break s apart (same_line text first o w ix now read (n, line_break) same same_options line)
+    (same_end text first o w ix (n, line_break) same same_options ends) stops (subst (λ t. IsCharBoundary t n) same boundary) new_is

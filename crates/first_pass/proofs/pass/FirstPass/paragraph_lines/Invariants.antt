@@ -1,0 +1,16 @@
+use Rattle.std.proofs.Common.{◌≡◌, ◌-◌, length}
+use Rattle.first_pass_grammar.specs.Leaves.{document}
+use Rattle.first_pass.specs.Reading.{ParagraphSoFar}
+use Rattle.first_pass.proofs.pass.FirstPass.paragraph_lines.Given as goal
+
+-- the lines are read up to here
+abbrev pub invariant-lines : goal.invariant-lines
+invariant-lines l = record {
+  same_text : l.self.text.now ≡ l.initial.self.text.now;
+  same_options : l.self.options ≡ l.initial.self.options;
+  same_allocs : l.self.allocs ≡ l.initial.self.allocs;
+  read : ParagraphSoFar (document l.initial.self.text.now l.initial.self.options) l.start l.initial.self.tree l.self.tree l.ix;
+}
+
+abbrev pub decreases-lines : goal.decreases-lines
+decreases-lines l = length l.self.text.now - l.ix

@@ -1,0 +1,52 @@
+use Rattle.std.proofs.Common.{◌≡◌, ap, subst, ◌∙◌}
+use Rattle.first_pass_items.specs.declared.item.Item.{Item}
+use Rattle.first_pass_scan.specs.Lines.{level_number}
+use Rattle.first_pass_tokens.specs.TreeTokens.{chained}
+use Rattle.first_pass_grammar.specs.Leaves.{Document, document, heading_text_at, IsHeading}
+use Rattle.first_pass.specs.Appends.{line_end_at}
+use Rattle.first_pass.proofs.HeadingLemmas.{heading_line_end}
+use Rattle.first_pass.proofs.BlockLemmas.{opened_at, opened_is, just_pushed, still_open, block_place, block_named}
+use Rattle.first_pass.proofs.pass.FirstPass.parse_atx_heading.Goals as goal
+
+pub heading_text-requires-clause-opened : goal.heading_text-requires-clause-opened
+heading_text-requires-clause-opened c =
+    just_pushed c.args.self.now.tree c.append.new.self c.push.new.self (record { start = c.args.start; «end» = 0; body = c.default.result }) c.in_ok-heading_ix.heading_ix c.in_ok-append.ensures.ok c.in_ok-heading_ix.ensures.index c.in_ok-heading_ix.ensures.ok
+
+pub pop-requires : goal.pop-requires
+pop-requires c =
+    let g = c.args.self.now.tree in
+    let x : Item = record { start = c.args.start; «end» = 0; body = c.default.result } in
+    let ix = c.in_ok-heading_ix.heading_ix in
+    let at = opened_at g c.append.new.self x ix c.in_ok-append.ensures.ok c.in_ok-heading_ix.ensures.index in
+    let opened = opened_is g c.append.new.self c.push.new.self x ix c.in_ok-append.ensures.ok c.in_ok-heading_ix.ensures.ok in
+    let line = c.in_ok-end.ensures.line in
+    still_open g c.heading_text.new.self.tree x line.chain ix at (line.tree_is ∙ ap (λ f. chained f line.chain) opened)
+
+pub set_body-requires : goal.set_body-requires
+set_body-requires c =
+    let g = c.args.self.now.tree in
+    let x : Item = record { start = c.args.start; «end» = 0; body = c.default.result } in
+    let ix = c.in_ok-heading_ix.heading_ix in
+    let at = opened_at g c.append.new.self x ix c.in_ok-append.ensures.ok c.in_ok-heading_ix.ensures.index in
+    let opened = opened_is g c.append.new.self c.push.new.self x ix c.in_ok-append.ensures.ok c.in_ok-heading_ix.ensures.ok in
+    let line = c.in_ok-end.ensures.line in
+    block_place g c.heading_text.new.self.tree x line.chain ix at (line.tree_is ∙ ap (λ f. chained f line.chain) opened) c.pop.new.self.tree c.in_ok-end.end c.pop.ensures.tree
+
+pub returns-clause-block : goal.returns-clause-block
+returns-clause-block c =
+    let g = c.args.self.now.tree in
+    let x : Item = record { start = c.args.start; «end» = 0; body = c.default.result } in
+    let ix = c.in_ok-heading_ix.heading_ix in
+    let at = opened_at g c.append.new.self x ix c.in_ok-append.ensures.ok c.in_ok-heading_ix.ensures.index in
+    let opened = opened_is g c.append.new.self c.push.new.self x ix c.in_ok-append.ensures.ok c.in_ok-heading_ix.ensures.ok in
+    let line = c.in_ok-end.ensures.line in
+    let text = c.args.self.now.text.now in
+    let d : Document = document text c.args.self.now.options in
+    let begins : c.heading_text_start-header_start.result ≡ heading_text_at text c.args.start (level_number c.args.atx_level) =
+    c.heading_text_start-header_start.ensures.value ∙ ap (λ t. heading_text_at t c.args.start (level_number c.args.atx_level)) c.as_bytes.ensures.value in
+    record {
+      chain = line.chain;
+      line = subst (λ k. IsHeading d k line.chain c.in_ok-end.end) begins line.line;
+      tree_is = block_named g c.heading_text.new.self.tree x line.chain ix at (line.tree_is ∙ ap (λ f. chained f line.chain) opened) c.pop.new.self.tree c.set_body.new.self c.in_ok-end.end _ c.pop.ensures.tree c.set_body.ensures;
+      end_is = line.end_is ∙ ap (line_end_at text) begins ∙ heading_line_end text c.args.start c.args.atx_level c.requires.within c.requires.heading;
+    }

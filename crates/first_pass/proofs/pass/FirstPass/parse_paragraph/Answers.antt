@@ -1,0 +1,34 @@
+use Rattle.std.proofs.Common.{◌++◌, ap, ◌∙◌}
+use Rattle.first_pass_items.specs.declared.item.Item.{Item}
+use Rattle.first_pass_items.specs.declared.item.ItemBody.TheVariants.{Paragraph}
+use Rattle.first_pass.specs.Appends.{with_break, marker_items}
+use Rattle.first_pass.proofs.BlockLemmas.{opened_at, opened_is, marked_chain, still_open, block_closed}
+use Rattle.first_pass.proofs.pass.FirstPass.parse_paragraph.Goals as goal
+
+pub pop-requires : goal.pop-requires
+pop-requires c =
+    let g = c.args.self.now.tree in
+    let x : Item = record { start = c.args.start_ix; «end» = 0; body = Paragraph } in
+    let ix = c.in_ok-push.field-0 in
+    let at = opened_at g c.append.new.self x ix c.in_ok-append.ensures.ok c.in_ok-push.ensures.index in
+    let opened = opened_is g c.append.new.self c.push.new.self x ix c.in_ok-append.ensures.ok c.in_ok-push.ensures.ok in
+    let lines = c.in_ok-ix.ensures.lines in
+    let filled = marked_chain _ c.append_marker.new.tree c.paragraph_lines.new.self.tree c.args.tasklist_marker lines.chain (c.in_ok-append_marker.ensures ∙ ap (λ v. with_break v c.args.tasklist_marker) opened) lines.tree_is in
+    still_open g c.paragraph_lines.new.self.tree x (marker_items c.args.tasklist_marker ++ lines.chain) ix at filled
+
+pub returns-clause-block : goal.returns-clause-block
+returns-clause-block c =
+    let g = c.args.self.now.tree in
+    let x : Item = record { start = c.args.start_ix; «end» = 0; body = Paragraph } in
+    let ix = c.in_ok-push.field-0 in
+    let at = opened_at g c.append.new.self x ix c.in_ok-append.ensures.ok c.in_ok-push.ensures.index in
+    let opened = opened_is g c.append.new.self c.push.new.self x ix c.in_ok-append.ensures.ok c.in_ok-push.ensures.ok in
+    let lines = c.in_ok-ix.ensures.lines in
+    let filled = marked_chain _ c.append_marker.new.tree c.paragraph_lines.new.self.tree c.args.tasklist_marker lines.chain (c.in_ok-append_marker.ensures ∙ ap (λ v. with_break v c.args.tasklist_marker) opened) lines.tree_is in
+    record {
+      chain = lines.chain;
+      lines = lines.lines;
+      tree_is = block_closed g c.paragraph_lines.new.self.tree x (marker_items c.args.tasklist_marker ++ lines.chain) ix at filled c.pop.new.self.tree c.in_ok-ix.ix c.pop.ensures.tree;
+      later = lines.later;
+      boundary = lines.boundary;
+    }

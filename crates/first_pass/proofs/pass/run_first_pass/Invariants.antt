@@ -1,0 +1,18 @@
+use Rattle.std.proofs.Common.{◌≡◌, ◌-◌, length, IsCharBoundary}
+use Rattle.first_pass_grammar.specs.Leaves.{document}
+use Rattle.first_pass.specs.State.{Ready}
+use Rattle.first_pass.specs.TableEntries.{tables, no_tables}
+use Rattle.first_pass.proofs.pass.run_first_pass.Given as goal
+
+-- the blocks are read up to here
+abbrev pub invariant-loop-ix : goal.invariant-loop-ix
+invariant-loop-ix l = record {
+  same_text : l.pass.text.now ≡ l.text;
+  same_options : l.pass.options ≡ l.fn.options;
+  none : tables l.pass.allocs ≡ no_tables;
+  boundary : IsCharBoundary l.text l.ix;
+  ready : Ready (document l.text l.fn.options) l.pass.tree l.ix;
+}
+
+abbrev pub decreases-loop-ix : goal.decreases-loop-ix
+decreases-loop-ix l = length l.text - l.ix

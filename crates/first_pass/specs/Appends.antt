@@ -1,0 +1,77 @@
+-- What the leaf parsers append to the tree.
+use Rattle.std.specs.Prelude.{◌≡◌, ◌≤◌, ℕ, ◌+◌, List, [], ◌∷◌, ◌++◌, length, take, drop, Option, Some, None, false, IsCharBoundary, if◌then◌else◌}
+use Rattle.first_pass_items.specs.declared.item.Item.{Item}
+use Rattle.first_pass_items.specs.declared.item.HeadingLevel.{HeadingLevel}
+use Rattle.first_pass_tree.specs.declared.tree_index.TreeIndex.{TreeIndex}
+use Rattle.first_pass_tree.specs.Forest.{Forest, appended, added, popped, with_end_at, with_text}
+use Rattle.first_pass_scan.specs.Lines.{line_len, level_number}
+use Rattle.first_pass_tokens.specs.Chains.{is_backslash_break}
+use Rattle.first_pass_tokens.specs.TreeTokens.{chained}
+use Rattle.first_pass_grammar.specs.Leaves.{Document, IsParagraph, IsHeading, heading_text_at, heading_block, paragraph_block}
+use Rattle.first_pass_grammar.specs.Completion.{lines_from}
+
+-- the bytes of a text up to an offset, or all
+abbrev pub text_upto : List ℕ → Option ℕ → List ℕ
+text_upto text None = text
+text_upto text (Some e) = take e text
+
+-- the tree with the break behind a line, if there is one
+abbrev pub with_break : Forest Item → Option Item → Forest Item
+with_break f None = f
+with_break f (Some x) = appended f x
+
+-- the tree where no line follows: the backslash of a hard break is text
+abbrev pub with_closed_break : Forest Item → Option Item → Forest Item
+with_closed_break f None = f
+with_closed_break f (Some x) = if is_backslash_break x.body then with_text f x.start (x.start + 1) false else f
+
+-- where the line ends that has something at an offset
+abbrev pub line_end_at : List ℕ → ℕ → ℕ
+line_end_at text at = at + line_len (drop at text)
+
+-- The chain of the paragraph whose text begins at an offset stands in the innermost open node, and the paragraph leaves the lines from another on.
+pub record AppendsParagraph (d : Document) (start : ℕ) (old new : Forest Item) (next : ℕ) : Type 0 where
+  pub chain : List Item
+  pub lines : IsParagraph d [] start [] (lines_from d.text (line_end_at d.text start)) chain (lines_from d.text next)
+  pub tree_is : new ≡ chained old chain
+  pub later : line_end_at d.text start ≤ next
+  pub boundary : IsCharBoundary d.text next
+
+-- the node is the innermost open one, and the last node
+pub record IsJustPushed (f : Forest Item) (ix : TreeIndex) : Type 0 where
+  pub rest : List TreeIndex
+  pub innermost : f.spine ≡ ix ∷ rest
+  pub last : ix.0 + 1 ≡ length f.nodes
+  pub none : f.current ≡ None
+
+-- The chain of the heading whose text begins at an offset stands in the innermost open node, and its line ends before another.
+pub record AppendsHeading (d : Document) (start : ℕ) (old new : Forest Item) (next : ℕ) : Type 0 where
+  pub chain : List Item
+  pub line : IsHeading d start chain next
+  pub tree_is : new ≡ chained old chain
+  pub end_is : next ≡ line_end_at d.text start
+
+-- the innermost open node closed, with its end
+abbrev pub closed_by : Forest Item → ℕ → List TreeIndex → Forest Item
+closed_by f e [] = f
+closed_by f e (ix ∷ rest) = with_end_at (popped f ix rest) ix e
+
+-- a task list marker is the first child of its paragraph
+abbrev pub marker_items : Option Item → List Item
+marker_items None = []
+marker_items (Some x) = x ∷ []
+
+-- The paragraph whose text begins at an offset is a last child of the innermost open node, and leaves the lines from another on.
+pub record AddsParagraph (d : Document) (start : ℕ) (marker : Option Item) (old new : Forest Item) (next : ℕ) : Type 0 where
+  pub chain : List Item
+  pub lines : IsParagraph d [] start [] (lines_from d.text (line_end_at d.text start)) chain (lines_from d.text next)
+  pub tree_is : new ≡ added old (paragraph_block start next (marker_items marker ++ chain))
+  pub later : line_end_at d.text start ≤ next
+  pub boundary : IsCharBoundary d.text next
+
+-- The heading that begins at an offset is a last child of the innermost open node, and its line ends before another.
+pub record AddsHeading (d : Document) (start : ℕ) (level : HeadingLevel) (old new : Forest Item) (next : ℕ) : Type 0 where
+  pub chain : List Item
+  pub line : IsHeading d (heading_text_at d.text start (level_number level)) chain next
+  pub tree_is : new ≡ added old (heading_block start next level chain)
+  pub end_is : next ≡ line_end_at d.text start

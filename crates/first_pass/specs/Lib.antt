@@ -1,0 +1,4 @@
+pub mod Appends
+pub mod Reading
+pub mod State
+pub mod TableEntries

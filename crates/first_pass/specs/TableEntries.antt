@@ -1,0 +1,21 @@
+-- What a contract sees of the tables beside a tree.
+use Rattle.std.specs.Prelude.{[], map}
+use Rattle.std.specs.Option.{option_map}
+use Rattle.first_pass_items.specs.declared.cow_str.CowStr.{CowStr}
+use Rattle.first_pass_items.specs.CowText.{text_of}
+use Rattle.first_pass_grammar.specs.Derivation.{LinkEntry, Tables}
+use Rattle.first_pass.specs.declared.items.LinkDef.{LinkDef}
+use Rattle.first_pass.specs.declared.items.FootnoteDef.{FootnoteDef}
+use Rattle.first_pass.specs.declared.items.Allocations.{Allocations}
+
+-- a link definition with its label
+abbrev pub link_entry : CowStr × LinkDef → LinkEntry
+link_entry e = record { label = text_of e.0; dest = text_of e.1.dest; title = option_map text_of e.1.title; start = e.1.span.start; «end» = e.1.span.«end» }
+
+-- what the tables define
+abbrev pub tables : Allocations → Tables
+tables a = record { links = map link_entry a.refdefs.entries.items; footnotes = map (λ (e : CowStr × FootnoteDef). text_of e.0) a.footdefs.entries.items }
+
+-- nothing
+abbrev pub no_tables : Tables
+no_tables = record { links = []; footnotes = [] }

@@ -1,0 +1,122 @@
+//! The text of an ATX heading.
+
+ghost use Rattle.std.specs.List.{suffix_len};
+ghost use Rattle.std.specs.Prelude.{◌≡◌, ◌==◌, take, drop, ◌≤◌, Some, length, IfOk, OnOk};
+ghost use Rattle.first_pass_scan.specs.Lines.{atx_level as atx_level_of, level_number as number_of};
+ghost use Rattle.first_pass_grammar.specs.Leaves.{document, is_put_aside, kept_len, heading_text_at};
+ghost use Rattle.first_pass.specs.Appends.{AppendsHeading, AddsHeading, IsJustPushed};
+
+use crate::paragraph::append_last_backslash;
+use crate::pass::FirstPass;
+use first_pass_below::flank::TableParseMode;
+use first_pass_items::item::{HeadingLevel, Item, ItemBody};
+use first_pass_scan::lines::{level_number, scan_whitespace_no_nl};
+use first_pass_scan::places::rest_of;
+use first_pass_tree::tree_index::TreeIndex;
+use std::alloc::AllocError;
+
+// How many spaces and line ends stand at the end.
+fn trailing_aside(text: &[u8]) -> usize
+    ensures value { result ≡ suffix_len is_put_aside text.now }
+    ensures within { result ≤ length text.now }
+{
+    text.iter()
+        .rev()
+        .take_while(|b| matches!(**b, b' ' | b'\n' | b'\r'))
+        .count()
+}
+
+// Where the text of a heading begins: behind its number signs and the white space after them.
+fn heading_text_start(bytes: &[u8], start: usize, level: HeadingLevel) -> usize
+    requires within { start ≤ length bytes.now }
+    requires heading { atx_level_of (drop start bytes.now) ≡ Some level }
+    ensures value { result ≡ heading_text_at bytes.now start (number_of level) }
+    ensures within { result ≤ length bytes.now }
+{
+    let signs_end = start + level_number(level);
+    signs_end + scan_whitespace_no_nl(rest_of(bytes, signs_end))
+}
+
+// How many of this byte stand at the end.
+fn trailing_run(text: &[u8], byte: u8) -> usize
+    ensures value { result ≡ suffix_len (λ b. b == byte) text.now }
+    ensures within { result ≤ length text.now }
+{
+    text.iter().rev().take_while(|b| **b == byte).count()
+}
+
+// The first bytes.
+fn front_of(text: &[u8], count: usize) -> &[u8]
+    requires { count ≤ length text.now }
+    ensures { result.now ≡ take count text.now }
+{
+    &text[..count]
+}
+
+// How many bytes of a heading's text are left without its closing sequence (CommonMark 4.2).
+#[tactic(auto, unfolding(first_pass_grammar::specs::Leaves::kept_len))]
+fn kept_len(text: &[u8]) -> usize
+    ensures value { result ≡ kept_len text.now }
+    ensures within { result ≤ length text.now }
+{
+    let trimmed = text.len() - trailing_aside(text);
+    let opening = trimmed - trailing_run(front_of(text, trimmed), b'#');
+    let spaces = trailing_run(front_of(text, opening), b' ');
+    if opening == 0 || 0 < spaces {
+        opening - spaces
+    } else {
+        trimmed
+    }
+}
+
+impl<'a> FirstPass<'a> {
+    /// Appends the ATX heading of this level that begins at the offset `start` into the text, and
+    /// answers the offset at which its line ends (CommonMark 4.2).
+    pub fn parse_atx_heading(
+        &mut self,
+        start: usize,
+        atx_level: HeadingLevel,
+    ) -> Result<usize, AllocError>
+        requires within { start ≤ length self.old.text.now }
+        requires heading { atx_level_of (drop start self.old.text.now) ≡ Some atx_level }
+        ensures text { OnOk result (self.new.text.now ≡ self.old.text.now) }
+        ensures options { OnOk result (self.new.options ≡ self.old.options) }
+        ensures allocs { OnOk result (self.new.allocs ≡ self.old.allocs) }
+        ensures block { IfOk result (λ next. AddsHeading (document self.old.text.now self.old.options) start atx_level self.old.tree self.new.tree next) }
+    {
+        self.tree.append(Item {
+            start,
+            end: 0,
+            body: ItemBody::default(),
+        })?;
+        let heading_ix = self.tree.push()?;
+        let header_start = heading_text_start(self.text.as_bytes(), start, atx_level);
+        let end = self.heading_text(header_start, heading_ix)?;
+        self.pop(end);
+        self.tree
+            .set_body(heading_ix, ItemBody::Heading(atx_level, None));
+        Ok(end)
+    }
+
+    // Appends the chain of the heading whose text begins at `start` to `node_ix`, the innermost open node,
+    // which was just opened, and answers where its line ends.
+    fn heading_text(&mut self, start: usize, node_ix: TreeIndex) -> Result<usize, AllocError>
+        requires within { start ≤ length self.old.text.now }
+        requires opened { IsJustPushed self.old.tree node_ix }
+        ensures text { OnOk result (self.new.text.now ≡ self.old.text.now) }
+        ensures options { OnOk result (self.new.options ≡ self.old.options) }
+        ensures allocs { OnOk result (self.new.allocs ≡ self.old.allocs) }
+        ensures line { IfOk result (λ next. AppendsHeading (document self.old.text.now self.old.options) start self.old.tree self.new.tree next) }
+    {
+        let (next, line_break) = self.parse_line(start, None, TableParseMode::Disabled)?;
+        append_last_backslash(&mut self.tree, line_break)?;
+        let line = rest_of(self.text.as_bytes(), start);
+        let kept = kept_len(front_of(line, next - start));
+        if kept == 0 {
+            self.tree.drop_children(node_ix);
+            return Ok(next);
+        }
+        self.tree.truncate_siblings(start + kept);
+        Ok(next)
+    }
+}

@@ -1,0 +1,118 @@
+//! The lines of a paragraph.
+
+ghost use Rattle.std.specs.Prelude.{◌≡◌, ◌<◌, ◌^◌, false, IfOk, IfSome, OnOk, IsCharBoundary};
+ghost use Rattle.first_pass_tokens.specs.TreeTokens.{JoinsNone};
+ghost use Rattle.first_pass_grammar.specs.Leaves.{document};
+ghost use Rattle.first_pass_tree.specs.Forest.{is_text};
+ghost use Rattle.first_pass.specs.Appends.{AppendsParagraph, AddsParagraph, with_break, with_closed_break};
+
+use crate::interrupt::next_paragraph_text;
+use crate::pass::FirstPass;
+use first_pass_below::flank::TableParseMode;
+use first_pass_items::item::{Item, ItemBody};
+use first_pass_tree::forest::Tree;
+use std::alloc::AllocError;
+
+/// Appends the break between two lines.
+fn append_break(tree: &mut Tree<Item>, line_break: Option<Item>) -> Result<(), AllocError>
+    ensures { OnOk result (tree.new ≡ with_break tree.old line_break) }
+{
+    match line_break {
+        Some(item) => {
+            tree.append(item)?;
+            Ok(())
+        }
+        None => Ok(()),
+    }
+}
+
+/// Ends a block's last line: a backslash that would make a hard break there is text.
+pub fn append_last_backslash(
+    tree: &mut Tree<Item>,
+    line_break: Option<Item>,
+) -> Result<(), AllocError>
+    requires { IfSome line_break (λ x. x.start < 2 ^ 63) }
+    ensures { OnOk result (tree.new ≡ with_closed_break tree.old line_break) }
+{
+    match line_break {
+        Some(
+            Item {
+                start,
+                body: ItemBody::HardBreak(true),
+                ..
+            },
+        ) => {
+            tree.append_text(start, start + 1, false)?;
+            Ok(())
+        }
+        _ => Ok(()),
+    }
+}
+
+// Appends the task list marker of a paragraph, if it has one.
+fn append_marker(tree: &mut Tree<Item>, marker: Option<Item>) -> Result<(), AllocError>
+    ensures { OnOk result (tree.new ≡ with_break tree.old marker) }
+{
+    match marker {
+        Some(item) => {
+            tree.append(item)?;
+            Ok(())
+        }
+        None => Ok(()),
+    }
+}
+
+impl<'a> FirstPass<'a> {
+    /// Appends the paragraph whose first line's text begins at the offset `start_ix` into the text, with
+    /// the marker of its task list item, if it has one, as its first child. Answers the offset at which
+    /// the line begins that ends the paragraph, or the text's length (CommonMark 4.8).
+    pub fn parse_paragraph(
+        &mut self,
+        start_ix: usize,
+        tasklist_marker: Option<Item>,
+    ) -> Result<usize, AllocError>
+        requires boundary { IsCharBoundary self.old.text.now start_ix }
+        requires marker { IfSome tasklist_marker (λ x. is_text x.body ≡ false) }
+        ensures text { OnOk result (self.new.text.now ≡ self.old.text.now) }
+        ensures options { OnOk result (self.new.options ≡ self.old.options) }
+        ensures allocs { OnOk result (self.new.allocs ≡ self.old.allocs) }
+        ensures block { IfOk result (λ next. AddsParagraph (document self.old.text.now self.old.options) start_ix tasklist_marker self.old.tree self.new.tree next) }
+    {
+        self.tree.append(Item {
+            start: start_ix,
+            end: 0,
+            body: ItemBody::Paragraph,
+        })?;
+        self.tree.push()?;
+        append_marker(&mut self.tree, tasklist_marker)?;
+        let ix = self.paragraph_lines(start_ix)?;
+        self.pop(ix);
+        Ok(ix)
+    }
+
+    // Appends the chain of the paragraph whose text begins at `start` to the innermost open node, and
+    // answers where the line begins that ends the paragraph, or the text's length.
+    fn paragraph_lines(&mut self, start: usize) -> Result<usize, AllocError>
+        requires boundary { IsCharBoundary self.old.text.now start }
+        requires apart { JoinsNone self.old.tree }
+        ensures text { OnOk result (self.new.text.now ≡ self.old.text.now) }
+        ensures options { OnOk result (self.new.options ≡ self.old.options) }
+        ensures allocs { OnOk result (self.new.allocs ≡ self.old.allocs) }
+        ensures lines { IfOk result (λ next. AppendsParagraph (document self.old.text.now self.old.options) start self.old.tree self.new.tree next) }
+    {
+        let mut ix = start;
+        'lines: loop {
+            let (next, line_break) = self.parse_line(ix, None, TableParseMode::Disabled)?;
+            match next_paragraph_text(self.alloc, self.text, next, &self.tree)? {
+                Some(at) => {
+                    append_break(&mut self.tree, line_break)?;
+                    ix = at;
+                }
+                None => {
+                    append_last_backslash(&mut self.tree, line_break)?;
+                    return Ok(next);
+                }
+            }
+        }
+    }
+}

@@ -1,0 +1,177 @@
+//! The block pass: the lines of a text, one block after the other.
+
+ghost use Rattle.std.specs.Prelude.{◌≡◌, ◌<◌, ◌≤◌, [], length, None, IsSome, slice_get, IfOk, IfSome, OnOk, IsUtf8, IsCharBoundary};
+ghost use Rattle.first_pass_below.specs.Walk.{MarksSpecial};
+ghost use Rattle.first_pass_tokens.specs.LineTokens.{EndsLine};
+ghost use Rattle.first_pass_tokens.specs.TreeTokens.{AppendsLine};
+ghost use Rattle.first_pass_grammar.specs.Leaves.{document};
+ghost use Rattle.first_pass_grammar.specs.Derivation.{Derives};
+ghost use Rattle.first_pass.specs.Appends.{text_upto, closed_by};
+ghost use Rattle.first_pass.specs.State.{Ready};
+ghost use Rattle.first_pass.specs.TableEntries.{tables, no_tables};
+
+use crate::items::Allocations;
+use crate::kinds::kind_at;
+use first_pass_below::flank::TableParseMode;
+use first_pass_below::walk::special_bytes;
+use first_pass_grammar::Kind;
+use first_pass_items::item::Item;
+use first_pass_items::option_set::Options;
+use first_pass_scan::places::next_line;
+use first_pass_tokens::line::append_line;
+use first_pass_tree::forest::Tree;
+use std::alloc::{AllocError, Global};
+use std::cmp::max;
+
+/// A pass over a text: the tree so far, and what its nodes name.
+#[derive(Drop)]
+pub struct FirstPass<'a> {
+    pub(crate) alloc: Global,
+    pub(crate) text: &'a str,
+    pub(crate) tree: Tree<Item>,
+    pub(crate) allocs: Allocations<'a>,
+    pub(crate) options: Options,
+    pub(crate) lookup_table: [bool; 256],
+    ghost marks: { MarksSpecial lookup_table options },
+}
+
+/// The bytes of a text up to an offset, or all.
+fn text_upto(text: &str, end: Option<usize>) -> &[u8]
+    requires { IfSome end (λ e. e ≤ length text.now) }
+    ensures value { result.now ≡ text_upto text.now end }
+    ensures utf8 { IsUtf8 text.now }
+{
+    let bytes = text.as_bytes();
+    match end {
+        Some(end) => &bytes[..end],
+        None => bytes,
+    }
+}
+
+impl<'a> FirstPass<'a> {
+    /// A pass over `text` that has read nothing yet.
+    pub fn new(alloc: Global, text: &'a str, options: Options) -> Result<FirstPass<'a>, AllocError>
+        ensures text { IfOk result (λ pass. pass.text.now ≡ text.now) }
+        ensures options { IfOk result (λ pass. pass.options ≡ options) }
+        ensures tables { IfOk result (λ pass. tables pass.allocs ≡ no_tables) }
+        ensures ready { IfOk result (λ pass. Ready (document text.now options) pass.tree 0) }
+    {
+        // A guess at how many nodes the text will have.
+        let capacity = max(128, text.len() / 32);
+        let mut tree = Tree::with_capacity(alloc, capacity)?;
+        let root = tree.root();
+        tree.set_end(root, text.len());
+        Ok(FirstPass {
+            alloc,
+            text,
+            tree,
+            allocs: Allocations::new(alloc),
+            options,
+            lookup_table: special_bytes(&options),
+        })
+    }
+
+    /// Reads the block that begins at the line's start `start_ix`, an offset into the text before its
+    /// end, and answers the offset at which the next line begins that is not read, or the text's length.
+    ///
+    /// Where the nodes so far begin a derivation of the text that goes on at `start_ix`, they begin one
+    /// then that goes on at the answer.
+    pub fn parse_block(&mut self, start_ix: usize) -> Result<usize, AllocError>
+        requires within { start_ix < length self.old.text.now }
+        requires boundary { IsCharBoundary self.old.text.now start_ix }
+        ensures text { OnOk result (self.new.text.now ≡ self.old.text.now) }
+        ensures options { OnOk result (self.new.options ≡ self.old.options) }
+        ensures allocs { OnOk result (self.new.allocs ≡ self.old.allocs) }
+        ensures later { IfOk result (λ next. (start_ix < next) × (next ≤ length self.old.text.now)) }
+        ensures boundary { IfOk result (λ next. IsCharBoundary self.old.text.now next) }
+        ensures ready { IfOk result (λ next. Ready (document self.old.text.now self.old.options) self.old.tree start_ix
+            → Ready (document self.old.text.now self.old.options) self.new.tree next) }
+    {
+        let bytes = self.text.as_bytes();
+        let (kind, at) = kind_at(self.text, start_ix);
+        match kind {
+            Kind::Blank => Ok(next_line(bytes, start_ix)),
+            Kind::AtxHeading(level) => {
+                let next = self.parse_atx_heading(at, level)?;
+                Ok(next)
+            }
+            Kind::Paragraph => {
+                let next = self.parse_paragraph(at, None)?;
+                Ok(next)
+            }
+        }
+    }
+
+    /// Appends the tokens of a line to the innermost open node: the line whose content begins at the
+    /// offset `start` into the text, of which nothing counts from the offset `end` on.
+    ///
+    /// Answers the offset behind the line's end, and its break, which is not appended; `None` where the
+    /// text ends without a line end (CommonMark 2.4, 6.7, 6.8). No mode makes a difference yet.
+    pub fn parse_line(
+        &mut self,
+        start: usize,
+        end: Option<usize>,
+        _mode: TableParseMode,
+    ) -> Result<(usize, Option<Item>), AllocError>
+        requires start { start ≤ length self.old.text.now }
+        requires end { IfSome end (λ e. (start ≤ e) × (e ≤ length self.old.text.now)) }
+        ensures text { OnOk result (self.new.text.now ≡ self.old.text.now) }
+        ensures options { OnOk result (self.new.options ≡ self.old.options) }
+        ensures allocs { OnOk result (self.new.allocs ≡ self.old.allocs) }
+        ensures line { IfOk result (λ answer. AppendsLine
+            (record { options = self.old.options; text = text_upto self.old.text.now end; start = start }) self.old.tree self.new.tree answer) }
+        ensures ends { IfOk result (λ answer. EndsLine
+            (record { options = self.old.options; text = text_upto self.old.text.now end; start = start }) answer) }
+        ensures boundary { IfOk result (λ answer. end ≡ None → IsCharBoundary self.old.text.now start → IsCharBoundary self.old.text.now answer.0) }
+    {
+        let bytes = text_upto(self.text, end);
+        let answer = append_line(
+            bytes,
+            start,
+            self.options,
+            &self.lookup_table,
+            &mut self.tree,
+        )?;
+        Ok(answer)
+    }
+
+    /// Closes the innermost open node, of which there has to be one, at the offset `ix`.
+    pub fn pop(&mut self, ix: usize)
+        requires { IsSome (slice_get self.old.tree.spine 0) }
+        ensures text { self.new.text.now ≡ self.old.text.now }
+        ensures options { self.new.options ≡ self.old.options }
+        ensures allocs { self.new.allocs ≡ self.old.allocs }
+        ensures tree { self.new.tree ≡ closed_by self.old.tree ix self.old.tree.spine }
+    {
+        self.tree.is_forest();
+        let cur_ix = self.tree.pop().unwrap();
+        self.tree.set_end(cur_ix, ix);
+    }
+}
+
+/// Reads the blocks of a text: the finished tree that the block grammar derives from the text's lines
+/// under these options, and the tables of what the text defines. The one error is that a request for
+/// memory was refused.
+pub fn run_first_pass<'a>(
+    alloc: Global,
+    text: &'a str,
+    options: Options,
+) -> Result<(Tree<Item>, Allocations<'a>), AllocError>
+    ensures derived { IfOk result (λ answer. Derives (document text.now options) answer.0.nodes (tables answer.1)) }
+    ensures finished { IfOk result (λ answer. answer.0.spine ≡ []) }
+{
+    let mut pass = FirstPass::new(alloc, text, options)?;
+    let mut ix = 0;
+    while ix < text.len() {
+        ix = pass.parse_block(ix)?;
+    }
+    let FirstPass {
+        alloc: _,
+        text: _,
+        tree,
+        allocs,
+        options: _,
+        lookup_table: _,
+    } = pass;
+    Ok((tree, allocs))
+}
