@@ -1,5 +1,6 @@
 -- The grammar derives one forest from a text, and one pair of tables.
 use Rattle.std.proofs.Common.{◌≡◌, inl, inr, ℕ, true, false, List, [], ◌∷◌, length, Option, Some, None, refl, sym, ap, ◌∙◌, subst}
+use Rattle.std.specs.Option.{option_map}
 use Rattle.first_pass_items.specs.declared.item.Item.{Item}
 use Rattle.first_pass_scan.specs.Places.{Place, offset, lines_at, start_of}
 use Rattle.first_pass_tokens.specs.Chains.{add_tokens}
@@ -7,10 +8,10 @@ use Rattle.first_pass_tokens.proofs.LineLemmas.{one_line}
 use Rattle.first_pass_grammar.specs.declared.kind.Container.{Container}
 use Rattle.first_pass_grammar.specs.declared.kind.Kind.{Kind}
 use Rattle.first_pass_grammar.specs.declared.kind.Kind.TheVariants.{Blank, AtxHeading, Paragraph}
-use Rattle.first_pass_grammar.specs.Containers.{front}
-use Rattle.first_pass_grammar.specs.Kinds.{unindented}
+use Rattle.first_pass_grammar.specs.Containers.{at_rest, after, front}
+use Rattle.first_pass_grammar.specs.Kinds.{unindented, quote_inside, kind_of, interrupts}
 use Rattle.first_pass_grammar.specs.Leaves.{Document, add_break, IsParagraph, IsHeading}
-use Rattle.first_pass_grammar.specs.Skeleton.{Leaf, Opening, OpensLeaf, OpensNode, OpensAs, Opens, Skeleton, Nil, Then, Node, Begins, Ends, IsLeafHere, IsNodeHere, IsSequence}
+use Rattle.first_pass_grammar.specs.Skeleton.{Leaf, Opening, OpensLeaf, OpensNode, OpensAs, OpensFrom, Opens, Skeleton, Nil, Then, Node, Begins, Ends, IsLeafHere, IsNodeHere, IsSequence}
 use Rattle.first_pass_grammar.specs.Derivation.{Tables, forest_of, tables_of, root_of, Derives}
 
 -- a paragraph has one chain and leaves one list of lines
@@ -34,8 +35,8 @@ one_paragraph d path start chain (line ∷ lines) w w' l l' (t, a, i, inr (h, mo
     let x = o.0 in
     let y = o.1 in
     let same : add_break a'.1 (add_tokens chain t') ≡ add_break a.1 (add_tokens chain t) = cc in
-    one_paragraph d path (offset (unindented (front path line))) (add_break a.1 (add_tokens chain t)) lines w w' l l' more
-    (subst (λ z. IsParagraph d path (offset (unindented (front path line))) z lines w' l') same more')
+    one_paragraph d path (offset (unindented (at_rest line (front path line.rest)))) (add_break a.1 (add_tokens chain t)) lines w w' l l' more
+    (subst (λ z. IsParagraph d path (offset (unindented (at_rest line (front path line.rest)))) z lines w' l') same more')
 
 -- a heading has one chain and one end
 one_heading : (d : Document) (start : ℕ) (c c' : List Item) (e e' : ℕ) → IsHeading d start c e → IsHeading d start c' e' → (c ≡ c') × (e ≡ e')
@@ -63,6 +64,11 @@ opens_once d path p lines Paragraph o o' (c, l, h, f) (c', l', h', f') =
     let y = s.1 in
     cc
 
+opens_from : (d : Document) (path : List Container) (p : Place) (lines : List Place) (q : Option Place) (o o' : Opening) → OpensFrom d path p lines q o → OpensFrom d path p lines q o' → o ≡ o'
+unfolding OpensFrom
+opens_from d path p lines (Some inside) o o' e e' = cc
+opens_from d path p lines None o o' e e' = opens_once d path p lines (kind_of p.rest) o o' e e'
+
 -- a block begins at one place
 begins_once : (path : List Container) (here : Option Place) (lines : List Place) (p q : Place) (a b : List Place) → Begins path here lines p a → Begins path here lines q b → (p ≡ q) × (a ≡ b)
 begins_once path (Some x) lines p q a b (e, f) (g, h) = (cc, cc)
@@ -73,21 +79,21 @@ begins_once path None (line ∷ lines) p q a b (t, f) (u, h) = let s : Some p �
 ends_not_begins : (path : List Container) (here : Option Place) (lines : List Place) (p : Place) (a : List Place) → Ends path here lines → Begins path here lines p a → ⊥
 ends_not_begins path (Some x) lines p a e b = e
 ends_not_begins path None [] p a e b = b
-ends_not_begins path None (line ∷ lines) p a e (t, h) = cc
+ends_not_begins path None (line ∷ lines) p a e (t, h) = let n : None ≡ Some p = sym (ap (option_map (at_rest line)) e) ∙ t in cc
 
 -- a first block opens as one thing
 leaf_once : (d : Document) (path : List Container) (here : Option Place) (lines : List Place) (leaf leaf' : Leaf) (there there' : Option Place) (left left' : List Place)
     → IsLeafHere d path here lines leaf there left → IsLeafHere d path here lines leaf' there' left' → OpensLeaf leaf there left ≡ OpensLeaf leaf' there' left'
 leaf_once d path here lines leaf leaf' there there' left left' f g =
     let w = begins_once path here lines f.place g.place f.behind g.behind f.begins g.begins in
-    opens_once d path g.place g.behind _ _ _ (subst (λ z. Opens d path g.place z (OpensLeaf leaf there left)) w.1 (subst (λ z. Opens d path z f.behind (OpensLeaf leaf there left)) w.0 f.opens)) g.opens
+    opens_from d path g.place g.behind _ _ _ (subst (λ z. Opens d path g.place z (OpensLeaf leaf there left)) w.1 (subst (λ z. Opens d path z f.behind (OpensLeaf leaf there left)) w.0 f.opens)) g.opens
 
 leaf_not_node : (d : Document) (path : List Container) (here : Option Place) (lines : List Place) (leaf : Leaf) (there : Option Place) (left : List Place) (c : Container) (start : ℕ) (inside : Place) (behind : List Place)
     → IsLeafHere d path here lines leaf there left → IsNodeHere d path here lines c start inside behind → ⊥
 leaf_not_node d path here lines leaf there left c start inside behind f g =
     let w = begins_once path here lines f.place g.place f.behind behind f.begins g.begins in
     let o : OpensLeaf leaf there left ≡ OpensNode c start inside =
-    opens_once d path g.place behind _ _ _ (subst (λ z. Opens d path g.place z (OpensLeaf leaf there left)) w.1 (subst (λ z. Opens d path z f.behind (OpensLeaf leaf there left)) w.0 f.opens)) g.opens in
+    opens_from d path g.place behind _ _ _ (subst (λ z. Opens d path g.place z (OpensLeaf leaf there left)) w.1 (subst (λ z. Opens d path z f.behind (OpensLeaf leaf there left)) w.0 f.opens)) g.opens in
     cc
 
 node_once : (d : Document) (path : List Container) (here : Option Place) (lines : List Place) (c c' : Container) (start start' : ℕ) (inside inside' : Place) (behind behind' : List Place)
@@ -95,7 +101,7 @@ node_once : (d : Document) (path : List Container) (here : Option Place) (lines 
     → (OpensNode c start inside ≡ OpensNode c' start' inside') × (behind ≡ behind')
 node_once d path here lines c c' start start' inside inside' behind behind' f g =
     let w = begins_once path here lines f.place g.place behind behind' f.begins g.begins in
-    (opens_once d path g.place behind' _ _ _ (subst (λ z. Opens d path g.place z (OpensNode c start inside)) w.1 (subst (λ z. Opens d path z behind (OpensNode c start inside)) w.0 f.opens)) g.opens, w.1)
+    (opens_from d path g.place behind' _ _ _ (subst (λ z. Opens d path g.place z (OpensNode c start inside)) w.1 (subst (λ z. Opens d path z behind (OpensNode c start inside)) w.0 f.opens)) g.opens, w.1)
 
 node_ends : (d : Document) (path : List Container) (here : Option Place) (lines : List Place) (c : Container) (start : ℕ) (inside : Place) (behind : List Place)
     → Ends path here lines → IsNodeHere d path here lines c start inside behind → ⊥

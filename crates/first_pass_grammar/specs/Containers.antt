@@ -10,24 +10,21 @@ use Rattle.first_pass_grammar.specs.declared.kind.Container.TheVariants.{BlockQu
 abbrev pub at_rest : Place → Rest → Place
 at_rest p r = record { line = p.line; rest = r }
 
--- the prefix of a block quote: up to three columns, `>` with no column owed before it, and one column if there is one (CommonMark 5.1)
-abbrev pub quote_prefix : Rest → Option Rest
-quote_prefix r = option_map (after_columns 1) (past_quote (after_columns 3 r))
-
--- what is left of a line behind the prefix by which it goes on with a container, or none where it doesn't
-unfoldable pub prefix : Container → Place → Option Place
-prefix (BlockQuote kind) p = option_map (at_rest p) (quote_prefix p.rest)
+-- what is left of a line behind the prefix by which it goes on with a container, or none where it doesn't:
+-- a block quote has up to three columns, `>` with no column owed before it, and one column if there is one (CommonMark 5.1)
+unfoldable pub prefix : Container → Rest → Option Rest
+prefix (BlockQuote kind) r = option_map (after_columns 1) (past_quote (after_columns 3 r))
 
 -- the same for a path of containers, the innermost first: each takes its prefix in turn
-unfoldable pub after : List Container → Place → Option Place
-after [] p = Some p
-after (c ∷ path) p = option_and_then (prefix c) (after path p)
+unfoldable pub after : List Container → Rest → Option Rest
+after [] r = Some r
+after (c ∷ path) r = option_and_then (prefix c) (after path r)
 
-abbrev pub or_shorter : Option Place → Place → Place
-or_shorter (Some q) p = q
-or_shorter None p = p
+abbrev pub or_shorter : Option Rest → Rest → Rest
+or_shorter (Some q) r = q
+or_shorter None r = r
 
 -- what is left of a line behind the longest beginning of the path that it goes on with
-unfoldable pub front : List Container → Place → Place
-front [] p = p
-front (c ∷ path) p = or_shorter (after (c ∷ path) p) (front path p)
+unfoldable pub front : List Container → Rest → Rest
+front [] r = r
+front (c ∷ path) r = or_shorter (after (c ∷ path) r) (front path r)

@@ -1,31 +1,43 @@
 -- Which kind of block begins at a place, and which lines end a paragraph before them (CommonMark 4).
 use Rattle.std.specs.Prelude.{ℕ, List, Option, Some, None, Bool, nat_lt, is_some, ◌||◌, if◌then◌else◌}
 use Rattle.first_pass_items.specs.declared.item.HeadingLevel.{HeadingLevel}
-use Rattle.first_pass_scan.specs.Lines.{at_line_end, blank_len, atx_level}
-use Rattle.first_pass_scan.specs.Rest.{indent, after_columns}
+use Rattle.std.specs.Option.{option_map}
+use Rattle.first_pass_scan.specs.Lines.{at_line_end, begins, blank_len, atx_level}
+use Rattle.first_pass_scan.specs.Rest.{Rest, indent, after_columns, past_quote}
 use Rattle.first_pass_scan.specs.Places.{Place}
 use Rattle.first_pass_grammar.specs.declared.kind.Kind.{Kind}
 use Rattle.first_pass_grammar.specs.declared.kind.Kind.TheVariants.{Blank, AtxHeading, Paragraph}
 use Rattle.first_pass_grammar.specs.Containers.{at_rest}
 
--- behind all columns of a place: where its first byte that is no space or tab stands
+-- what is left behind all columns: from the first byte on that is no space or tab
+abbrev pub all_taken : Rest → Rest
+all_taken r = after_columns (indent r) r
+
+-- where that byte stands
 abbrev pub unindented : Place → Place
-unindented p = at_rest p (after_columns (indent p.rest) p.rest)
+unindented p = at_rest p (all_taken p.rest)
 
 abbrev pub heading_or : Option HeadingLevel → Kind → Kind
 heading_or (Some level) other = AtxHeading level
 heading_or None other = other
 
 -- the first that fits: a blank line (CommonMark 4.9), an ATX heading at under four columns (4.2), a paragraph (4.8)
-unfoldable pub kind_of : Place → Kind
-kind_of p =
-    if is_some (blank_len p.rest.left) then Blank
-    else (if nat_lt (indent p.rest) 4 then heading_or (atx_level (unindented p).rest.left) Paragraph else Paragraph)
+unfoldable pub kind_of : Rest → Kind
+kind_of r =
+    if is_some (blank_len r.left) then Blank
+    else (if nat_lt (indent r) 4 then heading_or (atx_level (all_taken r).left) Paragraph else Paragraph)
 
--- What interrupts a paragraph at under four columns: the line's end, or an ATX heading (CommonMark 4.8, 4.2).
+-- the rest inside a block quote that begins here: at under four columns `>` with no column owed before it, and one column if there is one (CommonMark 5.1)
+unfoldable pub quote_rest : Rest → Option Rest
+quote_rest r = if nat_lt (indent r) 4 then option_map (after_columns 1) (past_quote (all_taken r)) else None
+
+abbrev pub quote_inside : Place → Option Place
+quote_inside p = option_map (at_rest p) (quote_rest p.rest)
+
+-- What interrupts a paragraph at under four columns: the line's end, an ATX heading or a block quote (CommonMark 4.8, 4.2, 5.1).
 abbrev pub interrupts_with : List ℕ → Bool
-interrupts_with bs = at_line_end bs || is_some (atx_level bs)
+interrupts_with bs = at_line_end bs || is_some (atx_level bs) || begins 62 bs
 
 -- A line ends a paragraph before it where its text interrupts the paragraph; at four columns or more only where nothing but spaces and tabs is left.
-unfoldable pub interrupts : Place → Bool
-interrupts p = if nat_lt (indent p.rest) 4 then interrupts_with (unindented p).rest.left else at_line_end (unindented p).rest.left
+unfoldable pub interrupts : Rest → Bool
+interrupts r = if nat_lt (indent r) 4 then interrupts_with (all_taken r).left else at_line_end (all_taken r).left

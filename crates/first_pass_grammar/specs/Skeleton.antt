@@ -1,13 +1,15 @@
 -- Sequences of blocks, and the blocks in them (CommonMark 3.1).
 use Rattle.std.specs.Prelude.{◌≡◌, ℕ, Option, Some, None, List, [], ◌∷◌, length}
+use Rattle.std.specs.Option.{option_map}
 use Rattle.first_pass_items.specs.declared.item.Item.{Item}
 use Rattle.first_pass_scan.specs.Lines.{level_number}
 use Rattle.first_pass_scan.specs.Places.{Place, offset, start_of}
 use Rattle.first_pass_grammar.specs.declared.kind.Container.{Container}
+use Rattle.first_pass_grammar.specs.declared.kind.Container.TheVariants.{BlockQuote}
 use Rattle.first_pass_grammar.specs.declared.kind.Kind.{Kind}
 use Rattle.first_pass_grammar.specs.declared.kind.Kind.TheVariants.{Blank, AtxHeading, Paragraph}
-use Rattle.first_pass_grammar.specs.Containers.{after}
-use Rattle.first_pass_grammar.specs.Kinds.{unindented, kind_of}
+use Rattle.first_pass_grammar.specs.Containers.{at_rest, after}
+use Rattle.first_pass_grammar.specs.Kinds.{unindented, quote_inside, kind_of}
 use Rattle.first_pass_grammar.specs.Leaves.{Document, IsParagraph, IsHeading, heading_text_at, heading_block, paragraph_block}
 
 -- a blank line, or a block with no blocks in it: its items with their depths below it
@@ -31,9 +33,13 @@ OpensAs d path p lines Paragraph opening =
     (chain : List Item) × (left : List Place) × IsParagraph d path (offset (unindented p)) [] lines chain left
     × (opening ≡ OpensLeaf (Block (paragraph_block (offset (unindented p)) (start_of (length d.text) left) chain)) None left)
 
--- The kind of a place decides what begins there.
+-- What begins at a place: a block quote where one does, else what the kind of the place says.
+unfoldable pub OpensFrom : Document → List Container → Place → List Place → Option Place → Opening → Type 0
+OpensFrom d path p lines (Some inside) opening = opening ≡ OpensNode (BlockQuote None) (offset (unindented p)) inside
+OpensFrom d path p lines None opening = OpensAs d path p lines (kind_of p.rest) opening
+
 abbrev pub Opens : Document → List Container → Place → List Place → Opening → Type 0
-Opens d path p lines opening = OpensAs d path p lines (kind_of p) opening
+Opens d path p lines opening = OpensFrom d path p lines (quote_inside p) opening
 
 -- The blocks of a container, with what is in each: a first block, and those after it.
 pub data Skeleton : Type 0 where
@@ -46,13 +52,13 @@ pub data Skeleton : Type 0 where
 abbrev pub Begins : List Container → Option Place → List Place → Place → List Place → Type 0
 Begins path (Some p) lines q behind = (q ≡ p) × (behind ≡ lines)
 Begins path None [] q behind = ⊥
-Begins path None (line ∷ lines) q behind = (after path line ≡ Some q) × (behind ≡ lines)
+Begins path None (line ∷ lines) q behind = (option_map (at_rest line) (after path line.rest) ≡ Some q) × (behind ≡ lines)
 
 -- A sequence of blocks ends where the next line doesn't go on with its path, or with the text.
 abbrev pub Ends : List Container → Option Place → List Place → Type 0
 Ends path (Some p) lines = ⊥
 Ends path None [] = Unit {0}
-Ends path None (line ∷ lines) = after path line ≡ None
+Ends path None (line ∷ lines) = after path line.rest ≡ None
 
 -- a first block that is a leaf, and the place and the lines that it leaves
 pub record IsLeafHere (d : Document) (path : List Container) (here : Option Place) (lines : List Place) (leaf : Leaf) (there : Option Place) (left : List Place) : Type 0 where

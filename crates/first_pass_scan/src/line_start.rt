@@ -2,7 +2,7 @@
 
 ghost use Rattle.std.specs.Prelude.{◌≡◌, ◌≤◌, min, nat_le, MatchOption, true, false};
 ghost use Rattle.first_pass_scan.specs.Lines.{at_line_end};
-ghost use Rattle.first_pass_scan.specs.Rest.{next_column, after_columns, indent};
+ghost use Rattle.first_pass_scan.specs.Rest.{next_column, after_columns, indent, past_quote};
 ghost use Rattle.first_pass_scan.specs.Places.{line_rest};
 
 use std::marker::Model;
@@ -109,6 +109,32 @@ impl<'a> LineStart<'a> {
         ensures { self.new ≡ after_columns (indent self.old) self.old }
     {
         while self.take_column() {}
+    }
+
+    /// Takes a block quote marker, `>` and one column behind it if there is one, where no column is owed
+    /// before it, and says whether it stands there; takes nothing where it doesn't. CommonMark 5.1.
+    pub fn scan_blockquote_marker(&mut self) -> bool
+        ensures { MatchOption (past_quote self.old) ((result ≡ false) × (self.new ≡ self.old)) (λ next. (result ≡ true) × (self.new ≡ after_columns 1 next)) }
+    {
+        if self.owed == 0 && self.at < self.bytes.len() && self.bytes[self.at] == b'>' {
+            self.at += 1;
+            let _ = self.scan_space(1);
+            true
+        } else {
+            false
+        }
+    }
+
+    /// The same place once more, which takes no memory.
+    pub fn copy(&self) -> LineStart<'a>
+        ensures { result ≡ self.now }
+    {
+        LineStart {
+            bytes: self.bytes,
+            at: self.at,
+            tab_start: self.tab_start,
+            owed: self.owed,
+        }
     }
 
     // Takes one column, if there is one.
