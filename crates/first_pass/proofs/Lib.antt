@@ -1,4 +1,5 @@
 pub mod BlockLemmas
+pub mod FrontLemmas
 pub mod HeadingLemmas
 pub mod ParagraphLemmas
 pub mod PlaceLemmas

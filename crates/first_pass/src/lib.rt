@@ -2,6 +2,7 @@
 //! (`pass::run_first_pass`). The names of the crate below are handed out too.
 #![tactic(auto)]
 
+pub mod containers;
 mod heading;
 mod indentation;
 mod interrupt;
