@@ -1,10 +1,16 @@
 -- Facts on places behind a line's indentation.
-use Rattle.std.proofs.Common.{◌≡◌, ℕ, zero, suc, List, drop, Option, Some, None, IsUtf8, IsCharBoundary, refl, ap, ◌∙◌}
-use Rattle.first_pass_scan.specs.Rest.{Rest, next_column, after_columns, indent}
-use Rattle.first_pass_scan.specs.Places.{line_rest, line_place, IsPlaceOf}
+use Rattle.std.proofs.Common.{◌≡◌, ℕ, ◌+◌, zero, suc, nat_lt, Bool, true, false, List, [], ◌∷◌, drop, Option, Some, None, IsUtf8, IsCharBoundary, if◌then◌else◌, refl, sym, ap, subst, ◌∙◌, arith}
+use Rattle.std.proofs.lemmas.Option.{none-some}
+use Rattle.std.specs.Option.{option_map, option_and_then}
+use Rattle.first_pass_scan.specs.Lines.{line_len}
+use Rattle.first_pass_scan.specs.Rest.{Rest, next_column, after_columns, indent, past_quote}
+use Rattle.first_pass_scan.specs.Places.{line_rest, place_at, line_end, IsPlaceOf}
 use Rattle.first_pass_scan.proofs.Columns.{after-more, after-none, all-more}
-use Rattle.first_pass_scan.proofs.PlaceFacts.{line_is_place, columns_keep}
-use Rattle.first_pass_grammar.specs.Kinds.{unindented}
+use Rattle.first_pass_scan.proofs.PlaceFacts.{line_is_place, columns_keep, columns_line_end, quote_keeps, quote_line_end}
+use Rattle.first_pass_grammar.specs.declared.kind.Container.{Container}
+use Rattle.first_pass_grammar.specs.declared.kind.Container.TheVariants.{BlockQuote}
+use Rattle.first_pass_grammar.specs.Containers.{prefix, after, or_shorter, front}
+use Rattle.first_pass_grammar.specs.Kinds.{all_taken, unindented, quote_rest}
 
 all_by : (k : ℕ) (r : Rest) (o : Option Rest) → next_column r ≡ o → ((s : Rest) → after_columns (indent (after_columns k s)) (after_columns k s) ≡ after_columns (indent s) s)
     → after_columns (indent (after_columns (suc k) r)) (after_columns (suc k) r) ≡ after_columns (indent r) r
@@ -16,13 +22,77 @@ pub all_after : (k : ℕ) (r : Rest) → after_columns (indent (after_columns k 
 all_after zero r = refl
 all_after (suc k) r = all_by k r (next_column r) refl (λ s. all_after k s)
 
--- behind its indentation a line has a place of the text
-pub unindented_place : (text : List ℕ) (s : ℕ) → IsUtf8 text → IsCharBoundary text s → IsPlaceOf text (unindented (line_place s (drop s text)))
-unindented_place text s u b = columns_keep text (indent (line_rest (drop s text))) (line_place s (drop s text)) u (line_is_place text s b)
+-- behind all columns
+pub all_keep : (text : List ℕ) (line : ℕ) (r : Rest) → IsUtf8 text → IsPlaceOf text (place_at line r) → IsPlaceOf text (place_at line (all_taken r))
+all_keep text line r u i = columns_keep text (indent r) (place_at line r) u i
 
--- what is left of a line behind all columns, four of them taken first
-pub indented : (text bytes rest : List ℕ) (start : ℕ) (line some all : Rest) → bytes ≡ text → rest ≡ drop start bytes → line ≡ line_rest rest → some ≡ after_columns 4 line → all ≡ after_columns (indent some) some
-    → (let r : Rest = line_rest (drop start text) in all ≡ after_columns (indent r) r)
-indented text bytes rest start line some all a b e f g =
-    let h : line ≡ line_rest (drop start text) = e ∙ ap line_rest (b ∙ ap (drop start) a) in
-    g ∙ ap (λ s. after_columns (indent s) s) (f ∙ ap (after_columns 4) h) ∙ all_after 4 (line_rest (drop start text))
+quote_prefix : (text : List ℕ) (line : ℕ) (r : Rest) (o : Option Rest) (s : Rest) → IsUtf8 text → past_quote r ≡ o → option_map (after_columns 1) o ≡ Some s → IsPlaceOf text (place_at line r)
+    → IsPlaceOf text (place_at line s) × (line_end (place_at line s) ≡ line_end (place_at line r))
+quote_prefix text line r None s u q e i = absurd (none-some s e)
+quote_prefix text line r (Some t) s u q e i =
+    let f : after_columns 1 t ≡ s = cc in
+    let j = columns_keep text 1 (place_at line t) u (quote_keeps text line r t u q i) in
+    (subst (λ z. IsPlaceOf text (place_at line z)) f j, ap (λ z. line_end (place_at line z)) (sym f) ∙ columns_line_end 1 (place_at line t) ∙ quote_line_end line r t q)
+
+-- behind a block quote that begins here
+quote_here : (t : Bool) (text : List ℕ) (line : ℕ) (r s : Rest) → IsUtf8 text → (if t then option_map (after_columns 1) (past_quote (all_taken r)) else None) ≡ Some s → IsPlaceOf text (place_at line r)
+    → IsPlaceOf text (place_at line s) × (line_end (place_at line s) ≡ line_end (place_at line r))
+quote_here true text line r s u e i =
+    let f = quote_prefix text line (all_taken r) (past_quote (all_taken r)) s u refl e (all_keep text line r u i) in
+    (f.0, f.1 ∙ columns_line_end (indent r) (place_at line r))
+quote_here false text line r s u e i = absurd (none-some s e)
+
+pub inside_quote : (text : List ℕ) (line : ℕ) (r s : Rest) → IsUtf8 text → quote_rest r ≡ Some s → IsPlaceOf text (place_at line r) → IsPlaceOf text (place_at line s) × (line_end (place_at line s) ≡ line_end (place_at line r))
+unfolding quote_rest
+inside_quote text line r s u e i = quote_here (nat_lt (indent r) 4) text line r s u e i
+
+-- behind a prefix
+prefix_keeps : (text : List ℕ) (line : ℕ) (c : Container) (r s : Rest) → IsUtf8 text → prefix c r ≡ Some s → IsPlaceOf text (place_at line r)
+    → IsPlaceOf text (place_at line s) × (line_end (place_at line s) ≡ line_end (place_at line r))
+unfolding prefix
+prefix_keeps text line (BlockQuote kind) r s u e i =
+    let f = quote_prefix text line (after_columns 3 r) (past_quote (after_columns 3 r)) s u refl e (columns_keep text 3 (place_at line r) u i) in
+    (f.0, f.1 ∙ columns_line_end 3 (place_at line r))
+
+after_by : (text : List ℕ) (line : ℕ) (c : Container) (r s : Rest) (o : Option Rest) → IsUtf8 text → option_and_then (prefix c) o ≡ Some s
+    → ((q : Rest) → o ≡ Some q → IsPlaceOf text (place_at line q) × (line_end (place_at line q) ≡ line_end (place_at line r)))
+    → IsPlaceOf text (place_at line s) × (line_end (place_at line s) ≡ line_end (place_at line r))
+after_by text line c r s None u e f = absurd (none-some s e)
+after_by text line c r s (Some q) u e f =
+    let g = f q refl in
+    let h = prefix_keeps text line c q s u e g.0 in
+    (h.0, h.1 ∙ g.1)
+
+-- behind what a path takes
+pub after_keeps : (text : List ℕ) (line : ℕ) (path : List Container) (r s : Rest) → IsUtf8 text → after path r ≡ Some s → IsPlaceOf text (place_at line r)
+    → IsPlaceOf text (place_at line s) × (line_end (place_at line s) ≡ line_end (place_at line r))
+unfolding after
+after_keeps text line [] r s u e i = let f : r ≡ s = cc in (subst (λ z. IsPlaceOf text (place_at line z)) f i, ap (λ z. line_end (place_at line z)) (sym f))
+after_keeps text line (c ∷ path) r s u e i = after_by text line c r s (after path r) u e (λ q g. after_keeps text line path r q u g i)
+
+front_by : (text : List ℕ) (line : ℕ) (path : List Container) (r q : Rest) (o : Option Rest) → IsUtf8 text → after path r ≡ o → IsPlaceOf text (place_at line r)
+    → IsPlaceOf text (place_at line q) × (line_end (place_at line q) ≡ line_end (place_at line r))
+    → IsPlaceOf text (place_at line (or_shorter o q)) × (line_end (place_at line (or_shorter o q)) ≡ line_end (place_at line r))
+front_by text line path r q None u e i f = f
+front_by text line path r q (Some s) u e i f = after_keeps text line path r s u e i
+
+-- behind what a line goes on with
+pub front_keeps : (text : List ℕ) (line : ℕ) (path : List Container) (r : Rest) → IsUtf8 text → IsPlaceOf text (place_at line r)
+    → IsPlaceOf text (place_at line (front path r)) × (line_end (place_at line (front path r)) ≡ line_end (place_at line r))
+unfolding front
+front_keeps text line [] r u i = (i, refl)
+front_keeps text line (c ∷ path) r u i = front_by text line (c ∷ path) r (front path r) (after (c ∷ path) r) u refl i (front_keeps text line path r u i)
+
+-- the text of a line behind what it goes on with
+pub text_place : (text : List ℕ) (s : ℕ) (path : List Container) → IsUtf8 text → IsCharBoundary text s
+    → (let r : Rest = front path (line_rest (drop s text)) in IsPlaceOf text (unindented (place_at s r)) × (line_end (unindented (place_at s r)) ≡ s + line_len (drop s text)))
+text_place text s path u b =
+    let f = front_keeps text s path (line_rest (drop s text)) u (line_is_place text s b) in
+    let r : Rest = front path (line_rest (drop s text)) in
+    let z : s + 0 ≡ s = omega arith in
+    (all_keep text s r u f.0, columns_line_end (indent r) (place_at s r) ∙ f.1 ∙ ap (λ k. k + line_len (drop s text)) z)
+
+-- what is left of a line behind what it goes on with, read from the text
+pub front_read : (text bytes rest : List ℕ) (start : ℕ) (path : List Container) (line behind : Rest) → bytes ≡ text → rest ≡ drop start bytes → line ≡ line_rest rest → behind ≡ front path line
+    → behind ≡ front path (line_rest (drop start text))
+front_read text bytes rest start path line behind a b e f = f ∙ ap (front path) (e ∙ ap line_rest (b ∙ ap (drop start) a))

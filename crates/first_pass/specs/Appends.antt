@@ -9,6 +9,7 @@ use Rattle.first_pass_tokens.specs.Chains.{is_backslash_break}
 use Rattle.first_pass_tokens.specs.TreeTokens.{chained}
 use Rattle.first_pass_grammar.specs.Leaves.{Document, IsParagraph, IsHeading, heading_text_at, heading_block, paragraph_block}
 use Rattle.first_pass_grammar.specs.Completion.{lines_from}
+use Rattle.first_pass.specs.Path.{path_of}
 
 -- the bytes of a text up to an offset, or all
 abbrev pub text_upto : List ℕ → Option ℕ → List ℕ
@@ -32,7 +33,7 @@ line_end_at text at = at + line_len (drop at text)
 -- The chain of the paragraph whose text begins at an offset stands in the innermost open node, and the paragraph leaves the lines from another on.
 pub record AppendsParagraph (d : Document) (start : ℕ) (old new : Forest Item) (next : ℕ) : Type 0 where
   pub chain : List Item
-  pub lines : IsParagraph d [] start [] (lines_from d.text (line_end_at d.text start)) chain (lines_from d.text next)
+  pub lines : IsParagraph d (path_of old) start [] (lines_from d.text (line_end_at d.text start)) chain (lines_from d.text next)
   pub tree_is : new ≡ chained old chain
   pub later : line_end_at d.text start ≤ next
   pub boundary : IsCharBoundary d.text next
@@ -64,7 +65,7 @@ marker_items (Some x) = x ∷ []
 -- The paragraph whose text begins at an offset is a last child of the innermost open node, and leaves the lines from another on.
 pub record AddsParagraph (d : Document) (start : ℕ) (marker : Option Item) (old new : Forest Item) (next : ℕ) : Type 0 where
   pub chain : List Item
-  pub lines : IsParagraph d [] start [] (lines_from d.text (line_end_at d.text start)) chain (lines_from d.text next)
+  pub lines : IsParagraph d (path_of old) start [] (lines_from d.text (line_end_at d.text start)) chain (lines_from d.text next)
   pub tree_is : new ≡ added old (paragraph_block start next (marker_items marker ++ chain))
   pub later : line_end_at d.text start ≤ next
   pub boundary : IsCharBoundary d.text next

@@ -7,6 +7,7 @@ use Rattle.first_pass_tokens.specs.TreeTokens.{chained}
 use Rattle.first_pass_grammar.specs.Leaves.{Document, IsParagraph}
 use Rattle.first_pass_grammar.specs.Completion.{lines_from}
 use Rattle.first_pass.specs.Appends.{line_end_at}
+use Rattle.first_pass.specs.Path.{path_of}
 
 -- The lines of a paragraph are read up to where the text of another begins: what is then the chain of the paragraph from there on, is that of the whole.
 pub record ParagraphSoFar (d : Document) (start : ℕ) (old now : Forest Item) (at : ℕ) : Type 0 where
@@ -14,5 +15,5 @@ pub record ParagraphSoFar (d : Document) (start : ℕ) (old now : Forest Item) (
   pub tree_is : now ≡ chained old chain
   pub boundary : IsCharBoundary d.text at
   pub from : (at ≡ start) ⊎ (line_end_at d.text start ≤ at)
-  pub goes_on : (whole : List Item) (left : List Place) → IsParagraph d [] at chain (lines_from d.text (line_end_at d.text at)) whole left
-      → IsParagraph d [] start [] (lines_from d.text (line_end_at d.text start)) whole left
+  pub goes_on : (whole : List Item) (left : List Place) → IsParagraph d (path_of old) at chain (lines_from d.text (line_end_at d.text at)) whole left
+      → IsParagraph d (path_of old) start [] (lines_from d.text (line_end_at d.text start)) whole left

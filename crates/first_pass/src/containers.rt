@@ -1,14 +1,21 @@
 //! The open containers, and how far a line goes on with them (CommonMark 5).
 
-ghost use Rattle.std.specs.Prelude.{◌≡◌, ℕ, ◌<◌, ◌≤◌, length, Some, None, true, false, MatchOption};
+ghost use Rattle.std.specs.Prelude.{◌≡◌, ℕ, ◌<◌, ◌≤◌, ◌-◌, List, length, Some, None, true, false, MatchOption, OnOk};
+ghost use Rattle.first_pass_scan.specs.Places.{Place, place_at, line_end, IsPlaceOf};
+ghost use Rattle.first_pass_grammar.specs.Kinds.{all_taken, quote_rest};
+ghost use Rattle.first_pass_grammar.specs.Leaves.{document};
 ghost use Rattle.first_pass_grammar.specs.declared.kind.Container.TheVariants.{BlockQuote};
 ghost use Rattle.first_pass_grammar.specs.Containers.{prefix, after, front};
 ghost use Rattle.first_pass.specs.Path.{container_of, prefix_of, path_in, path_of, outer};
+ghost use Rattle.first_pass.specs.State.{ReadyAt, closed_times};
 
+use crate::indentation::scan_indentation;
+use crate::pass::FirstPass;
 use first_pass_items::item::{Item, ItemBody};
 use first_pass_items::option_set::Options;
 use first_pass_scan::line_start::LineStart;
 use first_pass_tree::forest::Tree;
+use std::alloc::AllocError;
 
 // Takes the prefix of a block quote, and says whether it is there; takes nothing where it isn't.
 #[tactic(auto, unfolding(first_pass_grammar::specs::Containers::prefix))]
@@ -59,4 +66,67 @@ pub fn scan_containers<'a>(
         }
     }
     spine.len()
+}
+
+impl<'a> FirstPass<'a> {
+    /// Closes the open nodes at the offset `ix`, but the outermost `kept` of them.
+    pub(crate) fn close_containers(&mut self, kept: usize, ix: usize)
+        requires { kept ≤ length self.old.tree.spine }
+        ensures text { self.new.text.now ≡ self.old.text.now }
+        ensures options { self.new.options ≡ self.old.options }
+        ensures allocs { self.new.allocs ≡ self.old.allocs }
+        ensures tree { self.new.tree ≡ closed_times (length self.old.tree.spine - kept) ix self.old.tree }
+    {
+        while kept < self.tree.spine_len() {
+            self.pop(ix);
+        }
+    }
+
+    /// Opens the containers that begin at a place in the line whose reading began at `start_ix`, one
+    /// inside the other, and takes their markers (CommonMark 5).
+    pub(crate) fn open_containers(
+        &mut self,
+        start_ix: usize,
+        line_start: &mut LineStart<'a>,
+    ) -> Result<(), AllocError>
+        requires { IsPlaceOf self.old.text.now (place_at start_ix line_start.old) }
+        ensures text { OnOk result (self.new.text.now ≡ self.old.text.now) }
+        ensures options { OnOk result (self.new.options ≡ self.old.options) }
+        ensures allocs { OnOk result (self.new.allocs ≡ self.old.allocs) }
+        ensures place { OnOk result (IsPlaceOf self.old.text.now (place_at start_ix line_start.new)) }
+        ensures same_end { OnOk result (line_end (place_at start_ix line_start.new) ≡ line_end (place_at start_ix line_start.old)) }
+        ensures no_quote { OnOk result (quote_rest line_start.new ≡ None) }
+        ensures ready { OnOk result ((lines : List Place)
+            → ReadyAt (document self.old.text.now self.old.options) self.old.tree (Some (place_at start_ix line_start.old)) lines
+            → ReadyAt (document self.old.text.now self.old.options) self.new.tree (Some (place_at start_ix line_start.new)) lines) }
+    {
+        while let Some(quote) = scan_quote(line_start) {
+            self.tree.append(Item {
+                start: start_ix + quote,
+                end: 0,
+                body: ItemBody::BlockQuote(None),
+            })?;
+            self.tree.push()?;
+        }
+        Ok(())
+    }
+}
+
+// Takes the block quote marker here and the columns before it, where one begins at under four columns, and
+// answers how many bytes of the line stand before it; takes nothing where none does.
+#[tactic(auto, unfolding(first_pass_grammar::specs::Kinds::quote_rest))]
+fn scan_quote<'a>(line_start: &mut LineStart<'a>) -> Option<usize>
+    ensures { MatchOption (quote_rest line_start.old) ((result ≡ None) × (line_start.new ≡ line_start.old))
+        (λ next. (result ≡ Some (all_taken line_start.old).taken) × (line_start.new ≡ next)) }
+{
+    let mut next = line_start.copy();
+    if scan_indentation(&mut next) >= 4 {
+        return None;
+    }
+    let before = next.bytes_scanned();
+    if !next.scan_blockquote_marker() {
+        return None;
+    }
+    *line_start = next;
+    Some(before)
 }

@@ -1,19 +1,34 @@
 //! Which lines end a paragraph before them.
 
-ghost use Rattle.std.specs.Prelude.{◌≡◌, ◌<◌, ◌≤◌, length, drop, IfOk, OnOk, Some, None, if◌then◌else◌, IsCharBoundary};
-ghost use Rattle.first_pass_scan.specs.Places.{line_place, offset, IsPlaceOf};
+ghost use Rattle.std.specs.Prelude.{◌≡◌, min, drop, IfOk, OnOk, Some, None, if◌then◌else◌, IsCharBoundary};
+ghost use Rattle.first_pass_scan.specs.Places.{line_rest, place_at, offset, IsPlaceOf};
+ghost use Rattle.first_pass_scan.specs.Lines.{begins};
+ghost use Rattle.first_pass_scan.specs.Rest.{indent};
+ghost use Rattle.first_pass_grammar.specs.Containers.{front};
 ghost use Rattle.first_pass_grammar.specs.Kinds.{interrupts, interrupts_with, unindented};
 
+ghost use Rattle.first_pass.specs.Path.{path_of};
+
+use crate::containers::scan_containers;
 use crate::indentation::scan_indentation;
 use first_pass_items::item::Item;
+use first_pass_items::option_set::Options;
+use first_pass_scan::line_start::LineStart;
 use first_pass_scan::lines::{scan_atx_heading, scan_eol};
 use first_pass_scan::places::rest_of;
 use first_pass_tree::forest::Tree;
 use std::alloc::{AllocError, Global};
 
+// Whether the first byte is `>`.
+fn begins_quote(bytes: &[u8]) -> bool
+    ensures { result ≡ begins 62 bytes.now }
+{
+    matches!(bytes.first(), Some(b'>'))
+}
+
 /// Whether `text`, what is left of a line behind its indentation of under four columns, interrupts a
-/// paragraph: its line ends, or an ATX heading begins (CommonMark 4.8, 4.2). Which containers the line
-/// goes on with, and the tree so far, make no difference yet.
+/// paragraph: its line ends, or an ATX heading or a block quote begins (CommonMark 4.8, 4.2, 5.1). Which
+/// containers the line goes on with, and the tree so far, make no difference yet.
 pub fn scan_paragraph_interrupt_no_table(
     _alloc: Global,
     text: &str,
@@ -26,24 +41,40 @@ pub fn scan_paragraph_interrupt_no_table(
     ensures { IfOk result (λ yes. yes ≡ interrupts_with text.now) }
 {
     let bytes = text.as_bytes();
-    Ok(scan_eol(bytes).is_some() || scan_atx_heading(bytes).is_some())
+    Ok(scan_eol(bytes).is_some() || scan_atx_heading(bytes).is_some() || begins_quote(bytes))
+}
+
+// The columns of indentation, but 4 where there are more, behind what the line that begins at `start` takes
+// for the open containers, and the offset behind those columns.
+fn scan_prefixes(text: &str, start: usize, tree: &Tree<Item>, options: Options) -> (usize, usize)
+    requires { IsCharBoundary text.now start }
+    ensures columns { result.0 ≡ min 4 (indent (front (path_of tree.now) (line_rest (drop start text.now)))) }
+    ensures behind { result.1 ≡ offset (unindented (place_at start (front (path_of tree.now) (line_rest (drop start text.now))))) }
+    ensures place { IsPlaceOf text.now (unindented (place_at start (front (path_of tree.now) (line_rest (drop start text.now))))) }
+{
+    let mut line_start = LineStart::new(rest_of(text.as_bytes(), start));
+    let _ = scan_containers(tree, &mut line_start, options, false);
+    let columns = scan_indentation(&mut line_start);
+    (columns, start + line_start.bytes_scanned())
 }
 
 /// Where the text of the line begins, as an offset into `text`, by which a paragraph goes on at the line
-/// that begins at `start`; `None` where that line ends the paragraph (CommonMark 4.8).
+/// that begins at `start`, whatever open containers that line goes on with; `None` where that line ends the
+/// paragraph (CommonMark 4.8, 5.1).
 #[tactic(auto, unfolding(first_pass_grammar::specs::Kinds::interrupts))]
 pub fn next_paragraph_text(
     alloc: Global,
     text: &str,
     start: usize,
     tree: &Tree<Item>,
+    options: Options,
 ) -> Result<Option<usize>, AllocError>
     requires { IsCharBoundary text.now start }
-    ensures value { IfOk result (λ next. next ≡ (if interrupts (line_place start (drop start text.now))
-        then None else Some (offset (unindented (line_place start (drop start text.now)))))) }
-    ensures place { OnOk result (IsPlaceOf text.now (unindented (line_place start (drop start text.now)))) }
+    ensures value { IfOk result (λ next. next ≡ (if interrupts (front (path_of tree.now) (line_rest (drop start text.now)))
+        then None else Some (offset (unindented (place_at start (front (path_of tree.now) (line_rest (drop start text.now)))))))) }
+    ensures place { OnOk result (IsPlaceOf text.now (unindented (place_at start (front (path_of tree.now) (line_rest (drop start text.now)))))) }
 {
-    let (columns, at) = scan_indentation(text, start);
+    let (columns, at) = scan_prefixes(text, start, tree, options);
     let interrupted = if columns < 4 {
         scan_paragraph_interrupt_no_table(alloc, &text[at..], true, false, false, tree, 0)?
     } else {

@@ -90,7 +90,7 @@ impl<'a> FirstPass<'a> {
         let mut ix = start;
         'lines: loop {
             let (next, line_break) = self.parse_line(ix, None, TableParseMode::Disabled)?;
-            match next_paragraph_text(self.alloc, self.text, next, &self.tree)? {
+            match next_paragraph_text(self.alloc, self.text, next, &self.tree, self.options)? {
                 Some(at) => {
                     append_item(&mut self.tree, line_break)?;
                     ix = at;

@@ -1,17 +1,21 @@
 //! The block pass: the lines of a text, one block after the other.
 
-ghost use Rattle.std.specs.Prelude.{◌≡◌, ◌<◌, ◌≤◌, [], length, None, IsSome, slice_get, IfOk, IfSome, OnOk, IsUtf8, IsCharBoundary};
+ghost use Rattle.std.specs.Prelude.{◌≡◌, ◌<◌, ◌≤◌, [], length, Some, None, IsSome, slice_get, IfOk, IfSome, OnOk, IsUtf8, IsCharBoundary};
+ghost use Rattle.first_pass_scan.specs.Places.{place_at, line_end, IsPlaceOf};
 ghost use Rattle.first_pass_below.specs.Walk.{MarksSpecial};
 ghost use Rattle.first_pass_tokens.specs.LineTokens.{EndsLine};
 ghost use Rattle.first_pass_tokens.specs.TreeTokens.{AppendsLine};
 ghost use Rattle.first_pass_grammar.specs.Leaves.{document};
+ghost use Rattle.first_pass_grammar.specs.Kinds.{quote_rest};
 ghost use Rattle.first_pass_grammar.specs.Derivation.{Derives};
+ghost use Rattle.first_pass_grammar.specs.Completion.{lines_from};
 ghost use Rattle.first_pass.specs.Appends.{text_upto, closed_by};
-ghost use Rattle.first_pass.specs.State.{Ready};
+ghost use Rattle.first_pass.specs.State.{Ready, ReadyAt};
 ghost use Rattle.first_pass.specs.TableEntries.{tables, no_tables};
 
 pub use crate::interrupt::scan_paragraph_interrupt_no_table;
 
+use crate::containers::scan_containers;
 use crate::items::Allocations;
 use crate::kinds::kind_at;
 use first_pass_below::flank::TableParseMode;
@@ -19,7 +23,8 @@ use first_pass_below::walk::special_bytes;
 use first_pass_grammar::Kind;
 use first_pass_items::item::Item;
 use first_pass_items::option_set::Options;
-use first_pass_scan::places::next_line;
+use first_pass_scan::line_start::LineStart;
+use first_pass_scan::places::{next_line, rest_of};
 use first_pass_tokens::line::append_line;
 use first_pass_tree::forest::Tree;
 use std::alloc::{AllocError, Global};
@@ -75,6 +80,7 @@ impl<'a> FirstPass<'a> {
 
     /// Reads the block that begins at the line's start `start_ix`, an offset into the text before its
     /// end, and answers the offset at which the next line begins that is not read, or the text's length.
+    /// Open containers that the line doesn't go on with are closed, and those that begin in it are opened.
     ///
     /// Where the nodes so far begin a derivation of the text that goes on at `start_ix`, they begin one
     /// then that goes on at the answer.
@@ -89,10 +95,33 @@ impl<'a> FirstPass<'a> {
         ensures ready { IfOk result (λ next. Ready (document self.old.text.now self.old.options) self.old.tree start_ix
             → Ready (document self.old.text.now self.old.options) self.new.tree next) }
     {
-        let bytes = self.text.as_bytes();
-        let (kind, at) = kind_at(self.text, start_ix);
+        let mut line_start = LineStart::new(rest_of(self.text.as_bytes(), start_ix));
+        let kept = scan_containers(&self.tree, &mut line_start, self.options, false);
+        self.close_containers(kept, start_ix);
+        self.open_containers(start_ix, &mut line_start)?;
+        let next = self.parse_leaf(start_ix, line_start)?;
+        Ok(next)
+    }
+
+    // Reads the leaf block that begins at a place in the line whose reading began at `start_ix`, where no
+    // container begins; answers as `parse_block`.
+    fn parse_leaf(&mut self, start_ix: usize, line_start: LineStart<'a>) -> Result<usize, AllocError>
+        requires place { IsPlaceOf self.old.text.now (place_at start_ix line_start) }
+        requires no_quote { quote_rest line_start ≡ None }
+        ensures text { OnOk result (self.new.text.now ≡ self.old.text.now) }
+        ensures options { OnOk result (self.new.options ≡ self.old.options) }
+        ensures allocs { OnOk result (self.new.allocs ≡ self.old.allocs) }
+        ensures later { IfOk result (λ next. line_end (place_at start_ix line_start) ≤ next) }
+        ensures boundary { IfOk result (λ next. IsCharBoundary self.old.text.now next) }
+        ensures ready { IfOk result (λ next.
+            ReadyAt (document self.old.text.now self.old.options) self.old.tree (Some (place_at start_ix line_start)) (lines_from self.old.text.now (line_end (place_at start_ix line_start)))
+            → ReadyAt (document self.old.text.now self.old.options) self.new.tree None (lines_from self.old.text.now next)) }
+    {
+        let mut line_start = line_start;
+        let kind = kind_at(&mut line_start);
+        let at = start_ix + line_start.bytes_scanned();
         match kind {
-            Kind::Blank => Ok(next_line(bytes, start_ix)),
+            Kind::Blank => Ok(next_line(self.text.as_bytes(), at)),
             Kind::AtxHeading(level) => {
                 let next = self.parse_atx_heading(at, level)?;
                 Ok(next)
@@ -167,6 +196,7 @@ pub fn run_first_pass<'a>(
     while ix < text.len() {
         ix = pass.parse_block(ix)?;
     }
+    pass.close_containers(0, text.len());
     let FirstPass {
         alloc: _,
         text: _,

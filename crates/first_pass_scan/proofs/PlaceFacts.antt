@@ -1,5 +1,6 @@
 -- Facts on places in the text, and on the columns of a rest.
-use Rattle.std.proofs.Common.{◌≡◌, ◌⊎◌, inl, inr, ℕ, zero, suc, ◌+◌, ◌-◌, ◌<◌, ◌≤◌, Bool, true, false, ◌==◌, List, [], ◌∷◌, length, drop, get_or, slice_index, Option, Some, None, IsUtf8, IsCharBoundary, refl, sym, ap, subst, ◌∙◌, arith, length-drop, get_or-drop, drop-drop}
+use Rattle.std.proofs.Common.{◌≡◌, ◌⊎◌, inl, inr, ℕ, zero, suc, ◌+◌, ◌-◌, ◌<◌, ◌≤◌, Bool, true, false, ◌==◌, List, [], ◌∷◌, length, drop, get_or, slice_index, Option, Some, None, IsUtf8, IsCharBoundary, if◌then◌else◌, refl, sym, ap, subst, ◌∙◌, arith, length-drop, get_or-drop, drop-drop}
+use Rattle.std.proofs.lemmas.Option.{none-some}
 use Rattle.std.specs.List.{prefix_len, All}
 use Rattle.std.proofs.lemmas.List.Elements.{All-nil, All-cons}
 use Rattle.std.proofs.lemmas.Str.{IsCharBoundary-after_ascii, IsCharBoundary-before_ascii, IsCharBoundary-end}
@@ -7,7 +8,7 @@ use Rattle.std.proofs.lemmas.List.Sums.{prefix_len_passes, prefix_len_stops, pre
 use Rattle.std.proofs.lemmas.Bool.{eqb-true, cases_lt}
 use Rattle.std.proofs.lemmas.Bool.Decides.{nat_tests}
 use Rattle.first_pass_scan.specs.Lines.{begins, ends_line, line_len, is_content, is_white, is_number_sign}
-use Rattle.first_pass_scan.specs.Rest.{Rest, past_byte, column_of_byte, column_of, next_column, after_columns, indent}
+use Rattle.first_pass_scan.specs.Rest.{Rest, past_byte, past_bytes, past_quote_byte, past_quote, column_of_byte, column_of, next_column, after_columns, indent}
 use Rattle.first_pass_scan.specs.Places.{Place, place_at, line_rest, offset, line_place, IsPlaceOf, moved_columns, moved_bytes, line_end, content_end, start_of, lines_at}
 use Rattle.first_pass_scan.proofs.LineFacts.{line_len-none, line_len-step, line_len-some, line_len-within, line_len-content_first, lines_at-line, lines_at-end}
 use Rattle.first_pass_scan.proofs.Columns.{after-more, after-none, indent-none, indent-some, all-more, all-none}
@@ -303,3 +304,34 @@ places_up_to text (suc most) s u b m = places_step text most s u b m (λ t c n. 
 
 pub lines_are_places : (text : List ℕ) (s : ℕ) → IsUtf8 text → IsCharBoundary text s → All (IsPlaceOf text) (lines_at s (drop s text))
 lines_are_places text s u b = places_up_to text (length text) s u b (omega arith)
+
+quote_byte_by : (t : Bool) (r s : Rest) (b : ℕ) (bs : List ℕ) → (b == 62) ≡ t → b ∷ bs ≡ r.left → (if t then Some (past_byte r bs) else None) ≡ Some s
+    → (s ≡ past_bytes 1 r) × (0 < length r.left) × (slice_index r.left 0 < 128) × (1 ≤ prefix_len is_content r.left)
+quote_byte_by true r s b bs h e q =
+    let is : b ≡ 62 = eqb-true b 62 h in
+    let f : past_byte r bs ≡ s = cc in
+    let g : past_byte r bs ≡ past_bytes 1 r = ap (λ l. record { left = drop 1 l; taken = r.taken + 1; owed = 0; column = r.column + 1 }) e in
+    let n : length r.left ≡ suc (length bs) = ap length (sym e) in
+    let i : slice_index r.left 0 ≡ b = ap (λ l. slice_index l 0) (sym e) in
+    let k : prefix_len is_content r.left ≡ prefix_len is_content bs + 1 = ap (prefix_len is_content) (sym e) ∙ content_first b bs (ap is_content is) in
+    (sym f ∙ g, omega arith, omega arith, omega arith)
+quote_byte_by false r s b bs h e q = absurd (none-some s q)
+
+quote_byte : (r s : Rest) (bs : List ℕ) → bs ≡ r.left → past_quote_byte r bs ≡ Some s → (s ≡ past_bytes 1 r) × (0 < length r.left) × (slice_index r.left 0 < 128) × (1 ≤ prefix_len is_content r.left)
+quote_byte r s [] e q = absurd (none-some s q)
+quote_byte r s (b ∷ bs) e q = quote_byte_by (b == 62) r s b bs refl e q
+
+quote_by : (t : Bool) (r s : Rest) → (if t then past_quote_byte r r.left else None) ≡ Some s → (s ≡ past_bytes 1 r) × (0 < length r.left) × (slice_index r.left 0 < 128) × (1 ≤ prefix_len is_content r.left)
+quote_by true r s q = quote_byte r s r.left refl q
+quote_by false r s q = absurd (none-some s q)
+
+-- behind a block quote marker
+pub quote_keeps : (text : List ℕ) (line : ℕ) (r s : Rest) → IsUtf8 text → past_quote r ≡ Some s → IsPlaceOf text (place_at line r) → IsPlaceOf text (place_at line s)
+quote_keeps text line r s u q i =
+    let f = quote_by (r.owed == 0) r s q in
+    subst (λ z. IsPlaceOf text (place_at line z)) (sym f.0) (ascii_keeps text (place_at line r) 0 u i f.1 f.2)
+
+pub quote_line_end : (line : ℕ) (r s : Rest) → past_quote r ≡ Some s → line_end (place_at line s) ≡ line_end (place_at line r)
+quote_line_end line r s q =
+    let f = quote_by (r.owed == 0) r s q in
+    ap (λ z. line_end (place_at line z)) f.0 ∙ bytes_line_end 1 (place_at line r) f.3

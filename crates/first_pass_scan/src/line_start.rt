@@ -5,6 +5,7 @@ ghost use Rattle.first_pass_scan.specs.Lines.{at_line_end};
 ghost use Rattle.first_pass_scan.specs.Rest.{next_column, after_columns, indent, past_quote};
 ghost use Rattle.first_pass_scan.specs.Places.{line_rest};
 
+use crate::places::rest_of;
 use std::marker::Model;
 
 /// A place in a line: what is left of it, and the columns that a tab taken in part owes. Tab stops are
@@ -62,6 +63,13 @@ impl<'a> LineStart<'a> {
         ensures { result ≡ self.now.taken }
     {
         self.at
+    }
+
+    /// What is left of the line, and all that follows it.
+    pub fn left(&self) -> &'a [u8]
+        ensures { result.now ≡ self.now.left }
+    {
+        rest_of(self.bytes, self.at)
     }
 
     /// The columns that a tab taken in part owes: 0 to 3. CommonMark 2.2.
