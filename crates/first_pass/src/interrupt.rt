@@ -1,6 +1,6 @@
 //! Which lines end a paragraph before them.
 
-ghost use Rattle.std.specs.Prelude.{◌≡◌, min, drop, IfOk, OnOk, Some, None, if◌then◌else◌, IsCharBoundary};
+ghost use Rattle.std.specs.Prelude.{◌≡◌, min, drop, IfOk, OnOk, Some, None, if◌then◌else◌, IsUtf8, IsCharBoundary};
 ghost use Rattle.first_pass_scan.specs.Places.{line_rest, place_at, offset, IsPlaceOf};
 ghost use Rattle.first_pass_scan.specs.Lines.{begins};
 ghost use Rattle.first_pass_scan.specs.Rest.{indent};
@@ -73,6 +73,7 @@ pub fn next_paragraph_text(
     ensures value { IfOk result (λ next. next ≡ (if interrupts (front (path_of tree.now) (line_rest (drop start text.now)))
         then None else Some (offset (unindented (place_at start (front (path_of tree.now) (line_rest (drop start text.now)))))))) }
     ensures place { OnOk result (IsPlaceOf text.now (unindented (place_at start (front (path_of tree.now) (line_rest (drop start text.now)))))) }
+    ensures utf8 { IsUtf8 text.now }
 {
     let (columns, at) = scan_prefixes(text, start, tree, options);
     let interrupted = if columns < 4 {

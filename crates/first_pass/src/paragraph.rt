@@ -87,6 +87,7 @@ impl<'a> FirstPass<'a> {
         ensures allocs { OnOk result (self.new.allocs ≡ self.old.allocs) }
         ensures lines { IfOk result (λ next. AppendsParagraph (document self.old.text.now self.old.options) start self.old.tree self.new.tree next) }
     {
+        self.tree.is_forest();
         let mut ix = start;
         'lines: loop {
             let (next, line_break) = self.parse_line(ix, None, TableParseMode::Disabled)?;

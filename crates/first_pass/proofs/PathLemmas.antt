@@ -1,0 +1,63 @@
+-- The containers among the open nodes, as the tree grows and nodes are closed.
+use Rattle.std.proofs.Common.{◌≡◌, ◌⊎◌, inl, inr, ℕ, zero, suc, ◌+◌, ◌<◌, ◌≤◌, List, [], ◌∷◌, ◌++◌, length, slice_get, Option, Some, None, refl, sym, ap, subst, ◌∙◌, arith, length-append}
+use Rattle.std.proofs.lemmas.List.{length-map}
+use Rattle.std.specs.Option.{option_map, option_and_then}
+use Rattle.first_pass_items.specs.declared.item.Item.{Item}
+use Rattle.first_pass_items.specs.declared.item.ItemBody.{ItemBody}
+use Rattle.first_pass_items.specs.declared.item.ItemBody.TheVariants.{BlockQuote as BlockQuoteBody}
+use Rattle.first_pass_tree.specs.declared.tree_index.TreeIndex.{TreeIndex}
+use Rattle.first_pass_tree.specs.Forest.{Forest, IsOpenPath, depths, appended, pushed, at_depth, modify, body_at}
+use Rattle.first_pass_scan.specs.Rest.{Rest}
+use Rattle.first_pass_scan.specs.Places.{line_rest}
+use Rattle.first_pass_tokens.specs.TreeTokens.{chained, leaves}
+use Rattle.first_pass_tokens.proofs.ChainLemmas.{chained-spine, chained-nodes}
+use Rattle.first_pass_grammar.specs.declared.kind.Container.{Container}
+use Rattle.first_pass_grammar.specs.declared.kind.Container.TheVariants.{BlockQuote}
+use Rattle.first_pass_grammar.specs.Containers.{prefix, after, or_shorter, front}
+use Rattle.first_pass.specs.Path.{container_of, container_at, with_container, path_in, path_of, AreContainers}
+
+-- each of these places is one of n
+abbrev pub AreIn : ℕ → List TreeIndex → Type 0
+AreIn n [] = Unit {0}
+AreIn n (ix ∷ spine) = (ix.0 < n) × AreIn n spine
+
+pub open_are_in : (ns : List (ℕ × Item)) (spine : List TreeIndex) → IsOpenPath (depths ns) spine → AreIn (length ns) spine
+open_are_in ns [] o = tt
+open_are_in ns (ix ∷ spine) o = (subst (λ n. ix.0 < n) (length-map ns (λ n. n.0)) o.0.within, open_are_in ns spine o.1)
+
+get_front : (ns more : List (ℕ × Item)) (i : ℕ) → i < length ns → slice_get (ns ++ more) i ≡ slice_get ns i
+get_front [] more i h = absurd (omega arith)
+get_front (n ∷ ns) more zero h = refl
+get_front (n ∷ ns) more (suc i) h = get_front ns more i (omega arith)
+
+-- more nodes behind
+pub path_in-append : (ns more : List (ℕ × Item)) (spine : List TreeIndex) → AreIn (length ns) spine → path_in (ns ++ more) spine ≡ path_in ns spine
+path_in-append ns more [] a = refl
+path_in-append ns more (ix ∷ spine) a =
+    ap (λ n. with_container (option_and_then container_of (option_map (λ n. n.1.body) n)) (path_in (ns ++ more) spine)) (get_front ns more ix.0 a.0)
+    ∙ ap (with_container (container_at ns ix)) (path_in-append ns more spine a.1)
+
+-- a chain in the innermost open node
+pub path_of-chained : (f : Forest Item) (chain : List Item) → AreIn (length f.nodes) f.spine → path_of (chained f chain) ≡ path_of f
+path_of-chained f chain a =
+    ap (λ s. path_in (chained f chain).nodes s) (chained-spine f chain)
+    ∙ ap (λ ns. path_in ns f.spine) (chained-nodes f chain) ∙ path_in-append f.nodes (at_depth (length f.spine + 1) (leaves chain)) f.spine a
+
+-- At the end of the text a line goes on with no container.
+after-end : (path : List Container) → (after path (line_rest []) ≡ None) ⊎ (after path (line_rest []) ≡ Some (line_rest []))
+unfolding after prefix
+after-end [] = inr refl
+after-end (BlockQuote kind ∷ path) = elim (after-end path) [ | inl none ↦ inl (rw none refl) | inr some ↦ inl (rw some refl) ]
+
+front_short : (c : Container) (path : List Container) (r : Rest) → after (c ∷ path) r ≡ None → front (c ∷ path) r ≡ front path r
+unfolding front
+front_short c path r e = rw e refl
+
+more_end : (c : Container) (path : List Container) → after (c ∷ path) (line_rest []) ≡ None
+unfolding after prefix
+more_end (BlockQuote kind) path = elim (after-end path) [ | inl none ↦ rw none refl | inr some ↦ rw some refl ]
+
+pub front-end : (path : List Container) → front path (line_rest []) ≡ line_rest []
+unfolding front
+front-end [] = refl
+front-end (c ∷ path) = front_short c path (line_rest []) (more_end c path) ∙ front-end path
