@@ -14,6 +14,7 @@ use Rattle.first_pass_tokens.proofs.ChainLemmas.{chained-spine, chained-nodes}
 use Rattle.first_pass_grammar.specs.declared.kind.Container.{Container}
 use Rattle.first_pass_grammar.specs.declared.kind.Container.TheVariants.{BlockQuote}
 use Rattle.first_pass_grammar.specs.Containers.{prefix, after, or_shorter, front}
+use Rattle.first_pass.specs.Appends.{with_child}
 use Rattle.first_pass.specs.Path.{container_of, container_at, with_container, path_in, path_of, AreContainers}
 
 -- each of these places is one of n
@@ -61,3 +62,32 @@ pub front-end : (path : List Container) → front path (line_rest []) ≡ line_r
 unfolding front
 front-end [] = refl
 front-end (c ∷ path) = front_short c path (line_rest []) (more_end c path) ∙ front-end path
+
+pub AreIn-more : (n m : ℕ) (spine : List TreeIndex) → n ≤ m → AreIn n spine → AreIn m spine
+AreIn-more n m [] h a = tt
+AreIn-more n m (ix ∷ spine) h a = (let w : ix.0 < n = a.0 in omega arith, AreIn-more n m spine h a.1)
+
+get_last : (ns : List (ℕ × Item)) (x : ℕ × Item) (i : ℕ) → i ≡ length ns → slice_get (ns ++ x ∷ []) i ≡ Some x
+get_last [] x zero h = refl
+get_last [] x (suc i) h = absurd (omega arith)
+get_last (n ∷ ns) x zero h = absurd (omega arith)
+get_last (n ∷ ns) x (suc i) h = get_last ns x i (omega arith)
+
+-- a node just opened
+pub path_of-opened : (g : Forest Item) (x : Item) (ix : TreeIndex) → ix.0 ≡ length g.nodes → AreIn (length g.nodes) g.spine → path_of (pushed (appended g x) ix) ≡ with_container (container_of x.body) (path_of g)
+path_of-opened g x ix at a =
+    ap (λ n. with_container (option_and_then container_of (option_map (λ n. n.1.body) n)) (path_in (g.nodes ++ (length g.spine + 1, x) ∷ []) g.spine)) (get_last g.nodes (length g.spine + 1, x) ix.0 at)
+    ∙ ap (with_container (container_of x.body)) (path_in-append g.nodes ((length g.spine + 1, x) ∷ []) g.spine a)
+
+pub opened_in : (g : Forest Item) (x : Item) (ix : TreeIndex) → ix.0 ≡ length g.nodes → AreIn (length g.nodes) g.spine → AreIn (length (pushed (appended g x) ix).nodes) (ix ∷ g.spine)
+opened_in g x ix at a =
+    let n : length (g.nodes ++ (length g.spine + 1, x) ∷ []) ≡ length g.nodes + 1 = length-append g.nodes ((length g.spine + 1, x) ∷ []) in
+    (omega arith, AreIn-more (length g.nodes) (length (g.nodes ++ (length g.spine + 1, x) ∷ [])) g.spine (omega arith) a)
+
+-- a paragraph just opened, with the marker of its task list item
+pub path_of-paragraph : (g p m : Forest Item) (x : Item) (ix : TreeIndex) (marker : Option Item) → container_of x.body ≡ None → p ≡ pushed (appended g x) ix → m ≡ with_child p marker → ix.0 ≡ length g.nodes
+    → AreIn (length g.nodes) g.spine → path_of m ≡ path_of g
+path_of-paragraph g p m x ix None leaf e f at a = ap path_of (f ∙ e) ∙ path_of-opened g x ix at a ∙ ap (λ c. with_container c (path_of g)) leaf
+path_of-paragraph g p m x ix (Some y) leaf e f at a =
+    ap path_of (f ∙ ap (λ q. appended q y) e) ∙ path_in-append (g.nodes ++ (length g.spine + 1, x) ∷ []) ((length (ix ∷ g.spine) + 1, y) ∷ []) (ix ∷ g.spine) (opened_in g x ix at a)
+    ∙ path_of-opened g x ix at a ∙ ap (λ c. with_container c (path_of g)) leaf

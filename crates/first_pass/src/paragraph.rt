@@ -65,6 +65,7 @@ impl<'a> FirstPass<'a> {
         ensures allocs { OnOk result (self.new.allocs ≡ self.old.allocs) }
         ensures block { IfOk result (λ next. AddsParagraph (document self.old.text.now self.old.options) start_ix tasklist_marker self.old.tree self.new.tree next) }
     {
+        self.tree.is_forest();
         self.tree.append(Item {
             start: start_ix,
             end: 0,
