@@ -26,7 +26,7 @@ pub open_are_in : (ns : List (ℕ × Item)) (spine : List TreeIndex) → IsOpenP
 open_are_in ns [] o = tt
 open_are_in ns (ix ∷ spine) o = (subst (λ n. ix.0 < n) (length-map ns (λ n. n.0)) o.0.within, open_are_in ns spine o.1)
 
-get_front : (ns more : List (ℕ × Item)) (i : ℕ) → i < length ns → slice_get (ns ++ more) i ≡ slice_get ns i
+pub get_front : (ns more : List (ℕ × Item)) (i : ℕ) → i < length ns → slice_get (ns ++ more) i ≡ slice_get ns i
 get_front [] more i h = absurd (omega arith)
 get_front (n ∷ ns) more zero h = refl
 get_front (n ∷ ns) more (suc i) h = get_front ns more i (omega arith)
@@ -67,7 +67,7 @@ pub AreIn-more : (n m : ℕ) (spine : List TreeIndex) → n ≤ m → AreIn n sp
 AreIn-more n m [] h a = tt
 AreIn-more n m (ix ∷ spine) h a = (let w : ix.0 < n = a.0 in omega arith, AreIn-more n m spine h a.1)
 
-get_last : (ns : List (ℕ × Item)) (x : ℕ × Item) (i : ℕ) → i ≡ length ns → slice_get (ns ++ x ∷ []) i ≡ Some x
+pub get_last : (ns : List (ℕ × Item)) (x : ℕ × Item) (i : ℕ) → i ≡ length ns → slice_get (ns ++ x ∷ []) i ≡ Some x
 get_last [] x zero h = refl
 get_last [] x (suc i) h = absurd (omega arith)
 get_last (n ∷ ns) x zero h = absurd (omega arith)

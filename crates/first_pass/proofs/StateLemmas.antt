@@ -1,119 +1,251 @@
 -- The tree between two blocks, over what its nodes can still become.
-use Rattle.std.proofs.Common.{◌≡◌, ℕ, ◌+◌, ◌<◌, ◌≤◌, nat_lt, Bool, true, false, List, [], ◌∷◌, ◌++◌, length, drop, Option, Some, None, is_some, refl, sym, ap, subst, ◌∙◌, if◌then◌else◌}
-use Rattle.std.proofs.lemmas.List.{append-nil}
+use Rattle.std.proofs.Common.{◌≡◌, ℕ, zero, suc, ◌+◌, ◌-◌, ◌<◌, ◌≤◌, nat_lt, Bool, true, false, List, [], ◌∷◌, ◌++◌, length, map, slice_get, drop, Option, Some, None, IsSome, is_some, refl, sym, ap, subst, ◌∙◌, arith, if◌then◌else◌, length-append}
+use Rattle.std.proofs.lemmas.List.{append-nil, length-map}
+use Rattle.std.proofs.lemmas.Bool.{false≢true}
+use Rattle.std.proofs.lemmas.Option.{none-some}
+use Rattle.std.specs.Option.{option_map, option_and_then}
 use Rattle.first_pass_items.specs.declared.item.Item.{Item}
+use Rattle.first_pass_items.specs.declared.item.ItemBody.{ItemBody}
+use Rattle.first_pass_items.specs.declared.item.ItemBody.TheVariants.{BlockQuote as BlockQuoteBody}
 use Rattle.first_pass_items.specs.declared.item.HeadingLevel.{HeadingLevel}
 use Rattle.first_pass_items.specs.declared.option_set.Options.{Options}
 use Rattle.first_pass_tree.specs.declared.tree_index.TreeIndex.{TreeIndex}
-use Rattle.first_pass_tree.specs.Forest.{Forest, empty_forest, with_end_at, added, at_depth}
-use Rattle.first_pass_scan.specs.Lines.{blank_len, atx_level, level_number}
-use Rattle.first_pass_scan.specs.Rest.{indent}
-use Rattle.first_pass_scan.specs.Places.{Place, offset, line_place, start_of, IsPlaceOf}
-use Rattle.first_pass_scan.proofs.LineFacts.{lines_at-line, lines_at-end}
-use Rattle.first_pass_scan.proofs.PlaceFacts.{start_of-lines}
+use Rattle.first_pass_tree.specs.Forest.{Forest, empty_forest, with_end_at, added, at_depth, appended, pushed, popped, modify}
+use Rattle.first_pass_scan.specs.Lines.{blank_len, atx_level, level_number, line_len}
+use Rattle.first_pass_scan.specs.Rest.{Rest, indent}
+use Rattle.first_pass_scan.specs.Places.{Place, offset, place_at, line_end, start_of, IsPlaceOf}
+use Rattle.first_pass_scan.proofs.LineFacts.{lines_at-end}
+use Rattle.first_pass_scan.proofs.PlaceFacts.{start_of-lines, columns_line_end}
+use Rattle.first_pass_grammar.specs.declared.kind.Container.{Container}
+use Rattle.first_pass_grammar.specs.declared.kind.Container.TheVariants.{BlockQuote}
+use Rattle.first_pass_grammar.specs.declared.kind.Kind.{Kind}
 use Rattle.first_pass_grammar.specs.declared.kind.Kind.TheVariants.{Blank, AtxHeading, Paragraph}
-use Rattle.first_pass_grammar.specs.Containers.{after}
-use Rattle.first_pass_grammar.specs.Kinds.{unindented, heading_or, kind_of}
+use Rattle.first_pass_grammar.specs.Containers.{at_rest, after}
+use Rattle.first_pass_grammar.specs.Kinds.{all_taken, unindented, quote_rest, quote_inside, heading_or, kind_of}
 use Rattle.first_pass_grammar.specs.Leaves.{Document, document, IsParagraph, IsHeading, heading_text_at, heading_block, paragraph_block}
-use Rattle.first_pass_grammar.specs.Skeleton.{Leaf, BlankLine, Block, Opening, OpensLeaf, OpensAs, Opens}
-use Rattle.first_pass_grammar.specs.Derivation.{Derives, leaf_items}
-use Rattle.first_pass_grammar.specs.Completion.{lines_from, Completes}
-use Rattle.first_pass_grammar.proofs.Completions.{completes-first, completes-enter, completes-leaf, completes-end}
-use Rattle.first_pass.specs.Appends.{line_end_at, AddsParagraph, AddsHeading}
-use Rattle.first_pass.specs.State.{Ready}
+use Rattle.first_pass_grammar.specs.Skeleton.{Leaf, BlankLine, Block, Opening, OpensLeaf, OpensNode, OpensAs, OpensFrom, Opens, Ends}
+use Rattle.first_pass_grammar.specs.Derivation.{Derives, leaf_items, node_of}
+use Rattle.first_pass_grammar.specs.Completion.{lines_from, ended, Completes}
+use Rattle.first_pass_grammar.proofs.Completions.{completes-first, completes-enter, completes-leaf, completes-node, completes-pop, completes-end, length-ended}
+use Rattle.first_pass.specs.Appends.{line_end_at, closed_by, AddsParagraph, AddsHeading}
+use Rattle.first_pass.specs.Path.{container_of, container_at, with_container, path_in, path_of, outer, AreContainers}
+use Rattle.first_pass.specs.State.{Ready, ReadyAt, closed_times}
 use Rattle.first_pass.specs.TableEntries.{no_tables}
-use Rattle.first_pass.proofs.ParagraphLemmas.{line_end-unindented}
+use Rattle.first_pass.proofs.FrontLemmas.{outer-all}
+use Rattle.first_pass.proofs.PathLemmas.{AreIn, get_front, get_last, path_in-append, path_of-opened}
 
 -- before the first block
 pub ready_first : (text : List ℕ) (options : Options) (tree : Forest Item) (root : TreeIndex) → root.0 ≡ 0 → tree ≡ with_end_at empty_forest root (length text) → Ready (document text options) tree 0
 ready_first text options tree root top tree_is =
     let at_top : ℕ → TreeIndex = λ n. record { 0 = n } in
     let e : tree ≡ with_end_at empty_forest (at_top 0) (length text) = tree_is ∙ ap (λ n. with_end_at empty_forest (at_top n) (length text)) top in
+    subst (λ f. Ready (document text options) f 0) (sym e) (record { containers = tt; completes = completes-first (document text options) })
+
+-- at the end of the text, with nothing open
+pub ready_end : (d : Document) (tree : Forest Item) → tree.spine ≡ [] → ReadyAt d tree None [] → Derives d tree.nodes no_tables
+ready_end d tree closed ready =
+    completes-end d tree.nodes (subst (λ s. Completes d (path_in tree.nodes s) tree.nodes (map (λ ix. ix.0) s) None []) closed ready.completes)
+
+-- the containers are nodes
+pub containers_in : (nodes : List (ℕ × Item)) (spine : List TreeIndex) → AreContainers nodes spine → AreIn (length nodes) spine
+containers_in nodes [] a = tt
+containers_in nodes (ix ∷ spine) a = (a.0, containers_in nodes spine a.2)
+
+-- ends change no container
+body_kept : (nodes : List (ℕ × Item)) (place e i : ℕ)
+    → option_map (λ n. n.1.body) (slice_get (modify nodes place (λ x. record { start = x.start; «end» = e; body = x.body })) i) ≡ option_map (λ n. n.1.body) (slice_get nodes i)
+body_kept [] place e i = refl
+body_kept (n ∷ nodes) zero e zero = refl
+body_kept (n ∷ nodes) zero e (suc i) = refl
+body_kept (n ∷ nodes) (suc place) e zero = refl
+body_kept (n ∷ nodes) (suc place) e (suc i) = body_kept nodes place e i
+
+container_kept : (nodes : List (ℕ × Item)) (place e : ℕ) (ix : TreeIndex) → container_at (ended nodes place e) ix ≡ container_at nodes ix
+unfolding ended
+container_kept nodes place e ix = ap (option_and_then container_of) (body_kept nodes place e ix.0)
+
+path_kept : (nodes : List (ℕ × Item)) (place e : ℕ) (spine : List TreeIndex) → path_in (ended nodes place e) spine ≡ path_in nodes spine
+path_kept nodes place e [] = refl
+path_kept nodes place e (ix ∷ spine) =
+    ap (λ c. with_container c (path_in (ended nodes place e) spine)) (container_kept nodes place e ix) ∙ ap (with_container (container_at nodes ix)) (path_kept nodes place e spine)
+
+containers_kept : (nodes : List (ℕ × Item)) (place e : ℕ) (spine : List TreeIndex) → AreContainers nodes spine → AreContainers (ended nodes place e) spine
+containers_kept nodes place e [] a = tt
+containers_kept nodes place e (ix ∷ spine) a =
+    (subst (λ n. ix.0 < n) (sym (length-ended nodes place e)) a.0, subst IsSome (sym (container_kept nodes place e ix)) a.1, containers_kept nodes place e spine a.2)
+
+-- the innermost container closed before the next line
+close_by : (d : Document) (nodes : List (ℕ × Item)) (ix : TreeIndex) (spine : List TreeIndex) (lines : List Place) (o : Option Container) → IsSome o
+    → Ends (with_container o (path_in nodes spine)) None lines → Completes d (with_container o (path_in nodes spine)) nodes (ix.0 ∷ map (λ i. i.0) spine) None lines
+    → Completes d (path_in nodes spine) (ended nodes ix.0 (start_of (length d.text) lines)) (map (λ i. i.0) spine) None lines
+close_by d nodes ix spine lines None some ends c = absurd (false≢true some)
+close_by d nodes ix spine lines (Some k) some ends c = completes-pop d k (path_in nodes spine) nodes ix.0 (map (λ i. i.0) spine) lines ends c
+
+-- What is left open of a tree, with the lines from which on it is ready.
+pub record Closed (d : Document) (old new : Forest Item) (kept : ℕ) (lines : List Place) : Type 0 where
+  pub ready : ReadyAt d new None lines
+  pub spine : new.spine ≡ outer kept old.spine
+  pub paths : (s : List TreeIndex) → path_in new.nodes s ≡ path_in old.nodes s
+
+-- no more than so many of the open nodes go on with the first of these lines
+abbrev pub NoMore : Forest Item → ℕ → List Place → Type 0
+NoMore f kept lines = (m : ℕ) → kept < m → m ≤ length f.spine → Ends (path_in f.nodes (outer m f.spine)) None lines
+
+close_one : (d : Document) (f : Forest Item) (ix : TreeIndex) (rest : List TreeIndex) (lines : List Place) (e : ℕ) → start_of (length d.text) lines ≡ e → f.spine ≡ ix ∷ rest
+    → Ends (path_in f.nodes (ix ∷ rest)) None lines → ReadyAt d f None lines → ReadyAt d (closed_by f e (ix ∷ rest)) None lines
+unfolding ended
+close_one d f ix rest lines e start spine ends ready =
+    let a : AreContainers f.nodes (ix ∷ rest) = subst (AreContainers f.nodes) spine ready.containers in
+    let c : Completes d (path_in f.nodes (ix ∷ rest)) f.nodes (ix.0 ∷ map (λ i. i.0) rest) None lines =
+    subst (λ s. Completes d (path_in f.nodes s) f.nodes (map (λ i. i.0) s) None lines) spine ready.completes in
+    let k = close_by d f.nodes ix rest lines (container_at f.nodes ix) a.1 ends c in
     record {
-      closed = ap (λ (f : Forest Item). f.spine) e;
-      completes = subst (λ nodes. Completes (document text options) [] nodes [] None (lines_from text 0)) (sym (ap (λ (f : Forest Item). f.nodes) e)) (completes-first (document text options));
+      containers = containers_kept f.nodes ix.0 e rest a.2;
+      completes = subst (λ p. Completes d p (ended f.nodes ix.0 e) (map (λ i. i.0) rest) None lines) (sym (path_kept f.nodes ix.0 e rest))
+          (subst (λ n. Completes d (path_in f.nodes rest) (ended f.nodes ix.0 n) (map (λ i. i.0) rest) None lines) start k);
     }
 
--- at the end of the text
-pub ready_end : (d : Document) (tree : Forest Item) (at : ℕ) → length d.text ≤ at → Ready d tree at → Derives d tree.nodes no_tables
-ready_end d tree at past ready = completes-end d tree.nodes (subst (λ lines. Completes d [] tree.nodes [] None lines) (lines_at-end d.text at past) ready.completes)
+close_paths : (f : Forest Item) (ix : TreeIndex) (rest : List TreeIndex) (e : ℕ) (s : List TreeIndex) → path_in (closed_by f e (ix ∷ rest)).nodes s ≡ path_in f.nodes s
+unfolding ended
+close_paths f ix rest e s = path_kept f.nodes ix.0 e s
+
+outer_rest : (ix : TreeIndex) (rest : List TreeIndex) (m : ℕ) → m ≤ length rest → outer m (ix ∷ rest) ≡ outer m rest
+outer_rest ix rest m h = let z : length (ix ∷ rest) - m ≡ suc (length rest - m) = omega arith in ap (λ k. drop k (ix ∷ rest)) z
+
+close_next : (n : ℕ) (d : Document) (f : Forest Item) (s : List TreeIndex) (lines : List Place) (e : ℕ) → start_of (length d.text) lines ≡ e → f.spine ≡ s → suc n ≤ length s
+    → NoMore f (length s - suc n) lines → ReadyAt d f None lines
+    → ((g : Forest Item) → n ≤ length g.spine → NoMore g (length g.spine - n) lines → ReadyAt d g None lines → Closed d g (closed_times n e g) (length g.spine - n) lines)
+    → Closed d f (closed_times n e (closed_by f e s)) (length s - suc n) lines
+close_next n d f [] lines e start spine h none ready others = absurd (omega arith)
+close_next n d f (ix ∷ rest) lines e start spine h none ready others =
+    let g : Forest Item = closed_by f e (ix ∷ rest) in
+    let l : length f.spine ≡ suc (length rest) = ap length spine in
+    let all : outer (suc (length rest)) f.spine ≡ ix ∷ rest = ap (outer (suc (length rest))) spine ∙ outer-all (ix ∷ rest) in
+    let ends : Ends (path_in f.nodes (ix ∷ rest)) None lines = subst (λ s. Ends (path_in f.nodes s) None lines) all (none (suc (length rest)) (omega arith) (omega arith)) in
+    let more = others g (omega arith)
+    (λ m low high. subst (λ p. Ends p None lines) (sym (close_paths f ix rest e (outer m rest)))
+    (subst (λ s. Ends (path_in f.nodes s) None lines) (ap (outer m) spine ∙ outer_rest ix rest m high) (none m (omega arith) (omega arith))))
+    (close_one d f ix rest lines e start spine ends ready) in
+    let z : length rest - n ≡ length (ix ∷ rest) - suc n = omega arith in
+    record {
+      ready = more.ready;
+      spine = more.spine ∙ sym (outer_rest ix rest (length rest - n) (omega arith)) ∙ ap (λ k. outer k (ix ∷ rest)) z ∙ sym (ap (outer (length (ix ∷ rest) - suc n)) spine);
+      paths = λ s. more.paths s ∙ close_paths f ix rest e s;
+    }
+
+-- the innermost containers closed before the next line
+pub close_times : (n : ℕ) (d : Document) (f : Forest Item) (lines : List Place) (e : ℕ) → start_of (length d.text) lines ≡ e → n ≤ length f.spine
+    → NoMore f (length f.spine - n) lines → ReadyAt d f None lines → Closed d f (closed_times n e f) (length f.spine - n) lines
+close_times zero d f lines e start h none ready =
+    let z : length f.spine - 0 ≡ length f.spine = omega arith in
+    record { ready = ready; spine = sym (outer-all f.spine) ∙ ap (λ k. outer k f.spine) (sym z); paths = λ s. refl }
+close_times (suc n) d f lines e start h none ready = close_next n d f f.spine lines e start refl h none ready (λ g w m r. close_times n d g lines e start w m r)
+
+-- inside a line that all open containers go on with
+pub ready_enter : (d : Document) (f : Forest Item) (line : Place) (lines : List Place) (r : Rest) → after (path_of f) line.rest ≡ Some r → ReadyAt d f None (line ∷ lines) → ReadyAt d f (Some (at_rest line r)) lines
+ready_enter d f line lines r taken ready = record {
+  containers = ready.containers;
+  completes = completes-enter d (path_of f) f.nodes (map (λ i. i.0) f.spine) line (at_rest line r) lines (ap (option_map (at_rest line)) taken) ready.completes;
+}
+
+-- the containers of the spine, with more nodes
+still_containers : (nodes more : List (ℕ × Item)) (spine : List TreeIndex) → AreContainers nodes spine → AreContainers (nodes ++ more) spine
+still_containers nodes more [] a = tt
+still_containers nodes more (ix ∷ spine) a =
+    let l : length (nodes ++ more) ≡ length nodes + length more = length-append nodes more in
+    let w : ix.0 < length nodes = a.0 in (
+      omega arith,
+      subst IsSome (sym (ap (λ n. option_and_then container_of (option_map (λ n. n.1.body) n)) (get_front nodes more ix.0 a.0))) a.1,
+      still_containers nodes more spine a.2,
+    )
 
 -- behind a leaf
-ready_leaf : (d : Document) (old new : Forest Item) (start next : ℕ) (leaf : Leaf) → start < length d.text
-    → Opens d [] (line_place start (drop start d.text)) (lines_from d.text (line_end_at d.text start)) (OpensLeaf leaf None (lines_from d.text next))
-    → new.nodes ≡ old.nodes ++ leaf_items 1 leaf → new.spine ≡ [] → Ready d old start → Ready d new next
-unfolding after
-ready_leaf d old new start next leaf within opens nodes_are closed ready =
-    let p : Place = line_place start (drop start d.text) in
-    let first : Completes d [] old.nodes [] None (p ∷ lines_from d.text (line_end_at d.text start)) =
-    subst (λ lines. Completes d [] old.nodes [] None lines) (lines_at-line d.text start within) ready.completes in
-    record {
-      closed = closed;
-      completes = subst (λ nodes. Completes d [] nodes [] None (lines_from d.text next)) (sym nodes_are)
-          (completes-leaf d [] old.nodes [] p (lines_from d.text (line_end_at d.text start)) leaf None (lines_from d.text next) opens
-          (completes-enter d [] old.nodes [] p p (lines_from d.text (line_end_at d.text start)) refl first));
-    }
+ready_leaf : (d : Document) (old new : Forest Item) (p : Place) (lines left : List Place) (leaf : Leaf) → Opens d (path_of old) p lines (OpensLeaf leaf None left)
+    → new.nodes ≡ old.nodes ++ leaf_items (length old.spine + 1) leaf → new.spine ≡ old.spine → ReadyAt d old (Some p) lines → ReadyAt d new None left
+ready_leaf d old new p lines left leaf opens nodes_are spine_is ready =
+    let more : List (ℕ × Item) = leaf_items (length old.spine + 1) leaf in
+    let l : suc (length (map (λ (i : TreeIndex). i.0) old.spine)) ≡ length old.spine + 1 = (let k = length-map old.spine (λ (i : TreeIndex). i.0) in omega arith) in
+    let c = completes-leaf d (path_of old) old.nodes (map (λ i. i.0) old.spine) p lines leaf None left opens ready.completes in
+    let c' : Completes d (path_of old) (old.nodes ++ more) (map (λ i. i.0) old.spine) None left = subst (λ k. Completes d (path_of old) (old.nodes ++ leaf_items k leaf) (map (λ i. i.0) old.spine) None left) l c in
+    let same : path_in (old.nodes ++ more) old.spine ≡ path_of old = path_in-append old.nodes more old.spine (containers_in old.nodes old.spine ready.containers) in
+    let built : (ns : List (ℕ × Item)) (s : List TreeIndex) → ns ≡ old.nodes ++ more → s ≡ old.spine → AreContainers ns s × Completes d (path_in ns s) ns (map (λ i. i.0) s) None left =
+    λ ns s e f. (
+      subst (λ n. AreContainers n s) (sym e) (subst (AreContainers (old.nodes ++ more)) (sym f) (still_containers old.nodes more old.spine ready.containers)),
+      subst (λ n. Completes d (path_in n s) n (map (λ i. i.0) s) None left) (sym e)
+          (subst (λ t. Completes d (path_in (old.nodes ++ more) t) (old.nodes ++ more) (map (λ i. i.0) t) None left) (sym f)
+          (subst (λ q. Completes d q (old.nodes ++ more) (map (λ i. i.0) old.spine) None left) (sym same) c')),
+    ) in
+    let b = built new.nodes new.spine nodes_are spine_is in
+    record { containers = b.0; completes = b.1 }
+
+no_container : (d : Document) (path : List Container) (p : Place) (lines : List Place) (k : Kind) (o : Opening) → quote_rest p.rest ≡ None → kind_of p.rest ≡ k → OpensAs d path p lines k o → Opens d path p lines o
+unfolding OpensFrom
+no_container d path p lines k o none kind opens =
+    subst (λ (q : Option Rest). OpensFrom d path p lines (option_map (at_rest p) q) o) (sym none) (subst (λ k. OpensAs d path p lines k o) (sym kind) opens)
 
 -- behind a blank line
-pub ready_blank : (d : Document) (tree : Forest Item) (start next : ℕ) → start < length d.text → kind_of (line_place start (drop start d.text)) ≡ Blank → next ≡ line_end_at d.text start
-    → Ready d tree start → Ready d tree next
+pub ready_blank : (d : Document) (tree : Forest Item) (p : Place) (next : ℕ) → quote_rest p.rest ≡ None → kind_of p.rest ≡ Blank → next ≡ line_end p
+    → ReadyAt d tree (Some p) (lines_from d.text (line_end p)) → ReadyAt d tree None (lines_from d.text next)
 unfolding OpensAs
-ready_blank d tree start next within kind next_is ready =
-    let p : Place = line_place start (drop start d.text) in
-    let lines : List Place = lines_from d.text (line_end_at d.text start) in
+ready_blank d tree p next none kind next_is ready =
     let o : Opening = OpensLeaf BlankLine None (lines_from d.text next) in
-    let blank : OpensAs d [] p lines Blank o = ap (λ n. OpensLeaf BlankLine None (lines_from d.text n)) next_is in
-    ready_leaf d tree tree start next BlankLine within (subst (λ k. OpensAs d [] p lines k o) (sym kind) blank) (sym (append-nil tree.nodes)) ready.closed ready
+    let blank : OpensAs d (path_of tree) p (lines_from d.text (line_end p)) Blank o = ap (λ n. OpensLeaf BlankLine None (lines_from d.text n)) next_is in
+    ready_leaf d tree tree p (lines_from d.text (line_end p)) (lines_from d.text next) BlankLine
+    (no_container d (path_of tree) p (lines_from d.text (line_end p)) Blank o none kind blank) (sym (append-nil tree.nodes)) refl ready
 
--- the items of a block under the root
-under_root : (old new : Forest Item) (block : List (ℕ × Item)) → old.spine ≡ [] → new ≡ added old block → (new.nodes ≡ old.nodes ++ leaf_items 1 (Block block)) × (new.spine ≡ [])
-under_root old new block closed new_is =
-    (ap (λ (f : Forest Item). f.nodes) new_is ∙ ap (λ s. old.nodes ++ at_depth (length s + 1) block) closed, ap (λ (f : Forest Item). f.spine) new_is ∙ closed)
+-- a block as a last child of the innermost container
+in_container : (old new : Forest Item) (block : List (ℕ × Item)) → new ≡ added old block → (new.nodes ≡ old.nodes ++ leaf_items (length old.spine + 1) (Block block)) × (new.spine ≡ old.spine)
+in_container old new block new_is = (ap (λ (f : Forest Item). f.nodes) new_is, ap (λ (f : Forest Item). f.spine) new_is)
+
+-- The line of a text ends where its line ends.
+line_end_of : (text : List ℕ) (p : Place) → IsPlaceOf text (unindented p) → line_end_at text (offset (unindented p)) ≡ line_end p
+line_end_of text p i =
+    let e = columns_line_end (indent p.rest) p in
+    let f = ap line_len i.left in
+    omega arith
 
 -- behind a heading
-pub ready_heading : (d : Document) (old new : Forest Item) (start at next : ℕ) (level : HeadingLevel) → start < length d.text → kind_of (line_place start (drop start d.text)) ≡ AtxHeading level
-    → at ≡ offset (unindented (line_place start (drop start d.text))) → IsPlaceOf d.text (unindented (line_place start (drop start d.text)))
-    → AddsHeading d at level old new next → Ready d old start → Ready d new next
+pub ready_heading : (d : Document) (old new : Forest Item) (p : Place) (at next : ℕ) (level : HeadingLevel) → quote_rest p.rest ≡ None → kind_of p.rest ≡ AtxHeading level
+    → at ≡ offset (unindented p) → IsPlaceOf d.text (unindented p) → AddsHeading d at level old new next
+    → ReadyAt d old (Some p) (lines_from d.text (line_end p)) → ReadyAt d new None (lines_from d.text next)
 unfolding OpensAs
-ready_heading d old new start at next level within kind at_is place h ready =
-    let p : Place = line_place start (drop start d.text) in
-    let lines : List Place = lines_from d.text (line_end_at d.text start) in
+ready_heading d old new p at next level none kind at_is place h ready =
+    let lines : List Place = lines_from d.text (line_end p) in
     let block : List (ℕ × Item) = heading_block at next level h.chain in
     let o : Opening = OpensLeaf (Block block) None (lines_from d.text next) in
-    let next_is : next ≡ line_end_at d.text start = h.end_is ∙ ap (line_end_at d.text) at_is ∙ line_end-unindented d.text start place in
-    let heading : OpensAs d [] p lines (AtxHeading level) o = (
+    let next_is : next ≡ line_end p = h.end_is ∙ ap (line_end_at d.text) at_is ∙ line_end_of d.text p place in
+    let heading : OpensAs d (path_of old) p lines (AtxHeading level) o = (
       h.chain,
       next,
       subst (λ k. IsHeading d (heading_text_at d.text k (level_number level)) h.chain next) at_is h.line,
       ap (λ k. OpensLeaf (Block (heading_block k next level h.chain)) None (lines_from d.text next)) at_is
           ∙ ap (λ n. OpensLeaf (Block (heading_block (offset (unindented p)) next level h.chain)) None (lines_from d.text n)) next_is,
     ) in
-    let u = under_root old new block ready.closed h.tree_is in
-    ready_leaf d old new start next (Block block) within (subst (λ k. OpensAs d [] p lines k o) (sym kind) heading) u.0 u.1 ready
+    let u = in_container old new block h.tree_is in
+    ready_leaf d old new p lines (lines_from d.text next) (Block block) (no_container d (path_of old) p lines (AtxHeading level) o none kind heading) u.0 u.1 ready
 
 -- behind a paragraph
-pub ready_paragraph : (d : Document) (old new : Forest Item) (start at next : ℕ) → start < length d.text → kind_of (line_place start (drop start d.text)) ≡ Paragraph
-    → at ≡ offset (unindented (line_place start (drop start d.text))) → IsPlaceOf d.text (unindented (line_place start (drop start d.text)))
-    → AddsParagraph d at None old new next → Ready d old start → Ready d new next
+pub ready_paragraph : (d : Document) (old new : Forest Item) (p : Place) (at next : ℕ) → quote_rest p.rest ≡ None → kind_of p.rest ≡ Paragraph
+    → at ≡ offset (unindented p) → IsPlaceOf d.text (unindented p) → AddsParagraph d at None old new next
+    → ReadyAt d old (Some p) (lines_from d.text (line_end p)) → ReadyAt d new None (lines_from d.text next)
 unfolding OpensAs
-ready_paragraph d old new start at next within kind at_is place a ready =
-    let p : Place = line_place start (drop start d.text) in
-    let lines : List Place = lines_from d.text (line_end_at d.text start) in
+ready_paragraph d old new p at next none kind at_is place a ready =
+    let lines : List Place = lines_from d.text (line_end p) in
     let block : List (ℕ × Item) = paragraph_block at next a.chain in
     let o : Opening = OpensLeaf (Block block) None (lines_from d.text next) in
     let ends : start_of (length d.text) (lines_from d.text next) ≡ next = start_of-lines d.text next a.boundary.0 in
-    let here : line_end_at d.text at ≡ line_end_at d.text start = ap (line_end_at d.text) at_is ∙ line_end-unindented d.text start place in
-    let whole : IsParagraph d [] (offset (unindented p)) [] lines a.chain (lines_from d.text next) =
-    subst (λ k. IsParagraph d [] k [] lines a.chain (lines_from d.text next)) at_is (subst (λ n. IsParagraph d [] at [] (lines_from d.text n) a.chain (lines_from d.text next)) here a.lines) in
-    let paragraph : OpensAs d [] p lines Paragraph o = (
+    let here : line_end_at d.text at ≡ line_end p = ap (line_end_at d.text) at_is ∙ line_end_of d.text p place in
+    let whole : IsParagraph d (path_of old) (offset (unindented p)) [] lines a.chain (lines_from d.text next) =
+    subst (λ k. IsParagraph d (path_of old) k [] lines a.chain (lines_from d.text next)) at_is (subst (λ n. IsParagraph d (path_of old) at [] (lines_from d.text n) a.chain (lines_from d.text next)) here a.lines) in
+    let paragraph : OpensAs d (path_of old) p lines Paragraph o = (
       a.chain,
       lines_from d.text next,
       whole,
       ap (λ k. OpensLeaf (Block (paragraph_block k next a.chain)) None (lines_from d.text next)) at_is
           ∙ ap (λ n. OpensLeaf (Block (paragraph_block (offset (unindented p)) n a.chain)) None (lines_from d.text next)) (sym ends),
     ) in
-    let u = under_root old new block ready.closed a.tree_is in
-    ready_leaf d old new start next (Block block) within (subst (λ k. OpensAs d [] p lines k o) (sym kind) paragraph) u.0 u.1 ready
+    let u = in_container old new block a.tree_is in
+    ready_leaf d old new p lines (lines_from d.text next) (Block block) (no_container d (path_of old) p lines Paragraph o none kind paragraph) u.0 u.1 ready
 
 -- a heading's number signs stand behind its indentation
 heading_level : (o : Option HeadingLevel) (level : HeadingLevel) → heading_or o Paragraph ≡ AtxHeading level → o ≡ Some level
@@ -125,9 +257,32 @@ level_by true u o level h = cc
 level_by false true o level h = heading_level o level h
 level_by false false o level h = cc
 
-pub kind_level : (text : List ℕ) (start at : ℕ) (level : HeadingLevel) → kind_of (line_place start (drop start text)) ≡ AtxHeading level → at ≡ offset (unindented (line_place start (drop start text)))
-    → IsPlaceOf text (unindented (line_place start (drop start text))) → atx_level (drop at text) ≡ Some level
+pub kind_level : (text : List ℕ) (p : Place) (at : ℕ) (level : HeadingLevel) → kind_of p.rest ≡ AtxHeading level → at ≡ offset (unindented p)
+    → IsPlaceOf text (unindented p) → atx_level (drop at text) ≡ Some level
 unfolding kind_of
-kind_level text start at level kind at_is place =
-    let p : Place = line_place start (drop start text) in
+kind_level text p at level kind at_is place =
     ap (λ k. atx_level (drop k text)) at_is ∙ ap atx_level (sym place.left) ∙ level_by (is_some (blank_len p.rest.left)) (nat_lt (indent p.rest) 4) (atx_level (unindented p).rest.left) level kind
+
+-- inside a block quote that begins here
+pub ready_quote : (d : Document) (g new : Forest Item) (x : Item) (ix : TreeIndex) (p : Place) (lines : List Place) (inside : Rest) → quote_rest p.rest ≡ Some inside
+    → x ≡ record { start = offset (unindented p); «end» = 0; body = BlockQuoteBody None } → ix.0 ≡ length g.nodes → new ≡ pushed (appended g x) ix
+    → ReadyAt d g (Some p) lines → ReadyAt d new (Some (at_rest p inside)) lines
+unfolding OpensFrom
+ready_quote d g new x ix p lines inside quote x_is at new_is ready =
+    let y : Item = node_of (offset (unindented p)) 0 (BlockQuote None) in
+    let os : List ℕ = map (λ (i : TreeIndex). i.0) g.spine in
+    let open_in = containers_in g.nodes g.spine ready.containers in
+    let opens : Opens d (path_of g) p lines (OpensNode (BlockQuote None) (offset (unindented p)) (at_rest p inside)) =
+    subst (λ (q : Option Rest). OpensFrom d (path_of g) p lines (option_map (at_rest p) q) (OpensNode (BlockQuote None) (offset (unindented p)) (at_rest p inside))) (sym quote) refl in
+    let c = completes-node d (path_of g) g.nodes os p lines (BlockQuote None) (offset (unindented p)) 0 (at_rest p inside) opens ready.completes in
+    let l : suc (length os) ≡ length g.spine + 1 = (let k = length-map g.spine (λ (i : TreeIndex). i.0) in omega arith) in
+    let c' : Completes d (BlockQuote None ∷ path_of g) (g.nodes ++ (length g.spine + 1, y) ∷ []) (ix.0 ∷ os) (Some (at_rest p inside)) lines =
+    subst (λ k. Completes d (BlockQuote None ∷ path_of g) (g.nodes ++ (length g.spine + 1, y) ∷ []) (k ∷ os) (Some (at_rest p inside)) lines) (sym at)
+    (subst (λ k. Completes d (BlockQuote None ∷ path_of g) (g.nodes ++ (k, y) ∷ []) (length g.nodes ∷ os) (Some (at_rest p inside)) lines) l c) in
+    let more : length (g.nodes ++ (length g.spine + 1, y) ∷ []) ≡ length g.nodes + 1 = length-append g.nodes ((length g.spine + 1, y) ∷ []) in
+    let r : ReadyAt d (pushed (appended g y) ix) (Some (at_rest p inside)) lines = record {
+      containers = (omega arith, subst IsSome (sym (ap (λ n. option_and_then container_of (option_map (λ n. n.1.body) n)) (get_last g.nodes (length g.spine + 1, y) ix.0 at))) refl,
+          still_containers g.nodes ((length g.spine + 1, y) ∷ []) g.spine ready.containers);
+      completes = subst (λ q. Completes d q (g.nodes ++ (length g.spine + 1, y) ∷ []) (ix.0 ∷ os) (Some (at_rest p inside)) lines) (sym (path_of-opened g y ix at open_in)) c';
+    } in
+    subst (λ f. ReadyAt d f (Some (at_rest p inside)) lines) (sym (new_is ∙ ap (λ z. pushed (appended g z) ix) x_is)) r

@@ -111,10 +111,10 @@ impl<'a> FirstPass<'a> {
         ensures text { OnOk result (self.new.text.now ≡ self.old.text.now) }
         ensures options { OnOk result (self.new.options ≡ self.old.options) }
         ensures allocs { OnOk result (self.new.allocs ≡ self.old.allocs) }
-        ensures later { IfOk result (λ next. line_end (place_at start_ix line_start) ≤ next) }
+        ensures later { IfOk result (λ next. line_end (place_at start_ix line_start.entry) ≤ next) }
         ensures boundary { IfOk result (λ next. IsCharBoundary self.old.text.now next) }
         ensures ready { IfOk result (λ next.
-            ReadyAt (document self.old.text.now self.old.options) self.old.tree (Some (place_at start_ix line_start)) (lines_from self.old.text.now (line_end (place_at start_ix line_start)))
+            ReadyAt (document self.old.text.now self.old.options) self.old.tree (Some (place_at start_ix line_start.entry)) (lines_from self.old.text.now (line_end (place_at start_ix line_start.entry)))
             → ReadyAt (document self.old.text.now self.old.options) self.new.tree None (lines_from self.old.text.now next)) }
     {
         let mut line_start = line_start;
