@@ -1,12 +1,14 @@
 -- Facts on places behind a line's indentation.
-use Rattle.std.proofs.Common.{◌≡◌, ℕ, ◌+◌, zero, suc, nat_lt, Bool, true, false, List, [], ◌∷◌, drop, Option, Some, None, IsUtf8, IsCharBoundary, if◌then◌else◌, refl, sym, ap, subst, ◌∙◌, arith}
+use Rattle.std.proofs.Common.{◌≡◌, ◌⊎◌, inl, inr, ◌≤◌, ℕ, ◌+◌, ◌<◌, zero, suc, nat_lt, Bool, true, false, List, [], ◌∷◌, length, drop, MatchOption, Option, Some, None, IsUtf8, IsCharBoundary, if◌then◌else◌, refl, sym, ap, subst, ◌∙◌, arith}
+use Rattle.std.proofs.lemmas.Bool.{cases_lt}
 use Rattle.std.proofs.lemmas.Option.{none-some}
 use Rattle.std.specs.Option.{option_map, option_and_then}
 use Rattle.first_pass_scan.specs.Lines.{line_len}
 use Rattle.first_pass_scan.specs.Rest.{Rest, next_column, after_columns, indent, past_quote}
-use Rattle.first_pass_scan.specs.Places.{line_rest, place_at, line_end, IsPlaceOf}
+use Rattle.first_pass_scan.specs.Places.{Place, line_rest, place_at, offset, line_end, IsPlaceOf}
+use Rattle.first_pass_scan.proofs.LineFacts.{line_len-none}
 use Rattle.first_pass_scan.proofs.Columns.{after-more, after-none, all-more}
-use Rattle.first_pass_scan.proofs.PlaceFacts.{line_is_place, columns_keep, columns_line_end, quote_keeps, quote_line_end}
+use Rattle.first_pass_scan.proofs.PlaceFacts.{line_is_place, columns_keep, place_line_end, columns_line_end, columns_shorter, quote_keeps, quote_line_end, quote_shorter}
 use Rattle.first_pass_grammar.specs.declared.kind.Container.{Container}
 use Rattle.first_pass_grammar.specs.declared.kind.Container.TheVariants.{BlockQuote}
 use Rattle.first_pass_grammar.specs.Containers.{prefix, after, or_shorter, front}
@@ -96,3 +98,55 @@ text_place text s path u b =
 pub front_read : (text bytes rest : List ℕ) (start : ℕ) (path : List Container) (line behind : Rest) → bytes ≡ text → rest ≡ drop start bytes → line ≡ line_rest rest → behind ≡ front path line
     → behind ≡ front path (line_rest (drop start text))
 front_read text bytes rest start path line behind a b e f = f ∙ ap (front path) (e ∙ ap line_rest (b ∙ ap (drop start) a))
+
+quote_less : (r s : Rest) (o : Option Rest) → past_quote r ≡ o → option_map (after_columns 1) o ≡ Some s → length s.left < length r.left
+quote_less r s None q e = absurd (none-some s e)
+quote_less r s (Some t) q e =
+    let f : after_columns 1 t ≡ s = cc in
+    let l = ap (λ (z : Rest). length z.left) f in
+    let a = columns_shorter 1 t in
+    let b = quote_shorter r t q in
+    omega arith
+
+inside_less : (t : Bool) (r s : Rest) → (if t then option_map (after_columns 1) (past_quote (all_taken r)) else None) ≡ Some s → length s.left < length r.left
+inside_less true r s e =
+    let a = quote_less (all_taken r) s (past_quote (all_taken r)) refl e in
+    let b = columns_shorter (indent r) r in
+    omega arith
+inside_less false r s e = absurd (none-some s e)
+
+-- A block quote that begins here takes a byte.
+pub inside_shorter : (r s : Rest) → quote_rest r ≡ Some s → length s.left < length r.left
+unfolding quote_rest
+inside_shorter r s e = inside_less (nat_lt (indent r) 4) r s e
+
+-- what a marker that was taken says
+pub quote_taken : (o : Option Rest) (found : Option ℕ) (n at : ℕ) (old new : Rest) → found ≡ Some at → MatchOption o ((found ≡ None) × (new ≡ old)) (λ next. (found ≡ Some n) × (new ≡ next)) → (o ≡ Some new) × (at ≡ n)
+quote_taken None found n at old new e m = let z : None ≡ Some at = sym m.0 ∙ e in (cc, cc)
+quote_taken (Some r) found n at old new e m = let z : Some n ≡ Some at = sym m.0 ∙ e in (ap Some (sym m.1), cc)
+
+pub quote_absent : (o : Option Rest) (found : Option ℕ) (n : ℕ) (old new : Rest) → found ≡ None → MatchOption o ((found ≡ None) × (new ≡ old)) (λ next. (found ≡ Some n) × (new ≡ next)) → (o ≡ None) × (new ≡ old)
+quote_absent None found n old new e m = (refl, m.1)
+quote_absent (Some r) found n old new e m = let z : None ≡ Some n = sym e ∙ m.0 in (cc, cc)
+
+-- how far a line is read behind all columns
+pub at_read : (start n : ℕ) (r s : Rest) → n ≡ s.taken → s ≡ all_taken r → start + n ≡ offset (unindented (place_at start r))
+at_read start n r s e f = ap (λ k. start + k) (e ∙ ap (λ z. z.taken) f)
+
+no_line : (bs : List ℕ) → length bs ≤ 0 → line_len bs ≡ 0
+no_line [] h = line_len-none
+no_line (b ∷ bs) h = absurd (omega arith)
+
+end_empty : (p : Place) → length p.rest.left ≤ 0 → line_end p ≡ offset p
+end_empty p h = let l = no_line p.rest.left h in omega arith
+
+-- A line ends between characters.
+pub place_end : (text : List ℕ) (p : Place) → IsUtf8 text → IsPlaceOf text p → IsCharBoundary text (line_end p)
+place_end text p u i = elim (cases_lt 0 (length p.rest.left)) [
+  | inl some ↦ place_line_end text p u i some
+  | inr none ↦ (let e = end_empty p none in subst (IsCharBoundary text) (sym e) i.boundary)
+]
+
+-- where the line ends that begins at an offset
+pub line_start_end : (text : List ℕ) (start : ℕ) → line_end (place_at start (line_rest (drop start text))) ≡ start + line_len (drop start text)
+line_start_end text start = let z : start + 0 ≡ start = omega arith in ap (λ k. k + line_len (drop start text)) z

@@ -1,5 +1,5 @@
 -- The tree between two blocks, over what its nodes can still become.
-use Rattle.std.proofs.Common.{◌≡◌, ℕ, zero, suc, ◌+◌, ◌-◌, ◌<◌, ◌≤◌, nat_lt, Bool, true, false, List, [], ◌∷◌, ◌++◌, length, map, slice_get, drop, Option, Some, None, IsSome, is_some, refl, sym, ap, subst, ◌∙◌, arith, if◌then◌else◌, length-append}
+use Rattle.std.proofs.Common.{◌≡◌, ℕ, zero, suc, ◌+◌, ◌-◌, ◌<◌, ◌≤◌, nat_lt, Bool, true, false, List, [], ◌∷◌, ◌++◌, length, map, slice_get, drop, Option, Some, None, IsSome, is_some, IsUtf8, IsCharBoundary, refl, sym, ap, subst, ◌∙◌, arith, if◌then◌else◌, length-append}
 use Rattle.std.proofs.lemmas.List.{append-nil, length-map}
 use Rattle.std.proofs.lemmas.Bool.{false≢true}
 use Rattle.std.proofs.lemmas.Option.{none-some}
@@ -13,9 +13,9 @@ use Rattle.first_pass_tree.specs.declared.tree_index.TreeIndex.{TreeIndex}
 use Rattle.first_pass_tree.specs.Forest.{Forest, empty_forest, with_end_at, added, at_depth, appended, pushed, popped, modify}
 use Rattle.first_pass_scan.specs.Lines.{blank_len, atx_level, level_number, line_len}
 use Rattle.first_pass_scan.specs.Rest.{Rest, indent}
-use Rattle.first_pass_scan.specs.Places.{Place, offset, place_at, line_end, start_of, IsPlaceOf}
-use Rattle.first_pass_scan.proofs.LineFacts.{lines_at-end}
-use Rattle.first_pass_scan.proofs.PlaceFacts.{start_of-lines, columns_line_end}
+use Rattle.first_pass_scan.specs.Places.{Place, offset, line_rest, line_place, place_at, line_end, start_of, IsPlaceOf}
+use Rattle.first_pass_scan.proofs.LineFacts.{lines_at-line, lines_at-end}
+use Rattle.first_pass_scan.proofs.PlaceFacts.{line_is_place, start_of-lines, columns_line_end}
 use Rattle.first_pass_grammar.specs.declared.kind.Container.{Container}
 use Rattle.first_pass_grammar.specs.declared.kind.Container.TheVariants.{BlockQuote}
 use Rattle.first_pass_grammar.specs.declared.kind.Kind.{Kind}
@@ -31,7 +31,8 @@ use Rattle.first_pass.specs.Appends.{line_end_at, closed_by, AddsParagraph, Adds
 use Rattle.first_pass.specs.Path.{container_of, container_at, with_container, path_in, path_of, outer, AreContainers}
 use Rattle.first_pass.specs.State.{Ready, ReadyAt, closed_times}
 use Rattle.first_pass.specs.TableEntries.{no_tables}
-use Rattle.first_pass.proofs.FrontLemmas.{outer-all}
+use Rattle.first_pass.proofs.FrontLemmas.{outer-all, outer-none}
+use Rattle.first_pass.proofs.PlaceLemmas.{after_keeps, line_start_end}
 use Rattle.first_pass.proofs.PathLemmas.{AreIn, get_front, get_last, path_in-append, path_of-opened}
 
 -- before the first block
@@ -198,7 +199,7 @@ in_container : (old new : Forest Item) (block : List (ℕ × Item)) → new ≡ 
 in_container old new block new_is = (ap (λ (f : Forest Item). f.nodes) new_is, ap (λ (f : Forest Item). f.spine) new_is)
 
 -- The line of a text ends where its line ends.
-line_end_of : (text : List ℕ) (p : Place) → IsPlaceOf text (unindented p) → line_end_at text (offset (unindented p)) ≡ line_end p
+pub line_end_of : (text : List ℕ) (p : Place) → IsPlaceOf text (unindented p) → line_end_at text (offset (unindented p)) ≡ line_end p
 line_end_of text p i =
     let e = columns_line_end (indent p.rest) p in
     let f = ap line_len i.left in
@@ -286,3 +287,73 @@ ready_quote d g new x ix p lines inside quote x_is at new_is ready =
       completes = subst (λ q. Completes d q (g.nodes ++ (length g.spine + 1, y) ∷ []) (ix.0 ∷ os) (Some (at_rest p inside)) lines) (sym (path_of-opened g y ix at open_in)) c';
     } in
     subst (λ f. ReadyAt d f (Some (at_rest p inside)) lines) (sym (new_is ∙ ap (λ z. pushed (appended g z) ix) x_is)) r
+
+closed_len : (f : Forest Item) (e : ℕ) (s : List TreeIndex) → f.spine ≡ s → 0 < length s → length (closed_by f e s).spine + 1 ≡ length f.spine
+closed_len f e [] is h = absurd (omega arith)
+closed_len f e (ix ∷ rest) is h = let l : length f.spine ≡ suc (length rest) = ap length is in omega arith
+
+times_more : (n k e : ℕ) (f : Forest Item) → n ≡ suc k → closed_times n e f ≡ closed_times k e (closed_by f e f.spine)
+times_more n k e f h = ap (λ m. closed_times m e f) h
+
+-- one node closed, of those that are to be
+pub one_closed : (f new : Forest Item) (kept e : ℕ) → new ≡ closed_by f e f.spine → kept < length f.spine
+    → (length new.spine < length f.spine) × (kept ≤ length new.spine) × (closed_times (length new.spine - kept) e new ≡ closed_times (length f.spine - kept) e f)
+one_closed f new kept e is h =
+    let l : length (closed_by f e f.spine).spine + 1 ≡ length f.spine = closed_len f e f.spine refl (omega arith) in
+    let n : length new.spine ≡ length (closed_by f e f.spine).spine = ap (λ (g : Forest Item). length g.spine) is in
+    let z : length f.spine - kept ≡ suc (length new.spine - kept) = omega arith in
+    (omega arith, omega arith, ap (closed_times (length new.spine - kept) e) is ∙ sym (times_more (length f.spine - kept) (length new.spine - kept) e f z))
+
+-- an open node is there
+pub some_open : (s : List TreeIndex) → 0 < length s → IsSome (slice_get s 0)
+some_open [] h = absurd (omega arith)
+some_open (ix ∷ s) h = refl
+
+-- A line's start, behind the prefixes of the containers that go on, once the others are closed.
+ready_line : (d : Document) (old closed : Forest Item) (start kept : ℕ) (line r : Rest) → line ≡ line_rest (drop start d.text) → start < length d.text → kept ≤ length old.spine
+    → closed ≡ closed_times (length old.spine - kept) start old → after (path_in old.nodes (outer kept old.spine)) line ≡ Some r
+    → ((m : ℕ) → kept < m → m ≤ length old.spine → after (path_in old.nodes (outer m old.spine)) line ≡ None)
+    → Ready d old start → ReadyAt d closed (Some (place_at start r)) (lines_from d.text (line_end_at d.text start))
+ready_line d old closed start kept line r line_is within fits closed_is taken stops ready =
+    let here : Place = line_place start (drop start d.text) in
+    let lines : List Place = lines_from d.text (line_end_at d.text start) in
+    let first : lines_from d.text start ≡ here ∷ lines = lines_at-line d.text start within in
+    let from : start_of (length d.text) (here ∷ lines) ≡ start = refl in
+    let z : length old.spine - (length old.spine - kept) ≡ kept = omega arith in
+    let c = close_times (length old.spine - kept) d old (here ∷ lines) start from (omega arith)
+    (λ m low high. let low' : kept < m = omega arith in ap (after (path_in old.nodes (outer m old.spine))) (sym line_is) ∙ stops m low' high)
+    (subst (λ ls. ReadyAt d old None ls) first ready) in
+    let c' : Closed d old closed (length old.spine - (length old.spine - kept)) (here ∷ lines) = subst (λ f. Closed d old f (length old.spine - (length old.spine - kept)) (here ∷ lines)) (sym closed_is) c in
+    let path : path_of closed ≡ path_in old.nodes (outer kept old.spine) = c'.paths closed.spine ∙ ap (path_in old.nodes) (c'.spine ∙ ap (λ k. outer k old.spine) z) in
+    ready_enter d closed here lines r (ap (λ p. after p (line_rest (drop start d.text))) path ∙ ap (after (path_in old.nodes (outer kept old.spine))) (sym line_is) ∙ taken) c'.ready
+
+-- a block read: containers closed, containers opened, and a leaf
+pub ready_block : (d b e : Document) (old closed opened new : Forest Item) (start kept next : ℕ) (line r s : Rest) → b ≡ d → e ≡ d → IsUtf8 d.text → IsCharBoundary d.text start
+    → line ≡ line_rest (drop start d.text) → start < length d.text → kept ≤ length old.spine
+    → closed ≡ closed_times (length old.spine - kept) start old → after (path_in old.nodes (outer kept old.spine)) line ≡ Some r
+    → ((m : ℕ) → kept < m → m ≤ length old.spine → after (path_in old.nodes (outer m old.spine)) line ≡ None)
+    → line_end (place_at start s) ≡ line_end (place_at start r)
+    → ((lines : List Place) → ReadyAt b closed (Some (place_at start r)) lines → ReadyAt b opened (Some (place_at start s)) lines)
+    → (ReadyAt e opened (Some (place_at start s)) (lines_from e.text (line_end (place_at start s))) → ReadyAt e new None (lines_from e.text next))
+    → Ready d old start → Ready d new next
+ready_block d b e old closed opened new start kept next line r s b_is e_is u boundary line_is within fits closed_is taken stops same_end opens leaf ready =
+    let lines : List Place = lines_from d.text (line_end_at d.text start) in
+    let first = ready_line d old closed start kept line r line_is within fits closed_is taken stops ready in
+    let taken' : after (path_in old.nodes (outer kept old.spine)) (line_rest (drop start d.text)) ≡ Some r = ap (after (path_in old.nodes (outer kept old.spine))) (sym line_is) ∙ taken in
+    let k = after_keeps d.text start (path_in old.nodes (outer kept old.spine)) (line_rest (drop start d.text)) r u taken' (line_is_place d.text start boundary) in
+    let here : line_end (place_at start s) ≡ line_end_at d.text start = same_end ∙ k.1 ∙ line_start_end d.text start in
+    let inside : ReadyAt d opened (Some (place_at start s)) lines =
+    subst (λ x. ReadyAt x opened (Some (place_at start s)) lines) b_is (opens lines (subst (λ x. ReadyAt x closed (Some (place_at start r)) lines) (sym b_is) first)) in
+    let before : ReadyAt d opened (Some (place_at start s)) (lines_from d.text (line_end (place_at start s))) =
+    subst (λ n. ReadyAt d opened (Some (place_at start s)) (lines_from d.text n)) (sym here) inside in
+    subst (λ x. ReadyAt x new None (lines_from x.text next)) e_is (leaf (subst (λ x. ReadyAt x opened (Some (place_at start s)) (lines_from x.text (line_end (place_at start s)))) (sym e_is) before))
+
+-- At the end of the text all containers are closed.
+pub ready_finish : (d : Document) (old new : Forest Item) (at : ℕ) → length d.text ≤ at → new ≡ closed_times (length old.spine - 0) (length d.text) old → Ready d old at → Derives d new.nodes no_tables × (new.spine ≡ [])
+ready_finish d old new at past new_is ready =
+    let z : length old.spine - (length old.spine - 0) ≡ 0 = omega arith in
+    let r : ReadyAt d old None [] = subst (λ lines. ReadyAt d old None lines) (lines_at-end d.text at past) ready in
+    let c = close_times (length old.spine - 0) d old [] (length d.text) refl (omega arith) (λ m low high. tt) r in
+    let c' = subst (λ f. Closed d old f (length old.spine - (length old.spine - 0)) []) (sym new_is) c in
+    let none : new.spine ≡ [] = c'.spine ∙ ap (λ k. outer k old.spine) z ∙ outer-none old.spine in
+    (ready_end d new none c'.ready, none)

@@ -1,6 +1,6 @@
 //! The open containers, and how far a line goes on with them (CommonMark 5).
 
-ghost use Rattle.std.specs.Prelude.{◌≡◌, ℕ, ◌<◌, ◌≤◌, ◌-◌, List, length, Some, None, true, false, MatchOption, OnOk};
+ghost use Rattle.std.specs.Prelude.{◌≡◌, ℕ, ◌<◌, ◌≤◌, ◌-◌, List, length, Some, None, true, false, MatchOption, OnOk, IsUtf8};
 ghost use Rattle.first_pass_scan.specs.Places.{Place, place_at, line_end, IsPlaceOf};
 ghost use Rattle.first_pass_grammar.specs.Kinds.{all_taken, quote_rest};
 ghost use Rattle.first_pass_grammar.specs.Leaves.{document};
@@ -89,7 +89,8 @@ impl<'a> FirstPass<'a> {
         start_ix: usize,
         line_start: &mut LineStart<'a>,
     ) -> Result<(), AllocError>
-        requires { IsPlaceOf self.old.text.now (place_at start_ix line_start.old) }
+        requires utf8 { IsUtf8 self.old.text.now }
+        requires place { IsPlaceOf self.old.text.now (place_at start_ix line_start.old) }
         ensures text { OnOk result (self.new.text.now ≡ self.old.text.now) }
         ensures options { OnOk result (self.new.options ≡ self.old.options) }
         ensures allocs { OnOk result (self.new.allocs ≡ self.old.allocs) }

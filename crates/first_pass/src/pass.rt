@@ -106,6 +106,7 @@ impl<'a> FirstPass<'a> {
     // Reads the leaf block that begins at a place in the line whose reading began at `start_ix`, where no
     // container begins; answers as `parse_block`.
     fn parse_leaf(&mut self, start_ix: usize, line_start: LineStart<'a>) -> Result<usize, AllocError>
+        requires utf8 { IsUtf8 self.old.text.now }
         requires place { IsPlaceOf self.old.text.now (place_at start_ix line_start) }
         requires no_quote { quote_rest line_start ≡ None }
         ensures text { OnOk result (self.new.text.now ≡ self.old.text.now) }

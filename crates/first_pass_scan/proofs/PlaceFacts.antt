@@ -335,3 +335,39 @@ pub quote_line_end : (line : ℕ) (r s : Rest) → past_quote r ≡ Some s → l
 quote_line_end line r s q =
     let f = quote_by (r.owed == 0) r s q in
     ap (λ z. line_end (place_at line z)) f.0 ∙ bytes_line_end 1 (place_at line r) f.3
+
+byte_shorter : (r s : Rest) (bs : List ℕ) → bs ≡ r.left → column_of_byte r bs ≡ Some s → length s.left ≤ length r.left
+byte_shorter r s [] e h = absurd (none-some s h)
+byte_shorter r s (b ∷ bs) e h =
+    let m = byte_by (b == 32) (b == 9) r s b bs refl refl h in
+    let l : length s.left ≡ length bs = ap length m.1 in
+    let n : length r.left ≡ suc (length bs) = ap length (sym e) in
+    omega arith
+
+column_shorter : (o : ℕ) (r s : Rest) → column_of o r ≡ Some s → length s.left ≤ length r.left
+column_shorter zero r s h = byte_shorter r s r.left refl h
+column_shorter (suc o) r s h =
+    let e : record r { owed = o } ≡ s = cc in
+    let n = ap (λ q. length q.left) e in
+    omega arith
+
+shorter_step : (k : ℕ) (r : Rest) (o : Option Rest) → next_column r ≡ o → ((s : Rest) → length (after_columns k s).left ≤ length s.left) → length (after_columns (suc k) r).left ≤ length r.left
+shorter_step k r None e f = let n = ap (λ q. length q.left) (after-none (suc k) r e) in omega arith
+shorter_step k r (Some s) e f =
+    let n = ap (λ q. length q.left) (after-more (suc k) k r s refl e) in
+    let g = f s in
+    let h = column_shorter r.owed r s e in
+    omega arith
+
+-- Columns taken leave no more bytes.
+pub columns_shorter : (k : ℕ) (r : Rest) → length (after_columns k r).left ≤ length r.left
+columns_shorter zero r = omega arith
+columns_shorter (suc k) r = shorter_step k r (next_column r) refl (columns_shorter k)
+
+-- A block quote marker has a byte.
+pub quote_shorter : (r s : Rest) → past_quote r ≡ Some s → length s.left < length r.left
+quote_shorter r s q =
+    let f = quote_by (r.owed == 0) r s q in
+    let some = f.1 in
+    let l : length s.left ≡ length r.left - 1 = ap (λ z. length z.left) f.0 ∙ length-drop 1 r.left in
+    omega arith
