@@ -1,0 +1,113 @@
+-- How the nodes of a tree are printed (this project).
+use Rattle.std.specs.Prelude.{ℕ, zero, suc, ◌==◌, Bool, true, false, Option, Some, None, List, [], ◌∷◌, ◌++◌, codes, decimal, encode_utf8, bit_and, if◌then◌else◌}
+use Rattle.first_pass_items.specs.declared.item.Item.{Item}
+use Rattle.first_pass_items.specs.declared.item.ListFlags.{ListFlags}
+use Rattle.first_pass_items.specs.declared.item.BlockQuoteKind.{BlockQuoteKind}
+use Rattle.first_pass_items.specs.declared.item.BlockQuoteKind.TheVariants.{Note, Tip, Important, Warning, Caution}
+use Rattle.first_pass_items.specs.declared.item.MetadataBlockKind.{MetadataBlockKind}
+use Rattle.first_pass_items.specs.declared.item.MetadataBlockKind.TheVariants.{YamlStyle, PlusesStyle}
+use Rattle.first_pass_items.specs.declared.item.ItemBody.{ItemBody}
+use Rattle.first_pass_items.specs.declared.item.ItemBody.TheVariants.{Root, Paragraph, TightParagraph, Rule, Heading, FencedCodeBlock, IndentCodeBlock, HtmlBlock, BlockQuote, FootnoteDefinition, MetadataBlock, DefinitionList, MaybeDefinitionListTitle, DefinitionListTitle, DefinitionListDefinition, Table, TableHead, TableRow, TableCell, Text, SoftBreak, HardBreak, MaybeEmphasis, MaybeMath, MaybeSmartQuote, MaybeCode, MaybeHtml, MaybeLinkOpen, MaybeLinkClose, MaybeImage, Html, SynthesizeText, SynthesizeChar, TaskListMarker, ListItem, List as ListBody}
+use Rattle.first_pass_scan.specs.Lines.{level_number}
+
+-- the name of what a node is
+abbrev pub name_of : ItemBody → List ℕ
+name_of Root = codes "Root"
+name_of Paragraph = codes "Paragraph"
+name_of TightParagraph = codes "TightParagraph"
+name_of Rule = codes "Rule"
+name_of (Heading level attributes) = codes "Heading"
+name_of (FencedCodeBlock info) = codes "FencedCodeBlock"
+name_of IndentCodeBlock = codes "IndentCodeBlock"
+name_of HtmlBlock = codes "HtmlBlock"
+name_of (BlockQuote kind) = codes "BlockQuote"
+name_of (ListBody flags byte number) = codes "List"
+name_of (ListItem indent) = codes "ListItem"
+name_of (FootnoteDefinition label) = codes "FootnoteDefinition"
+name_of (MetadataBlock kind) = codes "MetadataBlock"
+name_of (DefinitionList flags) = codes "DefinitionList"
+name_of MaybeDefinitionListTitle = codes "MaybeDefinitionListTitle"
+name_of DefinitionListTitle = codes "DefinitionListTitle"
+name_of (DefinitionListDefinition indent) = codes "DefinitionListDefinition"
+name_of (Table alignments) = codes "Table"
+name_of TableHead = codes "TableHead"
+name_of TableRow = codes "TableRow"
+name_of TableCell = codes "TableCell"
+name_of (Text escaped) = codes "Text"
+name_of SoftBreak = codes "SoftBreak"
+name_of (HardBreak by_backslash) = codes "HardBreak"
+name_of (MaybeEmphasis left can_open can_close) = codes "MaybeEmphasis"
+name_of (MaybeMath can_open can_close context) = codes "MaybeMath"
+name_of (MaybeSmartQuote byte can_open can_close) = codes "MaybeSmartQuote"
+name_of (MaybeCode count escaped) = codes "MaybeCode"
+name_of MaybeHtml = codes "MaybeHtml"
+name_of MaybeLinkOpen = codes "MaybeLinkOpen"
+name_of (MaybeLinkClose active) = codes "MaybeLinkClose"
+name_of MaybeImage = codes "MaybeImage"
+name_of Html = codes "Html"
+name_of (SynthesizeText text) = codes "SynthesizeText"
+name_of (SynthesizeChar character) = codes "SynthesizeChar"
+name_of (TaskListMarker checked) = codes "TaskListMarker"
+
+-- a truth value as a word
+abbrev pub flag_name : Bool → List ℕ
+flag_name true = codes "true"
+flag_name false = codes "false"
+
+-- whether a list is tight, as a word (CommonMark 5.3)
+abbrev pub list_name : ListFlags → List ℕ
+list_name flags = if bit_and flags.0 1 == 1 then codes "tight" else codes "loose"
+
+-- the kind of a block quote, as a word
+abbrev pub quote_name : BlockQuoteKind → List ℕ
+quote_name Note = codes "Note"
+quote_name Tip = codes "Tip"
+quote_name Important = codes "Important"
+quote_name Warning = codes "Warning"
+quote_name Caution = codes "Caution"
+
+-- the kind of a metadata block, as a word
+abbrev pub metadata_name : MetadataBlockKind → List ℕ
+metadata_name YamlStyle = codes "YamlStyle"
+metadata_name PlusesStyle = codes "PlusesStyle"
+
+-- a text in parentheses
+abbrev pub enclosed : List ℕ → List ℕ
+enclosed text = codes "(" ++ text ++ codes ")"
+
+-- the values of a block, in parentheses where it has any
+abbrev pub block_values : ItemBody → List ℕ
+block_values (Heading level attributes) = enclosed (decimal (level_number level))
+block_values (BlockQuote (Some kind)) = enclosed (quote_name kind)
+block_values (ListBody flags byte number) = enclosed (list_name flags ++ codes "," ++ (byte ∷ []) ++ codes "," ++ decimal number)
+block_values (ListItem indent) = enclosed (decimal indent)
+block_values (MetadataBlock kind) = enclosed (metadata_name kind)
+block_values (DefinitionList flags) = enclosed (list_name flags)
+block_values (DefinitionListDefinition indent) = enclosed (decimal indent)
+block_values _ = []
+
+-- the values of a token, in parentheses where it has any
+abbrev pub token_values : ItemBody → List ℕ
+token_values (Text true) = enclosed (codes "escaped")
+token_values (HardBreak by_backslash) = enclosed (flag_name by_backslash)
+token_values (MaybeEmphasis left can_open can_close) = enclosed (decimal left ++ codes "," ++ flag_name can_open ++ codes "," ++ flag_name can_close)
+token_values (MaybeMath can_open can_close context) = enclosed (flag_name can_open ++ codes "," ++ flag_name can_close ++ codes "," ++ decimal context)
+token_values (MaybeSmartQuote byte can_open can_close) = enclosed ((byte ∷ []) ++ codes "," ++ flag_name can_open ++ codes "," ++ flag_name can_close)
+token_values (MaybeCode count escaped) = enclosed (decimal count ++ codes "," ++ flag_name escaped)
+token_values (MaybeLinkClose active) = enclosed (flag_name active)
+token_values (SynthesizeChar character) = enclosed (encode_utf8 character)
+token_values (TaskListMarker checked) = enclosed (flag_name checked)
+token_values _ = []
+
+-- what a node is: its name and its values
+abbrev pub body_text : ItemBody → List ℕ
+body_text body = name_of body ++ block_values body ++ token_values body
+
+-- two spaces for each level of depth
+unfoldable pub indentation : ℕ → List ℕ
+indentation zero = []
+indentation (suc depth) = indentation depth ++ codes "  "
+
+-- the line of a node: two spaces a level of depth, what it is, and its range
+abbrev pub node_line : ℕ × Item → List ℕ
+node_line node = indentation node.0 ++ body_text node.1.body ++ codes " " ++ decimal node.1.start ++ codes ".." ++ decimal node.1.«end» ++ codes "\n"

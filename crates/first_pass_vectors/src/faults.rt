@@ -1,0 +1,124 @@
+//! Each fault of a run, and what is written before it.
+
+use crate::fakes::{Sink, Source, run};
+use first_pass_program::fault::BlocksFault;
+use std::alloc::{AllocError, Global};
+use std::test::Fail;
+
+const WHOLE: usize = usize::MAX;
+
+/// A text of 3,000 paragraphs, which takes several reads and writes.
+fn long_text(alloc: Global) -> Result<Vec<u8>, AllocError> {
+    let mut text = Vec::new(alloc);
+    for _ in 0..3000 {
+        text.extend_from_slice(b"a\n\n")?;
+    }
+    Ok(text)
+}
+
+fn source(rest: &[u8], step: usize, fails_at: usize) -> Source<'_> {
+    Source {
+        rest,
+        step,
+        fails_at,
+        reads: 0,
+    }
+}
+
+#[test]
+fn options_come_first(rt: HostRuntime) -> Result<(), Fail> {
+    let bad: &[&[&str]] = &[
+        &[""],
+        &["x"],
+        &["+2"],
+        &["-2"],
+        &["2 "],
+        &[" 2"],
+        &["0x2"],
+        &["2.0"],
+        &["1"],
+        &["3"],
+        &["65535"],
+        &["65536"],
+        &["4294967298"],
+        &["99999999999999999999999999999999999999"],
+        &["\u{662}"],
+        &["0", "0"],
+        &["2", ""],
+        &["0", "0", "0"],
+    ];
+    for words in bad {
+        let mut input = source(b"\xff", WHOLE, 1);
+        let mut sink = Sink::new(rt.alloc(), WHOLE, 1);
+        let answer = run(rt.alloc(), words, &mut input, &mut sink)?;
+        assert!(rt; answer == Err(BlocksFault::BadOptions), "{words:?}");
+        assert!(rt; input.reads == 0 && sink.writes == 0, "{words:?}");
+    }
+    let good: &[&[&str]] = &[&[], &["0"], &["000"], &["516"], &["65534"], &["000000000000000000002"]];
+    for words in good {
+        let mut input = source(b"", WHOLE, 0);
+        let mut sink = Sink::new(rt.alloc(), WHOLE, 0);
+        let answer = run(rt.alloc(), words, &mut input, &mut sink)?;
+        assert!(rt; answer == Ok(()) && sink.bytes.as_slice() == b"Root 0..0\n".as_slice(), "{words:?}");
+    }
+    Ok(())
+}
+
+#[test]
+fn input_is_utf8(rt: HostRuntime) -> Result<(), Fail> {
+    let bad: &[&[u8]] = &[b"\xff", b"a\n\n# b\xc3", b"\xc3\n\xa9", b"\xed\xa0\x80", b"\xc0\x80"];
+    for bytes in bad {
+        let mut input = source(bytes, 1, 0);
+        let mut sink = Sink::new(rt.alloc(), WHOLE, 1);
+        let answer = run(rt.alloc(), &[], &mut input, &mut sink)?;
+        assert!(rt; answer == Err(BlocksFault::NotUtf8), "{bytes:?}");
+        assert!(rt; sink.writes == 0, "{bytes:?}");
+    }
+    Ok(())
+}
+
+#[test]
+fn each_read_fails_in_turn(rt: HostRuntime) -> Result<(), Fail> {
+    let text = long_text(rt.alloc())?;
+    let mut failed = 0;
+    for fails_at in 1..100 {
+        let mut input = source(text.as_slice(), 1000, fails_at);
+        let mut sink = Sink::new(rt.alloc(), WHOLE, 0);
+        let answer = run(rt.alloc(), &[], &mut input, &mut sink)?;
+        if answer == Ok(()) {
+            assert!(rt; input.reads < fails_at);
+            break;
+        }
+        assert!(rt; answer == Err(BlocksFault::ReadFailed), "read {fails_at}");
+        assert!(rt; input.reads == fails_at && sink.writes == 0, "read {fails_at}");
+        failed = fails_at;
+    }
+    assert_eq!(rt; failed, 10);
+    Ok(())
+}
+
+#[test]
+fn each_write_fails_in_turn(rt: HostRuntime) -> Result<(), Fail> {
+    let text = long_text(rt.alloc())?;
+    let mut whole = Sink::new(rt.alloc(), WHOLE, 0);
+    let answer = run(rt.alloc(), &[], &mut source(text.as_slice(), WHOLE, 0), &mut whole)?;
+    assert!(rt; answer == Ok(()) && 3 < whole.writes);
+    for fails_at in 1..100 {
+        let mut sink = Sink::new(rt.alloc(), WHOLE, fails_at);
+        let answer = run(rt.alloc(), &[], &mut source(text.as_slice(), WHOLE, 0), &mut sink)?;
+        if answer == Ok(()) {
+            assert!(rt; whole.writes < fails_at && sink.bytes.as_slice() == whole.bytes.as_slice());
+            break;
+        }
+        assert!(rt; answer == Err(BlocksFault::WriteFailed), "write {fails_at}");
+        assert!(rt; sink.writes == fails_at && sink.bytes.len() < whole.bytes.len());
+        assert!(rt; whole.bytes.as_slice().starts_with(sink.bytes.as_slice()), "write {fails_at}");
+    }
+    let mut bytewise = Sink::new(rt.alloc(), 1, 0);
+    let answer = run(rt.alloc(), &[], &mut source(text.as_slice(), 1, 0), &mut bytewise)?;
+    assert!(rt; answer == Ok(()) && bytewise.bytes.as_slice() == whole.bytes.as_slice());
+    let mut full = Sink::new(rt.alloc(), 0, 0);
+    let answer = run(rt.alloc(), &[], &mut source(text.as_slice(), WHOLE, 0), &mut full)?;
+    assert!(rt; answer == Err(BlocksFault::WriteFailed) && full.writes == 1);
+    Ok(())
+}

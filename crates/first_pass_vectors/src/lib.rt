@@ -1,0 +1,11 @@
+//! Texts and the trees that are printed for them, and each fault of a run.
+#![tactic(auto)]
+
+#[cfg(test)]
+mod calls;
+#[cfg(test)]
+mod fakes;
+#[cfg(test)]
+mod faults;
+#[cfg(test)]
+mod texts;
