@@ -1,3 +1,6 @@
 pub mod Lines
 pub mod Rest
 pub mod Places
+pub mod LeafLines
+pub mod Markers
+pub mod TableHead
