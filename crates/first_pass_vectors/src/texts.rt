@@ -134,8 +134,9 @@ fn texts_are_printed(rt: HostRuntime) -> Result<(), Fail> {
             reads: 0,
         };
         let mut sink = Sink::new(rt.alloc(), WHOLE, 0);
-        let words: &[&str] = if bits.is_empty() { &[] } else { &[bits] };
-        let answer = run(rt.alloc(), words, &mut source, &mut sink)?;
+        let words = [*bits];
+        let given = usize::from(!bits.is_empty());
+        let answer = run(rt.alloc(), &words[..given], &mut source, &mut sink)?;
         assert!(rt; answer == Ok(()), "options {bits:?}, text {text:?}");
         let printed = String::from_utf8_lossy(rt.alloc(), sink.bytes.as_slice())?;
         assert!(rt;
