@@ -38,6 +38,7 @@ pub fn blocks_run<R: Read + Drop, W: Write + Drop>(
 ) -> Result<(), BlocksFault>
     ensures ok { OnOk result ((bits : ℕ) × StandFor words.now bits) }
     ensures bad_options { ((bits : ℕ) → StandFor words.now bits → ⊥) → result ≡ Err BadOptions }
+    ensures options { (bits : ℕ) → StandFor words.now bits → result ≡ Err BadOptions → ⊥ }
 {
     print_blocks(alloc, words, &mut input, &mut output)
 }
