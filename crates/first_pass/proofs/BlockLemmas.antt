@@ -7,7 +7,7 @@ use Rattle.first_pass_tree.specs.declared.tree_index.TreeIndex.{TreeIndex}
 use Rattle.first_pass_tree.specs.Forest.{Forest, IsForest, IsOpenPath, depths, appended, pushed, popped, added, block_of, at_depth, modified, with_body_at}
 use Rattle.first_pass_tokens.specs.TreeTokens.{chained, leaves}
 use Rattle.first_pass_tokens.proofs.ChainLemmas.{chained-spine, chained-append, closed-chained, modified-modified}
-use Rattle.first_pass.specs.Appends.{with_break, closed_by, marker_items, IsJustPushed}
+use Rattle.first_pass.specs.Appends.{with_child, closed_by, marker_items, IsJustPushed}
 
 -- the node that was appended and opened
 pub opened_at : (g a : Forest Item) (x : Item) (ix : TreeIndex) → a ≡ appended g x → a.current ≡ Some ix → ix.0 ≡ length g.nodes
@@ -32,7 +32,7 @@ just_pushed g a p x ix e h f =
     }
 
 -- a marker before a chain
-pub marked_chain : (p m n : Forest Item) (marker : Option Item) (chain : List Item) → m ≡ with_break p marker → n ≡ chained m chain → n ≡ chained p (marker_items marker ++ chain)
+pub marked_chain : (p m n : Forest Item) (marker : Option Item) (chain : List Item) → m ≡ with_child p marker → n ≡ chained m chain → n ≡ chained p (marker_items marker ++ chain)
 marked_chain p m n None chain e f = f ∙ ap (λ v. chained v chain) e
 marked_chain p m n (Some x) chain e f = f ∙ ap (λ v. chained v chain) e ∙ chained-append p (x ∷ []) chain
 

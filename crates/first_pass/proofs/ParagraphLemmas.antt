@@ -18,7 +18,7 @@ use Rattle.first_pass_grammar.specs.Containers.{front}
 use Rattle.first_pass_grammar.specs.Kinds.{unindented, interrupts}
 use Rattle.first_pass_grammar.specs.Leaves.{Document, document, content_at, add_break, IsParagraph}
 use Rattle.first_pass_grammar.specs.Completion.{lines_from}
-use Rattle.first_pass.specs.Appends.{line_end_at, with_break, with_closed_break, AppendsParagraph}
+use Rattle.first_pass.specs.Appends.{line_end_at, with_child, with_closed_break, AppendsParagraph}
 use Rattle.first_pass.specs.Reading.{ParagraphSoFar}
 
 -- At the end of the text a paragraph ends.
@@ -88,9 +88,9 @@ paragraph_last d ix n chain tokens line_break line place ends =
     subst (λ e. IsParagraph d [] ix chain (lines_from d.text e) (close_break line_break (add_tokens chain tokens)) (lines_from d.text n)) place (last_by d ix n chain tokens line_break (lines_from d.text n) line lines ends)
 
 -- the break behind a chain in the tree
-pub with_break-chained : (f : Forest Item) (chain : List Item) (line_break : Option Item) → with_break (chained f chain) line_break ≡ chained f (add_break line_break chain)
-with_break-chained f chain None = refl
-with_break-chained f chain (Some x) = appended-chained f chain x
+pub with_child-chained : (f : Forest Item) (chain : List Item) (line_break : Option Item) → with_child (chained f chain) line_break ≡ chained f (add_break line_break chain)
+with_child-chained f chain None = refl
+with_child-chained f chain (Some x) = appended-chained f chain x
 
 closed_by : (t : Bool) (f : Forest Item) (chain : List Item) (x : Item) → is_backslash_break x.body ≡ t → JoinsNone f → with_closed_break (chained f chain) (Some x) ≡ chained f (close_break (Some x) chain)
 closed_by true f chain x h apart = rw h (with_text-chained f chain x.start (x.start + 1) false apart (omega arith))
@@ -108,7 +108,7 @@ so_far_start d start old boundary = record { chain = []; tree_is = refl; boundar
 pub so_far_more : (d : Document) (start ix n at : ℕ) (old now read new : Forest Item) (line_break : Option Item) → ParagraphSoFar d start old now ix → JoinsNone old
     → AppendsLine (content_at d ix) now read (n, line_break) → EndsLine (content_at d ix) (n, line_break)
     → interrupts (line_place n (drop n d.text)) ≡ false → at ≡ offset (unindented (line_place n (drop n d.text))) → IsPlaceOf d.text (unindented (line_place n (drop n d.text)))
-    → new ≡ with_break read line_break → (ParagraphSoFar d start old new at) × (ix < at)
+    → new ≡ with_child read line_break → (ParagraphSoFar d start old new at) × (ix < at)
 so_far_more d start ix n at old now read new line_break s apart line ends goes at_is i new_is =
     let within = goes_within d.text n goes in
     let later : ix < length d.text → ix < n = ends.later in
@@ -117,7 +117,7 @@ so_far_more d start ix n at old now read new line_break s apart line ends goes a
     let tree : read ≡ chained old chain = line.tree_is ∙ ap (λ f. with_tokens f line.tokens) s.tree_is ∙ with_tokens-chained old s.chain line.tokens apart in (
       record {
         chain = add_break line_break chain;
-        tree_is = new_is ∙ ap (λ f. with_break f line_break) tree ∙ with_break-chained old chain line_break;
+        tree_is = new_is ∙ ap (λ f. with_child f line_break) tree ∙ with_child-chained old chain line_break;
         boundary = subst (IsCharBoundary d.text) (sym at_is) i.boundary;
         from = inr (elim s.from [ inl same ↦ (let e = ap (line_end_at d.text) same in let p : n ≡ line_end_at d.text ix = ends.place in omega arith) | inr past ↦ omega arith ]);
         goes_on = λ whole left p. s.goes_on whole left (paragraph_more d ix n s.chain line.tokens whole line_break left line.line ends.place goes i
@@ -186,7 +186,7 @@ pub so_far_next : (first text now_text : List ℕ) (o w : Options) (start ix n a
     → text ≡ first → o ≡ w → now_text ≡ text → ParagraphSoFar (document first w) start old now ix → JoinsNone old
     → AppendsLine (record { options = o; text = text; start = ix }) now read (n, line_break) → EndsLine (record { options = o; text = text; start = ix }) (n, line_break)
     → found ≡ (if interrupts (line_place n (drop n now_text)) then None else Some (offset (unindented (line_place n (drop n now_text))))) → found ≡ Some at
-    → IsPlaceOf now_text (unindented (line_place n (drop n now_text))) → new ≡ with_break read line_break
+    → IsPlaceOf now_text (unindented (line_place n (drop n now_text))) → new ≡ with_child read line_break
     → (ParagraphSoFar (document first w) start old new at) × (ix < at)
 so_far_next first text now_text o w start ix n at old now read new line_break found same same_options kept s apart line ends value is place new_is =
     let e : now_text ≡ first = kept ∙ same in

@@ -15,10 +15,10 @@ abbrev pub text_upto : List ℕ → Option ℕ → List ℕ
 text_upto text None = text
 text_upto text (Some e) = take e text
 
--- the tree with the break behind a line, if there is one
-abbrev pub with_break : Forest Item → Option Item → Forest Item
-with_break f None = f
-with_break f (Some x) = appended f x
+-- the tree with an item behind its nodes, if there is one
+abbrev pub with_child : Forest Item → Option Item → Forest Item
+with_child f None = f
+with_child f (Some x) = appended f x
 
 -- the tree where no line follows: the backslash of a hard break is text
 abbrev pub with_closed_break : Forest Item → Option Item → Forest Item

@@ -1,4 +1,5 @@
-//! The block pass of CommonMark: a text goes in, the tree of its blocks comes out.
+//! The block pass of CommonMark: a text goes in, the tree of its blocks comes out
+//! (`pass::run_first_pass`). The names of the crate below are handed out too.
 #![tactic(auto)]
 
 mod heading;
@@ -8,3 +9,5 @@ pub mod items;
 mod kinds;
 mod paragraph;
 pub mod pass;
+
+pub use first_pass_below::{below, flank, walk};

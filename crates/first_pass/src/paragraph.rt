@@ -4,7 +4,7 @@ ghost use Rattle.std.specs.Prelude.{◌≡◌, ◌<◌, ◌^◌, false, IfOk, If
 ghost use Rattle.first_pass_tokens.specs.TreeTokens.{JoinsNone};
 ghost use Rattle.first_pass_grammar.specs.Leaves.{document};
 ghost use Rattle.first_pass_tree.specs.Forest.{is_text};
-ghost use Rattle.first_pass.specs.Appends.{AppendsParagraph, AddsParagraph, with_break, with_closed_break};
+ghost use Rattle.first_pass.specs.Appends.{AppendsParagraph, AddsParagraph, with_child, with_closed_break};
 
 use crate::interrupt::next_paragraph_text;
 use crate::pass::FirstPass;
@@ -13,11 +13,11 @@ use first_pass_items::item::{Item, ItemBody};
 use first_pass_tree::forest::Tree;
 use std::alloc::AllocError;
 
-/// Appends the break between two lines.
-fn append_break(tree: &mut Tree<Item>, line_break: Option<Item>) -> Result<(), AllocError>
-    ensures { OnOk result (tree.new ≡ with_break tree.old line_break) }
+// Appends an item, if there is one: the break between two lines, or the marker of a task list item.
+fn append_item(tree: &mut Tree<Item>, item: Option<Item>) -> Result<(), AllocError>
+    ensures { OnOk result (tree.new ≡ with_child tree.old item) }
 {
-    match line_break {
+    match item {
         Some(item) => {
             tree.append(item)?;
             Ok(())
@@ -49,19 +49,6 @@ pub fn append_last_backslash(
     }
 }
 
-// Appends the task list marker of a paragraph, if it has one.
-fn append_marker(tree: &mut Tree<Item>, marker: Option<Item>) -> Result<(), AllocError>
-    ensures { OnOk result (tree.new ≡ with_break tree.old marker) }
-{
-    match marker {
-        Some(item) => {
-            tree.append(item)?;
-            Ok(())
-        }
-        None => Ok(()),
-    }
-}
-
 impl<'a> FirstPass<'a> {
     /// Appends the paragraph whose first line's text begins at the offset `start_ix` into the text, with
     /// the marker of its task list item, if it has one, as its first child. Answers the offset at which
@@ -84,7 +71,7 @@ impl<'a> FirstPass<'a> {
             body: ItemBody::Paragraph,
         })?;
         self.tree.push()?;
-        append_marker(&mut self.tree, tasklist_marker)?;
+        append_item(&mut self.tree, tasklist_marker)?;
         let ix = self.paragraph_lines(start_ix)?;
         self.pop(ix);
         Ok(ix)
@@ -105,7 +92,7 @@ impl<'a> FirstPass<'a> {
             let (next, line_break) = self.parse_line(ix, None, TableParseMode::Disabled)?;
             match next_paragraph_text(self.alloc, self.text, next, &self.tree)? {
                 Some(at) => {
-                    append_break(&mut self.tree, line_break)?;
+                    append_item(&mut self.tree, line_break)?;
                     ix = at;
                 }
                 None => {

@@ -10,6 +10,8 @@ ghost use Rattle.first_pass.specs.Appends.{text_upto, closed_by};
 ghost use Rattle.first_pass.specs.State.{Ready};
 ghost use Rattle.first_pass.specs.TableEntries.{tables, no_tables};
 
+pub use crate::interrupt::scan_paragraph_interrupt_no_table;
+
 use crate::items::Allocations;
 use crate::kinds::kind_at;
 use first_pass_below::flank::TableParseMode;

@@ -20,8 +20,8 @@ next_paragraph_text-requires c =
 pub lines-smaller : goal.lines-smaller
 lines-smaller c =
     let i = c.lines.invariant in
-    let more = so_far_next _ _ _ _ _ c.args.start c.lines.ix c.in_ok-next.next c.in-Some.at _ _ _ c.append_break.new.tree c.in_ok-next.line_break _ i.same_text i.same_options c.in_ok-next.ensures.text
-    i.read c.requires.apart c.in_ok-next.ensures.line c.in_ok-next.ensures.ends c.in_ok-at.ensures.value c.in-Some.is c.in_ok-at.ensures.place c.in_ok-append_break-in-Some.ensures in
+    let more = so_far_next _ _ _ _ _ c.args.start c.lines.ix c.in_ok-next.next c.in-Some.at _ _ _ c.append_item.new.tree c.in_ok-next.line_break _ i.same_text i.same_options c.in_ok-next.ensures.text
+    i.read c.requires.apart c.in_ok-next.ensures.line c.in_ok-next.ensures.ends c.in_ok-at.ensures.value c.in-Some.is c.in_ok-at.ensures.place c.in_ok-append_item-in-Some.ensures in
     let within : c.in-Some.at ≤ length c.args.self.now.text.now = more.0.boundary.0 in
     let later : c.lines.ix < c.in-Some.at = more.1 in
     let same = ap length i.same_text in
@@ -35,8 +35,8 @@ lines-preserved c =
       same_text = c.in_ok-next.ensures.text ∙ i.same_text;
       same_options = c.in_ok-next.ensures.options ∙ i.same_options;
       same_allocs = c.in_ok-next.ensures.allocs ∙ i.same_allocs;
-      read = (so_far_next _ _ _ _ _ c.args.start c.lines.ix c.in_ok-next.next c.in-Some.at _ _ _ c.append_break.new.tree c.in_ok-next.line_break _ i.same_text i.same_options c.in_ok-next.ensures.text
-          i.read c.requires.apart c.in_ok-next.ensures.line c.in_ok-next.ensures.ends c.in_ok-at.ensures.value c.in-Some.is c.in_ok-at.ensures.place c.in_ok-append_break-in-Some.ensures).0;
+      read = (so_far_next _ _ _ _ _ c.args.start c.lines.ix c.in_ok-next.next c.in-Some.at _ _ _ c.append_item.new.tree c.in_ok-next.line_break _ i.same_text i.same_options c.in_ok-next.ensures.text
+          i.read c.requires.apart c.in_ok-next.ensures.line c.in_ok-next.ensures.ends c.in_ok-at.ensures.value c.in-Some.is c.in_ok-at.ensures.place c.in_ok-append_item-in-Some.ensures).0;
     }
 
 pub returns-in-None-clause-lines : goal.returns-in-None-clause-lines

@@ -1,7 +1,7 @@
 use Rattle.std.proofs.Common.{◌++◌, ap, ◌∙◌}
 use Rattle.first_pass_items.specs.declared.item.Item.{Item}
 use Rattle.first_pass_items.specs.declared.item.ItemBody.TheVariants.{Paragraph}
-use Rattle.first_pass.specs.Appends.{with_break, marker_items}
+use Rattle.first_pass.specs.Appends.{with_child, marker_items}
 use Rattle.first_pass.proofs.BlockLemmas.{opened_at, opened_is, marked_chain, still_open, block_closed}
 use Rattle.first_pass.proofs.pass.FirstPass.parse_paragraph.Goals as goal
 
@@ -13,7 +13,7 @@ pop-requires c =
     let at = opened_at g c.append.new.self x ix c.in_ok-append.ensures.ok c.in_ok-push.ensures.index in
     let opened = opened_is g c.append.new.self c.push.new.self x ix c.in_ok-append.ensures.ok c.in_ok-push.ensures.ok in
     let lines = c.in_ok-ix.ensures.lines in
-    let filled = marked_chain _ c.append_marker.new.tree c.paragraph_lines.new.self.tree c.args.tasklist_marker lines.chain (c.in_ok-append_marker.ensures ∙ ap (λ v. with_break v c.args.tasklist_marker) opened) lines.tree_is in
+    let filled = marked_chain _ c.append_item.new.tree c.paragraph_lines.new.self.tree c.args.tasklist_marker lines.chain (c.in_ok-append_item.ensures ∙ ap (λ v. with_child v c.args.tasklist_marker) opened) lines.tree_is in
     still_open g c.paragraph_lines.new.self.tree x (marker_items c.args.tasklist_marker ++ lines.chain) ix at filled
 
 pub returns-clause-block : goal.returns-clause-block
@@ -24,7 +24,7 @@ returns-clause-block c =
     let at = opened_at g c.append.new.self x ix c.in_ok-append.ensures.ok c.in_ok-push.ensures.index in
     let opened = opened_is g c.append.new.self c.push.new.self x ix c.in_ok-append.ensures.ok c.in_ok-push.ensures.ok in
     let lines = c.in_ok-ix.ensures.lines in
-    let filled = marked_chain _ c.append_marker.new.tree c.paragraph_lines.new.self.tree c.args.tasklist_marker lines.chain (c.in_ok-append_marker.ensures ∙ ap (λ v. with_break v c.args.tasklist_marker) opened) lines.tree_is in
+    let filled = marked_chain _ c.append_item.new.tree c.paragraph_lines.new.self.tree c.args.tasklist_marker lines.chain (c.in_ok-append_item.ensures ∙ ap (λ v. with_child v c.args.tasklist_marker) opened) lines.tree_is in
     record {
       chain = lines.chain;
       lines = lines.lines;
