@@ -1,3 +1,4 @@
 pub mod Faults
 pub mod OptionWord
 pub mod Printed
+pub mod Runs

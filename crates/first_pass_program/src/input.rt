@@ -1,6 +1,7 @@
 //! The whole input.
 
-ghost use Rattle.std.specs.Prelude.{◌≡◌, IfOk, IfSome};
+ghost use Rattle.std.specs.Prelude.{IfOk, IfErr};
+ghost use Rattle.first_pass_program.specs.Runs.{ReadsWhole, IsReadFault};
 
 use crate::fault::BlocksFault;
 use std::alloc::Global;
@@ -11,8 +12,9 @@ const PIECE: usize = 8192;
 
 /// The bytes of the input up to its end, the first read that gives none. A read that fails is
 /// `ReadFailed`; where memory is refused the fault is `OutOfMemory`, and nothing more is read.
-pub fn read_whole<R: Read + Drop>(alloc: Global, mut input: R) -> Result<Vec<u8>, BlocksFault>
-    ensures { IfOk result (λ bytes. IfSome (R.remaining input) (λ xs. bytes.items ≡ xs)) }
+pub fn read_whole<R: Read>(alloc: Global, input: &mut R) -> Result<Vec<u8>, BlocksFault>
+    ensures ok { IfOk result (λ bytes. ReadsWhole (R.remaining input.old) (R.remaining input.new) bytes.items) }
+    ensures fault { IfErr result IsReadFault }
 {
     let mut bytes = Vec::new(alloc);
     let mut piece = [0; PIECE];

@@ -1,7 +1,9 @@
 //! Writing a text in pieces.
 
-ghost use Rattle.std.specs.Prelude.{OnOk};
+ghost use Rattle.std.specs.Prelude.{◌≡◌, IfErr, OnErr, OnOk};
 ghost use Rattle.std.specs.Io.KnownBytes.{Appends};
+ghost use Rattle.first_pass_program.specs.declared.fault.BlocksFault.TheVariants.{WriteFailed};
+ghost use Rattle.first_pass_program.specs.Runs.{AppendsFront};
 
 use crate::fault::BlocksFault;
 use std::io::Write;
@@ -10,12 +12,15 @@ use std::io::Write;
 /// is one that takes no byte; then a beginning of the bytes was written.
 pub fn write_whole<W: Write>(output: &mut W, bytes: &[u8]) -> Result<(), BlocksFault>
     ensures ok { OnOk result (Appends (W.contents output.old) (W.contents output.new) bytes.now) }
+    ensures front { OnErr result (AppendsFront (W.contents output.old) (W.contents output.new) bytes.now) }
+    ensures fault { IfErr result (λ fault. fault ≡ WriteFailed) }
 {
     let mut rest = bytes;
     while !rest.is_empty() {
         match output.write(rest) {
-            Ok(0) | Err(_) => return Err(BlocksFault::WriteFailed),
+            Ok(0) => return Err(BlocksFault::WriteFailed),
             Ok(count) => rest = &rest[count..],
+            Err(_) => return Err(BlocksFault::WriteFailed),
         }
     }
     Ok(())

@@ -1,9 +1,12 @@
 //! The work of the program `blocks`.
 
-ghost use Rattle.std.specs.Prelude.{OnOk};
+ghost use Rattle.std.specs.Prelude.{◌≡◌, ℕ, List, OnOk, OnErr, IfErr, Err};
 ghost use Rattle.std.specs.List.{flat_map};
 ghost use Rattle.std.specs.Io.KnownBytes.{Appends};
+ghost use Rattle.first_pass_program.specs.declared.fault.BlocksFault.TheVariants.{BadOptions};
+ghost use Rattle.first_pass_program.specs.OptionWord.{StandFor};
 ghost use Rattle.first_pass_program.specs.Printed.{node_line};
+ghost use Rattle.first_pass_program.specs.Runs.{AppendsFront, IsPrinted, IsWriteFault, Leaves, LeavesText, WritesWhole};
 
 use crate::fault::BlocksFault;
 use crate::input::read_whole;
@@ -12,6 +15,7 @@ use crate::output::write_whole;
 use crate::printed::append_node;
 use first_pass::pass::run_first_pass;
 use first_pass_items::item::Item;
+use first_pass_items::option_set::Options;
 use std::alloc::Global;
 use std::io::{Read, Write};
 use std::str;
@@ -24,24 +28,55 @@ const PIECE: usize = 8192;
 ///
 /// Faults are found in this order: the options, before the first read and without memory; the reads;
 /// UTF-8 of the whole input; the pass; the writes. `OutOfMemory` comes at the request that was refused.
-/// What was written at a fault is nothing, or a beginning of the whole output.
+/// What was written at a fault is nothing, or a beginning of the whole output. What the reader and the
+/// writer hold at the end is said of `print_blocks`, whose answer this is.
 pub fn blocks_run<R: Read + Drop, W: Write + Drop>(
     alloc: Global,
     words: &[String],
-    input: R,
+    mut input: R,
     mut output: W,
-) -> Result<(), BlocksFault> {
+) -> Result<(), BlocksFault>
+    ensures ok { OnOk result ((bits : ℕ) × StandFor words.now bits) }
+    ensures bad_options { ((bits : ℕ) → StandFor words.now bits → ⊥) → result ≡ Err BadOptions }
+    ensures options { (bits : ℕ) → StandFor words.now bits → result ≡ Err BadOptions → ⊥ }
+{
+    print_blocks(alloc, words, &mut input, &mut output)
+}
+
+/// As `blocks_run`, over a reader and a writer that are lent.
+pub fn print_blocks<R: Read, W: Write>(
+    alloc: Global,
+    words: &[String],
+    input: &mut R,
+    output: &mut W,
+) -> Result<(), BlocksFault>
+    ensures ok { OnOk result (WritesWhole words.now (R.remaining input.old) (R.remaining input.new) (W.contents output.old) (W.contents output.new)) }
+    ensures fault { IfErr result (λ fault. Leaves fault words.now (R.remaining input.old) (R.remaining input.new) (W.contents output.old) (W.contents output.new)) }
+{
     let options = match parse_options(words) {
         Some(options) => options,
         None => return Err(BlocksFault::BadOptions),
     };
     let bytes = read_whole(alloc, input)?;
-    let text = match str::from_utf8(bytes.as_slice()) {
+    print_text(alloc, bytes.as_slice(), options, output)
+}
+
+/// Writes the tree of the blocks of a text that has still to be found to be UTF-8.
+fn print_text<W: Write>(
+    alloc: Global,
+    bytes: &[u8],
+    options: Options,
+    output: &mut W,
+) -> Result<(), BlocksFault>
+    ensures ok { OnOk result ((whole : List ℕ) × IsPrinted options bytes.now whole × Appends (W.contents output.old) (W.contents output.new) whole) }
+    ensures fault { IfErr result (λ fault. LeavesText fault options bytes.now (W.contents output.old) (W.contents output.new)) }
+{
+    let text = match str::from_utf8(bytes) {
         Ok(text) => text,
         Err(_) => return Err(BlocksFault::NotUtf8),
     };
     let (tree, _tables) = run_first_pass(alloc, text, options)?;
-    write_nodes(alloc, tree.nodes(), &mut output)
+    write_nodes(alloc, tree.nodes(), output)
 }
 
 /// Writes the lines of all nodes, each with its depth, in their order.
@@ -51,6 +86,8 @@ fn write_nodes<W: Write>(
     output: &mut W,
 ) -> Result<(), BlocksFault>
     ensures ok { OnOk result (Appends (W.contents output.old) (W.contents output.new) (flat_map node_line nodes.now)) }
+    ensures front { OnErr result (AppendsFront (W.contents output.old) (W.contents output.new) (flat_map node_line nodes.now)) }
+    ensures fault { IfErr result IsWriteFault }
 {
     let mut held = Vec::new(alloc);
     for node in nodes {

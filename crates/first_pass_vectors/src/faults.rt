@@ -54,19 +54,35 @@ fn options_come_first(rt: HostRuntime) -> Result<(), Fail> {
         assert!(rt; answer == Err(BlocksFault::BadOptions), "{words:?}");
         assert!(rt; input.reads == 0 && sink.writes == 0, "{words:?}");
     }
-    let good: &[&[&str]] = &[&[], &["0"], &["000"], &["516"], &["65534"], &["000000000000000000002"]];
+    let good: &[&[&str]] = &[
+        &[],
+        &["0"],
+        &["000"],
+        &["516"],
+        &["65534"],
+        &["000000000000000000002"],
+    ];
     for words in good {
         let mut input = source(b"", WHOLE, 0);
         let mut sink = Sink::new(rt.alloc(), WHOLE, 0);
         let answer = run(rt.alloc(), words, &mut input, &mut sink)?;
-        assert!(rt; answer == Ok(()) && sink.bytes.as_slice() == b"Root 0..0\n".as_slice(), "{words:?}");
+        assert!(rt;
+            answer == Ok(()) && sink.bytes.as_slice() == b"Root 0..0\n".as_slice(),
+            "{words:?}"
+        );
     }
     Ok(())
 }
 
 #[test]
 fn input_is_utf8(rt: HostRuntime) -> Result<(), Fail> {
-    let bad: &[&[u8]] = &[b"\xff", b"a\n\n# b\xc3", b"\xc3\n\xa9", b"\xed\xa0\x80", b"\xc0\x80"];
+    let bad: &[&[u8]] = &[
+        b"\xff",
+        b"a\n\n# b\xc3",
+        b"\xc3\n\xa9",
+        b"\xed\xa0\x80",
+        b"\xc0\x80",
+    ];
     for bytes in bad {
         let mut input = source(bytes, 1, 0);
         let mut sink = Sink::new(rt.alloc(), WHOLE, 1);
@@ -90,7 +106,10 @@ fn each_read_fails_in_turn(rt: HostRuntime) -> Result<(), Fail> {
             break;
         }
         assert!(rt; answer == Err(BlocksFault::ReadFailed), "read {fails_at}");
-        assert!(rt; input.reads == fails_at && sink.writes == 0, "read {fails_at}");
+        assert!(rt;
+            input.reads == fails_at && sink.writes == 0,
+            "read {fails_at}"
+        );
         failed = fails_at;
     }
     assert_eq!(rt; failed, 10);
@@ -101,24 +120,47 @@ fn each_read_fails_in_turn(rt: HostRuntime) -> Result<(), Fail> {
 fn each_write_fails_in_turn(rt: HostRuntime) -> Result<(), Fail> {
     let text = long_text(rt.alloc())?;
     let mut whole = Sink::new(rt.alloc(), WHOLE, 0);
-    let answer = run(rt.alloc(), &[], &mut source(text.as_slice(), WHOLE, 0), &mut whole)?;
+    let answer = run(
+        rt.alloc(),
+        &[],
+        &mut source(text.as_slice(), WHOLE, 0),
+        &mut whole,
+    )?;
     assert!(rt; answer == Ok(()) && 3 < whole.writes);
     for fails_at in 1..100 {
         let mut sink = Sink::new(rt.alloc(), WHOLE, fails_at);
-        let answer = run(rt.alloc(), &[], &mut source(text.as_slice(), WHOLE, 0), &mut sink)?;
+        let answer = run(
+            rt.alloc(),
+            &[],
+            &mut source(text.as_slice(), WHOLE, 0),
+            &mut sink,
+        )?;
         if answer == Ok(()) {
             assert!(rt; whole.writes < fails_at && sink.bytes.as_slice() == whole.bytes.as_slice());
             break;
         }
         assert!(rt; answer == Err(BlocksFault::WriteFailed), "write {fails_at}");
         assert!(rt; sink.writes == fails_at && sink.bytes.len() < whole.bytes.len());
-        assert!(rt; whole.bytes.as_slice().starts_with(sink.bytes.as_slice()), "write {fails_at}");
+        assert!(rt;
+            whole.bytes.as_slice().starts_with(sink.bytes.as_slice()),
+            "write {fails_at}"
+        );
     }
     let mut bytewise = Sink::new(rt.alloc(), 1, 0);
-    let answer = run(rt.alloc(), &[], &mut source(text.as_slice(), 1, 0), &mut bytewise)?;
+    let answer = run(
+        rt.alloc(),
+        &[],
+        &mut source(text.as_slice(), 1, 0),
+        &mut bytewise,
+    )?;
     assert!(rt; answer == Ok(()) && bytewise.bytes.as_slice() == whole.bytes.as_slice());
     let mut full = Sink::new(rt.alloc(), 0, 0);
-    let answer = run(rt.alloc(), &[], &mut source(text.as_slice(), WHOLE, 0), &mut full)?;
+    let answer = run(
+        rt.alloc(),
+        &[],
+        &mut source(text.as_slice(), WHOLE, 0),
+        &mut full,
+    )?;
     assert!(rt; answer == Err(BlocksFault::WriteFailed) && full.writes == 1);
     Ok(())
 }

@@ -9,31 +9,119 @@ const WHOLE: usize = usize::MAX;
 const TEXTS: &[(&str, &str, &str)] = &[
     ("", "", "Root 0..0\n"),
     ("", "###\n", "Root 0..4\n  Heading(3) 0..4\n"),
-    ("", "a\\\nb", "Root 0..4\n  Paragraph 0..4\n    Text 0..1\n    HardBreak(true) 1..3\n    Text 3..4\n"),
+    (
+        "",
+        "a\\\nb",
+        "Root 0..4\n  Paragraph 0..4\n    Text 0..1\n    HardBreak(true) 1..3\n    Text 3..4\n",
+    ),
     ("", "# a\n", "Root 0..4\n  Heading(1) 0..4\n    Text 2..3\n"),
-    ("", "# a #\n", "Root 0..6\n  Heading(1) 0..6\n    Text 2..3\n"),
+    (
+        "",
+        "# a #\n",
+        "Root 0..6\n  Heading(1) 0..6\n    Text 2..3\n",
+    ),
     ("", "# #\n", "Root 0..4\n  Heading(1) 0..4\n"),
-    ("", "a  \nb", "Root 0..5\n  Paragraph 0..5\n    Text 0..1\n    HardBreak(false) 1..4\n    Text 4..5\n"),
-    ("", "\\*a", "Root 0..3\n  Paragraph 0..3\n    Text(escaped) 1..3\n"),
+    (
+        "",
+        "a  \nb",
+        "Root 0..5\n  Paragraph 0..5\n    Text 0..1\n    HardBreak(false) 1..4\n    Text 4..5\n",
+    ),
+    (
+        "",
+        "\\*a",
+        "Root 0..3\n  Paragraph 0..3\n    Text(escaped) 1..3\n",
+    ),
     ("", "\n \t\n", "Root 0..4\n"),
-    ("", "a\rb", "Root 0..3\n  Paragraph 0..3\n    Text 0..1\n    SoftBreak 1..2\n    Text 2..3\n"),
-    ("", "a\r\nb\r\n", "Root 0..6\n  Paragraph 0..6\n    Text 0..1\n    SoftBreak 1..3\n    Text 3..4\n"),
-    ("", "a\\\r\nb  \rc", "Root 0..9\n  Paragraph 0..9\n    Text 0..1\n    HardBreak(true) 1..4\n    Text 4..5\n    HardBreak(false) 5..8\n    Text 8..9\n"),
-    ("", "#\ta\t#\n", "Root 0..6\n  Heading(1) 0..6\n    Text 2..5\n"),
-    ("", "  ## a ## b ##  \n", "Root 0..17\n  Heading(2) 2..17\n    Text 5..11\n"),
-    ("", "\u{e9} # \u{fc}\n## \u{f6}", "Root 0..13\n  Paragraph 0..8\n    Text 0..7\n  Heading(2) 8..13\n    Text 11..13\n"),
-    ("", "####### x", "Root 0..9\n  Paragraph 0..9\n    Text 0..9\n"),
-    ("", "#x\n#", "Root 0..4\n  Paragraph 0..3\n    Text 0..2\n  Heading(1) 3..4\n"),
-    ("", "a\n# b\nc", "Root 0..7\n  Paragraph 0..2\n    Text 0..1\n  Heading(1) 2..6\n    Text 4..5\n  Paragraph 6..7\n    Text 6..7\n"),
-    ("", "a\n\n\n  b", "Root 0..7\n  Paragraph 0..2\n    Text 0..1\n  Paragraph 6..7\n    Text 6..7\n"),
-    ("", "\u{b}\n\u{c} \na", "Root 0..6\n  Paragraph 5..6\n    Text 5..6\n"),
-    ("", "a\n\u{b}\nb", "Root 0..5\n  Paragraph 0..5\n    Text 0..1\n    SoftBreak 1..2\n    SoftBreak 3..4\n    Text 4..5\n"),
-    ("", "a\u{c} \n\u{b} \tb\u{b}", "Root 0..9\n  Paragraph 0..9\n    Text 0..1\n    HardBreak(false) 1..4\n    Text 4..8\n"),
-    ("", "a\\\\\nb\\", "Root 0..6\n  Paragraph 0..6\n    Text 0..1\n    Text(escaped) 2..3\n    SoftBreak 3..4\n    Text 4..6\n"),
-    ("", "a\n    # b", "Root 0..9\n  Paragraph 0..9\n    Text 0..1\n    SoftBreak 1..2\n    Text 6..9\n"),
-    ("", "a, b;\\;\\\u{e9}", "Root 0..10\n  Paragraph 0..10\n    Text 0..5\n    Text(escaped) 6..10\n"),
-    ("65534", "a b", "Root 0..3\n  Paragraph 0..3\n    Text 0..3\n"),
-    ("65534", "# a #\r\n\r\nb \\. c", "Root 0..15\n  Heading(1) 0..7\n    Text 2..3\n  Paragraph 9..15\n    Text 9..11\n    Text(escaped) 12..15\n"),
+    (
+        "",
+        "a\rb",
+        "Root 0..3\n  Paragraph 0..3\n    Text 0..1\n    SoftBreak 1..2\n    Text 2..3\n",
+    ),
+    (
+        "",
+        "a\r\nb\r\n",
+        "Root 0..6\n  Paragraph 0..6\n    Text 0..1\n    SoftBreak 1..3\n    Text 3..4\n",
+    ),
+    (
+        "",
+        "a\\\r\nb  \rc",
+        "Root 0..9\n  Paragraph 0..9\n    Text 0..1\n    HardBreak(true) 1..4\n    Text 4..5\n    HardBreak(false) 5..8\n    Text 8..9\n",
+    ),
+    (
+        "",
+        "#\ta\t#\n",
+        "Root 0..6\n  Heading(1) 0..6\n    Text 2..5\n",
+    ),
+    (
+        "",
+        "  ## a ## b ##  \n",
+        "Root 0..17\n  Heading(2) 2..17\n    Text 5..11\n",
+    ),
+    (
+        "",
+        "\u{e9} # \u{fc}\n## \u{f6}",
+        "Root 0..13\n  Paragraph 0..8\n    Text 0..7\n  Heading(2) 8..13\n    Text 11..13\n",
+    ),
+    (
+        "",
+        "####### x",
+        "Root 0..9\n  Paragraph 0..9\n    Text 0..9\n",
+    ),
+    (
+        "",
+        "#x\n#",
+        "Root 0..4\n  Paragraph 0..3\n    Text 0..2\n  Heading(1) 3..4\n",
+    ),
+    (
+        "",
+        "a\n# b\nc",
+        "Root 0..7\n  Paragraph 0..2\n    Text 0..1\n  Heading(1) 2..6\n    Text 4..5\n  Paragraph 6..7\n    Text 6..7\n",
+    ),
+    (
+        "",
+        "a\n\n\n  b",
+        "Root 0..7\n  Paragraph 0..2\n    Text 0..1\n  Paragraph 6..7\n    Text 6..7\n",
+    ),
+    (
+        "",
+        "\u{b}\n\u{c} \na",
+        "Root 0..6\n  Paragraph 5..6\n    Text 5..6\n",
+    ),
+    (
+        "",
+        "a\n\u{b}\nb",
+        "Root 0..5\n  Paragraph 0..5\n    Text 0..1\n    SoftBreak 1..2\n    SoftBreak 3..4\n    Text 4..5\n",
+    ),
+    (
+        "",
+        "a\u{c} \n\u{b} \tb\u{b}",
+        "Root 0..9\n  Paragraph 0..9\n    Text 0..1\n    HardBreak(false) 1..4\n    Text 4..8\n",
+    ),
+    (
+        "",
+        "a\\\\\nb\\",
+        "Root 0..6\n  Paragraph 0..6\n    Text 0..1\n    Text(escaped) 2..3\n    SoftBreak 3..4\n    Text 4..6\n",
+    ),
+    (
+        "",
+        "a\n    # b",
+        "Root 0..9\n  Paragraph 0..9\n    Text 0..1\n    SoftBreak 1..2\n    Text 6..9\n",
+    ),
+    (
+        "",
+        "a, b;\\;\\\u{e9}",
+        "Root 0..10\n  Paragraph 0..10\n    Text 0..5\n    Text(escaped) 6..10\n",
+    ),
+    (
+        "65534",
+        "a b",
+        "Root 0..3\n  Paragraph 0..3\n    Text 0..3\n",
+    ),
+    (
+        "65534",
+        "# a #\r\n\r\nb \\. c",
+        "Root 0..15\n  Heading(1) 0..7\n    Text 2..3\n  Paragraph 9..15\n    Text 9..11\n    Text(escaped) 12..15\n",
+    ),
 ];
 
 #[test]
@@ -46,11 +134,15 @@ fn texts_are_printed(rt: HostRuntime) -> Result<(), Fail> {
             reads: 0,
         };
         let mut sink = Sink::new(rt.alloc(), WHOLE, 0);
-        let words: &[&str] = if bits.is_empty() { &[] } else { &[bits] };
-        let answer = run(rt.alloc(), words, &mut source, &mut sink)?;
+        let words = [*bits];
+        let given = usize::from(!bits.is_empty());
+        let answer = run(rt.alloc(), &words[..given], &mut source, &mut sink)?;
         assert!(rt; answer == Ok(()), "options {bits:?}, text {text:?}");
         let printed = String::from_utf8_lossy(rt.alloc(), sink.bytes.as_slice())?;
-        assert!(rt; printed.as_str() == *want, "options {bits:?}, text {text:?}: {printed}");
+        assert!(rt;
+            printed.as_str() == *want,
+            "options {bits:?}, text {text:?}: {printed}"
+        );
     }
     Ok(())
 }

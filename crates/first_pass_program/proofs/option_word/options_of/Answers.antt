@@ -1,4 +1,4 @@
-use Rattle.std.proofs.Common.{◌≡◌, ℕ, sym, ◌∙◌}
+use Rattle.std.proofs.Common.{sym, ◌∙◌}
 use Rattle.bitflags.proofs.OnLiterals.{bitflags_on_literals}
 use Rattle.first_pass_program.proofs.Words.{taken, untaken}
 use Rattle.first_pass_program.proofs.option_word.options_of.Goals as goal
