@@ -1,0 +1,6 @@
+pub mod ListFacts
+pub mod NameFacts
+pub mod TailFacts
+pub mod TagFacts
+pub mod FrontFacts
+pub mod WholeTagFacts

@@ -1,0 +1,5 @@
+pub mod Names
+pub mod Starts
+pub mod Tags
+pub mod TagLengths
+pub mod Fronts

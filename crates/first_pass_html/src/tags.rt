@@ -1,0 +1,302 @@
+//! Tags that begin HTML blocks of the seventh kind.
+
+ghost use Rattle.std.specs.Prelude.{◌≡◌, ◌<◌, ◌≤◌, ◌+◌, ℕ, length, IsTrue, IfSome, IfNone};
+ghost use Rattle.first_pass_scan.specs.Lines.{begins};
+ghost use Rattle.std.specs.List.{prefix_len};
+ghost use Rattle.first_pass_html.specs.Tags as tags;
+ghost use Rattle.first_pass_html.specs.TagLengths as lengths;
+ghost use Rattle.first_pass_html.specs.Fronts.{IsOnlyFront, HasNoFront, IsPastAttributes};
+
+use crate::starts::is_raw_name;
+use first_pass_scan::lines::scan_blank_line;
+use first_pass_scan::places::rest_of;
+
+// How many spaces and tabs stand first.
+fn blanks_len(bytes: &[u8]) -> usize
+    ensures value { result ≡ prefix_len tags.is_blank bytes.now }
+    ensures within { result ≤ length bytes.now }
+{
+    bytes
+        .iter()
+        .take_while(|b| **b == b' ' || **b == b'\t')
+        .count()
+}
+
+// How many bytes of a tag name stand first, behind its first letter.
+fn tag_bytes_len(bytes: &[u8]) -> usize
+    ensures value { result ≡ prefix_len tags.is_tag_byte bytes.now }
+    ensures within { result ≤ length bytes.now }
+{
+    bytes
+        .iter()
+        .take_while(|b| b.is_ascii_alphanumeric() || **b == b'-')
+        .count()
+}
+
+// How many bytes the tag name has that stands first.
+fn scan_tag_name(bytes: &[u8]) -> Option<usize>
+    ensures value { result ≡ lengths.tag_name_len bytes.now }
+    ensures within { IfSome result (λ n. n ≤ length bytes.now) }
+{
+    match bytes {
+        [first, others @ ..] if first.is_ascii_alphabetic() => Some(1 + tag_bytes_len(others)),
+        _ => None,
+    }
+}
+
+// How many bytes of an attribute name stand first, behind its first byte.
+fn attribute_bytes_len(bytes: &[u8]) -> usize
+    ensures value { result ≡ prefix_len tags.is_attribute_byte bytes.now }
+    ensures within { result ≤ length bytes.now }
+{
+    bytes
+        .iter()
+        .take_while(|b| b.is_ascii_alphanumeric() || matches!(**b, b'_' | b'.' | b':' | b'-'))
+        .count()
+}
+
+// How many bytes the attribute name has that stands first.
+fn scan_attribute_name(bytes: &[u8]) -> Option<usize>
+    ensures value { result ≡ lengths.attribute_name_len bytes.now }
+    ensures within { IfSome result (λ n. n ≤ length bytes.now) }
+{
+    match bytes {
+        [first, others @ ..] if first.is_ascii_alphabetic() || *first == b'_' || *first == b':' => {
+            Some(1 + attribute_bytes_len(others))
+        }
+        _ => None,
+    }
+}
+
+// How many bytes of an unquoted value stand first.
+fn unquoted_bytes_len(bytes: &[u8]) -> usize
+    ensures value { result ≡ prefix_len tags.is_unquoted bytes.now }
+    ensures within { result ≤ length bytes.now }
+{
+    bytes
+        .iter()
+        .take_while(|b| {
+            !matches!(
+                **b,
+                b' ' | b'\t' | b'\n' | b'\r' | b'"' | b'\'' | b'=' | b'<' | b'>' | b'`'
+            )
+        })
+        .count()
+}
+
+// How many bytes stand before the quote or the line end.
+fn quoted_bytes_len(quote: u8, bytes: &[u8]) -> usize
+    ensures value { result ≡ prefix_len (tags.is_quoted quote) bytes.now }
+    ensures within { result ≤ length bytes.now }
+{
+    bytes
+        .iter()
+        .take_while(|b| **b != quote && **b != b'\n' && **b != b'\r')
+        .count()
+}
+
+// How many bytes the quoted value has whose inside stands first, with both quotes.
+#[tactic(auto, unfolding(crate::specs::TagLengths::quoted_len))]
+fn scan_quoted(quote: u8, inside: &[u8]) -> Option<usize>
+    requires { length inside.now < 0xFFFF_FFFF_FFFF_FFFF }
+    ensures value { result ≡ lengths.quoted_len quote inside.now }
+    ensures within { IfSome result (λ n. n ≤ length inside.now + 1) }
+{
+    let len = quoted_bytes_len(quote, inside);
+    match rest_of(inside, len) {
+        [first, ..] if *first == quote => Some(len + 2),
+        _ => None,
+    }
+}
+
+// How many bytes the attribute value has that stands first.
+#[tactic(auto, unfolding(crate::specs::TagLengths::value_len))]
+fn scan_value(bytes: &[u8]) -> Option<usize>
+    ensures value { result ≡ lengths.value_len bytes.now }
+    ensures within { IfSome result (λ n. n ≤ length bytes.now) }
+{
+    match bytes {
+        [] => None,
+        [quote @ (b'"' | b'\''), inside @ ..] => scan_quoted(*quote, inside),
+        _ => match unquoted_bytes_len(bytes) {
+            0 => None,
+            len => Some(len),
+        },
+    }
+}
+
+// How many bytes blanks and the value behind them have.
+#[tactic(auto, unfolding(crate::specs::TagLengths::blanks_value_len))]
+fn scan_blanks_value(bytes: &[u8]) -> Option<usize>
+    ensures value { result ≡ lengths.blanks_value_len bytes.now }
+    ensures within { IfSome result (λ n. n ≤ length bytes.now) }
+{
+    let blanks = blanks_len(bytes);
+    match scan_value(rest_of(bytes, blanks)) {
+        Some(len) => Some(blanks + len),
+        None => None,
+    }
+}
+
+// How many bytes the value specification has that stands first: 0 where there is none.
+#[tactic(auto, unfolding(crate::specs::TagLengths::specification_len))]
+fn scan_specification(bytes: &[u8]) -> usize
+    ensures value { result ≡ lengths.specification_len bytes.now }
+    ensures within { result ≤ length bytes.now }
+{
+    let blanks = blanks_len(bytes);
+    match rest_of(bytes, blanks) {
+        [b'=', ..] => match scan_blanks_value(rest_of(bytes, blanks + 1)) {
+            Some(len) => blanks + 1 + len,
+            None => 0,
+        },
+        _ => 0,
+    }
+}
+
+// How many bytes the name of an attribute and its value specification have.
+#[tactic(auto, unfolding(crate::specs::TagLengths::named_len))]
+fn scan_named(bytes: &[u8]) -> Option<usize>
+    ensures value { result ≡ lengths.named_len bytes.now }
+    ensures within { IfSome result (λ n. n ≤ length bytes.now) }
+{
+    match scan_attribute_name(bytes) {
+        Some(len) => Some(len + scan_specification(rest_of(bytes, len))),
+        None => None,
+    }
+}
+
+// How many bytes the attribute has that stands first, with the blanks before it.
+#[tactic(auto, unfolding(crate::specs::TagLengths::attribute_len))]
+fn scan_attribute(bytes: &[u8]) -> Option<usize>
+    ensures value { result ≡ lengths.attribute_len bytes.now }
+    ensures within { IfSome result (λ n. (0 < n) × (n ≤ length bytes.now)) }
+{
+    let blanks = blanks_len(bytes);
+    if blanks == 0 {
+        return None;
+    }
+    match scan_named(rest_of(bytes, blanks)) {
+        Some(len) => Some(blanks + len),
+        None => None,
+    }
+}
+
+// How many bytes `>` or `/>` has.
+fn scan_close(bytes: &[u8]) -> Option<usize>
+    ensures value { result ≡ lengths.close_len bytes.now }
+    ensures within { IfSome result (λ n. n ≤ length bytes.now) }
+{
+    match bytes {
+        [b'>', ..] => Some(1),
+        [b'/', b'>', ..] => Some(2),
+        _ => None,
+    }
+}
+
+// How many bytes the end of an open tag has that stands first: blanks, a slash or none, and `>`.
+#[tactic(auto, unfolding(crate::specs::TagLengths::open_end_len))]
+fn scan_open_end(bytes: &[u8]) -> Option<usize>
+    ensures value { result ≡ lengths.open_end_len bytes.now }
+    ensures within { IfSome result (λ n. n ≤ length bytes.now) }
+{
+    let blanks = blanks_len(bytes);
+    match scan_close(rest_of(bytes, blanks)) {
+        Some(len) => Some(blanks + len),
+        None => None,
+    }
+}
+
+// How many bytes the attributes have that stand first.
+fn scan_attributes(bytes: &[u8]) -> usize
+    ensures value { IsPastAttributes bytes.now result }
+    ensures within { result ≤ length bytes.now }
+{
+    let mut at = 0;
+    while let Some(len) = scan_attribute(rest_of(bytes, at)) {
+        at += len;
+    }
+    at
+}
+
+// How many bytes the open tag has behind its `<`, if its name is none of raw text.
+fn scan_open_tag(bytes: &[u8]) -> Option<usize>
+    ensures found { IfSome result (IsOnlyFront tags.IsBehindOpening bytes.now) }
+    ensures none { IfNone result (HasNoFront tags.IsBehindOpening bytes.now) }
+{
+    let name = scan_tag_name(bytes)?;
+    if is_raw_name(&bytes[..name]) {
+        return None;
+    }
+    let behind = rest_of(bytes, name);
+    let attributes = scan_attributes(behind);
+    let end = scan_open_end(rest_of(behind, attributes))?;
+    Some(name + attributes + end)
+}
+
+// How many bytes the end of a closing tag has that stands first: blanks, and `>`.
+#[tactic(auto, unfolding(crate::specs::TagLengths::closing_end_len))]
+fn scan_closing_end(bytes: &[u8]) -> Option<usize>
+    ensures value { result ≡ lengths.closing_end_len bytes.now }
+    ensures within { IfSome result (λ n. n ≤ length bytes.now) }
+{
+    let blanks = blanks_len(bytes);
+    match rest_of(bytes, blanks) {
+        [b'>', ..] => Some(blanks + 1),
+        _ => None,
+    }
+}
+
+// How many bytes the closing tag has behind its `</`.
+fn scan_closing_tag(bytes: &[u8]) -> Option<usize>
+    ensures found { IfSome result (IsOnlyFront tags.IsBehindClosing bytes.now) }
+    ensures none { IfNone result (HasNoFront tags.IsBehindClosing bytes.now) }
+{
+    let name = scan_tag_name(bytes)?;
+    let end = scan_closing_end(rest_of(bytes, name))?;
+    Some(name + end)
+}
+
+// Whether the byte stands first.
+fn begins_with(byte: u8, bytes: &[u8]) -> bool
+    ensures value { result ≡ begins byte bytes.now }
+    ensures some { IsTrue result → 0 < length bytes.now }
+{
+    match bytes {
+        [] => false,
+        [first, ..] => *first == byte,
+    }
+}
+
+// How many bytes the tag has that stands first, if it begins HTML blocks.
+fn scan_tag(bytes: &[u8]) -> Option<usize>
+    ensures found { IfSome result (IsOnlyFront tags.IsBlockTag bytes.now) }
+    ensures none { IfNone result (HasNoFront tags.IsBlockTag bytes.now) }
+{
+    if !begins_with(b'<', bytes) {
+        return None;
+    }
+    let rest = rest_of(bytes, 1);
+    if begins_with(b'/', rest) {
+        let len = scan_closing_tag(rest_of(rest, 1))?;
+        return Some(len + 2);
+    }
+    let len = scan_open_tag(rest)?;
+    Some(len + 1)
+}
+
+/// How many bytes the tag has that `bytes`, which stand at the `<`, begin with, where it begins an HTML
+/// block of the seventh kind: an open tag whose name is not pre, script, style or textarea in any case,
+/// or a closing tag, whole on its line, with nothing but white space behind it on the line. `None` where
+/// no such tag stands here. CommonMark 4.6 and 6.6.
+pub fn scan_html_type_7(bytes: &[u8]) -> Option<usize>
+    ensures tag { IfSome result (tags.BeginsTagLine bytes.now) }
+    ensures only { IfSome result (λ n. (m : ℕ) → tags.BeginsTagLine bytes.now m → m ≡ n) }
+    ensures none { IfNone result ((m : ℕ) → tags.BeginsTagLine bytes.now m → ⊥) }
+{
+    let len = scan_tag(bytes)?;
+    match scan_blank_line(rest_of(bytes, len)) {
+        Some(_) => Some(len),
+        None => None,
+    }
+}
