@@ -1,0 +1,4 @@
+//! Entities and escapes, and the parts of links: destinations and labels.
+#![tactic(auto)]
+
+pub mod entity;
