@@ -1,1 +1,4 @@
 pub mod Numbers
+pub mod EntityFacts
+pub mod PipeEscapes
+pub mod Escapes

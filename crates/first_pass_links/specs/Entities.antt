@@ -1,12 +1,10 @@
 -- Entity and numeric character references (CommonMark 2.5), of the bytes from a place in the text on.
-use Rattle.std.specs.Prelude.{ℕ, ◌+◌, ◌==◌, ◌&&◌, ◌||◌, Bool, List, take, drop, codes, Option, Some, None, nat_lt, nat_le, if◌then◌else◌, ⊤}
+use Rattle.std.specs.Prelude.{ℕ, ◌+◌, ◌==◌, ◌&&◌, ◌||◌, Bool, List, take, drop, codes, Option, Some, None, nat_lt, nat_le, if◌then◌else◌}
 use Rattle.std.specs.Option.{option_map, option_or}
 use Rattle.std.specs.List.{prefix_len}
 use Rattle.std.specs.Char.{is_ascii_digit, is_ascii_hexdigit, is_ascii_alphabetic}
 use Rattle.std.specs.Str.{bytes_eq}
 use Rattle.std.specs.Str.Parse.{digits_value}
-use Rattle.first_pass_items.specs.declared.cow_str.CowStr.{CowStr}
-use Rattle.first_pass_items.specs.declared.cow_str.CowStr.TheVariants.{Borrowed, Boxed, Inlined}
 use Rattle.first_pass_scan.specs.Lines.{begins}
 
 -- the number of a character: a Unicode scalar value other than 0 (CommonMark 2.5)
@@ -75,9 +73,3 @@ entity_at bs =
     if begins 38 bs
     then behind 1 (if begins 35 (drop 1 bs) then behind 1 (numeric_at (drop 1 (drop 1 bs))) else name_at (drop 1 bs))
     else None
-
--- the text stands in the value or in the source: it takes no memory (this project)
-abbrev pub TakesNoMemory : CowStr → Type 0
-TakesNoMemory (Borrowed text) = ⊤
-TakesNoMemory (Boxed text) = ⊥
-TakesNoMemory (Inlined text) = ⊤

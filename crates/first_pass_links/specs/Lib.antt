@@ -1,1 +1,4 @@
+pub mod Texts
 pub mod Entities
+pub mod Escapes
+pub mod Changes

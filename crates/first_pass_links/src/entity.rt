@@ -6,7 +6,8 @@ ghost use Rattle.std.specs.Char.{digit_value, is_ascii_digit, is_ascii_hexdigit,
 ghost use Rattle.std.specs.Str.Parse.{digits_value};
 ghost use Rattle.first_pass_items.specs.CowText.{text_of};
 ghost use Rattle.first_pass_scan.specs.Lines.{begins};
-ghost use Rattle.first_pass_links.specs.Entities.{referred, number_at, numeric_at, named_in_xml, named_sign, named_punctuation, named, name_at, entity_at, TakesNoMemory};
+ghost use Rattle.first_pass_links.specs.Entities.{referred, number_at, numeric_at, named_in_xml, named_sign, named_punctuation, named, name_at, entity_at};
+ghost use Rattle.first_pass_links.specs.Texts.{TakesNoMemory};
 
 use first_pass_items::cow_str::{CowStr, InlineStr};
 

@@ -2,3 +2,4 @@
 #![tactic(auto)]
 
 pub mod entity;
+pub mod escape;
