@@ -2,3 +2,4 @@ pub mod Numbers
 pub mod EntityFacts
 pub mod PipeEscapes
 pub mod Escapes
+pub mod Destinations

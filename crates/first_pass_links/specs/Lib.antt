@@ -2,3 +2,4 @@ pub mod Texts
 pub mod Entities
 pub mod Escapes
 pub mod Changes
+pub mod Destinations

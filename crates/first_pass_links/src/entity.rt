@@ -54,7 +54,7 @@ pub(crate) fn scan_reference(bytes: &[u8]) -> Option<(usize, char)>
     }
 }
 
-fn begins(byte: u8, bytes: &[u8]) -> bool
+pub(crate) fn begins(byte: u8, bytes: &[u8]) -> bool
     ensures { result ≡ begins byte bytes.now }
 {
     match bytes {

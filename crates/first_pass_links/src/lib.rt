@@ -1,5 +1,6 @@
 //! Entities and escapes, and the parts of links: destinations and labels.
 #![tactic(auto)]
 
+pub mod destination;
 pub mod entity;
 pub mod escape;
