@@ -3,3 +3,5 @@ pub mod EntityFacts
 pub mod PipeEscapes
 pub mod Escapes
 pub mod Destinations
+pub mod Parts
+pub mod Labels

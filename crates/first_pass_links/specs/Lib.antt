@@ -3,3 +3,5 @@ pub mod Entities
 pub mod Escapes
 pub mod Changes
 pub mod Destinations
+pub mod Labels
+pub mod Units

@@ -4,3 +4,4 @@
 pub mod destination;
 pub mod entity;
 pub mod escape;
+pub mod label;
