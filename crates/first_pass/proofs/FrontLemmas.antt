@@ -1,5 +1,5 @@
 -- How far a line goes on with the open nodes.
-use Rattle.std.proofs.Common.{◌≡◌, ℕ, zero, suc, ◌+◌, ◌-◌, ◌<◌, ◌≤◌, Bool, true, false, List, [], ◌∷◌, length, get_or, slice_index_or, drop, reverse, Option, Some, None, MatchOption, refl, sym, ap, ◌∙◌, subst, arith}
+use Rattle.std.proofs.Common.{◌≡◌, ℕ, zero, suc, ◌+◌, ◌-◌, ◌<◌, ◌≤◌, Bool, true, false, List, [], ◌∷◌, length, get_or, drop, reverse, Option, Some, None, MatchOption, refl, sym, ap, ◌∙◌, subst, arith}
 use Rattle.std.specs.Option.{option_map, option_and_then}
 use Rattle.std.specs.Prelude.{slice_get}
 use Rattle.std.proofs.lemmas.List.{drop_more, drop_all, get_or-reverse, length-map, length-reverse}
@@ -8,7 +8,7 @@ use Rattle.first_pass_tree.specs.declared.tree_index.TreeIndex.{TreeIndex}
 use Rattle.first_pass_tree.specs.Forest.{IsOpenPath, depths}
 use Rattle.first_pass_scan.specs.Rest.{Rest}
 use Rattle.first_pass_grammar.specs.declared.kind.Container.{Container}
-use Rattle.first_pass_grammar.specs.Containers.{prefix, after, front}
+use Rattle.first_pass_grammar.specs.Containers.{after, front}
 use Rattle.first_pass.specs.Path.{container_of, container_at, prefix_of, with_container, path_in, outer}
 
 after_none : (r : Rest) → after [] r ≡ Some r
@@ -27,7 +27,7 @@ after_short (Some c) path r e = rw e refl
 
 front_taken : (path : List Container) (r q : Rest) → after path r ≡ Some q → front path r ≡ q
 unfolding after front
-front_taken [] r q e = ap (λ o. elim o [ | None ↦ r | Some x ↦ x ]) e
+front_taken [] r q e = ap (λ o. elim o [ None ↦ r | Some x ↦ x ]) e
 front_taken (c ∷ path) r q e = rw e refl
 
 front_short : (c : Option Container) (path : List Container) (r : Rest) → after (with_container c path) r ≡ None → front (with_container c path) r ≡ front path r
@@ -103,7 +103,7 @@ open_at ns spine k x o h = subst (λ y. y.0 < length ns) (sym (get_or-reverse sp
 
 container_of_node : (n : Option (ℕ × Item)) (item : Item) → option_map (λ n. n.1) n ≡ Some item → option_and_then container_of (option_map (λ n. n.1.body) n) ≡ container_of item.body
 container_of_node None item e = cc
-container_of_node (Some n) item e = ap (λ o. elim o [ | None ↦ None | Some x ↦ container_of x.body ]) e
+container_of_node (Some n) item e = ap (λ o. elim o [ None ↦ None | Some x ↦ container_of x.body ]) e
 
 -- the container that an item of the tree is
 pub container_is : (ns : List (ℕ × Item)) (ix : TreeIndex) (item : Item) → option_map (λ n. n.1) (slice_get ns ix.0) ≡ Some item → container_at ns ix ≡ container_of item.body

@@ -1,21 +1,19 @@
 -- The containers among the open nodes, as the tree grows and nodes are closed.
-use Rattle.std.proofs.Common.{◌≡◌, ◌⊎◌, inl, inr, ℕ, zero, suc, ◌+◌, ◌<◌, ◌≤◌, List, [], ◌∷◌, ◌++◌, length, slice_get, Option, Some, None, refl, sym, ap, subst, ◌∙◌, arith, length-append}
+use Rattle.std.proofs.Common.{◌≡◌, ◌⊎◌, inl, inr, ℕ, zero, suc, ◌+◌, ◌<◌, ◌≤◌, List, [], ◌∷◌, ◌++◌, length, slice_get, Option, Some, None, refl, ap, subst, ◌∙◌, arith, length-append}
 use Rattle.std.proofs.lemmas.List.{length-map}
 use Rattle.std.specs.Option.{option_map, option_and_then}
 use Rattle.first_pass_items.specs.declared.item.Item.{Item}
-use Rattle.first_pass_items.specs.declared.item.ItemBody.{ItemBody}
-use Rattle.first_pass_items.specs.declared.item.ItemBody.TheVariants.{BlockQuote as BlockQuoteBody}
 use Rattle.first_pass_tree.specs.declared.tree_index.TreeIndex.{TreeIndex}
-use Rattle.first_pass_tree.specs.Forest.{Forest, IsOpenPath, depths, appended, pushed, at_depth, modify, body_at}
+use Rattle.first_pass_tree.specs.Forest.{Forest, IsOpenPath, depths, appended, pushed, at_depth}
 use Rattle.first_pass_scan.specs.Rest.{Rest}
 use Rattle.first_pass_scan.specs.Places.{line_rest}
 use Rattle.first_pass_tokens.specs.TreeTokens.{chained, leaves}
 use Rattle.first_pass_tokens.proofs.ChainLemmas.{chained-spine, chained-nodes}
 use Rattle.first_pass_grammar.specs.declared.kind.Container.{Container}
 use Rattle.first_pass_grammar.specs.declared.kind.Container.TheVariants.{BlockQuote}
-use Rattle.first_pass_grammar.specs.Containers.{prefix, after, or_shorter, front}
+use Rattle.first_pass_grammar.specs.Containers.{prefix, after, front}
 use Rattle.first_pass.specs.Appends.{with_child}
-use Rattle.first_pass.specs.Path.{container_of, container_at, with_container, path_in, path_of, AreContainers}
+use Rattle.first_pass.specs.Path.{container_of, container_at, with_container, path_in, path_of}
 
 -- each of these places is one of n
 abbrev pub AreIn : ℕ → List TreeIndex → Type 0
@@ -48,7 +46,7 @@ path_of-chained f chain a =
 after-end : (path : List Container) → (after path (line_rest []) ≡ None) ⊎ (after path (line_rest []) ≡ Some (line_rest []))
 unfolding after prefix
 after-end [] = inr refl
-after-end (BlockQuote kind ∷ path) = elim (after-end path) [ | inl none ↦ inl (rw none refl) | inr some ↦ inl (rw some refl) ]
+after-end (BlockQuote kind ∷ path) = elim (after-end path) [ inl none ↦ inl (rw none refl) | inr some ↦ inl (rw some refl) ]
 
 front_short : (c : Container) (path : List Container) (r : Rest) → after (c ∷ path) r ≡ None → front (c ∷ path) r ≡ front path r
 unfolding front
@@ -56,7 +54,7 @@ front_short c path r e = rw e refl
 
 more_end : (c : Container) (path : List Container) → after (c ∷ path) (line_rest []) ≡ None
 unfolding after prefix
-more_end (BlockQuote kind) path = elim (after-end path) [ | inl none ↦ rw none refl | inr some ↦ rw some refl ]
+more_end (BlockQuote kind) path = elim (after-end path) [ inl none ↦ rw none refl | inr some ↦ rw some refl ]
 
 pub front-end : (path : List Container) → front path (line_rest []) ≡ line_rest []
 unfolding front

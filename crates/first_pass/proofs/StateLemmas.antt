@@ -2,15 +2,13 @@
 use Rattle.std.proofs.Common.{◌≡◌, ℕ, zero, suc, ◌+◌, ◌-◌, ◌<◌, ◌≤◌, nat_lt, Bool, true, false, List, [], ◌∷◌, ◌++◌, length, map, slice_get, drop, Option, Some, None, IsSome, is_some, IsUtf8, IsCharBoundary, refl, sym, ap, subst, ◌∙◌, arith, if◌then◌else◌, length-append}
 use Rattle.std.proofs.lemmas.List.{append-nil, length-map}
 use Rattle.std.proofs.lemmas.Bool.{false≢true}
-use Rattle.std.proofs.lemmas.Option.{none-some}
 use Rattle.std.specs.Option.{option_map, option_and_then}
 use Rattle.first_pass_items.specs.declared.item.Item.{Item}
-use Rattle.first_pass_items.specs.declared.item.ItemBody.{ItemBody}
 use Rattle.first_pass_items.specs.declared.item.ItemBody.TheVariants.{BlockQuote as BlockQuoteBody}
 use Rattle.first_pass_items.specs.declared.item.HeadingLevel.{HeadingLevel}
 use Rattle.first_pass_items.specs.declared.option_set.Options.{Options}
 use Rattle.first_pass_tree.specs.declared.tree_index.TreeIndex.{TreeIndex}
-use Rattle.first_pass_tree.specs.Forest.{Forest, empty_forest, with_end_at, added, at_depth, appended, pushed, popped, modify}
+use Rattle.first_pass_tree.specs.Forest.{Forest, empty_forest, with_end_at, added, appended, pushed, modify}
 use Rattle.first_pass_scan.specs.Lines.{blank_len, atx_level, level_number, line_len}
 use Rattle.first_pass_scan.specs.Rest.{Rest, indent}
 use Rattle.first_pass_scan.specs.Places.{Place, offset, line_rest, line_place, place_at, line_end, start_of, IsPlaceOf}
@@ -21,7 +19,7 @@ use Rattle.first_pass_grammar.specs.declared.kind.Container.TheVariants.{BlockQu
 use Rattle.first_pass_grammar.specs.declared.kind.Kind.{Kind}
 use Rattle.first_pass_grammar.specs.declared.kind.Kind.TheVariants.{Blank, AtxHeading, Paragraph}
 use Rattle.first_pass_grammar.specs.Containers.{at_rest, after}
-use Rattle.first_pass_grammar.specs.Kinds.{all_taken, unindented, quote_rest, quote_inside, heading_or, kind_of}
+use Rattle.first_pass_grammar.specs.Kinds.{unindented, quote_rest, heading_or, kind_of}
 use Rattle.first_pass_grammar.specs.Leaves.{Document, document, IsParagraph, IsHeading, heading_text_at, heading_block, paragraph_block}
 use Rattle.first_pass_grammar.specs.Skeleton.{Leaf, BlankLine, Block, Opening, OpensLeaf, OpensNode, OpensAs, OpensFrom, Opens, Ends}
 use Rattle.first_pass_grammar.specs.Derivation.{Derives, leaf_items, node_of}
@@ -282,8 +280,11 @@ ready_quote d g new x ix p lines inside quote x_is at new_is ready =
     (subst (λ k. Completes d (BlockQuote None ∷ path_of g) (g.nodes ++ (k, y) ∷ []) (length g.nodes ∷ os) (Some (at_rest p inside)) lines) l c) in
     let more : length (g.nodes ++ (length g.spine + 1, y) ∷ []) ≡ length g.nodes + 1 = length-append g.nodes ((length g.spine + 1, y) ∷ []) in
     let r : ReadyAt d (pushed (appended g y) ix) (Some (at_rest p inside)) lines = record {
-      containers = (omega arith, subst IsSome (sym (ap (λ n. option_and_then container_of (option_map (λ n. n.1.body) n)) (get_last g.nodes (length g.spine + 1, y) ix.0 at))) refl,
-          still_containers g.nodes ((length g.spine + 1, y) ∷ []) g.spine ready.containers);
+      containers = (
+        omega arith,
+        subst IsSome (sym (ap (λ n. option_and_then container_of (option_map (λ n. n.1.body) n)) (get_last g.nodes (length g.spine + 1, y) ix.0 at))) refl,
+        still_containers g.nodes ((length g.spine + 1, y) ∷ []) g.spine ready.containers,
+      );
       completes = subst (λ q. Completes d q (g.nodes ++ (length g.spine + 1, y) ∷ []) (ix.0 ∷ os) (Some (at_rest p inside)) lines) (sym (path_of-opened g y ix at open_in)) c';
     } in
     subst (λ f. ReadyAt d f (Some (at_rest p inside)) lines) (sym (new_is ∙ ap (λ z. pushed (appended g z) ix) x_is)) r

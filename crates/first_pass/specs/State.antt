@@ -1,5 +1,5 @@
 -- What the tree of the pass stands for between two blocks.
-use Rattle.std.specs.Prelude.{◌≡◌, ℕ, zero, suc, List, map, Option, None}
+use Rattle.std.specs.Prelude.{ℕ, zero, suc, List, map, Option, None}
 use Rattle.first_pass_items.specs.declared.item.Item.{Item}
 use Rattle.first_pass_tree.specs.Forest.{Forest}
 use Rattle.first_pass_scan.specs.Places.{Place}

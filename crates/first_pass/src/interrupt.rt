@@ -6,7 +6,6 @@ ghost use Rattle.first_pass_scan.specs.Lines.{begins};
 ghost use Rattle.first_pass_scan.specs.Rest.{indent};
 ghost use Rattle.first_pass_grammar.specs.Containers.{front};
 ghost use Rattle.first_pass_grammar.specs.Kinds.{interrupts, interrupts_with, unindented};
-
 ghost use Rattle.first_pass.specs.Path.{path_of};
 
 use crate::containers::scan_containers;

@@ -13,9 +13,8 @@ ghost use Rattle.first_pass.specs.Appends.{text_upto, closed_by};
 ghost use Rattle.first_pass.specs.State.{Ready, ReadyAt};
 ghost use Rattle.first_pass.specs.TableEntries.{tables, no_tables};
 
-pub use crate::interrupt::scan_paragraph_interrupt_no_table;
-
 use crate::containers::scan_containers;
+pub use crate::interrupt::scan_paragraph_interrupt_no_table;
 use crate::items::Allocations;
 use crate::kinds::kind_at;
 use first_pass_below::flank::TableParseMode;
@@ -105,7 +104,11 @@ impl<'a> FirstPass<'a> {
 
     // Reads the leaf block that begins at a place in the line whose reading began at `start_ix`, where no
     // container begins; answers as `parse_block`.
-    fn parse_leaf(&mut self, start_ix: usize, line_start: LineStart<'a>) -> Result<usize, AllocError>
+    fn parse_leaf(
+        &mut self,
+        start_ix: usize,
+        line_start: LineStart<'a>,
+    ) -> Result<usize, AllocError>
         requires utf8 { IsUtf8 self.old.text.now }
         requires place { IsPlaceOf self.old.text.now (place_at start_ix line_start) }
         requires no_quote { quote_rest line_start ≡ None }

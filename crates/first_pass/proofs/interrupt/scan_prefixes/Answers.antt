@@ -1,4 +1,4 @@
-use Rattle.std.proofs.Common.{◌≡◌, ◌+◌, min, ap, ◌∙◌, arith}
+use Rattle.std.proofs.Common.{◌+◌, min, ap, ◌∙◌, arith}
 use Rattle.first_pass_scan.specs.Rest.{Rest, indent}
 use Rattle.first_pass_grammar.specs.Kinds.{all_taken}
 use Rattle.first_pass.specs.Path.{path_of}

@@ -1,4 +1,4 @@
-use Rattle.std.proofs.Common.{◌≡◌, ◌-◌, length, sym, ap, ◌∙◌, arith}
+use Rattle.std.proofs.Common.{◌∙◌, arith}
 use Rattle.first_pass.proofs.StateLemmas.{one_closed}
 use Rattle.first_pass.proofs.pass.FirstPass.close_containers.Goals as goal
 

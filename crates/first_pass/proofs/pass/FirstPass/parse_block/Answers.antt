@@ -1,9 +1,9 @@
-use Rattle.std.proofs.Common.{◌≡◌, ◌≤◌, ◌<◌, ◌+◌, Some, None, length, drop, IsUtf8, IsCharBoundary, sym, ap, subst, ◌∙◌, arith}
+use Rattle.std.proofs.Common.{length, drop, IsUtf8, sym, ap, subst, ◌∙◌, arith}
 use Rattle.first_pass_scan.specs.Places.{line_rest, place_at, line_end, IsPlaceOf}
 use Rattle.first_pass_scan.proofs.LineFacts.{line_len-within}
 use Rattle.first_pass_scan.proofs.PlaceFacts.{line_is_place}
 use Rattle.first_pass_grammar.specs.Leaves.{document}
-use Rattle.first_pass.specs.Path.{path_of, path_in, outer}
+use Rattle.first_pass.specs.Path.{path_in, outer}
 use Rattle.first_pass.proofs.PlaceLemmas.{after_keeps, line_start_end}
 use Rattle.first_pass.proofs.StateLemmas.{ready_block}
 use Rattle.first_pass.proofs.pass.FirstPass.parse_block.Goals as goal

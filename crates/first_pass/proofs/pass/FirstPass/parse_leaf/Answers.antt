@@ -1,4 +1,4 @@
-use Rattle.std.proofs.Common.{◌≡◌, ◌≤◌, ◌+◌, Some, None, length, drop, IsUtf8, IsCharBoundary, sym, ap, subst, ◌∙◌, arith}
+use Rattle.std.proofs.Common.{◌≡◌, ◌+◌, length, IsCharBoundary, sym, ap, subst, ◌∙◌, arith}
 use Rattle.first_pass_scan.specs.Places.{place_at, line_end}
 use Rattle.first_pass_grammar.specs.Leaves.{document}
 use Rattle.first_pass.specs.Appends.{line_end_at}

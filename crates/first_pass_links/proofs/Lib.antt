@@ -1,0 +1,7 @@
+pub mod Numbers
+pub mod EntityFacts
+pub mod PipeEscapes
+pub mod Escapes
+pub mod Destinations
+pub mod Parts
+pub mod Labels

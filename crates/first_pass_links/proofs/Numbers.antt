@@ -1,0 +1,10 @@
+-- Bounds on the number that digits write.
+use Rattle.std.proofs.Common.{◌≡◌, ℕ, ◌+◌, ◌*◌, ◌<◌, ◌≤◌, ◌^◌, arith}
+use Rattle.std.proofs.lemmas.Nat.{pow-add}
+
+-- one more digit adds at most six bits
+pub six_bits : (v d i : ℕ) → v < 2 ^ (6 * i) → d ≤ 36 → v * 16 + d < 2 ^ (6 * (i + 1))
+six_bits v d i h e =
+    let p = pow-add 2 (6 * i) 6 in
+    let q : 6 * (i + 1) ≡ 6 * i + 6 = omega arith in
+    rw q (omega arith)

@@ -1,0 +1,144 @@
+-- Parts of a text, and how heavy they are.
+use Rattle.std.proofs.Common.{◌≡◌, ◌⊎◌, inl, inr, ℕ, zero, suc, ◌+◌, ◌-◌, ◌<◌, ◌≤◌, ◌==◌, ◌&&◌, not, Bool, true, false, List, [], ◌∷◌, ◌++◌, length, take, drop, get_or, refl, sym, ap, subst, ◌∙◌, arith, append_assoc, if◌then◌else◌}
+use Rattle.std.specs.Str.{IsCharBoundary}
+use Rattle.std.proofs.lemmas.Bool.{cases_Bool}
+use Rattle.std.proofs.lemmas.List.{drop_more, drop-drop}
+use Rattle.first_pass_links.specs.declared.label.Unit.{Unit}
+use Rattle.first_pass_links.specs.Labels.{is_space}
+use Rattle.first_pass_links.specs.Units.{part, weight, read_of, IsUnit, IsRead}
+
+take_none : (n : ℕ) → let xs : List ℕ = [] in xs ≡ take n xs
+take_none zero = refl
+take_none (suc n) = refl
+
+take_add : (m n : ℕ) (xs : List ℕ) → take (m + n) xs ≡ take m xs ++ take n (drop m xs)
+take_add zero n xs = let e : zero + n ≡ n = omega arith in rw e
+take_add (suc m) n [] = let e : suc m + n ≡ suc (m + n) = omega arith in rw e (take_none n)
+take_add (suc m) n (x ∷ xs) = let e : suc m + n ≡ suc (m + n) = omega arith in rw e (ap (λ ys. x ∷ ys) (take_add m n xs))
+
+pub part-start : (text : List ℕ) (b : ℕ) → part text 0 b ≡ take b text
+part-start text b = let e : b - 0 ≡ b = omega arith in rw e
+
+pub part-none : (text : List ℕ) (a : ℕ) → part text a a ≡ []
+part-none text a = let e : a - a ≡ 0 = omega arith in rw e
+
+pub part-split : (text : List ℕ) (a b c : ℕ) → a ≤ b → b ≤ c → part text a b ++ part text b c ≡ part text a c
+part-split text a b c h k =
+    let e : c - a ≡ (b - a) + (c - b) = omega arith in
+    let f : a + (b - a) ≡ b = omega arith in
+    sym (ap (λ n. take n (drop a text)) e ∙ take_add (b - a) (c - b) (drop a text) ∙ ap (λ xs. part text a b ++ take (c - b) xs) (drop-drop (b - a) a text ∙ ap (λ n. drop n text) f))
+
+pub part-one : (text : List ℕ) (at : ℕ) → at < length text → part text at (at + 1) ≡ get_or text at 0 ∷ []
+part-one text at l =
+    let e : at + 1 - at ≡ 1 = omega arith in
+    ap (λ n. take n (drop at text)) e ∙ ap (take 1) (drop_more text at 0 l)
+
+pub part-two : (text : List ℕ) (at : ℕ) → at + 1 < length text → part text at (at + 2) ≡ get_or text at 0 ∷ get_or text (at + 1) 0 ∷ []
+part-two text at l =
+    let e : at + 1 + 1 ≡ at + 2 = omega arith in
+    sym (part-split text at (at + 1) (at + 2) (omega arith) (omega arith)) ∙ ap (λ xs. xs ++ part text (at + 1) (at + 2)) (part-one text at (omega arith))
+    ∙ ap (λ xs. get_or text at 0 ∷ xs) (ap (part text (at + 1)) (sym e) ∙ part-one text (at + 1) l)
+
+pub take-part : (text : List ℕ) (a b : ℕ) → a ≤ b → take b text ≡ take a text ++ part text a b
+take-part text a b h = let e : b ≡ a + (b - a) = omega arith in ap (λ n. take n text) e ∙ take_add a (b - a) text
+
+-- weights
+weigh : ℕ → ℕ
+weigh b = if is_space b && not (b == 32) then 2 else 1
+
+weigh_some : (t : Bool) → 1 ≤ (if t then 2 else 1)
+weigh_some true = omega arith
+weigh_some false = omega arith
+
+pub weight-append : (xs ys : List ℕ) → weight (xs ++ ys) ≡ weight xs + weight ys
+unfolding weight
+weight-append [] ys = omega arith
+weight-append (x ∷ xs) ys = let i = weight-append xs ys in omega arith
+
+pub weight-length : (xs : List ℕ) → length xs ≤ weight xs
+unfolding weight
+weight-length [] = omega arith
+weight-length (x ∷ xs) =
+    let i = weight-length xs in
+    let w = weigh_some (is_space x && not (x == 32)) in
+    omega arith
+
+pub weight-nil : weight [] ≡ 0
+unfolding weight
+weight-nil = refl
+
+pub weight-space : weight (32 ∷ []) ≡ 1
+unfolding weight
+weight-space = refl
+
+pub weight-other : (b : ℕ) → is_space b ≡ true → (b == 32) ≡ false → weight (b ∷ []) ≡ 2
+unfolding weight
+weight-other b h k = rw (h, k)
+
+-- a text that is read, unit by unit
+lighter_weight : (text written : List ℕ) (from : ℕ) → ((from ≡ 0) × (written ≡ [])) ⊎ (weight written < weight (take from text)) → weight written ≤ weight (take from text)
+lighter_weight text written from (inl h) = let e = ap weight h.1 ∙ weight-nil in omega arith
+lighter_weight text written from (inr h) = omega arith
+
+pub unit_kept : (text written : List ℕ) (from at : ℕ) (unit : Unit) → IsRead text written from at → IsUnit text at unit → unit.kept ≡ unit.resumed → written ++ part text from unit.next ≡ (written ++ part text from at) ++ read_of text at unit
+unit_kept text written from at unit r u e =
+    let order = r.order in
+    let begins = u.begins in
+    let resumes = u.resumes in
+    let s = u.same e in
+    let a : read_of text at unit ≡ part text at unit.next =
+        rw s (ap (λ n. part text at n ++ part text unit.resumed unit.next) e ∙ part-split text at unit.resumed unit.next (omega arith) resumes)
+    in
+    sym (append_assoc written (part text from at) (read_of text at unit) ∙ ap (λ xs. written ++ (part text from at ++ xs)) a ∙ ap (λ xs. written ++ xs) (part-split text from at unit.next order (omega arith)))
+
+pub unit_changed : (text written : List ℕ) (from at : ℕ) (unit : Unit) → IsRead text written from at → IsUnit text at unit
+    → ((written ++ part text from unit.kept) ++ (if unit.space then 32 ∷ [] else [])) ++ part text unit.resumed unit.next ≡ (written ++ part text from at) ++ read_of text at unit
+unit_changed text written from at unit r u =
+    let order = r.order in
+    let begins = u.begins in
+    let p = part-split text from at unit.kept order begins in
+    ap (λ xs. ((written ++ xs) ++ (if unit.space then 32 ∷ [] else [])) ++ part text unit.resumed unit.next) (sym p) ∙ simp append_assoc
+
+change_facts : (text written : List ℕ) (from at : ℕ) (unit : Unit) → IsRead text written from at → IsUnit text at unit → IsCharBoundary text unit.resumed × (weight (if unit.space then 32 ∷ [] else []) < weight (part text unit.kept unit.resumed))
+    → IsRead text ((written ++ part text from unit.kept) ++ (if unit.space then 32 ∷ [] else [])) unit.resumed unit.next
+change_facts text written from at unit r u c =
+    let order = r.order in
+    let begins = u.begins in
+    let resumes = u.resumes in
+    let keeps = u.order in
+    let light = lighter_weight text written from r.lighter in
+    let less = c.1 in
+    let mid : List ℕ = if unit.space then 32 ∷ [] else [] in
+    let a = weight-append (written ++ part text from unit.kept) mid in
+    let b = weight-append written (part text from unit.kept) in
+    let d = ap weight (take-part text from unit.kept (omega arith)) ∙ weight-append (take from text) (part text from unit.kept) in
+    let e = ap weight (take-part text unit.kept unit.resumed keeps) ∙ weight-append (take unit.kept text) (part text unit.kept unit.resumed) in
+    record { order = resumes; within = u.within; boundary = c.0; lighter = inr (omega arith) }
+
+pub unit_read : (text written : List ℕ) (from at : ℕ) (unit : Unit) → IsRead text written from at → IsUnit text at unit → (unit.kept ≡ unit.resumed → ⊥)
+    → IsRead text ((written ++ part text from unit.kept) ++ (if unit.space then 32 ∷ [] else [])) unit.resumed unit.next
+unit_read text written from at unit r u n = elim u.change [
+  | inl e ↦ absurd (n e)
+  | inr c ↦ change_facts text written from at unit r u (c.1, c.2)
+]
+
+pub read_none : (text : List ℕ) → IsCharBoundary text 0 → IsRead text [] 0 0
+read_none text b = record { order = omega arith; within = omega arith; boundary = b; lighter = inl (refl, refl) }
+
+-- what is read of all of it
+pub whole_kept : (text written : List ℕ) (from at : ℕ) → IsRead text written from at → from ≡ 0 → take at text ≡ written ++ part text from at
+whole_kept text written from at r e = elim r.lighter [
+  | inl h ↦ (sym (ap (λ xs. xs ++ part text from at) h.1 ∙ ap (λ n. part text n at) e ∙ part-start text at))
+  | inr h ↦ absurd (let z = ap (λ n. weight (take n text)) e ∙ weight-nil in omega arith)
+]
+
+pub whole_differs : (text written : List ℕ) (from at : ℕ) → IsRead text written from at → (from ≡ 0 → ⊥) → written ++ part text from at ≡ take at text → ⊥
+whole_differs text written from at r n e = elim r.lighter [
+  | inl h ↦ n h.0
+  | inr h ↦ (
+    let order = r.order in
+    let a = ap weight e in
+    let b = weight-append written (part text from at) in
+    let d = ap weight (take-part text from at order) ∙ weight-append (take from text) (part text from at) in
+    omega arith)
+]

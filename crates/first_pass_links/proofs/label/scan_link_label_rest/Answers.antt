@@ -1,0 +1,69 @@
+use Rattle.std.proofs.Common.{◌≡◌, ◌==◌, ◌||◌, inl, inr, ℕ, List, Option, Some, None, [], ◌∷◌, ◌++◌, ◌+◌, ◌<◌, ◌≤◌, Bool, true, false, length, get_or, refl, sym, ap, subst, ◌∙◌, arith}
+use Rattle.std.specs.String.{string_bytes}
+use Rattle.std.proofs.lemmas.Str.{IsCharBoundary-start}
+use Rattle.first_pass_links.specs.Labels.{AnswersWith, Known, is_bracket, label_of, label_at}
+use Rattle.first_pass_links.specs.Units.{part, left_at, IsRead, Reads}
+use Rattle.first_pass_links.proofs.Parts.{read_none, part-none}
+use Rattle.first_pass_links.proofs.Labels.{too_long, end_stops, open_stops, blank_label, closed, known_as, closing_bracket}
+use Rattle.first_pass_links.proofs.label.scan_link_label_rest.Goals as goal
+use Rattle.first_pass_links.proofs.label.scan_link_label_rest.Goals.{then-at-bytes-via-then-at-bytes, then-at-bytes-via-else-at-bytes+then-bytes-at-eq91, then-loop-at-test+else-not-is_bracket, else-loop-at-test, Else-at-bytes}
+use Rattle.first_pass_links.proofs.label.scan_link_label_rest.Given.{Over}
+
+pub loop-at-init : goal.loop-at-init
+loop-at-init g c =
+    let text = c.args.text.now in
+    let e : string_bytes c.new-written.result ++ part text 0 0 ≡ [] = ap (λ bs. bs ++ part text 0 0) c.new-written.ensures.bytes ∙ part-none text 0 in
+    record {
+      read = subst (λ bs. IsRead text bs 0 0) (sym c.new-written.ensures.bytes) (read_none text (IsCharBoundary-start text c.utf8.text));
+      few = omega arith;
+      label = λ h a. ap (λ bs. label_of c.args.is_in_table (known_as 0 false bs) (left_at h text 0)) e;
+    }
+
+pub returns-then-characters-gt999-clause-value : goal.returns-then-characters-gt999-clause-value
+returns-then-characters-gt999-clause-value g c =
+    let reads = rw c.in-Some.is at c.in_ok-unit.ensures.reads in
+    λ h a.
+        let r : Reads h c.args.is_in_table c.args.text.now c.loop-at.at c.in-Some.unit = subst (λ xs. Reads h c.args.is_in_table xs c.loop-at.at c.in-Some.unit) c.as_bytes-bytes.ensures.value (reads h a) in
+        let e : label_at h c.args.is_in_table c.args.text.now ≡ None = sym (c.loop-at.invariant.label h a) ∙ r _ ∙ too_long c.args.is_in_table _ (left_at h c.args.text.now c.in-Some.unit.next) c.if-characters-gt999.true in
+        rw e refl
+
+pub returns-then-at-bytes-clause-value : goal.returns-then-at-bytes-clause-value
+returns-then-at-bytes-clause-value g c =
+    let b = c.as_bytes-bytes.ensures.value in
+    let l = ap length b in
+    λ h a.
+        let e : label_at h c.args.is_in_table c.args.text.now ≡ None = elim c.then-at-bytes.branch [
+          | then-at-bytes-via-then-at-bytes w ↦ sym (c.loop-at.invariant.label h a) ∙ end_stops h c.args.is_in_table c.args.text.now c.loop-at.at (omega (arith, w.if-at-bytes.true)) _
+          | then-at-bytes-via-else-at-bytes+then-bytes-at-eq91 w ↦ sym (c.loop-at.invariant.label h a) ∙ open_stops h c.args.is_in_table c.args.text.now c.loop-at.at (omega (arith, w.if-at-bytes.false)) (ap (λ xs. get_or xs c.loop-at.at 0) (sym b) ∙ w.if-bytes-at-eq91.true) _
+        ] in
+        rw e refl
+
+pub returns-then-not-solid-clause-value : goal.returns-then-not-solid-clause-value
+returns-then-not-solid-clause-value g c =
+    let b = c.as_bytes-bytes.ensures.value in
+    let l = ap length b in
+    let within : c.loop-at.at < length c.args.text.now = omega (arith, c.if-at-bytes.false) in
+    let bracket : is_bracket (get_or c.args.text.now c.loop-at.at 0) ≡ true = elim c.loop-at-test.branch [
+      | then-loop-at-test+else-not-is_bracket w ↦ ap (λ xs. is_bracket (get_or xs c.loop-at.at 0)) (sym b) ∙ sym w.is_bracket.ensures ∙ w.if-not-is_bracket.false
+      | else-loop-at-test w ↦ absurd (omega (arith, w.loop-at-test.false))
+    ] in
+    let closing = closing_bracket _ bracket (λ e. c.if-bytes-at-eq91.false (ap (λ xs. get_or xs c.loop-at.at 0) b ∙ e)) in
+    λ h a.
+        let e : label_at h c.args.is_in_table c.args.text.now ≡ None = sym (c.loop-at.invariant.label h a) ∙ blank_label h c.args.is_in_table c.args.text.now c.loop-at.at _ within closing c.if-not-solid.true in
+        rw e refl
+
+pub returns-clause-value : goal.returns-clause-value
+returns-clause-value g c =
+    let b = c.as_bytes-bytes.ensures.value in
+    let l = ap length b in
+    let within : c.loop-at.at < length c.args.text.now = omega (arith, c.if-at-bytes.false) in
+    let bracket : is_bracket (get_or c.args.text.now c.loop-at.at 0) ≡ true = elim c.loop-at-test.branch [
+      | then-loop-at-test+else-not-is_bracket w ↦ ap (λ xs. is_bracket (get_or xs c.loop-at.at 0)) (sym b) ∙ sym w.is_bracket.ensures ∙ w.if-not-is_bracket.false
+      | else-loop-at-test w ↦ absurd (omega (arith, w.loop-at-test.false))
+    ] in
+    let closing = closing_bracket _ bracket (λ e. c.if-bytes-at-eq91.false (ap (λ xs. get_or xs c.loop-at.at 0) b ∙ e)) in
+    λ h a.
+        let e : label_at h c.args.is_in_table c.args.text.now ≡ Some (c.loop-at.at + 1, string_bytes c.loop-at.written ++ part c.args.text.now c.loop-at.from c.loop-at.at) =
+            sym (c.loop-at.invariant.label h a) ∙ closed h c.args.is_in_table c.args.text.now c.loop-at.at _ within closing c.loop-at.invariant.few c.if-not-solid.false
+        in
+        rw e (refl, c.in_ok-finish.ensures.value)

@@ -1,0 +1,23 @@
+use Rattle.std.proofs.Common.{◌≡◌, ◌+◌, sym, ◌∙◌, arith}
+use Rattle.first_pass_links.proofs.Labels.{run_more, run_blank}
+use Rattle.first_pass_links.proofs.label.scan_white_run.Goals as goal
+
+pub returns-in_default-clause-none : goal.returns-in_default-clause-none
+returns-in_default-clause-none g c =
+    λ e h a. run_blank h c.args.bytes.now c.args.at c.loop-next.next c.loop-next.characters (c.loop-next.invariant.run h a) (c.in_ok-behind.ensures.none c.in_default.is h a)
+
+pub loop-next-preserved : goal.loop-next-preserved
+loop-next-preserved g c =
+    let some = rw c.in-Some.is at c.in_ok-behind.ensures.some in
+    let reads = rw c.in-Some.is at c.in_ok-behind.ensures.reads in
+    let from = c.loop-next.invariant.from in
+    let few = c.loop-next.invariant.few in
+    let later = some.0 in
+    record {
+      from = omega arith;
+      within = some.1.0;
+      boundary = some.1;
+      few = omega arith;
+      started = λ z. absurd (omega arith);
+      run = λ h a. run_more h c.args.bytes.now c.args.at c.loop-next.next c.in-Some.behind c.loop-next.characters (c.loop-next.invariant.run h a) (reads h a) (sym c.is_space.ensures ∙ c.if-is_space.true);
+    }

@@ -1,0 +1,66 @@
+-- Link destinations (CommonMark 6.3), of the bytes from a place in the text on.
+use Rattle.std.specs.Prelude.{ℕ, zero, suc, ◌+◌, ◌-◌, ◌==◌, ◌&&◌, ◌||◌, Bool, List, [], ◌∷◌, take, drop, Option, Some, None, nat_lt, if◌then◌else◌}
+use Rattle.std.specs.Option.{option_map, option_and_then}
+use Rattle.std.specs.Char.{is_ascii_control}
+use Rattle.first_pass_scan.specs.Lines.{begins, is_line_end}
+use Rattle.first_pass_links.specs.Escapes.{begins_escape}
+
+-- how many bytes stand before the first one that passes a test and is not escaped, the first n aside (CommonMark 2.4)
+unfoldable pub unescaped_upto : (ℕ → Bool) → ℕ → List ℕ → ℕ
+unescaped_upto stops n [] = 0
+unescaped_upto stops (suc n) (b ∷ bs) = 1 + unescaped_upto stops n bs
+unescaped_upto stops zero (b ∷ bs) =
+    if begins_escape (b ∷ bs)
+    then 1 + unescaped_upto stops 1 bs
+    else (if stops b then 0 else 1 + unescaped_upto stops 0 bs)
+
+-- what cannot stand in a destination in pointy brackets unless it is escaped: a line end, `<` and `>` (CommonMark 6.3)
+abbrev pub ends_brackets : ℕ → Bool
+ends_brackets b = is_line_end b || b == 60 || b == 62
+
+-- a destination in pointy brackets, behind its `<`: its bytes with both brackets, and the text between (CommonMark 6.3)
+unfoldable pub bracketed_at : List ℕ → Option (ℕ × List ℕ)
+bracketed_at bs =
+    let n = unescaped_upto ends_brackets 0 bs in
+    if begins 62 (drop n bs) then Some (n + 2, take n bs) else None
+
+-- what cannot stand in a destination without brackets: an ASCII control character or a space (CommonMark 6.3)
+abbrev pub ends_run : ℕ → Bool
+ends_run b = is_ascii_control b || b == 32
+
+-- so many bytes more, where there is a length (this project)
+abbrev pub longer : ℕ → Option ℕ → Option ℕ
+longer n len = option_map (λ k. n + k) len
+
+-- no parenthesis is left open (CommonMark 6.3)
+abbrev pub if_closed : ℕ → Option ℕ
+if_closed nesting = if nesting == 0 then Some 0 else None
+
+-- a `)` that closes none of the parentheses (CommonMark 6.3)
+abbrev pub closes_none : ℕ → ℕ → Bool
+closes_none b nesting = b == 41 && nesting == 0
+
+-- how many parentheses are open behind a byte (CommonMark 6.3)
+abbrev pub nesting_behind : ℕ → ℕ → ℕ
+nesting_behind b nesting = if b == 40 then nesting + 1 else (if b == 41 then nesting - 1 else nesting)
+
+-- the length of a run in so many open parentheses, the first n of its bytes aside: it ends before a control character or space, or an unescaped `)` that closes none;
+-- unescaped parentheses are balanced, and nested at most so deep (CommonMark 6.3)
+unfoldable pub run_len : ℕ → ℕ → ℕ → List ℕ → Option ℕ
+run_len deepest nesting n [] = if_closed nesting
+run_len deepest nesting (suc n) (b ∷ bs) = longer 1 (run_len deepest nesting n bs)
+run_len deepest nesting zero (b ∷ bs) =
+    if ends_run b then if_closed nesting
+    else (if begins_escape (b ∷ bs) then longer 1 (run_len deepest nesting 1 bs)
+    else (if closes_none b nesting then Some 0
+    else (if nat_lt deepest (nesting_behind b nesting) then None
+    else longer 1 (run_len deepest (nesting_behind b nesting) 0 bs))))
+
+-- a destination without brackets: a run that is not empty (CommonMark 6.3)
+abbrev pub unbracketed : List ℕ → ℕ → Option (ℕ × List ℕ)
+unbracketed bs n = if n == 0 then None else Some (n, take n bs)
+
+-- the destination here: how many bytes it has, and its text (CommonMark 6.3)
+unfoldable pub destination_at : ℕ → List ℕ → Option (ℕ × List ℕ)
+destination_at deepest bs =
+    if begins 60 bs then bracketed_at (drop 1 bs) else option_and_then (unbracketed bs) (run_len deepest 0 0 bs)

@@ -1,0 +1,34 @@
+-- Texts with their backslash escapes and references replaced by what they stand for.
+use Rattle.std.specs.Prelude.{ℕ, zero, suc, ◌+◌, ◌-◌, ◌==◌, ◌&&◌, Bool, List, [], ◌∷◌, ◌++◌, slice_index, encode_utf8, Option, Some, None, if◌then◌else◌}
+use Rattle.std.specs.Option.{option_map_or}
+use Rattle.std.specs.Char.{is_ascii_punctuation}
+use Rattle.first_pass_scan.specs.Lines.{begins}
+use Rattle.first_pass_links.specs.Entities.{entity_at}
+
+-- the bytes begin with a backslash escape: a backslash, and then ASCII punctuation (CommonMark 2.4)
+abbrev pub begins_escape : List ℕ → Bool
+begins_escape bs = begins 92 bs && is_ascii_punctuation (slice_index bs 1)
+
+-- the backslash escape or the reference that the bytes begin with: how many bytes it has, and the character that it stands for (CommonMark 2.4, 2.5)
+unfoldable pub replaced_at : List ℕ → Option (ℕ × ℕ)
+replaced_at bs = if begins_escape bs then Some (2, slice_index bs 1) else entity_at bs
+
+-- the bytes behind the first n, with each escape and reference replaced by its character (CommonMark 2.4, 2.5)
+unfoldable pub unescaped_behind : ℕ → List ℕ → List ℕ
+unescaped_behind n [] = []
+unescaped_behind (suc n) (b ∷ bs) = unescaped_behind n bs
+unescaped_behind zero (b ∷ bs) =
+    option_map_or (λ r. encode_utf8 r.1 ++ unescaped_behind (r.0 - 1) bs) (replaced_at (b ∷ bs)) (b ∷ unescaped_behind 0 bs)
+
+-- the text of a cell: a backslash directly before a pipe is dropped (GFM 4.10)
+unfoldable pub without_pipe_escapes : List ℕ → List ℕ
+without_pipe_escapes [] = []
+without_pipe_escapes (b ∷ bs) = if b == 92 && begins 124 bs then without_pipe_escapes bs else b ∷ without_pipe_escapes bs
+
+-- the text as it is read, in a table that of a cell (GFM 4.10)
+abbrev pub read_in : Bool → List ℕ → List ℕ
+read_in in_table text = if in_table then without_pipe_escapes text else text
+
+-- a text without its escapes and references: in a table those before pipes are dropped first (CommonMark 2.4, 2.5, GFM 4.10)
+abbrev pub unescaped : Bool → List ℕ → List ℕ
+unescaped in_table text = unescaped_behind 0 (read_in in_table text)

@@ -1,0 +1,99 @@
+-- The units that a label is read by. Contracts of private functions alone cite this.
+use Rattle.std.specs.Prelude.{◌≡◌, ◌⊎◌, ℕ, ◌+◌, ◌-◌, ◌==◌, ◌<◌, ◌≤◌, ◌&&◌, ◌||◌, not, Bool, true, false, List, [], ◌∷◌, ◌++◌, length, map, take, drop, slice_index, Option, None, if◌then◌else◌}
+use Rattle.std.specs.List.{list_all}
+use Rattle.std.specs.Str.{IsCharBoundary}
+use Rattle.first_pass_scan.specs.Lines.{begins}
+use Rattle.first_pass_links.specs.Escapes.{begins_escape}
+use Rattle.first_pass_links.specs.Changes.{begins_pipe_escape}
+use Rattle.first_pass_links.specs.declared.label.Unit.{Unit}
+use Rattle.first_pass_links.specs.Labels.{is_space, joined, Known, label_of}
+
+-- the bytes from one offset up to another (this project)
+abbrev pub part : List ℕ → ℕ → ℕ → List ℕ
+part text from to = take (to - from) (drop from text)
+
+-- a unit whose bytes are all kept (CommonMark 4.7)
+abbrev pub kept_unit : ℕ → ℕ → Bool → Unit
+kept_unit next characters solid = record { next = next; characters = characters; solid = solid; kept = next; resumed = next; space = false }
+
+-- a run of white space: it stands for a space, unless it is one (CommonMark 4.7)
+abbrev pub space_unit : List ℕ → ℕ → ℕ → ℕ → Unit
+space_unit text at next characters =
+    if next == at + 1 && slice_index text at == 32
+    then kept_unit next characters false
+    else record { next = next; characters = characters; solid = false; kept = at; resumed = next; space = true }
+
+-- a unit without the backslash at an offset (GFM 4.10)
+abbrev pub dropped_unit : ℕ → ℕ → ℕ → Unit
+dropped_unit next characters place = record { next = next; characters = characters; solid = true; kept = place; resumed = place + 1; space = false }
+
+-- a backslash: in a table it is dropped before a pipe, before ASCII punctuation it escapes it (CommonMark 2.4, GFM 4.10)
+abbrev pub backslash_unit : Bool → ℕ → List ℕ → Unit
+backslash_unit in_table at bs =
+    if in_table && begins_pipe_escape bs then dropped_unit (at + 3) 3 (at + 1)
+    else (if in_table && begins 124 (drop 1 bs) then dropped_unit (at + 2) 2 at
+    else (if begins_escape bs then kept_unit (at + 2) 2 true else kept_unit (at + 1) 1 true))
+
+-- what is read of a unit: its bytes, but for those that are left out or stand for a space (CommonMark 4.7)
+abbrev pub read_of : List ℕ → ℕ → Unit → List ℕ
+read_of text at unit = part text at unit.kept ++ ((if unit.space then 32 ∷ [] else []) ++ part text unit.resumed unit.next)
+
+-- what is known behind a unit (this project)
+abbrev pub known_behind : List ℕ → ℕ → Unit → Known → Known
+known_behind text at unit known =
+    record { characters = known.characters + unit.characters; solid = known.solid || unit.solid; bytes = known.bytes ++ read_of text at unit }
+
+-- the bytes that are left of a label from an offset on (this project)
+abbrev pub left_at : (List ℕ → Option ℕ) → List ℕ → ℕ → List (ℕ × ℕ)
+left_at prefix text at = joined prefix at 0 (drop at text)
+
+-- each byte counts one, and white space other than a space two: less is read of a text that changes (this project)
+unfoldable pub weight : List ℕ → ℕ
+weight [] = 0
+weight (b ∷ bs) = (if is_space b && not (b == 32) then 2 else 1) + weight bs
+
+-- a unit at an offset, and what it leaves out, if anything (this project)
+pub record IsUnit (text : List ℕ) (at : ℕ) (unit : Unit) : Type 0 where
+  pub begins : at ≤ unit.kept
+  pub order : unit.kept ≤ unit.resumed
+  pub resumes : unit.resumed ≤ unit.next
+  pub later : at < unit.next
+  pub within : unit.next ≤ length text
+  pub few : unit.characters ≤ unit.next - at
+  pub change : (unit.kept ≡ unit.resumed) ⊎ ((slice_index text unit.kept < 128) × IsCharBoundary text unit.resumed × (weight (if unit.space then 32 ∷ [] else []) < weight (part text unit.kept unit.resumed)))
+  pub same : unit.kept ≡ unit.resumed → unit.space ≡ false
+
+-- a unit is read, and the label goes on behind it (CommonMark 4.7)
+abbrev pub Reads : (List ℕ → Option ℕ) → Bool → List ℕ → ℕ → Unit → Type 0
+Reads prefix in_table text at unit =
+    (known : Known) → label_of in_table known (left_at prefix text at) ≡ label_of in_table (known_behind text at unit known) (left_at prefix text unit.next)
+
+-- no label goes on there (CommonMark 4.7)
+abbrev pub Stops : (List ℕ → Option ℕ) → Bool → List ℕ → ℕ → Type 0
+Stops prefix in_table text at = (known : Known) → label_of in_table known (left_at prefix text at) ≡ None
+
+-- the text up to an offset is read: what is written of it, and from where on its bytes are kept (this project)
+pub record IsRead (text : List ℕ) (written : List ℕ) (from at : ℕ) : Type 0 where
+  pub order : from ≤ at
+  pub within : at ≤ length text
+  pub boundary : IsCharBoundary text from
+  pub lighter : ((from ≡ 0) × (written ≡ [])) ⊎ (weight written < weight (take from text))
+
+-- a run of white space from one offset up to another, over line ends and prefixes, and how many characters it has (CommonMark 4.7)
+pub record IsRun (prefix : List ℕ → Option ℕ) (text : List ℕ) (at next characters : ℕ) : Type 0 where
+  pub run : List (ℕ × ℕ)
+  pub joins : left_at prefix text at ≡ run ++ left_at prefix text next
+  pub white : list_all is_space (map (λ c. c.1) run) ≡ true
+  pub count : length run ≡ characters
+
+-- nothing but white space is left of the label (CommonMark 4.7)
+abbrev pub IsBlankRest : (List ℕ → Option ℕ) → List ℕ → ℕ → Type 0
+IsBlankRest prefix text at = list_all is_space (map (λ c. c.1) (left_at prefix text at)) ≡ true
+
+-- where a run ends: behind its first byte, and before a byte that is no white space (CommonMark 4.7)
+pub record EndsRun (text : List ℕ) (at next characters : ℕ) : Type 0 where
+  pub later : at < next
+  pub within : next ≤ length text
+  pub boundary : IsCharBoundary text next
+  pub some : 0 < characters
+  pub few : characters ≤ next - at

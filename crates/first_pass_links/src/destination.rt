@@ -1,0 +1,114 @@
+//! Link destinations (CommonMark 6.3).
+
+ghost use Rattle.std.specs.Prelude.{◌≡◌, ◌+◌, ◌<◌, ◌≤◌, ◌^◌, length, drop, slice_index, None, IfSome, IsSomeAnd, MatchOption, true, if◌then◌else◌};
+ghost use Rattle.std.specs.Str.{IsCharBoundary};
+ghost use Rattle.first_pass_links.specs.Escapes.{begins_escape};
+ghost use Rattle.first_pass_links.specs.Destinations.{unescaped_upto, ends_brackets, ends_run, closes_none, nesting_behind, run_len, destination_at};
+
+use crate::entity::begins;
+use first_pass_scan::places::rest_of;
+
+/// The link destination at `start_ix`, an offset into `text`: how many bytes it has, and its text,
+/// which stands inside `<..>` or is a run without white space whose parentheses are balanced, at most
+/// `max_next` deep. `None` where there is none. CommonMark 6.3.
+#[tactic(auto, unfolding(crate::specs::Destinations::destination_at, crate::specs::Destinations::bracketed_at))]
+pub fn scan_link_dest(text: &str, start_ix: usize, max_next: usize) -> Option<(usize, &str)>
+    requires within { start_ix ≤ length text.now }
+    requires boundary { IsCharBoundary text.now start_ix }
+    ensures value { MatchOption (destination_at max_next (drop start_ix text.now))
+        (result ≡ None)
+        (λ destination. IsSomeAnd result (λ answer. (answer.0 ≡ destination.0) × (answer.1.now ≡ destination.1))) }
+    ensures fits { IfSome result (λ answer. start_ix + answer.0 ≤ length text.now) }
+{
+    let bytes = rest_of(text.as_bytes(), start_ix);
+    if begins(b'<', bytes) {
+        let inside = start_ix + 1;
+        let len = scan_brackets(&bytes[1..]);
+        if begins(b'>', rest_of(bytes, 1 + len)) {
+            return Some((len + 2, &text[inside..inside + len]));
+        }
+        return None;
+    }
+    match scan_run(bytes, max_next) {
+        Some(len) if 0 < len => Some((len, &text[start_ix..start_ix + len])),
+        _ => None,
+    }
+}
+
+// How many bytes stand before what ends the text inside `<..>`.
+fn scan_brackets(bytes: &[u8]) -> usize
+    ensures value { result ≡ unescaped_upto ends_brackets 0 bytes.now }
+    ensures within { result ≤ length bytes.now }
+{
+    let mut at = 0;
+    while at < bytes.len() && !ends_brackets(bytes[at]) {
+        at += unit_len(rest_of(bytes, at));
+    }
+    at
+}
+
+// How many bytes a run without brackets has, its parentheses at most `deepest` deep.
+fn scan_run(bytes: &[u8], deepest: usize) -> Option<usize>
+    ensures value { result ≡ run_len deepest 0 0 bytes.now }
+    ensures within { IfSome result (λ len. len ≤ length bytes.now) }
+    ensures ends { IfSome result (λ len. len < length bytes.now → slice_index bytes.now len < 128) }
+{
+    let mut at = 0;
+    let mut nesting = 0;
+    while at < bytes.len() && !ends_run(bytes[at]) {
+        if closes_none(bytes[at], nesting) {
+            return Some(at);
+        }
+        nesting = nesting_behind(bytes[at], nesting);
+        if nesting > deepest {
+            return None;
+        }
+        at += unit_len(rest_of(bytes, at));
+    }
+    if nesting == 0 { Some(at) } else { None }
+}
+
+// Whether a byte closes a parenthesis that was not opened.
+fn closes_none(byte: u8, nesting: usize) -> bool
+    ensures { result ≡ closes_none byte nesting }
+{
+    byte == b')' && nesting == 0
+}
+
+// How many parentheses are open behind a byte.
+fn nesting_behind(byte: u8, nesting: usize) -> usize
+    requires { nesting < 2 ^ 63 }
+    ensures value { result ≡ nesting_behind byte nesting }
+    ensures small { result ≤ nesting + 1 }
+{
+    match byte {
+        b'(' => nesting + 1,
+        b')' => nesting.saturating_sub(1),
+        _ => nesting,
+    }
+}
+
+fn ends_brackets(byte: u8) -> bool
+    ensures { result ≡ ends_brackets byte }
+{
+    matches!(byte, b'\n' | b'\r' | b'<' | b'>')
+}
+
+fn ends_run(byte: u8) -> bool
+    ensures { result ≡ ends_run byte }
+{
+    byte.is_ascii_control() || byte == b' '
+}
+
+// How many bytes stand together: a backslash escape has two, any other byte stands alone.
+pub(crate) fn unit_len(bytes: &[u8]) -> usize
+    requires { 0 < length bytes.now }
+    ensures value { result ≡ (if begins_escape bytes.now then 2 else 1) }
+    ensures some { 0 < result }
+    ensures within { result ≤ length bytes.now }
+{
+    match bytes {
+        [b'\\', escaped, ..] if escaped.is_ascii_punctuation() => 2,
+        _ => 1,
+    }
+}

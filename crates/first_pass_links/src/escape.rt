@@ -1,0 +1,69 @@
+//! Backslash escapes (CommonMark 2.4) and references (2.5) in a text, replaced by what they stand for.
+
+ghost use Rattle.std.specs.Prelude.{◌≡◌, ◌+◌, ◌≤◌, length, drop, IfOk, IsOkAnd, IfSome, IfNone};
+ghost use Rattle.first_pass_items.specs.CowText.{text_of};
+ghost use Rattle.first_pass_links.specs.Escapes.{unescaped};
+ghost use Rattle.first_pass_links.specs.Texts.{Borrows};
+ghost use Rattle.first_pass_links.specs.Changes.{change_at, IsChange};
+
+use crate::entity::scan_reference;
+use first_pass_items::cow_str::CowStr;
+use first_pass_scan::places::rest_of;
+use memchr::memchr2;
+use std::alloc::{AllocError, Global};
+
+/// The text with each backslash escape and each reference replaced by the character that it stands for.
+/// In a table a backslash directly before a pipe is dropped first. Where nothing changes the answer
+/// borrows the text, and no memory is taken; else the error is want of memory. CommonMark 2.4, 2.5,
+/// GFM 4.10.
+pub fn unescape<'a>(
+    alloc: Global,
+    text: &'a str,
+    in_table: bool,
+) -> Result<CowStr<'a>, AllocError>
+    ensures value { IfOk result (λ answer. text_of answer ≡ unescaped in_table text.now) }
+    ensures borrowed { unescaped in_table text.now ≡ text.now → IsOkAnd result (Borrows text.now) }
+{
+    let mut written = String::new(alloc);
+    let mut from = 0;
+    while let Some((at, len, character)) = next_change(text.as_bytes(), from, in_table) {
+        written.push_str(&text[from..at])?;
+        written.push(character)?;
+        from = at + len;
+    }
+    if from == 0 {
+        return Ok(CowStr::Borrowed(text));
+    }
+    written.push_str(&text[from..])?;
+    Ok(CowStr::Boxed(written.into_boxed_str()))
+}
+
+// The next bytes from the offset `from` on that are replaced by one character: their offset, how many
+// there are, and that character.
+fn next_change(bytes: &[u8], from: usize, in_table: bool) -> Option<(usize, usize, char)>
+    requires { from ≤ length bytes.now }
+    ensures some { IfSome result (λ change. IsChange in_table bytes.now from change) }
+    ensures none { IfNone result (unescaped in_table (drop from bytes.now) ≡ drop from bytes.now) }
+{
+    let mut at = from;
+    while let Some(plain) = memchr2(b'\\', b'&', rest_of(bytes, at)) {
+        at += plain;
+        if let Some((len, character)) = change_at(rest_of(bytes, at), in_table) {
+            return Some((at, len, character));
+        }
+        at += 1;
+    }
+    None
+}
+
+// The bytes at the start that are replaced by one character: how many there are, and that character.
+#[tactic(auto, unfolding(crate::specs::Changes::change_at, crate::specs::Escapes::replaced_at))]
+fn change_at(bytes: &[u8], in_table: bool) -> Option<(usize, char)>
+    ensures { result ≡ change_at in_table bytes.now }
+{
+    match bytes {
+        [b'\\', b'\\', b'|', ..] if in_table => Some((3, '|')),
+        [b'\\', escaped, ..] if escaped.is_ascii_punctuation() => Some((2, *escaped as char)),
+        _ => scan_reference(bytes),
+    }
+}

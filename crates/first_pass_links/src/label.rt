@@ -1,0 +1,308 @@
+//! Link labels (CommonMark 4.7, 6.3).
+
+ghost use Rattle.std.specs.Prelude.{◌≡◌, ◌+◌, ◌-◌, ◌<◌, ◌≤◌, ◌++◌, ◌∷◌, [], ℕ, List, Option, true, false, None, Some, length, take, drop, slice_index, nat_lt, IfOk, IfSome, IsUtf8, OnOk, IsSomeAnd, MatchOption, if◌then◌else◌};
+ghost use Rattle.std.specs.String.{string_bytes};
+ghost use Rattle.std.specs.Str.{IsCharBoundary};
+ghost use Rattle.first_pass_items.specs.CowText.{text_of};
+ghost use Rattle.first_pass_scan.specs.Lines.{ends_line};
+ghost use Rattle.first_pass_links.specs.Texts.{Borrows};
+ghost use Rattle.first_pass_links.specs.Labels.{AnswersWith, AnswersPlaces, is_space, is_bracket, begins_character, label_at};
+ghost use Rattle.first_pass_links.specs.Units.{part, read_of, left_at, kept_unit, space_unit, dropped_unit, backslash_unit, IsUnit, Reads, Stops, IsRead, IsRun, EndsRun, IsBlankRest};
+
+use crate::entity::begins;
+use first_pass_items::cow_str::CowStr;
+use first_pass_scan::places::rest_of;
+use std::alloc::{AllocError, Global};
+
+/// The label that `text`, the bytes behind a `[`, begins with: how many bytes it has with its `]`, and
+/// its text, in which each run of white space is one space and backslashes stay; in a table one directly
+/// before a pipe is dropped. It is borrowed where nothing changes, and then no memory is taken.
+///
+/// `linebreak_handler` gets the bytes behind each line end, and answers how many bytes of prefix the next
+/// line has, which are left out, or `None` where the label may not go on there.
+///
+/// `None` where there is no label: an unescaped `[` or the end comes first, all is white space, or there
+/// are more than 999 characters, prefixes aside. The error is the handler's, or want of memory.
+/// CommonMark 4.7, 6.3.
+pub fn scan_link_label_rest<'t, F>(
+    alloc: Global,
+    text: &'t str,
+    linebreak_handler: F,
+    is_in_table: bool,
+) -> Result<Option<(usize, CowStr<'t>)>, AllocError>
+where
+    F: Fn(&[u8]) -> Result<Option<usize>, AllocError> + Drop,
+    requires callable { F.IsAlwaysCallable linebreak_handler }
+    requires places { AnswersPlaces (F.post linebreak_handler) }
+    ensures value { IfOk result (λ answer. (prefix : List ℕ → Option ℕ) → AnswersWith prefix (F.post linebreak_handler)
+        → MatchOption (label_at prefix is_in_table text.now)
+            (answer ≡ None)
+            (λ label. IsSomeAnd answer (λ found. (found.0 ≡ label.0) × (text_of found.1 ≡ label.1)))) }
+    ensures within { IfOk result (λ answer. IfSome answer (λ found. (0 < found.0) × (found.0 ≤ length text.now))) }
+    ensures borrowed { IfOk result (λ answer. IfSome answer (λ found.
+        text_of found.1 ≡ take (found.0 - 1) text.now → Borrows (take (found.0 - 1) text.now) found.1)) }
+{
+    let bytes = text.as_bytes();
+    let mut written = String::new(alloc);
+    let mut from = 0;
+    let mut at = 0;
+    let mut characters = 0;
+    let mut solid = false;
+    while at < bytes.len() && !is_bracket(bytes[at]) {
+        let Some(unit) = scan_unit(bytes, at, &linebreak_handler, is_in_table)? else {
+            return Ok(None);
+        };
+        characters += unit.characters;
+        if characters > 999 {
+            return Ok(None);
+        }
+        solid = solid | unit.solid;
+        from = write_unit(&mut written, text, from, at, unit)?;
+        at = unit.next;
+    }
+    if at >= bytes.len() || bytes[at] == b'[' {
+        return Ok(None);
+    }
+    if !solid {
+        return Ok(None);
+    }
+    Ok(Some((at + 1, finish(written, text, from, at)?)))
+}
+
+// Bytes of a label that are read together, up to the offset `next`. Those from `kept` up to `resumed` are
+// left out, or stand for a space; both are `next` where none are.
+#[derive(Clone, Copy, Drop)]
+struct Unit {
+    next: usize,
+    characters: usize,
+    solid: bool,
+    kept: usize,
+    resumed: usize,
+    space: bool,
+}
+
+// The unit at an offset, where no bracket stands; `None` where the label may not go on.
+fn scan_unit<F>(
+    bytes: &[u8],
+    at: usize,
+    linebreak_handler: &F,
+    in_table: bool,
+) -> Result<Option<Unit>, AllocError>
+where
+    F: Fn(&[u8]) -> Result<Option<usize>, AllocError>,
+    requires callable { F.IsAlwaysCallable linebreak_handler.now }
+    requires places { AnswersPlaces (F.post linebreak_handler.now) }
+    requires within { at < length bytes.now }
+    requires text { IsUtf8 bytes.now }
+    requires no_bracket { is_bracket (slice_index bytes.now at) ≡ false }
+    ensures some { IfOk result (λ answer. IfSome answer (λ unit. IsUnit bytes.now at unit)) }
+    ensures reads { IfOk result (λ answer. IfSome answer (λ unit. (prefix : List ℕ → Option ℕ) → AnswersWith prefix (F.post linebreak_handler.now) → Reads prefix in_table bytes.now at unit)) }
+    ensures none { IfOk result (λ answer. answer ≡ None → (prefix : List ℕ → Option ℕ) → AnswersWith prefix (F.post linebreak_handler.now) → Stops prefix in_table bytes.now at) }
+{
+    if is_space(bytes[at]) {
+        return match scan_white_run(bytes, at, linebreak_handler)? {
+            Some((next, characters)) => Ok(Some(space_unit(bytes, at, next, characters))),
+            None => Ok(None),
+        };
+    }
+    if bytes[at] == b'\\' {
+        return Ok(Some(backslash_unit(bytes, at, in_table)));
+    }
+    Ok(Some(kept_unit(at + 1, begun_characters(bytes[at]), true)))
+}
+
+// The run of white space at an offset, over line ends and the prefixes behind them: where it ends, and
+// how many characters it has; `None` where the label may not go on.
+fn scan_white_run<F>(
+    bytes: &[u8],
+    at: usize,
+    linebreak_handler: &F,
+) -> Result<Option<(usize, usize)>, AllocError>
+where
+    F: Fn(&[u8]) -> Result<Option<usize>, AllocError>,
+    requires callable { F.IsAlwaysCallable linebreak_handler.now }
+    requires places { AnswersPlaces (F.post linebreak_handler.now) }
+    requires within { at < length bytes.now }
+    requires text { IsUtf8 bytes.now }
+    requires white { is_space (slice_index bytes.now at) ≡ true }
+    ensures some { IfOk result (λ answer. IfSome answer (λ run. EndsRun bytes.now at run.0 run.1)) }
+    ensures ends { IfOk result (λ answer. IfSome answer (λ run. is_space (slice_index bytes.now run.0) ≡ false)) }
+    ensures reads { IfOk result (λ answer. IfSome answer (λ run. (prefix : List ℕ → Option ℕ) → AnswersWith prefix (F.post linebreak_handler.now) → IsRun prefix bytes.now at run.0 run.1)) }
+    ensures none { IfOk result (λ answer. answer ≡ None → (prefix : List ℕ → Option ℕ) → AnswersWith prefix (F.post linebreak_handler.now) → IsBlankRest prefix bytes.now at) }
+{
+    let mut next = at;
+    let mut characters = 0;
+    while next < bytes.len() && is_space(bytes[next]) {
+        let Some(behind) = scan_space_byte(bytes, next, linebreak_handler)? else {
+            return Ok(None);
+        };
+        next = behind;
+        characters += 1;
+    }
+    Ok(Some((next, characters)))
+}
+
+// The offset behind a byte of white space, and behind the prefix of the next line where the byte ends
+// one; `None` where the label may not go on there.
+fn scan_space_byte<F>(
+    bytes: &[u8],
+    at: usize,
+    linebreak_handler: &F,
+) -> Result<Option<usize>, AllocError>
+where
+    F: Fn(&[u8]) -> Result<Option<usize>, AllocError>,
+    requires callable { F.IsAlwaysCallable linebreak_handler.now }
+    requires places { AnswersPlaces (F.post linebreak_handler.now) }
+    requires within { at < length bytes.now }
+    requires text { IsUtf8 bytes.now }
+    requires white { is_space (slice_index bytes.now at) ≡ true }
+    ensures some { IfOk result (λ answer. IfSome answer (λ next. (at < next) × IsCharBoundary bytes.now next)) }
+    ensures reads { IfOk result (λ answer. IfSome answer (λ next. (prefix : List ℕ → Option ℕ) → AnswersWith prefix (F.post linebreak_handler.now)
+        → left_at prefix bytes.now at ≡ (at, slice_index bytes.now at) ∷ left_at prefix bytes.now next)) }
+    ensures none { IfOk result (λ answer. answer ≡ None → (prefix : List ℕ → Option ℕ) → AnswersWith prefix (F.post linebreak_handler.now)
+        → left_at prefix bytes.now at ≡ []) }
+{
+    let behind = rest_of(bytes, at + 1);
+    if !ends_line(bytes[at], behind) {
+        return Ok(Some(at + 1));
+    }
+    match linebreak_handler(behind)? {
+        Some(prefix) => Ok(Some(at + 1 + prefix)),
+        None => Ok(None),
+    }
+}
+
+// A run of white space from one offset up to another.
+fn space_unit(bytes: &[u8], at: usize, next: usize, characters: usize) -> Unit
+    requires { at < length bytes.now }
+    ensures { result ≡ space_unit bytes.now at next characters }
+{
+    if next == at + 1 && bytes[at] == b' ' {
+        return kept_unit(next, characters, false);
+    }
+    Unit {
+        next,
+        characters,
+        solid: false,
+        kept: at,
+        resumed: next,
+        space: true,
+    }
+}
+
+// A backslash, and what it escapes.
+fn backslash_unit(bytes: &[u8], at: usize, in_table: bool) -> Unit
+    requires within { at < length bytes.now }
+    requires here { slice_index bytes.now at ≡ 92 }
+    ensures { result ≡ backslash_unit in_table at (drop at bytes.now) }
+{
+    match rest_of(bytes, at) {
+        [b'\\', b'\\', b'|', ..] if in_table => dropped_unit(at + 3, 3, at + 1),
+        [_, b'|', ..] if in_table => dropped_unit(at + 2, 2, at),
+        [b'\\', escaped, ..] if escaped.is_ascii_punctuation() => kept_unit(at + 2, 2, true),
+        _ => kept_unit(at + 1, 1, true),
+    }
+}
+
+fn kept_unit(next: usize, characters: usize, solid: bool) -> Unit
+    ensures { result ≡ kept_unit next characters solid }
+{
+    Unit {
+        next,
+        characters,
+        solid,
+        kept: next,
+        resumed: next,
+        space: false,
+    }
+}
+
+// A unit without the backslash at an offset.
+fn dropped_unit(next: usize, characters: usize, place: usize) -> Unit
+    requires { place < next }
+    ensures { result ≡ dropped_unit next characters place }
+{
+    Unit {
+        next,
+        characters,
+        solid: true,
+        kept: place,
+        resumed: place + 1,
+        space: false,
+    }
+}
+
+// Writes what changes in a unit behind the bytes from `from` on, and answers from where on the bytes
+// are kept then.
+fn write_unit(
+    written: &mut String,
+    text: &str,
+    from: usize,
+    at: usize,
+    unit: Unit,
+) -> Result<usize, AllocError>
+    requires read { IsRead text.now (string_bytes written.old) from at }
+    requires unit { IsUnit text.now at unit }
+    ensures read { IfOk result (λ next. IsRead text.now (string_bytes written.new) next unit.next) }
+    ensures bytes { IfOk result (λ next. string_bytes written.new ++ part text.now next unit.next
+        ≡ (string_bytes written.old ++ part text.now from at) ++ read_of text.now at unit) }
+{
+    if unit.kept == unit.resumed {
+        return Ok(from);
+    }
+    written.push_str(&text[from..unit.kept])?;
+    written.push_str(replacement(unit.space))?;
+    Ok(unit.resumed)
+}
+
+// What stands for the bytes that are left out.
+fn replacement(space: bool) -> &'static str
+    ensures { result.now ≡ (if space then 32 ∷ [] else []) }
+{
+    if space { " " } else { "" }
+}
+
+// The label that is read up to an offset.
+fn finish<'t>(
+    mut written: String,
+    text: &'t str,
+    from: usize,
+    at: usize,
+) -> Result<CowStr<'t>, AllocError>
+    requires read { IsRead text.now (string_bytes written) from at }
+    requires boundary { IsCharBoundary text.now at }
+    ensures value { IfOk result (λ label. text_of label ≡ string_bytes written ++ part text.now from at) }
+    ensures borrowed { IfOk result (λ label. text_of label ≡ take at text.now → Borrows (take at text.now) label) }
+{
+    if from == 0 {
+        return Ok(CowStr::Borrowed(&text[..at]));
+    }
+    written.push_str(&text[from..at])?;
+    Ok(CowStr::Boxed(written.into_boxed_str()))
+}
+
+fn is_space(byte: u8) -> bool
+    ensures { result ≡ is_space byte }
+{
+    matches!(byte, b'\t' | 0x0b | 0x0c | b' ' | b'\n' | b'\r')
+}
+
+fn is_bracket(byte: u8) -> bool
+    ensures { result ≡ is_bracket byte }
+{
+    byte == b'[' || byte == b']'
+}
+
+// How many characters begin with a byte: one, or none within a character.
+fn begun_characters(byte: u8) -> usize
+    ensures { result ≡ (if begins_character byte then 1 else 0) }
+{
+    if byte < 0x80 || byte >= 0xc0 { 1 } else { 0 }
+}
+
+// Whether a line ends with a byte, before those behind it.
+fn ends_line(byte: u8, behind: &[u8]) -> bool
+    ensures { result ≡ ends_line byte behind.now }
+{
+    byte == b'\n' || byte == b'\r' && !begins(b'\n', behind)
+}
