@@ -1,4 +1,5 @@
 pub mod Columns
+pub mod LeafFacts
 pub mod LineFacts
 pub mod PlaceFacts
 pub mod HeadingFacts

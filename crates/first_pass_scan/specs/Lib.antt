@@ -1,3 +1,4 @@
 pub mod Lines
 pub mod Rest
 pub mod Places
+pub mod LeafLines

@@ -2,6 +2,7 @@
 //! line by columns.
 #![tactic(auto)]
 
+pub mod leaf_scan;
 pub mod line_start;
 pub mod lines;
 pub mod places;

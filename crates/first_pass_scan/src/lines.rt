@@ -49,7 +49,7 @@ pub fn scan_blank_line(bytes: &[u8]) -> Option<usize>
 }
 
 // How many bytes stand before the first line end.
-fn content_len(bytes: &[u8]) -> usize
+pub(crate) fn content_len(bytes: &[u8]) -> usize
     ensures value { result ≡ prefix_len is_content bytes.now }
     ensures within { result ≤ length bytes.now }
 {

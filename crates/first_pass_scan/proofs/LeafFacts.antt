@@ -1,0 +1,94 @@
+-- Facts on closing lines, and on the spaces and tabs that bytes begin with.
+use Rattle.std.proofs.Common.{◌≡◌, ℕ, ◌+◌, ◌-◌, ◌%◌, ◌<◌, ◌≤◌, Bool, true, false, ◌==◌, ◌||◌, ◌&&◌, List, [], ◌∷◌, ◌++◌, length, take, drop, get_or, refl, sym, ap, ◌∙◌, arith, append_assoc, inl, inr, if◌then◌else◌}
+use Rattle.std.specs.List.{list_any, list_all}
+use Rattle.std.proofs.lemmas.Bool.{cases_lt, and_parts}
+use Rattle.std.proofs.lemmas.Bool.Decides.{nat_tests}
+use Rattle.std.proofs.lemmas.List.{take_more, append-nil, length-take-le, drop_more, get_or-take, take-append-drop, take-take}
+use Rattle.first_pass_scan.specs.Rest.{columns_of}
+use Rattle.first_pass_scan.specs.Places.{Place, line_place, lines_at}
+use Rattle.first_pass_scan.specs.LeafLines.{is_blank, blank_columns, closes_metadata, any_line_closes, IsIndent, IsLongestIndent}
+
+-- a line closes, or one behind it does
+pub any_line-first : (c start : ℕ) (text : List ℕ) (more : List Place) (t : Bool) → lines_at start (drop start text) ≡ line_place start (drop start text) ∷ more → t ≡ closes_metadata c (drop start text) → any_line_closes c start (drop start text) ≡ (t || list_any (λ line. closes_metadata c line.rest.left) more)
+any_line-first c start text more t h e =
+    ap (list_any (λ line. closes_metadata c line.rest.left)) h ∙ ap (λ u. u || list_any (λ line. closes_metadata c line.rest.left) more) (sym e)
+
+pub any_line-none : (c start : ℕ) (text : List ℕ) → lines_at start (drop start text) ≡ [] → any_line_closes c start (drop start text) ≡ false
+any_line-none c start text h = ap (list_any (λ line. closes_metadata c line.rest.left)) h
+
+-- the first n bytes are spaces and tabs of so many columns, and what follows them begins so many bytes behind the last tab
+pub record IsFront (bs : List ℕ) (n : ℕ) (columns : ℕ) (column : ℕ) : Type 0 where
+  pub within : n ≤ length bs
+  pub blanks : list_all is_blank (take n bs) ≡ true
+  pub before : (more : List ℕ) → columns_of (take n bs ++ more) 0 ≡ columns + columns_of more column
+
+pub front-none : (bs : List ℕ) → IsFront bs 0 0 0
+front-none bs = record { within = omega arith; blanks = refl; before = λ more. omega arith }
+
+list_all-push : (p : ℕ → Bool) (xs : List ℕ) (x : ℕ) → list_all p xs ≡ true → p x ≡ true → list_all p (xs ++ x ∷ []) ≡ true
+list_all-push p [] x h e = rw e
+list_all-push p (y ∷ ys) x h e = grind (arith, list_all-push p ys x, h, e)
+
+pub columns_of-blank : (b column : ℕ) (more : List ℕ) → 0 < blank_columns b column → columns_of (b ∷ more) column ≡ blank_columns b column + columns_of more (if b == 9 then 0 else column + 1)
+columns_of-blank b column more h = grind (arith, nat_tests, h)
+
+blank_if : (b column : ℕ) → 0 < blank_columns b column → is_blank b ≡ true
+blank_if b column h = grind (arith, nat_tests, h)
+
+blank_then : (b column : ℕ) → is_blank b ≡ true → 0 < blank_columns b column
+blank_then b column h = grind (arith, nat_tests, h)
+
+-- one byte more
+pub front-more : (bs : List ℕ) (n columns column b k : ℕ) → n < length bs → b ≡ get_or bs n 0 → 0 < blank_columns b column → k ≡ (if b == 9 then 0 else column + 1) → IsFront bs n columns column → IsFront bs (n + 1) (columns + blank_columns b column) k
+front-more bs n columns column b k l e w s f =
+    let t : take (n + 1) bs ≡ take n bs ++ b ∷ [] = take_more bs n 0 l ∙ ap (λ x. take n bs ++ x ∷ []) (sym e) in
+    record {
+      within = omega arith;
+      blanks = rw t (list_all-push is_blank (take n bs) b f.blanks (blank_if b column w));
+      before = λ more. rw t (rw append_assoc (rw s (f.before (b ∷ more) ∙ ap (λ x. columns + x) (columns_of-blank b column more w) ∙ omega arith)));
+    }
+
+-- the columns of some bytes are at least those of the first of them
+columns_first : (b column : ℕ) (more : List ℕ) → 0 < blank_columns b column → blank_columns b column ≤ columns_of (b ∷ more) column
+columns_first b column more h = omega (arith, columns_of-blank b column more h)
+
+list_all-append : (p : ℕ → Bool) (xs : List ℕ) (x : ℕ) (ys : List ℕ) → list_all p (xs ++ x ∷ ys) ≡ true → p x ≡ true
+list_all-append p [] x ys h = (and_parts (p x) _ h).0
+list_all-append p (y ∷ more) x ys h = list_all-append p more x ys ((and_parts (p y) _ h).1)
+
+-- a longer front goes on with the next byte
+longer : (bs : List ℕ) (n m : ℕ) → n < m → m ≤ length bs → take m bs ≡ take n bs ++ get_or bs n 0 ∷ drop (n + 1) (take m bs)
+longer bs n m h l =
+    let w = length-take-le m bs l in
+    let d : drop n (take m bs) ≡ get_or bs n 0 ∷ drop (n + 1) (take m bs) = drop_more (take m bs) n 0 (omega arith) ∙ ap (λ x. x ∷ drop (n + 1) (take m bs)) (get_or-take m bs n 0 h) in
+    sym (take-append-drop n (take m bs)) ∙ ap (λ x. x ++ drop n (take m bs)) (take-take n m bs (omega arith)) ∙ ap (λ x. take n bs ++ x) d
+
+no_longer : (bs : List ℕ) (max n columns column m k : ℕ) → IsFront bs n columns column → IsIndent bs max m k → n < m → (n < length bs → (w : ℕ) → w ≡ blank_columns (get_or bs n 0) column → 0 < w → max < columns + w) → ⊥
+no_longer bs max n columns column m k f i h stop =
+    let b : ℕ = get_or bs n 0 in
+    let more : List ℕ = drop (n + 1) (take m bs) in
+    let t : take m bs ≡ take n bs ++ b ∷ more = longer bs n m h i.within in
+    let blank : is_blank b ≡ true = list_all-append is_blank (take n bs) b more (ap (list_all is_blank) (sym t) ∙ i.blanks) in
+    let some : 0 < blank_columns b column = blank_then b column blank in
+    let wide : k ≡ columns + columns_of (b ∷ more) column = i.wide ∙ ap (λ x. columns_of x 0) t ∙ f.before (b ∷ more) in
+    let first = columns_first b column more some in
+    let past = stop (let l = i.within in omega arith) (blank_columns b column) refl some in
+    let few = i.few in
+    omega arith
+
+pub front-indent : (bs : List ℕ) (max n columns column : ℕ) → IsFront bs n columns column → columns ≤ max → IsIndent bs max n columns
+front-indent bs max n columns column f few =
+    record {
+      within = f.within;
+      blanks = f.blanks;
+      wide = let e : columns_of (take n bs ++ []) 0 ≡ columns + 0 = f.before [] in omega (arith, ap (λ x. columns_of x 0) (append-nil (take n bs)));
+      few = few;
+    }
+
+-- no more are spaces and tabs, or the next has too many columns
+pub front-longest : (bs : List ℕ) (max n columns column : ℕ) → IsFront bs n columns column → columns ≤ max → (n < length bs → (w : ℕ) → w ≡ blank_columns (get_or bs n 0) column → 0 < w → max < columns + w) → IsLongestIndent bs max n columns
+front-longest bs max n columns column f few stop =
+    record {
+      fits = front-indent bs max n columns column f few;
+      longest = λ m k i. elim (cases_lt n m) as (λ _. m ≤ n) [ inl more ↦ absurd (no_longer bs max n columns column m k f i more stop) | inr less ↦ less ];
+    }

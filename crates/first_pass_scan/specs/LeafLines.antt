@@ -1,0 +1,131 @@
+-- Lines that open or close a leaf block: thematic breaks, setext heading underlines, code fences and metadata; and how far the first columns of a line go.
+use Rattle.std.specs.Prelude.{◌≡◌, ℕ, ◌+◌, ◌-◌, ◌%◌, ◌≤◌, ◌==◌, ◌&&◌, ◌||◌, not, nat_eq, Bool, true, nat_le, List, [], ◌∷◌, length, take, drop, Option, Some, None, is_some, count_by, if◌then◌else◌}
+use Rattle.std.specs.Option.{option_map}
+use Rattle.std.specs.List.{prefix_len, take_while, list_any, list_all, starts_with}
+use Rattle.first_pass_items.specs.declared.item.HeadingLevel.{HeadingLevel}
+use Rattle.first_pass_items.specs.declared.item.HeadingLevel.TheVariants.{H1, H2}
+use Rattle.first_pass_scan.specs.Lines.{is_content, begins, eol_len, blank_len, line_len}
+use Rattle.first_pass_scan.specs.Rest.{columns_of}
+use Rattle.first_pass_scan.specs.Places.{lines_at}
+
+-- a space or a tab (CommonMark 2.1)
+abbrev pub is_blank : ℕ → Bool
+is_blank b = (b == 9) || (b == 32)
+
+-- how many of the byte c stand first (this project)
+abbrev pub run_len : ℕ → List ℕ → ℕ
+run_len c bs = prefix_len (λ b. b == c) bs
+
+-- the bytes of which thematic breaks are made: `-`, `_` and `*` (CommonMark 4.1)
+abbrev pub is_rule_byte : ℕ → Bool
+is_rule_byte b = (b == 45) || (b == 95) || (b == 42)
+
+-- what a thematic break of the byte c has: that byte, spaces and tabs (CommonMark 4.1)
+abbrev pub in_rule : ℕ → ℕ → Bool
+in_rule c b = (b == c) || is_blank b
+
+-- how many bytes a thematic break of the byte c has, its end too: three or more of that byte, with spaces and tabs between and after them (CommonMark 4.1)
+abbrev pub rule_len : ℕ → List ℕ → Option ℕ
+rule_len c bs =
+    let n = prefix_len (in_rule c) bs in
+    if nat_le 3 (count_by (λ b. b == c) (take n bs)) then option_map (λ k. n + k) (eol_len (drop n bs)) else None
+
+-- how many bytes the thematic break that begins here has, its end too (CommonMark 4.1)
+unfoldable pub hrule_len : List ℕ → Option ℕ
+hrule_len [] = None
+hrule_len (b ∷ bs) = if is_rule_byte b then rule_len b (b ∷ bs) else None
+
+-- how many bytes an underline of the byte c has, its end too: a run of that byte, then white space alone (CommonMark 4.3)
+abbrev pub underline_len : ℕ → List ℕ → Option ℕ
+underline_len c bs = let n = run_len c bs in option_map (λ k. n + k) (blank_len (drop n bs))
+
+-- the setext heading underline that begins here: how many bytes it has, its end too, and the level: 1 for `=`, 2 for `-` (CommonMark 4.3)
+unfoldable pub setext_underline : List ℕ → Option (ℕ × HeadingLevel)
+setext_underline bs =
+    if begins 61 bs
+    then option_map (λ n. (n, H1)) (underline_len 61 bs)
+    else (if begins 45 bs then option_map (λ n. (n, H2)) (underline_len 45 bs) else None)
+
+-- the line goes on with a backquote somewhere (CommonMark 4.5)
+abbrev pub has_backquote : List ℕ → Bool
+has_backquote bs = list_any (λ b. b == 96) (take_while is_content bs)
+
+-- the code fence that begins here, its length and its byte: three or more backquotes with none in the info string, or three or more tildes (CommonMark 4.5)
+unfoldable pub code_fence : List ℕ → Option (ℕ × ℕ)
+code_fence bs =
+    if begins 96 bs
+    then (let n = run_len 96 bs in if nat_le 3 n && not (has_backquote (drop n bs)) then Some (n, 96) else None)
+    else (if begins 126 bs then (let n = run_len 126 bs in if nat_le 3 n then Some (n, 126) else None) else None)
+
+-- the line or the text ends here (CommonMark 2.1)
+abbrev pub ends_here : List ℕ → Bool
+ends_here bs = is_some (eol_len bs)
+
+-- how many bytes the closing fence of a block has, trailing spaces and tabs too and its line end not, where the block was opened by so many of the byte c: at least as many; the end of the text closes too (CommonMark 4.5)
+unfoldable pub closing_fence_len : ℕ → ℕ → List ℕ → Option ℕ
+closing_fence_len c count bs =
+    if length bs == 0
+    then Some 0
+    else (
+    let n = run_len c bs in
+    let m = n + prefix_len is_blank (drop n bs) in
+    if nat_le count n && ends_here (drop m bs) then Some m else None)
+
+-- three of the byte c stand first (this project)
+abbrev pub three_of : ℕ → List ℕ → Bool
+three_of c bs = starts_with nat_eq bs (c ∷ c ∷ c ∷ [])
+
+-- the marks that close metadata of the byte c stand first: three of it, or `...` for `---` (this project)
+unfoldable pub closing_marks : ℕ → List ℕ → Bool
+closing_marks c bs = ((c == 45) && three_of 46 bs) || three_of c bs
+
+-- how many bytes a closing line of metadata has, trailing spaces too and its line end not, where the block was opened by three of the byte c: its marks, then spaces alone (this project)
+unfoldable pub closing_metadata_len : ℕ → List ℕ → Option ℕ
+closing_metadata_len c bs =
+    let n = 3 + prefix_len (λ b. b == 32) (drop 3 bs) in
+    if closing_marks c bs && ends_here (drop n bs) then Some n else None
+
+-- the line that begins here closes metadata of the byte c (this project)
+abbrev pub closes_metadata : ℕ → List ℕ → Bool
+closes_metadata c bs = is_some (closing_metadata_len c bs)
+
+-- some line of these bytes, which begin at an offset, closes metadata of the byte c (this project)
+abbrev pub any_line_closes : ℕ → ℕ → List ℕ → Bool
+any_line_closes c start bs = list_any (λ line. closes_metadata c line.rest.left) (lines_at start bs)
+
+-- a blank line begins here (CommonMark 2.1, blank line)
+abbrev pub is_blank_line : List ℕ → Bool
+is_blank_line bs = is_some (blank_len bs)
+
+-- what stands behind the line that begins here (CommonMark 2.1, line)
+abbrev pub behind_line : List ℕ → List ℕ
+behind_line bs = drop (line_len bs) bs
+
+-- metadata of the byte c opens here: a line of just three of it, then a line that is neither blank nor a closing one, and a closing line further on (this project)
+unfoldable pub opens_metadata : ℕ → List ℕ → Bool
+opens_metadata c bs =
+    let next = behind_line bs in
+    (run_len c bs == 3) && is_blank_line (drop 3 bs) && not (is_blank_line next) && not (closes_metadata c next) && any_line_closes c 0 (behind_line next)
+
+-- the byte of the metadata block that opens here, `-` where its YAML form is on and `+` where the other is (this project)
+unfoldable pub metadata_byte : Bool → Bool → List ℕ → Option ℕ
+metadata_byte yaml pluses bs =
+    if yaml && begins 45 bs
+    then (if opens_metadata 45 bs then Some 45 else None)
+    else (if pluses && begins 43 bs then (if opens_metadata 43 bs then Some 43 else None) else None)
+
+-- how many columns a space or a tab has, so many bytes behind the last tab (CommonMark 2.2)
+abbrev pub blank_columns : ℕ → ℕ → ℕ
+blank_columns b column = if b == 32 then 1 else (if b == 9 then 4 - column % 4 else 0)
+
+-- the first n bytes are spaces and tabs, which have so many columns and no more than max (CommonMark 2.2)
+pub record IsIndent (bs : List ℕ) (max : ℕ) (n : ℕ) (columns : ℕ) : Type 0 where
+  pub within : n ≤ length bs
+  pub blanks : list_all is_blank (take n bs) ≡ true
+  pub wide : columns ≡ columns_of (take n bs) 0
+  pub few : columns ≤ max
+
+-- the spaces and tabs here that have max columns at most, as many of them as can be (CommonMark 2.2)
+pub record IsLongestIndent (bs : List ℕ) (max : ℕ) (n : ℕ) (columns : ℕ) : Type 0 where
+  pub fits : IsIndent bs max n columns
+  pub longest : (m k : ℕ) → IsIndent bs max m k → m ≤ n
