@@ -1,5 +1,6 @@
 pub mod Columns
 pub mod LeafFacts
 pub mod LineFacts
+pub mod MarkerFacts
 pub mod PlaceFacts
 pub mod HeadingFacts

@@ -2,3 +2,4 @@ pub mod Lines
 pub mod Rest
 pub mod Places
 pub mod LeafLines
+pub mod Markers

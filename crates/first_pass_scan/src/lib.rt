@@ -5,6 +5,7 @@
 pub mod leaf_scan;
 pub mod line_start;
 pub mod lines;
+mod markers;
 pub mod places;
 
 #[cfg(test)]

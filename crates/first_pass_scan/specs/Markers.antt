@@ -1,0 +1,139 @@
+-- The markers with which containers open: list items, definitions, block quotes, and the marks of tasks and quotes.
+use Rattle.std.specs.Prelude.{ℕ, ◌+◌, ◌-◌, ◌*◌, ◌==◌, ◌&&◌, ◌||◌, not, Bool, nat_le, List, [], ◌∷◌, length, take, drop, Option, Some, None, is_some, slice_index, codes, if◌then◌else◌}
+use Rattle.std.specs.Option.{option_map}
+use Rattle.std.specs.List.{prefix_len}
+use Rattle.std.specs.Str.{str_eq_ignore_ascii_case}
+use Rattle.first_pass_items.specs.declared.item.BlockQuoteKind.{BlockQuoteKind}
+use Rattle.first_pass_items.specs.declared.item.BlockQuoteKind.TheVariants.{Note, Tip, Important, Warning, Caution}
+use Rattle.first_pass_scan.specs.Lines.{begins, blank_len, at_line_end, is_white, is_line_end}
+use Rattle.first_pass_scan.specs.LeafLines.{hrule_len}
+use Rattle.first_pass_scan.specs.Places.{line_rest}
+use Rattle.first_pass_scan.specs.Rest.{Rest, after_columns, indent, past_bytes}
+
+-- an ASCII digit (CommonMark 5.2)
+abbrev pub is_digit : ℕ → Bool
+is_digit b = nat_le 48 b && nat_le b 57
+
+-- the number that digits write behind those of the number n (CommonMark 5.2)
+abbrev pub number_from : ℕ → List ℕ → ℕ
+number_from n [] = n
+number_from n (b ∷ bs) = number_from (10 * n + (b - 48)) bs
+
+-- the bullets `-`, `+` and `*` (CommonMark 5.2)
+abbrev pub is_bullet : ℕ → Bool
+is_bullet b = (b == 45) || (b == 43) || (b == 42)
+
+-- the marker of a bullet list here, its width, its byte and 0 for its number (CommonMark 5.2)
+abbrev pub bullet_marker : List ℕ → Option (ℕ × ℕ × ℕ)
+bullet_marker [] = None
+bullet_marker (b ∷ bs) = if is_bullet b then Some (1, b, 0) else None
+
+-- the marker of n digits that write a number, where a `.` or `)` is behind them (CommonMark 5.2)
+abbrev pub delimited : ℕ → ℕ → List ℕ → Option (ℕ × ℕ × ℕ)
+delimited n number [] = None
+delimited n number (b ∷ bs) = if (b == 46) || (b == 41) then Some (n + 1, b, number) else None
+
+-- the marker of an ordered list here, its width, its last byte and its number: 1 to 9 digits, then a `.` or `)` (CommonMark 5.2)
+abbrev pub ordered_marker : List ℕ → Option (ℕ × ℕ × ℕ)
+ordered_marker bs =
+    let n = prefix_len is_digit bs in
+    if nat_le 1 n && nat_le n 9 then delimited n (number_from 0 (take n bs)) (drop n bs) else None
+
+-- the list marker here, its width, its byte and its number (CommonMark 5.2)
+unfoldable pub list_marker : List ℕ → Option (ℕ × ℕ × ℕ)
+list_marker bs = if is_some (bullet_marker bs) then bullet_marker bs else ordered_marker bs
+
+-- the columns that a line needs to go on with an item whose content could begin n columns in, and what is left of its line: up to three columns more count, with four or more the content is indented code, and a blank rest adds nothing (CommonMark 5.2)
+unfoldable pub content_indent : ℕ → Rest → ℕ × Rest
+content_indent n r =
+    if is_some (blank_len r.left) then (n, r) else (if nat_le 4 (indent r) then (n, r) else (n + indent r, after_columns (indent r) r))
+
+-- the same behind an item's marker that ends n columns in: a column or the end of the line must follow it (CommonMark 5.2)
+unfoldable pub behind_marker : ℕ → Rest → Option (ℕ × Rest)
+behind_marker n r =
+    if nat_le 1 (indent r) || at_line_end r.left then Some (content_indent (n + 1) (after_columns 1 r)) else None
+
+-- an item that so many columns stand before: its marker's byte and number, its indent, and what is left of its line (CommonMark 5.2)
+abbrev pub item_by : ℕ → Rest → Option (ℕ × ℕ × ℕ) → Option ((ℕ × ℕ × ℕ) × Rest)
+item_by outer r None = None
+item_by outer r (Some m) =
+    option_map (λ content. ((m.1, m.2, content.0), content.1)) (behind_marker (outer + m.0) (past_bytes m.0 r))
+
+-- the item that begins here, where no column is owed and no thematic break stands (CommonMark 5.2)
+unfoldable pub item_of : ℕ → Rest → Option ((ℕ × ℕ × ℕ) × Rest)
+item_of outer r = if (r.owed == 0) && not (is_some (hrule_len r.left)) then item_by outer r (list_marker r.left) else None
+
+-- the list marker that begins a line, with the indent of its item: the marker's width, its byte, its number and the indent (CommonMark 5.2)
+abbrev pub listitem_by : List ℕ → Option (ℕ × ℕ × ℕ) → Option (ℕ × ℕ × ℕ × ℕ)
+listitem_by bs None = None
+listitem_by bs (Some m) = option_map (λ content. (m.0, m.1, m.2, content.0)) (behind_marker m.0 (past_bytes m.0 (line_rest bs)))
+
+-- the list item that begins a line, be it a thematic break or not: the marker's width, its byte, its number and the item's indent (CommonMark 5.2)
+unfoldable pub listitem : List ℕ → Option (ℕ × ℕ × ℕ × ℕ)
+listitem bs = listitem_by bs (list_marker bs)
+
+-- the indent of a definition whose marker ends n columns in, and what is left of its line: no column need follow (this project)
+abbrev pub behind_colon : ℕ → Rest → ℕ × Rest
+behind_colon n r = if nat_le 1 (indent r) then content_indent (n + 1) (after_columns 1 r) else (n, r)
+
+-- the definition that so many columns stand before and whose `:` is here, where no column is owed: its indent, and what is left of its line (this project)
+unfoldable pub definition_of : ℕ → Rest → Option (ℕ × Rest)
+definition_of outer r = if (r.owed == 0) && begins 58 r.left then Some (behind_colon (outer + 1) (past_bytes 1 r)) else None
+
+-- ASCII white space: with the line ends (this project)
+abbrev pub is_ascii_white : ℕ → Bool
+is_ascii_white b = is_white b || is_line_end b
+
+-- the mark of a task, `x` or white space (GFM 5.3)
+abbrev pub is_checked : ℕ → Bool
+is_checked b = (b == 120) || (b == 88)
+
+-- the task list item marker here, whether it is checked: `[`, white space or `x`, `]`, and white space behind it (GFM 5.3)
+unfoldable pub task_box : List ℕ → Option Bool
+task_box bs =
+    let mark = slice_index bs 1 in
+    if (slice_index bs 0 == 91) && (is_white mark || is_checked mark) && (slice_index bs 2 == 93) && is_ascii_white (slice_index bs 3)
+    then Some (is_checked mark)
+    else None
+
+-- the task list item marker behind up to three columns, whether it is checked, and what is left of the line behind it (GFM 5.3)
+unfoldable pub task_of : Rest → Option (Bool × Rest)
+task_of r =
+    let box = after_columns 3 r in
+    if box.owed == 0 then option_map (λ checked. (checked, past_bytes 3 box)) (task_box box.left) else None
+
+-- the tag that gives a block quote its kind (GitHub's alerts)
+abbrev pub tag_of : BlockQuoteKind → List ℕ
+tag_of Note = codes "[!NOTE]"
+tag_of Tip = codes "[!TIP]"
+tag_of Important = codes "[!IMPORTANT]"
+tag_of Warning = codes "[!WARNING]"
+tag_of Caution = codes "[!CAUTION]"
+
+-- the tag stands first, in letters of either case (GitHub's alerts)
+unfoldable pub has_tag : BlockQuoteKind → List ℕ → Bool
+has_tag kind bs =
+    let n = length (tag_of kind) in nat_le n (length bs) && str_eq_ignore_ascii_case (take n bs) (tag_of kind)
+
+-- the kind whose tag stands first (GitHub's alerts)
+unfoldable pub tag_kind : List ℕ → Option BlockQuoteKind
+tag_kind bs =
+    if has_tag Note bs then Some Note
+    else (if has_tag Tip bs then Some Tip
+    else (if has_tag Important bs then Some Important
+    else (if has_tag Warning bs then Some Warning
+    else (if has_tag Caution bs then Some Caution
+    else None))))
+
+-- the kind whose tag stands first, and how many bytes it has with the blank rest of its line and the line's end (GitHub's alerts)
+abbrev pub tag_line_of : List ℕ → Option BlockQuoteKind → Option (BlockQuoteKind × ℕ)
+tag_line_of bs None = None
+tag_line_of bs (Some kind) = let n = length (tag_of kind) in option_map (λ k. (kind, n + k)) (blank_len (drop n bs))
+
+-- the same for the tag that stands first (GitHub's alerts)
+unfoldable pub tag_line : List ℕ → Option (BlockQuoteKind × ℕ)
+tag_line bs = tag_line_of bs (tag_kind bs)
+
+-- the kind that the tag here gives a block quote, where no column is owed before it, and what is left behind its line (GitHub's alerts)
+unfoldable pub past_tag : Rest → Option (BlockQuoteKind × Rest)
+past_tag r = if r.owed == 0 then option_map (λ tag. (tag.0, past_bytes tag.1 r)) (tag_line r.left) else None

@@ -1,0 +1,152 @@
+//! The bytes of markers: list items, tasks, and the tags of block quotes.
+
+ghost use Rattle.std.specs.List.{prefix_len};
+ghost use Rattle.std.specs.Prelude.{◌≡◌, ◌≤◌, length, slice_index, EachIndex, IfSome, true};
+ghost use Rattle.std.specs.Str.{str_eq_ignore_ascii_case};
+ghost use Rattle.first_pass_scan.specs.Markers.{is_digit, number_from, bullet_marker, ordered_marker, list_marker, task_box, is_ascii_white as ascii_white, tag_of as tag_bytes, has_tag as tag_stands, tag_kind, tag_line};
+
+use crate::lines::scan_blank_line;
+use crate::places::rest_of;
+use first_pass_items::item::BlockQuoteKind;
+
+// How many digits stand first.
+fn scan_digits(bytes: &[u8]) -> usize
+    ensures value { result ≡ prefix_len is_digit bytes.now }
+    ensures within { result ≤ length bytes.now }
+{
+    bytes
+        .iter()
+        .take_while(|b| **b >= b'0' && **b <= b'9')
+        .count()
+}
+
+// The number that at most nine digits write.
+fn number(digits: &[u8]) -> u64
+    requires few { length digits.now ≤ 9 }
+    requires digits { EachIndex digits.now (λ k. (48 ≤ slice_index digits.now k) × (slice_index digits.now k ≤ 57)) }
+    ensures { result ≡ number_from 0 digits.now }
+{
+    let mut value = 0;
+    for b in digits {
+        value = 10 * value + u64::from(*b - b'0');
+    }
+    value
+}
+
+// The bullet that stands first, as a list marker: its width, its byte and 0.
+fn scan_bullet(bytes: &[u8]) -> Option<(usize, u8, u64)>
+    ensures { result ≡ bullet_marker bytes.now }
+{
+    match bytes {
+        [byte @ (b'-' | b'+' | b'*'), ..] => Some((1, *byte, 0)),
+        _ => None,
+    }
+}
+
+// The digits with their `.` or `)` that stand first: the width, the last byte and the number.
+fn scan_ordered(bytes: &[u8]) -> Option<(usize, u8, u64)>
+    ensures value { result ≡ ordered_marker bytes.now }
+    ensures within { IfSome result (λ m. m.0 ≤ length bytes.now) }
+    ensures small { IfSome result (λ m. m.0 ≤ 10) }
+{
+    let digits = scan_digits(bytes);
+    if digits < 1 || 9 < digits {
+        return None;
+    }
+    match &bytes[digits..] {
+        [mark @ (b'.' | b')'), ..] => Some((digits + 1, *mark, number(&bytes[..digits]))),
+        _ => None,
+    }
+}
+
+// The list marker that stands first: its width, its byte and its number.
+#[tactic(auto, unfolding(crate::specs::Markers::list_marker))]
+pub(crate) fn scan_list_marker(bytes: &[u8]) -> Option<(usize, u8, u64)>
+    ensures value { result ≡ list_marker bytes.now }
+    ensures within { IfSome result (λ m. m.0 ≤ length bytes.now) }
+    ensures small { IfSome result (λ m. m.0 ≤ 10) }
+{
+    match scan_bullet(bytes) {
+        None => scan_ordered(bytes),
+        bullet => bullet,
+    }
+}
+
+// Whether the byte is white space, of a line or its end.
+fn is_ascii_white(byte: u8) -> bool
+    ensures { result ≡ ascii_white byte }
+{
+    matches!(byte, b'\t' | b'\n' | 0x0b | 0x0c | b'\r' | b' ')
+}
+
+// The task list item marker that stands first: whether it is checked. White space follows its `]`.
+#[tactic(auto, unfolding(crate::specs::Markers::task_box))]
+pub(crate) fn scan_task_box(bytes: &[u8]) -> Option<bool>
+    ensures value { result ≡ task_box bytes.now }
+    ensures long { IfSome result (λ _. 3 ≤ length bytes.now) }
+{
+    match bytes {
+        [b'[', b'x' | b'X', b']', after, ..] if is_ascii_white(*after) => Some(true),
+        [b'[', b'\t' | 0x0b | 0x0c | b' ', b']', after, ..] if is_ascii_white(*after) => {
+            Some(false)
+        }
+        _ => None,
+    }
+}
+
+// The tag of the kind.
+fn tag_of(kind: BlockQuoteKind) -> &'static [u8]
+    ensures { result.now ≡ tag_bytes kind }
+{
+    match kind {
+        BlockQuoteKind::Note => b"[!NOTE]",
+        BlockQuoteKind::Tip => b"[!TIP]",
+        BlockQuoteKind::Important => b"[!IMPORTANT]",
+        BlockQuoteKind::Warning => b"[!WARNING]",
+        BlockQuoteKind::Caution => b"[!CAUTION]",
+    }
+}
+
+// Whether the tag of the kind stands first, in letters of either case.
+#[tactic(auto, unfolding(crate::specs::Markers::has_tag))]
+fn has_tag(bytes: &[u8], kind: BlockQuoteKind) -> bool
+    ensures value { result ≡ tag_stands kind bytes.now }
+    ensures long { result ≡ true → length (tag_bytes kind) ≤ length bytes.now }
+{
+    let tag = tag_of(kind);
+    tag.len() <= bytes.len() && bytes[..tag.len()].eq_ignore_ascii_case(tag)
+}
+
+// The kind whose tag stands first.
+#[tactic(auto, unfolding(crate::specs::Markers::tag_kind))]
+fn scan_kind(bytes: &[u8]) -> Option<BlockQuoteKind>
+    ensures value { result ≡ tag_kind bytes.now }
+    ensures long { IfSome result (λ kind. length (tag_bytes kind) ≤ length bytes.now) }
+{
+    if has_tag(bytes, BlockQuoteKind::Note) {
+        Some(BlockQuoteKind::Note)
+    } else if has_tag(bytes, BlockQuoteKind::Tip) {
+        Some(BlockQuoteKind::Tip)
+    } else if has_tag(bytes, BlockQuoteKind::Important) {
+        Some(BlockQuoteKind::Important)
+    } else if has_tag(bytes, BlockQuoteKind::Warning) {
+        Some(BlockQuoteKind::Warning)
+    } else if has_tag(bytes, BlockQuoteKind::Caution) {
+        Some(BlockQuoteKind::Caution)
+    } else {
+        None
+    }
+}
+
+// The kind whose tag stands first, and how many bytes its line has, its end too, where the rest of it
+// is blank.
+#[tactic(auto, unfolding(crate::specs::Markers::tag_line))]
+pub(crate) fn scan_tag_line(bytes: &[u8]) -> Option<(BlockQuoteKind, usize)>
+    ensures value { result ≡ tag_line bytes.now }
+    ensures within { IfSome result (λ tag. tag.1 ≤ length bytes.now) }
+{
+    let kind = scan_kind(bytes)?;
+    let tag = tag_of(kind).len();
+    let blank = scan_blank_line(rest_of(bytes, tag))?;
+    Some((kind, tag + blank))
+}
