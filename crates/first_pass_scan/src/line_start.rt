@@ -1,10 +1,17 @@
 //! What is left of a line, by columns.
 
-ghost use Rattle.std.specs.Prelude.{◌≡◌, ◌≤◌, min, nat_le, MatchOption, true, false};
-ghost use Rattle.first_pass_scan.specs.Lines.{at_line_end};
-ghost use Rattle.first_pass_scan.specs.Rest.{next_column, after_columns, indent};
+ghost use Rattle.std.specs.Prelude.{◌≡◌, ◌≤◌, ◌+◌, ◌<◌, ◌^◌, ◌==◌, min, nat_le, length, is_some, IfSome, MatchOption, if◌then◌else◌, true, false};
+ghost use Rattle.first_pass_scan.specs.Lines.{at_line_end, blank_len};
+ghost use Rattle.first_pass_scan.specs.LeafLines.{hrule_len};
+ghost use Rattle.first_pass_scan.specs.Rest.{next_column, after_columns, indent, past_bytes, past_quote};
 ghost use Rattle.first_pass_scan.specs.Places.{line_rest};
+ghost use Rattle.first_pass_scan.specs.Markers.{list_marker, content_indent as content_after, behind_marker, behind_colon, item_of, listitem, definition_of, task_box, task_of, past_tag};
 
+use crate::leaf_scan::scan_hrule;
+use crate::lines::scan_blank_line;
+use crate::markers::{scan_list_marker, scan_tag_line, scan_task_box};
+use crate::places::rest_of;
+use first_pass_items::item::BlockQuoteKind;
 use std::marker::Model;
 
 /// A place in a line: what is left of it, and the columns that a tab taken in part owes. Tab stops are
@@ -111,6 +118,191 @@ impl<'a> LineStart<'a> {
         while self.take_column() {}
     }
 
+    /// Takes the block quote marker here, `>`, and one column behind it where there is one, and says
+    /// whether the marker was there. None is where a column is owed. CommonMark 5.1.
+    pub fn scan_blockquote_marker(&mut self) -> bool
+        ensures { MatchOption (past_quote self.old) ((result ≡ false) × (self.new ≡ self.old)) (λ next. (result ≡ true) × (self.new ≡ after_columns 1 next)) }
+    {
+        if self.owed == 0 && self.at < self.bytes.len() && self.bytes[self.at] == b'>' {
+            self.at += 1;
+            let _ = self.scan_space(1);
+            true
+        } else {
+            false
+        }
+    }
+
+    /// Takes the tag here that gives a block quote its kind, as `[!NOTE]` in letters of either case,
+    /// with the blank rest of its line and the line's end, and answers the kind. Where a column is owed
+    /// or no such line is here the answer is `None`, and nothing is taken.
+    #[tactic(auto, unfolding(crate::specs::Markers::past_tag))]
+    pub fn scan_blockquote_tag(&mut self) -> Option<BlockQuoteKind>
+        ensures { MatchOption (past_tag self.old) ((result ≡ None) × (self.new ≡ self.old)) (λ tag. (result ≡ Some tag.0) × (self.new ≡ tag.1)) }
+    {
+        if self.owed != 0 {
+            return None;
+        }
+        let (kind, end) = scan_tag_line(rest_of(self.bytes, self.at))?;
+        self.skip(end);
+        Some(kind)
+    }
+
+    /// Takes the list marker here with the columns that belong to it, where `indent` columns stand
+    /// before it, and answers its byte (`.` or `)` behind digits), its number (0 for a bullet) and the
+    /// columns that a line needs to go on with the item. Where a column is owed, no item opens or a
+    /// thematic break is here the answer is `None`, and nothing is taken. CommonMark 5.2.
+    #[tactic(auto, unfolding(crate::specs::Markers::item_of))]
+    pub fn scan_list_marker_with_indent(&mut self, indent: usize) -> Option<(u8, u64, usize)>
+        requires { indent ≤ 3 }
+        ensures { MatchOption (item_of indent self.old) ((result ≡ None) × (self.new ≡ self.old)) (λ item. (result ≡ Some item.0) × (self.new ≡ item.1)) }
+    {
+        let (width, byte, number) = self.list_marker()?;
+        if self.is_at_rule() {
+            return None;
+        }
+        let mut next = self.copy();
+        next.skip(width);
+        let inner = next.scan_behind_marker(indent + width)?;
+        *self = next;
+        Some((byte, number, inner))
+    }
+
+    /// Takes the `:` of a definition here with the columns that belong to it, where `indent` columns
+    /// stand before it, and answers the columns that a line needs to go on with the definition. Where a
+    /// column is owed or there is no `:` the answer is `None`, and nothing is taken.
+    #[tactic(auto, unfolding(crate::specs::Markers::definition_of))]
+    pub fn scan_definition_list_definition_marker_with_indent(
+        &mut self,
+        indent: usize,
+    ) -> Option<usize>
+        requires { indent ≤ 3 }
+        ensures { MatchOption (definition_of indent self.old) ((result ≡ None) × (self.new ≡ self.old)) (λ definition. (result ≡ Some definition.0) × (self.new ≡ definition.1)) }
+    {
+        if self.owed != 0 || self.at >= self.bytes.len() || self.bytes[self.at] != b':' {
+            return None;
+        }
+        self.skip(1);
+        Some(self.scan_behind_colon(indent + 1))
+    }
+
+    /// Takes the task list item marker here, behind up to three columns, and answers whether it is
+    /// checked: `[`, white space without line ends, `x` or `X`, and `]`. White space must follow, and
+    /// isn't taken. Else the answer is `None`, and nothing is taken. GFM 5.3.
+    #[tactic(auto, unfolding(crate::specs::Markers::task_of))]
+    pub fn scan_task_list_marker(&mut self) -> Option<bool>
+        ensures { MatchOption (task_of self.old) ((result ≡ None) × (self.new ≡ self.old)) (λ task. (result ≡ Some task.0) × (self.new ≡ task.1)) }
+    {
+        let mut next = self.copy();
+        let _ = next.scan_space_upto(3);
+        let checked = next.task_box()?;
+        next.skip(3);
+        *self = next;
+        Some(checked)
+    }
+
+    // The same place.
+    fn copy(&self) -> LineStart<'a>
+        ensures { result ≡ self.now }
+    {
+        LineStart {
+            bytes: self.bytes,
+            at: self.at,
+            tab_start: self.tab_start,
+            owed: self.owed,
+        }
+    }
+
+    // Takes bytes where no column is owed.
+    fn skip(&mut self, count: usize)
+        requires within { count ≤ length self.old.left }
+        requires none_owed { self.old.owed ≡ 0 }
+        ensures { self.new ≡ past_bytes count self.old }
+    {
+        self.at += count;
+    }
+
+    // The list marker here, where no column is owed: its width, its byte and its number.
+    fn list_marker(&self) -> Option<(usize, u8, u64)>
+        ensures value { result ≡ (if self.now.owed == 0 then list_marker self.now.left else None) }
+        ensures within { IfSome result (λ m. m.0 ≤ length self.now.left) }
+        ensures small { IfSome result (λ m. m.0 ≤ 10) }
+    {
+        if self.owed != 0 {
+            return None;
+        }
+        scan_list_marker(rest_of(self.bytes, self.at))
+    }
+
+    // Whether a thematic break is here.
+    fn is_at_rule(&self) -> bool
+        ensures { result ≡ is_some (hrule_len self.now.left) }
+    {
+        scan_hrule(rest_of(self.bytes, self.at)).is_some()
+    }
+
+    // The task list item marker here, where no column is owed.
+    fn task_box(&self) -> Option<bool>
+        ensures value { result ≡ (if self.now.owed == 0 then task_box self.now.left else None) }
+        ensures none_owed { IfSome result (λ _. self.now.owed ≡ 0) }
+        ensures long { IfSome result (λ _. 3 ≤ length self.now.left) }
+    {
+        if self.owed != 0 {
+            return None;
+        }
+        scan_task_box(rest_of(self.bytes, self.at))
+    }
+
+    // Whether only white space is left of the line.
+    fn is_blank(&self) -> bool
+        ensures { result ≡ is_some (blank_len self.now.left) }
+    {
+        scan_blank_line(rest_of(self.bytes, self.at)).is_some()
+    }
+
+    // Takes the columns before an item's content, which could begin `width` columns in, and says how
+    // many columns in it does.
+    #[tactic(auto, unfolding(crate::specs::Markers::content_indent))]
+    fn scan_content_indent(&mut self, width: usize) -> usize
+        requires { width < 2 ^ 62 }
+        ensures { let content = content_after width self.old in (result ≡ content.0) × (self.new ≡ content.1) }
+    {
+        if self.is_blank() {
+            return width;
+        }
+        let mut next = self.copy();
+        let further = next.scan_space_upto(4);
+        if further == 4 {
+            return width;
+        }
+        *self = next;
+        width + further
+    }
+
+    // Takes the columns behind an item's marker that ends `width` columns in, and says how many columns
+    // in its content begins. `None` where neither a column nor the end of the line follows it.
+    #[tactic(auto, unfolding(crate::specs::Markers::behind_marker))]
+    fn scan_behind_marker(&mut self, width: usize) -> Option<usize>
+        requires { width < 2 ^ 61 }
+        ensures { MatchOption (behind_marker width self.old) (result ≡ None) (λ content. (result ≡ Some content.0) × (self.new ≡ content.1)) }
+    {
+        let ends = self.is_at_eol();
+        if !self.scan_space(1) && !ends {
+            return None;
+        }
+        Some(self.scan_content_indent(width + 1))
+    }
+
+    // The same behind a definition's `:`, which no column need follow.
+    fn scan_behind_colon(&mut self, width: usize) -> usize
+        requires { width < 2 ^ 61 }
+        ensures { let content = behind_colon width self.old in (result ≡ content.0) × (self.new ≡ content.1) }
+    {
+        if !self.scan_space(1) {
+            return width;
+        }
+        self.scan_content_indent(width + 1)
+    }
+
     // Takes one column, if there is one.
     fn take_column(&mut self) -> bool
         ensures { MatchOption (next_column self.old) ((result ≡ false) × (self.new ≡ self.old)) (λ next. (result ≡ true) × (self.new ≡ next)) }
@@ -133,4 +325,19 @@ impl<'a> LineStart<'a> {
             _ => false,
         }
     }
+}
+
+/// The list marker that `bytes` begins with, a line's start: how many bytes it has, its byte (`.` or `)`
+/// behind digits), its number (0 for a bullet), and the columns that a line needs to go on with the item.
+/// A thematic break is one too, where it reads as a marker. Else `None`. CommonMark 5.2.
+#[tactic(auto, unfolding(crate::specs::Markers::listitem))]
+pub fn scan_listitem(bytes: &[u8]) -> Option<(usize, u8, u64, usize)>
+    ensures value { result ≡ listitem bytes.now }
+    ensures within { IfSome result (λ item. item.0 ≤ length bytes.now) }
+{
+    let (width, byte, number) = scan_list_marker(bytes)?;
+    let mut line = LineStart::new(bytes);
+    line.skip(width);
+    let indent = line.scan_behind_marker(width)?;
+    Some((width, byte, number, indent))
 }
