@@ -3,4 +3,5 @@ pub mod LeafFacts
 pub mod LineFacts
 pub mod MarkerFacts
 pub mod PlaceFacts
+pub mod TableFacts
 pub mod HeadingFacts

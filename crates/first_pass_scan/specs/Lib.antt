@@ -3,3 +3,4 @@ pub mod Rest
 pub mod Places
 pub mod LeafLines
 pub mod Markers
+pub mod TableHead

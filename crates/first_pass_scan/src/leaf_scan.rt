@@ -41,7 +41,7 @@ pub fn scan_hrule(bytes: &[u8]) -> Option<usize>
 }
 
 // How many of the byte stand first.
-fn scan_run(bytes: &[u8], byte: u8) -> usize
+pub(crate) fn scan_run(bytes: &[u8], byte: u8) -> usize
     ensures value { result ≡ run_len byte bytes.now }
     ensures within { result ≤ length bytes.now }
 {
@@ -114,7 +114,7 @@ pub fn scan_code_fence(bytes: &[u8]) -> Option<(usize, u8)>
 }
 
 // How many spaces and tabs stand first.
-fn scan_blanks(bytes: &[u8]) -> usize
+pub(crate) fn scan_blanks(bytes: &[u8]) -> usize
     ensures value { result ≡ prefix_len is_blank bytes.now }
     ensures within { result ≤ length bytes.now }
 {

@@ -7,6 +7,7 @@ pub mod line_start;
 pub mod lines;
 mod markers;
 pub mod places;
+pub mod table_scan;
 
 #[cfg(test)]
 mod tests {
