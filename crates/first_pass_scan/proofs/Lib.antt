@@ -3,5 +3,6 @@ pub mod LeafFacts
 pub mod LineFacts
 pub mod MarkerFacts
 pub mod PlaceFacts
+pub mod RuleFacts
 pub mod TableFacts
 pub mod HeadingFacts

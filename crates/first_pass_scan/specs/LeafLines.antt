@@ -1,5 +1,5 @@
 -- Lines that open or close a leaf block: thematic breaks, setext heading underlines, code fences and metadata; and how far the first columns of a line go.
-use Rattle.std.specs.Prelude.{◌≡◌, ℕ, ◌+◌, ◌-◌, ◌%◌, ◌≤◌, ◌==◌, ◌&&◌, ◌||◌, not, nat_eq, Bool, true, nat_le, List, [], ◌∷◌, length, take, drop, Option, Some, None, is_some, count_by, if◌then◌else◌}
+use Rattle.std.specs.Prelude.{◌≡◌, ◌<◌, ◌≤◌, ℕ, ◌+◌, ◌-◌, ◌%◌, ◌==◌, ◌&&◌, ◌||◌, not, nat_eq, Bool, true, nat_le, List, [], ◌∷◌, length, take, drop, Option, Some, None, is_some, count_by, if◌then◌else◌}
 use Rattle.std.specs.Option.{option_map}
 use Rattle.std.specs.List.{prefix_len, take_while, list_any, list_all, starts_with}
 use Rattle.first_pass_items.specs.declared.item.HeadingLevel.{HeadingLevel}
@@ -34,6 +34,10 @@ rule_len c bs =
 unfoldable pub hrule_len : List ℕ → Option ℕ
 hrule_len [] = None
 hrule_len (b ∷ bs) = if is_rule_byte b then rule_len b (b ∷ bs) else None
+
+-- no thematic break begins in the bytes at a place, nor at those behind it before another (CommonMark 4.1)
+pub record HasNoRule (bs : List ℕ) (low : ℕ) (high : ℕ) : Type 0 where
+  pub none : (k : ℕ) → low ≤ k → k < high → hrule_len (drop k bs) ≡ None
 
 -- how many bytes an underline of the byte c has, its end too: a run of that byte, then white space alone (CommonMark 4.3)
 abbrev pub underline_len : ℕ → List ℕ → Option ℕ

@@ -3,7 +3,7 @@
 
 ghost use Rattle.std.specs.List.{prefix_len, list_any};
 ghost use Rattle.std.specs.Prelude.{◌≡◌, ◌≤◌, ◌==◌, true, length, IfSome};
-ghost use Rattle.first_pass_scan.specs.LeafLines.{is_blank, run_len, in_rule, hrule_len, underline_len, setext_underline, has_backquote as holds_backquote, code_fence, closing_fence_len, closing_marks, closing_metadata_len, any_line_closes, opens_metadata as metadata_opens, metadata_byte, blank_columns, IsLongestIndent};
+ghost use Rattle.first_pass_scan.specs.LeafLines.{is_blank, run_len, in_rule, hrule_len, HasNoRule, underline_len, setext_underline, has_backquote as holds_backquote, code_fence, closing_fence_len, closing_marks, closing_metadata_len, any_line_closes, opens_metadata as metadata_opens, metadata_byte, blank_columns, IsLongestIndent};
 
 use crate::lines::{content_len, scan_blank_line, scan_eol, scan_nextline};
 use crate::places::{next_line, rest_of};
@@ -38,6 +38,19 @@ pub fn scan_hrule(bytes: &[u8]) -> Option<usize>
     }
     let end = scan_eol(&bytes[content..])?;
     Some(content + end)
+}
+
+// How many bytes `bytes` begins with at which no thematic break begins, where none begins at the first:
+// its first byte, spaces and tabs.
+pub(crate) fn scan_rule_free(bytes: &[u8]) -> usize
+    requires { hrule_len bytes.now ≡ None }
+    ensures none { HasNoRule bytes.now 0 result }
+    ensures within { result ≤ length bytes.now }
+{
+    match bytes {
+        [] => 0,
+        [byte, ..] => scan_rule_content(bytes, *byte),
+    }
 }
 
 // How many of the byte stand first.

@@ -7,7 +7,7 @@ ghost use Rattle.first_pass_scan.specs.Rest.{next_column, after_columns, indent,
 ghost use Rattle.first_pass_scan.specs.Places.{line_rest};
 ghost use Rattle.first_pass_scan.specs.Markers.{list_marker, content_indent as content_after, behind_marker, behind_colon, item_of, listitem, definition_of, task_box, task_of, past_tag};
 
-use crate::leaf_scan::scan_hrule;
+use crate::leaf_scan::{scan_hrule, scan_rule_free};
 use crate::lines::scan_blank_line;
 use crate::markers::{scan_list_marker, scan_tag_line, scan_task_box};
 use crate::places::rest_of;
@@ -22,11 +22,14 @@ pub struct LineStart<'a> {
     at: usize,
     tab_start: usize,
     owed: usize,
+    // No thematic break begins from `at` up to here.
+    rule_free: usize,
 }
 
 impl<'a> Model for LineStart<'a> {
     ghost use Rattle.std.specs.Prelude.{drop, ◌-◌, ◌≤◌, length};
     ghost use Rattle.first_pass_scan.specs.Rest.{Rest};
+    ghost use Rattle.first_pass_scan.specs.LeafLines.{HasNoRule};
 
     ghost Value = { Rest };
 
@@ -37,7 +40,7 @@ impl<'a> Model for LineStart<'a> {
       column = s.at - s.tab_start;
     } };
 
-    ghost invariant = { λ s. (s.at ≤ length s.bytes.now) × (s.tab_start ≤ s.at) × (s.owed ≤ 3) };
+    ghost invariant = { λ s. (s.at ≤ length s.bytes.now) × (s.tab_start ≤ s.at) × (s.owed ≤ 3) × HasNoRule s.bytes.now s.at s.rule_free };
 }
 
 impl Drop for LineStart<'_> {
@@ -47,6 +50,7 @@ impl Drop for LineStart<'_> {
             at: _,
             tab_start: _,
             owed: _,
+            rule_free: _,
         } = self;
     }
 }
@@ -61,6 +65,7 @@ impl<'a> LineStart<'a> {
             at: 0,
             tab_start: 0,
             owed: 0,
+            rule_free: 0,
         }
     }
 
@@ -209,6 +214,7 @@ impl<'a> LineStart<'a> {
             at: self.at,
             tab_start: self.tab_start,
             owed: self.owed,
+            rule_free: self.rule_free,
         }
     }
 
@@ -233,11 +239,20 @@ impl<'a> LineStart<'a> {
         scan_list_marker(rest_of(self.bytes, self.at))
     }
 
-    // Whether a thematic break is here.
-    fn is_at_rule(&self) -> bool
-        ensures { result ≡ is_some (hrule_len self.now.left) }
+    // Whether a thematic break is here. Where markers follow one another, a byte is looked at once.
+    fn is_at_rule(&mut self) -> bool
+        ensures value { result ≡ is_some (hrule_len self.old.left) }
+        ensures same { self.new ≡ self.old }
     {
-        scan_hrule(rest_of(self.bytes, self.at)).is_some()
+        if self.at < self.rule_free {
+            return false;
+        }
+        let rest = rest_of(self.bytes, self.at);
+        if scan_hrule(rest).is_some() {
+            return true;
+        }
+        self.rule_free = self.at + scan_rule_free(rest);
+        false
     }
 
     // The task list item marker here, where no column is owed.
