@@ -2,6 +2,7 @@ pub mod Columns
 pub mod LeafFacts
 pub mod LineFacts
 pub mod MarkerFacts
+pub mod MarkerPlaces
 pub mod PlaceFacts
 pub mod RuleFacts
 pub mod TableFacts

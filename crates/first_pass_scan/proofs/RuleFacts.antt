@@ -1,12 +1,11 @@
 -- Facts on thematic breaks: where one can't begin, as none begins before.
-use Rattle.std.proofs.Common.{◌≡◌, ℕ, zero, suc, ◌+◌, ◌-◌, ◌<◌, ◌≤◌, Bool, true, false, ◌==◌, nat_le, List, [], ◌∷◌, length, get_or, take, drop, count_by, Option, Some, None, refl, sym, ap, ◌∙◌, arith, add-one, drop-drop, if◌then◌else◌}
+use Rattle.std.proofs.Common.{◌≡◌, ℕ, zero, suc, ◌+◌, ◌-◌, ◌<◌, ◌≤◌, Bool, true, false, ◌==◌, nat_le, List, [], ◌∷◌, length, get_or, take, drop, count_by, Option, Some, None, refl, sym, ap, ◌∙◌, arith, drop-drop, if◌then◌else◌}
 use Rattle.std.specs.Option.{option_map}
 use Rattle.std.specs.List.{prefix_len}
-use Rattle.std.proofs.lemmas.Bool.{eqb-true}
 use Rattle.std.proofs.lemmas.Bool.Decides.{nat_tests}
 use Rattle.std.proofs.lemmas.List.Sums.{sum_by-cons}
 use Rattle.first_pass_scan.specs.Lines.{eol_len}
-use Rattle.first_pass_scan.specs.LeafLines.{is_blank, is_rule_byte, in_rule, rule_len, hrule_len, HasNoRule}
+use Rattle.first_pass_scan.specs.LeafLines.{is_rule_byte, in_rule, rule_len, hrule_len, HasNoRule}
 
 shorter : (x y m n : ℕ) (o : Option ℕ) → x ≤ y → (if nat_le 3 y then option_map (λ k. n + k) o else None) ≡ None → (if nat_le 3 x then option_map (λ k. m + k) o else None) ≡ None
 shorter x y m n None h e = grind (arith, nat_tests)

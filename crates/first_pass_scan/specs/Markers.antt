@@ -63,7 +63,7 @@ item_by outer r (Some m) =
 unfoldable pub item_of : ℕ → Rest → Option ((ℕ × ℕ × ℕ) × Rest)
 item_of outer r = if (r.owed == 0) && not (is_some (hrule_len r.left)) then item_by outer r (list_marker r.left) else None
 
--- the list marker that begins a line, with the indent of its item: the marker's width, its byte, its number and the indent (CommonMark 5.2)
+-- the same for a marker that a line begins with, its width first (CommonMark 5.2)
 abbrev pub listitem_by : List ℕ → Option (ℕ × ℕ × ℕ) → Option (ℕ × ℕ × ℕ × ℕ)
 listitem_by bs None = None
 listitem_by bs (Some m) = option_map (λ content. (m.0, m.1, m.2, content.0)) (behind_marker m.0 (past_bytes m.0 (line_rest bs)))

@@ -1,5 +1,4 @@
-use Rattle.std.proofs.Common.{◌≡◌, ◌+◌, ◌-◌, ◌<◌, ◌≤◌, ℕ, length, get_or, ap, ◌∙◌, arith}
-use Rattle.first_pass_scan.specs.LeafLines.{blank_columns}
+use Rattle.std.proofs.Common.{arith}
 use Rattle.first_pass_scan.proofs.LeafFacts.{front-longest}
 use Rattle.first_pass_scan.proofs.leaf_scan.calc_indent.Goals as goal
 use Rattle.first_pass_scan.proofs.leaf_scan.calc_indent.Goals.{then-width-eq0-via-then-width-eq0, then-width-eq0-via-else-width-eq0+then-max-columns}

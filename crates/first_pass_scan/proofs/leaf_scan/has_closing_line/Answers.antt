@@ -1,5 +1,5 @@
-use Rattle.std.proofs.Common.{◌≡◌, Bool, true, false, drop, is_some, sym, ap, ◌∙◌, arith}
-use Rattle.first_pass_scan.specs.LeafLines.{closes_metadata, closing_metadata_len}
+use Rattle.std.proofs.Common.{◌≡◌, true, drop, sym, ◌∙◌, arith}
+use Rattle.first_pass_scan.specs.LeafLines.{closes_metadata}
 use Rattle.first_pass_scan.proofs.LineFacts.{lines_at-line, lines_at-end}
 use Rattle.first_pass_scan.proofs.LeafFacts.{any_line-first, any_line-none}
 use Rattle.first_pass_scan.proofs.leaf_scan.has_closing_line.Goals as goal

@@ -1,4 +1,4 @@
-use Rattle.std.proofs.Common.{◌≡◌, ℕ, ◌+◌, List, ◌∷◌, [], ◌++◌, Option, Some, None, length, take, drop, sym, ap, ◌∙◌, arith, rules}
+use Rattle.std.proofs.Common.{◌≡◌, ℕ, ◌+◌, List, ◌∷◌, [], ◌++◌, Some, None, take, drop, sym, ap, ◌∙◌, arith}
 use Rattle.first_pass_items.specs.declared.item.Alignment.{Alignment}
 use Rattle.first_pass_scan.specs.TableHead.{delimiter_cell, delimiter_cells}
 use Rattle.first_pass_scan.proofs.TableFacts.{found_before, found-none, found-more, found-last, cells-refused}

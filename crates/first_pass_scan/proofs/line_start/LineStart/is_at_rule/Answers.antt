@@ -1,4 +1,4 @@
-use Rattle.std.proofs.Common.{◌≡◌, ℕ, List, drop, subst, arith}
+use Rattle.std.proofs.Common.{ℕ, List, drop, subst, arith}
 use Rattle.first_pass_scan.specs.LeafLines.{HasNoRule}
 use Rattle.first_pass_scan.proofs.RuleFacts.{none_further}
 use Rattle.first_pass_scan.proofs.line_start.LineStart.is_at_rule.Goals as goal

@@ -1,6 +1,4 @@
-use Rattle.std.proofs.Common.{◌≡◌, ℕ}
-use Rattle.first_pass_scan.specs.Lines.{blank_len}
-use Rattle.first_pass_scan.specs.Rest.{Rest, after_columns}
+use Rattle.first_pass_scan.specs.Rest.{Rest}
 use Rattle.first_pass_scan.proofs.MarkerFacts.{content_indent-few}
 use Rattle.first_pass_scan.proofs.line_start.LineStart.scan_content_indent.Goals as goal
 

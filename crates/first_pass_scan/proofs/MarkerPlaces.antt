@@ -1,0 +1,289 @@
+-- Facts on what markers take of a line: bytes of its content, the last of them ASCII, and columns.
+use Rattle.std.proofs.Common.{◌≡◌, inl, inr, ℕ, zero, suc, ◌+◌, ◌-◌, ◌<◌, ◌≤◌, nat_le, Bool, true, false, ◌==◌, ◌&&◌, ◌||◌, not, List, [], ◌∷◌, length, map, take, drop, get_or, slice_index, Option, Some, None, is_some, IsUtf8, refl, sym, ap, subst, ◌∙◌, arith, length-drop, get_or-drop, if◌then◌else◌}
+use Rattle.std.specs.Option.{option_map}
+use Rattle.std.specs.List.{prefix_len, list_all}
+use Rattle.std.specs.Char.{to_ascii_lowercase}
+use Rattle.std.specs.Str.{str_eq_ignore_ascii_case}
+use Rattle.std.specs.Cmp.Lexicographic.{same_text}
+use Rattle.std.proofs.lemmas.List.{get_or_past, get_or-take, length-take-le}
+use Rattle.std.proofs.lemmas.List.Sums.{prefix_len_passes, prefix_len_stops, prefix_len-le-length}
+use Rattle.std.proofs.lemmas.Bool.{cases_lt, eqb-true, leb-true, and_parts, both_ways, false≢true}
+use Rattle.std.proofs.lemmas.Bool.Decides.{nat_tests}
+use Rattle.std.proofs.lemmas.Option.{cond_some, none-some, same_Some}
+use Rattle.first_pass_items.specs.declared.item.BlockQuoteKind.{BlockQuoteKind}
+use Rattle.first_pass_items.specs.declared.item.BlockQuoteKind.TheVariants.{Note, Tip, Important, Warning, Caution}
+use Rattle.first_pass_scan.specs.Lines.{is_content, is_white, begins, blank_len, line_len, at_line_end}
+use Rattle.first_pass_scan.specs.Rest.{Rest, past_byte, past_bytes, past_quote, past_quote_byte, after_columns, indent}
+use Rattle.first_pass_scan.specs.Places.{place_at, line_rest, line_end, content_end, moved_bytes, IsPlaceOf}
+use Rattle.first_pass_scan.specs.LeafLines.{hrule_len}
+use Rattle.first_pass_scan.specs.Markers.{is_digit, is_bullet, number_from, bullet_marker, delimited, ordered_marker, list_marker, content_indent, behind_marker, behind_colon, item_by, item_of, definition_of, is_checked, is_ascii_white, task_box, task_of, tag_of, has_tag, tag_kind, tag_line_of, tag_line, past_tag}
+use Rattle.first_pass_scan.proofs.PlaceFacts.{ascii_keeps, columns_keep, bytes_line_end, bytes_content_end, columns_line_end, columns_content_end}
+use Rattle.first_pass_scan.proofs.LineFacts.{line_len-blank}
+
+-- a marker of some bytes and the columns behind it lie between the first rest and the second
+pub record IsMarked (r : Rest) (s : Rest) : Type 0 where
+  pub width : ℕ
+  pub first : ℕ
+  pub further : ℕ
+  pub some : 0 < width
+  pub within : width ≤ prefix_len is_content r.left
+  pub ascii : slice_index r.left (width - 1) < 128
+  pub none_owed : r.owed ≡ 0
+  pub same : s ≡ after_columns further (after_columns first (past_bytes width r))
+
+-- bytes that are content, as many as there are
+content_front : (bs : List ℕ) (n : ℕ) → n ≤ length bs → ((k : ℕ) → k < n → is_content (get_or bs k 0) ≡ true) → n ≤ prefix_len is_content bs
+content_front bs n l f =
+    elim (cases_lt (prefix_len is_content bs) n) as (λ _. n ≤ prefix_len is_content bs) [
+      | inl less ↦ absurd (both_ways _ (prefix_len_stops is_content bs 0 (omega arith)) (f (prefix_len is_content bs) less))
+      | inr more ↦ more
+    ]
+
+within_by : (bs : List ℕ) (k : ℕ) → 0 < get_or bs k 0 → k < length bs
+within_by bs k h = elim (cases_lt k (length bs)) as (λ _. k < length bs) [ inl less ↦ less | inr past ↦ absurd (omega (arith, get_or_past bs k 0 past)) ]
+
+pub marked-keeps : (text : List ℕ) (line : ℕ) (r s : Rest) → IsUtf8 text → IsMarked r s → IsPlaceOf text (place_at line r) → IsPlaceOf text (place_at line s)
+marked-keeps text line r s u m i =
+    let fits = prefix_len-le-length is_content r.left in
+    let some = m.some in
+    let within = m.within in
+    let w : m.width - 1 + 1 ≡ m.width = omega arith in
+    let a : IsPlaceOf text (moved_bytes (m.width - 1 + 1) (place_at line r)) = ascii_keeps text (place_at line r) (m.width - 1) u i (omega arith) m.ascii in
+    let b : IsPlaceOf text (place_at line (past_bytes m.width r)) = subst (λ (n : ℕ). IsPlaceOf text (moved_bytes n (place_at line r))) w a in
+    subst (λ (q : Rest). IsPlaceOf text (place_at line q)) (sym m.same) (columns_keep text m.further _ u (columns_keep text m.first _ u b))
+
+pub marked-line_end : (line : ℕ) (r s : Rest) → IsMarked r s → line_end (place_at line s) ≡ line_end (place_at line r)
+marked-line_end line r s m =
+    ap (λ (q : Rest). line_end (place_at line q)) m.same ∙ columns_line_end m.further (place_at line (after_columns m.first (past_bytes m.width r))) ∙ columns_line_end m.first (place_at line (past_bytes m.width r)) ∙ bytes_line_end m.width (place_at line r) m.within
+
+pub marked-content_end : (line : ℕ) (r s : Rest) → IsMarked r s → content_end (place_at line s) ≡ content_end (place_at line r)
+marked-content_end line r s m =
+    ap (λ (q : Rest). content_end (place_at line q)) m.same ∙ columns_content_end m.further (place_at line (after_columns m.first (past_bytes m.width r))) ∙ columns_content_end m.first (place_at line (past_bytes m.width r)) ∙ bytes_content_end m.width (place_at line r) m.within
+
+-- so many bytes are content of the line, and the last of them is ASCII
+pub record IsFrontOf (bs : List ℕ) (n : ℕ) : Type 0 where
+  pub some : 0 < n
+  pub within : n ≤ prefix_len is_content bs
+  pub ascii : slice_index bs (n - 1) < 128
+
+marked_by : (r s : Rest) (n j k : ℕ) → IsFrontOf r.left n → r.owed ≡ 0 → s ≡ after_columns k (after_columns j (past_bytes n r)) → IsMarked r s
+marked_by r s n j k f o e = record { width = n; first = j; further = k; some = f.some; within = f.within; ascii = f.ascii; none_owed = o; same = e }
+
+when_some : {A : Type 0} (t : Bool) (o : Option A) (x : A) → (if t then o else None) ≡ Some x → (t ≡ true) × (o ≡ Some x)
+when_some true o x h = (refl, h)
+when_some false o x h = absurd (none-some x h)
+
+mapped : {A B : Type 0} (f : A → B) (o : Option A) (y : B) → option_map f o ≡ Some y → (x : A) × (o ≡ Some x) × (f x ≡ y)
+mapped f None y h = absurd (none-some y h)
+mapped f (Some x) y h = (x, refl, same_Some (f x) y h)
+
+-- the byte that these begin with
+first_front : (c : ℕ) (bs : List ℕ) → c < 128 → is_content c ≡ true → begins c bs ≡ true → IsFrontOf bs 1
+first_front c [] l e h = absurd (false≢true h)
+first_front c (b ∷ bs) l e h =
+    let same : b ≡ c = eqb-true b c h in
+    let content : is_content b ≡ true = ap is_content same ∙ e in
+    record { some = omega arith; within = rw content (omega arith); ascii = omega arith }
+
+-- the block quote marker
+one_byte : (r : Rest) (b : ℕ) (bs : List ℕ) → b ∷ bs ≡ r.left → past_byte r bs ≡ past_bytes 1 r
+one_byte r b bs e = rw (← e) refl
+
+quote_by : (r s : Rest) (bs : List ℕ) → bs ≡ r.left → r.owed ≡ 0 → past_quote_byte r bs ≡ Some s → IsMarked r (after_columns 1 s)
+quote_by r s [] e o h = absurd (none-some s h)
+quote_by r s (b ∷ bs) e o h =
+    let parts = cond_some (b == 62) (past_byte r bs) s h in
+    let front : IsFrontOf r.left 1 = first_front 62 r.left (omega arith) refl (ap (begins 62) (sym e) ∙ parts.0) in
+    marked_by r (after_columns 1 s) 1 1 0 front o (ap (after_columns 1) (sym parts.1 ∙ one_byte r b bs e))
+
+pub quote-marked : (r s : Rest) → past_quote r ≡ Some s → IsMarked r (after_columns 1 s)
+quote-marked r s h = let p = when_some (r.owed == 0) (past_quote_byte r r.left) s h in quote_by r s r.left refl (eqb-true r.owed 0 p.0) p.1
+
+-- list markers
+bullet_front : (bs : List ℕ) (m : ℕ × ℕ × ℕ) → bullet_marker bs ≡ Some m → IsFrontOf bs m.0
+bullet_front [] m h = absurd (none-some m h)
+bullet_front (b ∷ bs) m h =
+    let p = cond_some (is_bullet b) (1, b, 0) m h in
+    let w : m.0 ≡ 1 = sym (ap (λ (x : ℕ × ℕ × ℕ). x.0) p.1) in
+    let content : is_content b ≡ true = grind (arith, nat_tests, p.0) in
+    let small : b < 128 = grind (arith, nat_tests, p.0) in
+    rw w (record { some = omega arith; within = rw content (omega arith); ascii = small })
+
+digit_content : (b : ℕ) → is_digit b ≡ true → is_content b ≡ true
+digit_content b h = grind (arith, nat_tests, h)
+
+each_content : (bs : List ℕ) (n k d : ℕ) → n ≡ prefix_len is_digit bs → get_or bs n 0 ≡ d → is_content d ≡ true → k < n + 1 → is_content (get_or bs k 0) ≡ true
+each_content bs n k d e at c h =
+    elim (cases_lt k n) as (λ _. is_content (get_or bs k 0) ≡ true) [
+      | inl less ↦ digit_content (get_or bs k 0) (prefix_len_passes is_digit bs k 0 (omega arith))
+      | inr more ↦ let same : k ≡ n = omega arith in ap (λ j. is_content (get_or bs j 0)) same ∙ ap is_content at ∙ c
+    ]
+
+delimited_front : (bs : List ℕ) (n number : ℕ) (rest : List ℕ) (m : ℕ × ℕ × ℕ) → rest ≡ drop n bs → n ≡ prefix_len is_digit bs → delimited n number rest ≡ Some m → IsFrontOf bs m.0
+delimited_front bs n number [] m e same h = absurd (none-some m h)
+delimited_front bs n number (d ∷ ds) m e same h =
+    let p = cond_some ((d == 46) || (d == 41)) (n + 1, d, number) m h in
+    let w : m.0 ≡ n + 1 = sym (ap (λ (x : ℕ × ℕ × ℕ). x.0) p.1) in
+    let content : is_content d ≡ true = grind (arith, nat_tests, p.0) in
+    let small : d < 128 = grind (arith, nat_tests, p.0) in
+    let z : n + 0 ≡ n = omega arith in
+    let at : get_or bs n 0 ≡ d = sym (ap (λ j. get_or bs j 0) z) ∙ sym (get_or-drop n bs 0 0) ∙ sym (ap (λ xs. get_or xs 0 0) e) in
+    let l : suc (length ds) ≡ length bs - n = ap length e ∙ length-drop n bs in
+    let last : n + 1 - 1 ≡ n = omega arith in
+    rw w (record {
+      some = omega arith;
+      within = content_front bs (n + 1) (omega arith) (λ k g. each_content bs n k d same at content g);
+      ascii = rw last (rw at small);
+    })
+
+ordered_front : (bs : List ℕ) (m : ℕ × ℕ × ℕ) → ordered_marker bs ≡ Some m → IsFrontOf bs m.0
+ordered_front bs m h =
+    let n : ℕ = prefix_len is_digit bs in
+    let p = when_some (nat_le 1 n && nat_le n 9) (delimited n (number_from 0 (take n bs)) (drop n bs)) m h in
+    delimited_front bs n (number_from 0 (take n bs)) (drop n bs) m refl refl p.1
+
+either_front : (t : Bool) (bs : List ℕ) (m : ℕ × ℕ × ℕ) → (if t then bullet_marker bs else ordered_marker bs) ≡ Some m → IsFrontOf bs m.0
+either_front true bs m h = bullet_front bs m h
+either_front false bs m h = ordered_front bs m h
+
+marker_front : (bs : List ℕ) (m : ℕ × ℕ × ℕ) → list_marker bs ≡ Some m → IsFrontOf bs m.0
+unfolding list_marker
+marker_front bs m h = either_front (is_some (bullet_marker bs)) bs m h
+
+content_by : (t u : Bool) (n : ℕ) (s : Rest) → let c : ℕ × Rest = if t then (n, s) else (if u then (n, s) else (n + indent s, after_columns (indent s) s)) in (k : ℕ) × (c.1 ≡ after_columns k s)
+content_by true u n s = (0, refl)
+content_by false true n s = (0, refl)
+content_by false false n s = (indent s, refl)
+
+content_columns : (n : ℕ) (s : Rest) → (k : ℕ) × ((content_indent n s).1 ≡ after_columns k s)
+unfolding content_indent
+content_columns n s = content_by (is_some (blank_len s.left)) (nat_le 4 (indent s)) n s
+
+behind_columns : (n : ℕ) (q : Rest) (content : ℕ × Rest) → behind_marker n q ≡ Some content → (k : ℕ) × (content.1 ≡ after_columns k (after_columns 1 q))
+unfolding behind_marker
+behind_columns n q content h =
+    let p = cond_some (nat_le 1 (indent q) || at_line_end q.left) (content_indent (n + 1) (after_columns 1 q)) content h in
+    let k = content_columns (n + 1) (after_columns 1 q) in
+    (k.0, sym (ap (λ (x : ℕ × Rest). x.1) p.1) ∙ k.1)
+
+item_marked : (outer : ℕ) (r : Rest) (o : Option (ℕ × ℕ × ℕ)) (item : (ℕ × ℕ × ℕ) × Rest) → list_marker r.left ≡ o → r.owed ≡ 0 → item_by outer r o ≡ Some item → IsMarked r item.1
+item_marked outer r None item e o h = absurd (none-some item h)
+item_marked outer r (Some m) item e o h =
+    let parts = mapped _ (behind_marker (outer + m.0) (past_bytes m.0 r)) item h in
+    let k = behind_columns (outer + m.0) (past_bytes m.0 r) parts.0 parts.1 in
+    marked_by r item.1 m.0 1 k.0 (marker_front r.left m e) o (sym (ap (λ (x : (ℕ × ℕ × ℕ) × Rest). x.1) parts.2) ∙ k.1)
+
+pub item-marked : (outer : ℕ) (r : Rest) (item : (ℕ × ℕ × ℕ) × Rest) → item_of outer r ≡ Some item → IsMarked r item.1
+unfolding item_of
+item-marked outer r item h =
+    let p = when_some ((r.owed == 0) && not (is_some (hrule_len r.left))) (item_by outer r (list_marker r.left)) item h in
+    item_marked outer r (list_marker r.left) item refl (eqb-true r.owed 0 ((and_parts _ _ p.0).0)) p.1
+
+-- the marker of a definition
+colon_by : (t : Bool) (n : ℕ) (q : Rest) → let c : ℕ × Rest = if t then content_indent (n + 1) (after_columns 1 q) else (n, q) in (j : ℕ) × (k : ℕ) × (c.1 ≡ after_columns k (after_columns j q))
+colon_by true n q = let k = content_columns (n + 1) (after_columns 1 q) in (1, k.0, k.1)
+colon_by false n q = (0, 0, refl)
+
+pub definition-marked : (outer : ℕ) (r : Rest) (definition : ℕ × Rest) → definition_of outer r ≡ Some definition → IsMarked r definition.1
+unfolding definition_of
+definition-marked outer r definition h =
+    let q : Rest = past_bytes 1 r in
+    let p = cond_some ((r.owed == 0) && begins 58 r.left) (behind_colon (outer + 1) q) definition h in
+    let a = and_parts (r.owed == 0) (begins 58 r.left) p.0 in
+    let c = colon_by (nat_le 1 (indent q)) (outer + 1) q in
+    marked_by r definition.1 1 c.0 c.1 (first_front 58 r.left (omega arith) refl a.1) (eqb-true r.owed 0 a.0) (sym (ap (λ (x : ℕ × Rest). x.1) p.1) ∙ c.2)
+
+-- the marker of a task
+mark_content : (b : ℕ) → (is_white b || is_checked b) ≡ true → is_content b ≡ true
+mark_content b h = grind (arith, nat_tests, h)
+
+three_content : (bs : List ℕ) → is_content (get_or bs 0 0) ≡ true → is_content (get_or bs 1 0) ≡ true → is_content (get_or bs 2 0) ≡ true → (k : ℕ) → k < 3 → is_content (get_or bs k 0) ≡ true
+three_content bs a b c zero h = a
+three_content bs a b c (suc zero) h = b
+three_content bs a b c (suc (suc zero)) h = c
+three_content bs a b c (suc (suc (suc k))) h = absurd (omega arith)
+
+box_front : (bs : List ℕ) (checked : Bool) → task_box bs ≡ Some checked → IsFrontOf bs 3
+unfolding task_box
+box_front bs checked h =
+    let mark : ℕ = slice_index bs 1 in
+    let p = cond_some ((slice_index bs 0 == 91) && (is_white mark || is_checked mark) && (slice_index bs 2 == 93) && is_ascii_white (slice_index bs 3)) (is_checked mark) checked h in
+    let three = and_parts ((slice_index bs 0 == 91) && (is_white mark || is_checked mark) && (slice_index bs 2 == 93)) (is_ascii_white (slice_index bs 3)) p.0 in
+    let two = and_parts ((slice_index bs 0 == 91) && (is_white mark || is_checked mark)) (slice_index bs 2 == 93) three.0 in
+    let one = and_parts (slice_index bs 0 == 91) (is_white mark || is_checked mark) two.0 in
+    let front : slice_index bs 0 ≡ 91 = eqb-true (slice_index bs 0) 91 one.0 in
+    let last : slice_index bs 2 ≡ 93 = eqb-true (slice_index bs 2) 93 two.1 in
+    let l : 2 < length bs = within_by bs 2 (omega arith) in
+    record {
+      some = omega arith;
+      within = content_front bs 3 (omega arith) (three_content bs (ap is_content front) (mark_content mark one.1) (ap is_content last));
+      ascii = omega arith;
+    }
+
+pub task-marked : (r : Rest) (task : Bool × Rest) → task_of r ≡ Some task → IsMarked (after_columns 3 r) task.1
+unfolding task_of
+task-marked r task h =
+    let box : Rest = after_columns 3 r in
+    let p = when_some (box.owed == 0) (option_map (λ (checked : Bool). (checked, past_bytes 3 box)) (task_box box.left)) task h in
+    let parts = mapped (λ (checked : Bool). (checked, past_bytes 3 box)) (task_box box.left) task p.1 in
+    marked_by box task.1 3 0 0 (box_front box.left parts.0 parts.1) (eqb-true box.owed 0 p.0) (sym (ap (λ (x : Bool × Rest). x.1) parts.2))
+
+-- the tag of a block quote goes to the end of its line
+lower_content : (b : ℕ) → is_content (to_ascii_lowercase b) ≡ true → is_content b ≡ true
+lower_content b h = grind (arith, nat_tests, h)
+
+all_content : (xs : List ℕ) (k : ℕ) → list_all is_content (map to_ascii_lowercase xs) ≡ true → k < length xs → is_content (get_or xs k 0) ≡ true
+all_content [] k h l = absurd (omega arith)
+all_content (x ∷ xs) zero h l = lower_content x ((and_parts _ _ h).0)
+all_content (x ∷ xs) (suc k) h l = all_content xs k ((and_parts (is_content (to_ascii_lowercase x)) _ h).1) (omega arith)
+
+tag_content : (kind : BlockQuoteKind) → list_all is_content (map to_ascii_lowercase (tag_of kind)) ≡ true
+tag_content Note = refl
+tag_content Tip = refl
+tag_content Important = refl
+tag_content Warning = refl
+tag_content Caution = refl
+
+tag_front : (kind : BlockQuoteKind) (bs : List ℕ) → has_tag kind bs ≡ true → length (tag_of kind) ≤ prefix_len is_content bs
+unfolding has_tag
+tag_front kind bs h =
+    let n : ℕ = length (tag_of kind) in
+    let p = and_parts (nat_le n (length bs)) (str_eq_ignore_ascii_case (take n bs) (tag_of kind)) h in
+    let l : n ≤ length bs = leb-true n (length bs) p.0 in
+    let same : map to_ascii_lowercase (take n bs) ≡ map to_ascii_lowercase (tag_of kind) = same_text _ _ (sym p.1) in
+    let all : list_all is_content (map to_ascii_lowercase (take n bs)) ≡ true = ap (list_all is_content) same ∙ tag_content kind in
+    content_front bs n l (λ k g. sym (ap is_content (get_or-take n bs k 0 g)) ∙ all_content (take n bs) k all (omega (arith, length-take-le n bs l)))
+
+kind_by : (t : Bool) (kind found : BlockQuoteKind) (o : Option BlockQuoteKind) (bs : List ℕ) → has_tag kind bs ≡ t → (if t then Some kind else o) ≡ Some found → (o ≡ Some found → has_tag found bs ≡ true) → has_tag found bs ≡ true
+kind_by true kind found o bs e h f = let same : kind ≡ found = same_Some kind found h in subst (λ (k : BlockQuoteKind). has_tag k bs ≡ true) same e
+kind_by false kind found o bs e h f = f h
+
+kind_has_tag : (bs : List ℕ) (found : BlockQuoteKind) → tag_kind bs ≡ Some found → has_tag found bs ≡ true
+unfolding tag_kind
+kind_has_tag bs found h =
+    kind_by (has_tag Note bs) Note found _ bs refl h (λ i.
+    kind_by (has_tag Tip bs) Tip found _ bs refl i (λ j.
+    kind_by (has_tag Important bs) Important found _ bs refl j (λ k.
+    kind_by (has_tag Warning bs) Warning found _ bs refl k (λ l.
+    kind_by (has_tag Caution bs) Caution found None bs refl l (λ m. absurd (none-some found m))))))
+
+line_behind : (bs : List ℕ) (n : ℕ) → n ≤ prefix_len is_content bs → line_len bs ≡ n + line_len (drop n bs)
+line_behind bs n h = let e = bytes_line_end n (place_at 0 (line_rest bs)) h in omega arith
+
+tag_line_len : (bs : List ℕ) (o : Option BlockQuoteKind) (tag : BlockQuoteKind × ℕ) → tag_kind bs ≡ o → tag_line_of bs o ≡ Some tag → tag.1 ≡ line_len bs
+tag_line_len bs None tag e h = absurd (none-some tag h)
+tag_line_len bs (Some kind) tag e h =
+    let n : ℕ = length (tag_of kind) in
+    let parts = mapped (λ (k : ℕ). (kind, n + k)) (blank_len (drop n bs)) tag h in
+    let w : n + parts.0 ≡ tag.1 = ap (λ (x : BlockQuoteKind × ℕ). x.1) parts.2 in
+    let blank = line_len-blank (drop n bs) parts.0 parts.1 in
+    let whole = line_behind bs n (tag_front kind bs (kind_has_tag bs kind e)) in
+    omega arith
+
+pub tag-line : (r : Rest) (tag : BlockQuoteKind × Rest) → past_tag r ≡ Some tag → (r.owed ≡ 0) × (tag.1 ≡ past_bytes (line_len r.left) r)
+unfolding past_tag tag_line
+tag-line r tag h =
+    let p = when_some (r.owed == 0) (option_map (λ (t : BlockQuoteKind × ℕ). (t.0, past_bytes t.1 r)) (tag_line_of r.left (tag_kind r.left))) tag h in
+    let parts = mapped (λ (t : BlockQuoteKind × ℕ). (t.0, past_bytes t.1 r)) (tag_line_of r.left (tag_kind r.left)) tag p.1 in
+    let n = tag_line_len r.left (tag_kind r.left) parts.0 refl parts.1 in
+    (eqb-true r.owed 0 p.0, sym (ap (λ (x : BlockQuoteKind × Rest). x.1) parts.2) ∙ ap (λ k. past_bytes k r) n)
