@@ -6,3 +6,4 @@ pub use Rattle.first_pass_scan.specs.Lines
 pub use Rattle.first_pass_scan.specs.Rest
 pub use Rattle.first_pass_scan.specs.Places
 pub mod Walk
+pub mod Flank

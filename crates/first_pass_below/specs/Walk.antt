@@ -1,8 +1,10 @@
--- The bytes at which a token may begin, and the next of them.
-use Rattle.std.specs.Prelude.{◌≡◌, ℕ, ◌<◌, ◌≤◌, ◌==◌, ◌&&◌, ◌||◌, Bool, true, false, List, [], ◌∷◌, length, slice_index}
+-- The bytes at which a token may begin, the next of them, and a walk over them.
+use Rattle.std.specs.Prelude.{◌≡◌, ℕ, ◌+◌, ◌<◌, ◌≤◌, ◌==◌, ◌&&◌, ◌||◌, ◌⊎◌, Bool, true, false, List, [], ◌∷◌, length, slice_index, Option, None}
 use Rattle.std.specs.List.{slice_index_or, list_any}
 use Rattle.first_pass_items.specs.declared.option_set.Options.{Options}
 use Rattle.first_pass_items.specs.OptionWords.{has}
+use Rattle.first_pass_below.specs.declared.walk.LoopInstruction.{LoopInstruction}
+use Rattle.first_pass_below.specs.declared.walk.LoopInstruction.TheVariants.{ContinueAndSkip, BreakAtWith}
 
 -- the byte is one of these (this project)
 abbrev pub is_one_of : List ℕ → ℕ → Bool
@@ -51,3 +53,19 @@ pub record IsNextMarked (lut : List Bool) (bytes : List ℕ) (ix j : ℕ) : Type
 -- no place from ix on is marked (this project)
 abbrev pub NoneMarkedFrom : List Bool → List ℕ → ℕ → Type 0
 NoneMarkedFrom lut bytes ix = (k : ℕ) → ix ≤ k → k < length bytes → is_marked lut bytes k ≡ false
+
+-- Where step f k b i g says that the closure f, called at the place k with the byte b, may answer i and be g then:
+-- the walk from ix calls it at the next marked place, from behind what that call skips at the next one again, and so on, once for each of the skips.
+-- It ends with the length where no marked place is left, or with what the next call breaks with (this project).
+abbrev pub Walks : {F T : Type 0} → (F → ℕ → ℕ → LoopInstruction (Option T) → F → Type 0) → List Bool → List ℕ → ℕ → List ℕ → F → ℕ × Option T → F → Type 0
+Walks {F} {T} step lut bytes ix [] f answer last =
+    (NoneMarkedFrom lut bytes ix × (answer ≡ (length bytes, None)) × (last ≡ f))
+    ⊎ ((j : ℕ) × IsNextMarked lut bytes ix j × step f j (slice_index bytes j) (BreakAtWith answer.0 answer.1) last)
+Walks {F} {T} step lut bytes ix (n ∷ ns) f answer last =
+    (j : ℕ) × IsNextMarked lut bytes ix j × (g : F) × step f j (slice_index bytes j) (ContinueAndSkip n) g × Walks step lut bytes (j + n + 1) ns g answer last
+
+-- the answer of a walk from ix with the closure f: there are calls that lead to it (this project)
+pub record IsWalk {F T : Type 0} (step : F → ℕ → ℕ → LoopInstruction (Option T) → F → Type 0) (lut : List Bool) (bytes : List ℕ) (ix : ℕ) (f : F) (answer : ℕ × Option T) : Type 0 where
+  pub skips : List ℕ
+  pub last : F
+  pub walk : Walks step lut bytes ix skips f answer last

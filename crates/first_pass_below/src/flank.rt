@@ -1,4 +1,9 @@
-//! How a line is read with regard to tables, on which the reading of its tokens depends.
+//! Delimiter runs beside characters: whether they can open or close.
+
+ghost use Rattle.std.specs.Prelude.{◌≡◌, ◌<◌, ◌≤◌, length, drop, take, IsCharBoundary};
+ghost use Rattle.first_pass_below.specs.Flank as flanks;
+
+use unicode::properties::{GeneralCategory, GeneralCategoryGroup};
 
 /// How a line is read with regard to tables (GFM 4.10).
 #[derive(Clone, Copy, PartialEq, Eq)]
@@ -9,4 +14,203 @@ pub enum TableParseMode {
     Active,
     /// Any other line.
     Disabled,
+}
+
+/// A delimiter run, and what stands beside it (CommonMark 6.2).
+#[derive(Clone, Copy)]
+pub struct DelimiterRun {
+    /// The byte that the run is made of.
+    pub delimiter: u8,
+    /// Whether the run stands in a row of a table.
+    pub in_row: bool,
+    /// Whether a pipe that no backslash escapes stands before the run.
+    pub behind_pipe: bool,
+    /// The character of the content before the run; `None` at the content's beginning.
+    pub before: Option<char>,
+    /// The character of the text after the run; `None` at the text's end.
+    pub after: Option<char>,
+    /// How many bytes the run has.
+    pub size: usize,
+}
+
+/// Whether a character is Unicode punctuation: of the general category P or S. CommonMark 2.1.
+#[tactic(auto, unfolding(crate::specs::Flank::is_punctuation))]
+pub fn is_punctuation(c: char) -> bool
+    ensures value { result ≡ flanks.is_punctuation c }
+{
+    let category = GeneralCategory::for_char(c);
+    GeneralCategoryGroup::Punctuation.contains(category)
+        || GeneralCategoryGroup::Symbol.contains(category)
+}
+
+/// Whether the delimiter run of `run_len` bytes that `suffix` begins with can open, where it stands in
+/// the content `s` at the offset `ix`. `suffix` runs on behind the run to the end of the text; in a row
+/// of a table, which `mode` says, a pipe ends a cell. CommonMark 6.2, GFM 4.10 and 6.5.
+#[tactic(auto, unfolding(crate::specs::Flank::can_open))]
+pub fn delim_run_can_open(
+    s: &str,
+    suffix: &str,
+    run_len: usize,
+    ix: usize,
+    mode: TableParseMode,
+) -> bool
+    requires place { ix ≤ length s.now }
+    requires place_boundary { IsCharBoundary s.now ix }
+    requires some { 0 < run_len }
+    requires within { run_len ≤ length suffix.now }
+    requires run_boundary { IsCharBoundary suffix.now run_len }
+    ensures value { result ≡ flanks.can_open (flanks.run_beside s.now suffix.now run_len ix mode) }
+{
+    let run = run_beside(s, suffix, run_len, ix, mode);
+    let Some(after) = run.after else {
+        return false;
+    };
+    match run.before {
+        None => !after.is_whitespace(),
+        Some(before) => opens_between(&run, before, after),
+    }
+}
+
+/// Whether the delimiter run of `run_len` bytes that `suffix` begins with can close, where it stands in
+/// the content `s` at the offset `ix`. `suffix` runs on behind the run to the end of the text; in a row
+/// of a table, which `mode` says, a pipe ends a cell. CommonMark 6.2, GFM 4.10 and 6.5.
+#[tactic(auto, unfolding(crate::specs::Flank::can_close))]
+pub fn delim_run_can_close(
+    s: &str,
+    suffix: &str,
+    run_len: usize,
+    ix: usize,
+    mode: TableParseMode,
+) -> bool
+    requires place { ix ≤ length s.now }
+    requires place_boundary { IsCharBoundary s.now ix }
+    requires some { 0 < run_len }
+    requires within { run_len ≤ length suffix.now }
+    requires run_boundary { IsCharBoundary suffix.now run_len }
+    ensures value { result ≡ flanks.can_close (flanks.run_beside s.now suffix.now run_len ix mode) }
+{
+    let run = run_beside(s, suffix, run_len, ix, mode);
+    let Some(before) = run.before else {
+        return false;
+    };
+    match run.after {
+        None => !before.is_whitespace(),
+        Some(after) => closes_between(&run, before, after),
+    }
+}
+
+// The run that `suffix` begins with, and what stands beside it.
+#[tactic(auto, unfolding(crate::specs::Flank::run_beside))]
+fn run_beside(
+    s: &str,
+    suffix: &str,
+    run_len: usize,
+    ix: usize,
+    mode: TableParseMode,
+) -> DelimiterRun
+    requires place { ix ≤ length s.now }
+    requires place_boundary { IsCharBoundary s.now ix }
+    requires some { 0 < run_len }
+    requires within { run_len ≤ length suffix.now }
+    requires run_boundary { IsCharBoundary suffix.now run_len }
+    ensures { result ≡ flanks.run_beside s.now suffix.now run_len ix mode }
+{
+    DelimiterRun {
+        delimiter: suffix.as_bytes()[0],
+        in_row: is_row(mode),
+        behind_pipe: ends_with_pipe(s[..ix].as_bytes()),
+        before: last_char(&s[..ix]),
+        after: first_char(&suffix[run_len..]),
+        size: run_len,
+    }
+}
+
+// Whether the line is a row of a table.
+fn is_row(mode: TableParseMode) -> bool
+    ensures { result ≡ flanks.is_row mode }
+{
+    match mode {
+        TableParseMode::Active => true,
+        TableParseMode::Scan | TableParseMode::Disabled => false,
+    }
+}
+
+// Whether the text ends with a pipe that no backslash escapes.
+#[tactic(auto, unfolding(crate::specs::Flank::ends_with_pipe))]
+fn ends_with_pipe(text: &[u8]) -> bool
+    ensures { result ≡ flanks.ends_with_pipe text.now }
+{
+    let len = text.len();
+    if len == 0 || text[len - 1] != b'|' {
+        return false;
+    }
+    len < 2 || text[len - 2] != b'\\'
+}
+
+// The first character of a text.
+#[tactic(auto, unfolding(crate::specs::Flank::first_char))]
+fn first_char(text: &str) -> Option<char>
+    ensures { result ≡ flanks.first_char text.now }
+{
+    text.chars().next()
+}
+
+// The last character of a text.
+fn last_char(text: &str) -> Option<char>
+    ensures { result ≡ flanks.last_char text.now }
+{
+    text.chars().next_back()
+}
+
+// Whether a run between two characters can open.
+#[tactic(auto, unfolding(crate::specs::Flank::opens_between))]
+fn opens_between(run: &DelimiterRun, before: char, after: char) -> bool
+    ensures { result ≡ flanks.opens_between run.now before after }
+{
+    if after.is_whitespace() {
+        return false;
+    }
+    if run.in_row && run.behind_pipe {
+        return true;
+    }
+    if run.in_row && after == '|' {
+        return false;
+    }
+    if run.delimiter == b'*' && !is_punctuation(after) {
+        return true;
+    }
+    if run.delimiter == b'~' && run.size > 1 {
+        return true;
+    }
+    if run.delimiter == b'~' && before == '~' && !is_punctuation(after) {
+        return true;
+    }
+    if before.is_whitespace() {
+        return true;
+    }
+    is_punctuation(before) && !(run.delimiter == b'\'' && (before == ']' || before == ')'))
+}
+
+// Whether a run between two characters can close.
+#[tactic(auto, unfolding(crate::specs::Flank::closes_between))]
+fn closes_between(run: &DelimiterRun, before: char, after: char) -> bool
+    ensures { result ≡ flanks.closes_between run.now before after }
+{
+    if before.is_whitespace() {
+        return false;
+    }
+    if run.in_row && run.behind_pipe {
+        return false;
+    }
+    if run.in_row && after == '|' {
+        return true;
+    }
+    let is_intraword = run.delimiter == b'*' || run.delimiter == b'~' && run.size > 1;
+    if is_intraword && !is_punctuation(before) {
+        return true;
+    }
+    if run.delimiter == b'~' && before == '~' {
+        return true;
+    }
+    after.is_whitespace() || is_punctuation(after)
 }

@@ -1,10 +1,19 @@
 //! The walk over the bytes at which a token may begin.
 
 ghost use Rattle.std.specs.Prelude.{◌≡◌, IfSome, IfNone};
-ghost use Rattle.first_pass_below.specs.Walk.{is_special as is_special_byte, MarksSpecial, IsNextMarked, NoneMarkedFrom};
+ghost use Rattle.first_pass_below.specs.Walk.{is_special as is_special_byte, MarksSpecial, IsNextMarked, NoneMarkedFrom, IsWalk};
 
 use bitflags::Flags;
 use first_pass_items::option_set::Options;
+
+/// What a walk does after a call at a place.
+#[derive(Drop)]
+pub enum LoopInstruction<T> {
+    /// It goes on, behind as many bytes after the place as the number says.
+    ContinueAndSkip(usize),
+    /// It ends, and answers the number and the value.
+    BreakAtWith(usize, T),
+}
 
 /// The table of the bytes at which a token may begin: the entry at a byte says whether one may.
 /// CommonMark 6; which bytes the extensions add, `specs/Walk.antt` says.
@@ -30,6 +39,33 @@ pub fn next_special(lut: &[bool; 256], bytes: &[u8], ix: usize) -> Option<usize>
         }
     }
     None
+}
+
+/// Calls the closure at the least place at or behind the offset `ix` of `bytes` whose byte the table
+/// marks, with the place and its byte, then at the least marked place behind what that call skips, and
+/// so on. Answers what a call breaks with; the length and `None` where no marked place is left, also
+/// where a call skips past the end. CommonMark 6.
+pub fn iterate_special_bytes<F, T>(
+    lut: &[bool; 256],
+    bytes: &[u8],
+    ix: usize,
+    mut callback: F,
+) -> (usize, Option<T>)
+where
+    F: FnMut(usize, u8) -> LoopInstruction<Option<T>> + Drop,
+    requires { F.IsAlwaysCallable callback }
+    ensures { IsWalk (λ f k b i g. F.step f k b i g) lut.now bytes.now ix callback result }
+{
+    let mut from = ix;
+    while let Some(at) = next_special(lut, bytes, from) {
+        match callback(at, bytes[at]) {
+            LoopInstruction::ContinueAndSkip(skip) => {
+                from = at.saturating_add(skip).saturating_add(1);
+            }
+            LoopInstruction::BreakAtWith(end, value) => return (end, value),
+        }
+    }
+    (bytes.len(), None)
 }
 
 // Whether a token may begin at the byte.

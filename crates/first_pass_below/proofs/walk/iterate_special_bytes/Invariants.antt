@@ -1,0 +1,13 @@
+use Rattle.std.proofs.Common.{ℕ, List, length, ◌-◌}
+use Rattle.first_pass_below.specs.Walk.{Walks}
+use Rattle.first_pass_below.proofs.walk.iterate_special_bytes.Given as goal
+
+-- a walk that goes on from here is a walk from the start
+abbrev pub invariant-loop-at : goal.invariant-loop-at
+invariant-loop-at g l =
+    goal.F-IsAlwaysCallable g l.callback
+    × ((skips : List ℕ) (answer : _) (last : _) → Walks (λ f k b i h. goal.F-step g f k b i h) l.lut l.bytes l.from skips l.callback answer last
+    → (all : List ℕ) × Walks (λ f k b i h. goal.F-step g f k b i h) l.lut l.bytes l.fn.ix all l.fn.callback answer last)
+
+abbrev pub decreases-loop-at : goal.decreases-loop-at
+decreases-loop-at g l = length l.bytes - l.from

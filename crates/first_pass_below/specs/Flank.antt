@@ -1,0 +1,99 @@
+-- Delimiter runs, and whether they can open or close.
+use Rattle.std.specs.Prelude.{ℕ, ◌-◌, ◌==◌, ◌&&◌, ◌||◌, not, Bool, true, false, List, length, drop, take, Option, None, Some, nat_lt, nat_le, slice_index, if◌then◌else◌}
+use Rattle.std.specs.List.{slice_get}
+use Rattle.std.specs.Str.{chars}
+use Rattle.std.specs.Char.{is_whitespace}
+use Rattle.unicode.specs.GeneralCategory.{general_category}
+use Rattle.unicode.specs.GeneralCategoryGroup.{in_group}
+use Rattle.ucd_category.specs.declared.GeneralCategoryGroup.TheVariants.{Punctuation, Symbol}
+use Rattle.first_pass_below.specs.declared.flank.TableParseMode.{TableParseMode}
+use Rattle.first_pass_below.specs.declared.flank.TableParseMode.TheVariants.{Scan, Active, Disabled}
+use Rattle.first_pass_below.specs.declared.flank.DelimiterRun.{DelimiterRun}
+
+-- a Unicode punctuation character: of the general category P or S (CommonMark 2.1)
+unfoldable pub is_punctuation : ℕ → Bool
+is_punctuation c = in_group Punctuation (general_category c) || in_group Symbol (general_category c)
+
+-- the line is a row of a table (GFM 4.10)
+abbrev pub is_row : TableParseMode → Bool
+is_row Scan = false
+is_row Active = true
+is_row Disabled = false
+
+-- the first character of a text, if it has any (this project)
+unfoldable pub first_char : List ℕ → Option ℕ
+first_char text = slice_get (chars text) 0
+
+-- the last character of a text, if it has any (this project)
+unfoldable pub last_char : List ℕ → Option ℕ
+last_char text = slice_get (chars text) (length (chars text) - 1)
+
+-- the text ends with a pipe that no backslash escapes (GFM 4.10)
+unfoldable pub ends_with_pipe : List ℕ → Bool
+ends_with_pipe text =
+    slice_index text (length text - 1) == 124 && not (nat_le 2 (length text) && slice_index text (length text - 2) == 92)
+
+-- the run of so many bytes that the text begins with, which stands in the content at a place (CommonMark 6.2, delimiter run)
+unfoldable pub run_beside : List ℕ → List ℕ → ℕ → ℕ → TableParseMode → DelimiterRun
+run_beside content text size at mode = record {
+  delimiter = slice_index text 0;
+  size = size;
+  in_row = is_row mode;
+  behind_pipe = ends_with_pipe (take at content);
+  before = last_char (take at content);
+  after = first_char (drop size text);
+}
+
+-- a run of `*`, or of two tildes and more, which may stand inside a word (CommonMark 6.2, rules 1 and 2; GFM 6.5)
+abbrev pub is_intraword : DelimiterRun → Bool
+is_intraword r = r.delimiter == 42 || (r.delimiter == 126 && nat_lt 1 r.size)
+
+-- a run of tildes behind a tilde (this project; GFM 6.5)
+abbrev pub follows_tilde : DelimiterRun → ℕ → Bool
+follows_tilde r before = r.delimiter == 126 && before == 126
+
+-- an apostrophe behind a bracket that closes (this project)
+abbrev pub follows_bracket : DelimiterRun → ℕ → Bool
+follows_bracket r before = r.delimiter == 39 && (before == 93 || before == 41)
+
+-- a run between two characters can open: the first case that fits (CommonMark 6.2, left-flanking; the rest: GFM 4.10, 6.5, this project)
+unfoldable pub opens_between : DelimiterRun → ℕ → ℕ → Bool
+opens_between r before after =
+    if is_whitespace after then false
+    else (if r.in_row && r.behind_pipe then true
+    else (if r.in_row && after == 124 then false
+    else (if r.delimiter == 42 && not (is_punctuation after) then true
+    else (if r.delimiter == 126 && nat_lt 1 r.size then true
+    else (if follows_tilde r before && not (is_punctuation after) then true
+    else (if is_whitespace before then true
+    else is_punctuation before && not (follows_bracket r before)))))))
+
+-- a run between two characters can close: the first case that fits (CommonMark 6.2, right-flanking; the rest: GFM 4.10, 6.5, this project)
+unfoldable pub closes_between : DelimiterRun → ℕ → ℕ → Bool
+closes_between r before after =
+    if is_whitespace before then false
+    else (if r.in_row && r.behind_pipe then false
+    else (if r.in_row && after == 124 then true
+    else (if is_intraword r && not (is_punctuation before) then true
+    else (if follows_tilde r before then true
+    else is_whitespace after || is_punctuation after))))
+
+-- a run can open beside what stands before and after it: the end of the text counts as white space, and so does the beginning of the content (CommonMark 6.2)
+abbrev pub opens_beside : DelimiterRun → Option ℕ → Option ℕ → Bool
+opens_beside r before None = false
+opens_beside r None (Some after) = not (is_whitespace after)
+opens_beside r (Some before) (Some after) = opens_between r before after
+
+-- a run can close beside what stands before and after it (CommonMark 6.2)
+abbrev pub closes_beside : DelimiterRun → Option ℕ → Option ℕ → Bool
+closes_beside r None after = false
+closes_beside r (Some before) None = not (is_whitespace before)
+closes_beside r (Some before) (Some after) = closes_between r before after
+
+-- a run can open (CommonMark 6.2)
+unfoldable pub can_open : DelimiterRun → Bool
+can_open r = opens_beside r r.before r.after
+
+-- a run can close (CommonMark 6.2)
+unfoldable pub can_close : DelimiterRun → Bool
+can_close r = closes_beside r r.before r.after
