@@ -1,0 +1,2 @@
+pub mod ListFacts
+pub mod NameFacts

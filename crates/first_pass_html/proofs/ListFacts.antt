@@ -1,0 +1,29 @@
+-- Facts on the bytes that a list begins with.
+use Rattle.std.proofs.Common.{◌≡◌, ℕ, ◌+◌, ◌≤◌, Bool, true, false, cond, List, [], ◌∷◌, ◌++◌, length, take, drop, refl, sym, ap, ◌∙◌, arith, one-add}
+use Rattle.std.specs.List.{prefix_len, list_all}
+use Rattle.std.proofs.lemmas.Bool.{and_parts, and_from}
+use Rattle.std.proofs.Math.Seq.{take-append_seam, drop-append_seam}
+
+-- bytes that all pass, and what passes behind them
+pub prefix_all : (p : ℕ → Bool) (xs ys : List ℕ) → list_all p xs ≡ true → prefix_len p (xs ++ ys) ≡ length xs + prefix_len p ys
+prefix_all p [] ys h = omega arith
+prefix_all p (x ∷ xs) ys h =
+    let both = and_parts (p x) (list_all p xs) h in
+    let r = prefix_all p xs ys both.1 in
+    rw both.0 (omega arith)
+
+-- what passes at the front passes as a whole
+pub prefix_passes : (p : ℕ → Bool) (xs : List ℕ) → list_all p (take (prefix_len p xs) xs) ≡ true
+prefix_passes p [] = refl
+prefix_passes p (x ∷ xs) =
+    (elim (p x) as (λ t. p x ≡ t → list_all p (take (cond t (1 + prefix_len p xs) 0) (x ∷ xs)) ≡ true) [
+      | true ↦ λ e. rw one-add (and_from (p x) _ e (prefix_passes p xs))
+      | false ↦ λ e. refl
+    ]) refl
+
+-- a list that begins with n other elements
+pub front_of : (n : ℕ) (bs xs ys : List ℕ) → bs ≡ xs ++ ys → n ≡ length xs → take n bs ≡ xs
+front_of n bs xs ys parts size = ap (λ k. take k bs) size ∙ ap (take (length xs)) parts ∙ take-append_seam xs ys
+
+pub rest_behind : (n : ℕ) (bs xs ys : List ℕ) → bs ≡ xs ++ ys → n ≡ length xs → drop n bs ≡ ys
+rest_behind n bs xs ys parts size = ap (λ k. drop k bs) size ∙ ap (drop (length xs)) parts ∙ drop-append_seam xs ys

@@ -1,0 +1,4 @@
+pub mod Names
+pub mod Starts
+pub mod Tags
+pub mod TagLengths

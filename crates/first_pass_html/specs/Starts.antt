@@ -1,0 +1,65 @@
+-- Where HTML blocks of the kinds 1 to 6 begin. The bytes are those behind the `<`.
+use Rattle.std.specs.Prelude.{◌≡◌, ℕ, Bool, true, false, ◌==◌, ◌&&◌, ◌||◌, List, [], ◌∷◌, ◌++◌, length, drop, take, bytes_eq, Option, None, Some, codes, if◌then◌else◌}
+use Rattle.std.specs.List.{prefix_len}
+use Rattle.std.specs.Option.{is_some}
+use Rattle.std.specs.Char.{is_ascii_alphabetic}
+use Rattle.first_pass_scan.specs.Lines.{is_white, is_line_end, begins}
+use Rattle.first_pass_html.specs.Names.{in_lower_case, IsBlockName}
+
+-- the bytes begin with a text (this project)
+abbrev pub begins_with : List ℕ → List ℕ → Bool
+begins_with text bs = bytes_eq text (take (length text) bs)
+
+-- the bytes begin with an ASCII letter (CommonMark 2.1)
+abbrev pub begins_letter : List ℕ → Bool
+begins_letter [] = false
+begins_letter (b ∷ bs) = is_ascii_alphabetic b
+
+-- behind the name of raw text: white space, `>` or the end of the line or the text (CommonMark 4.6, start condition 1)
+abbrev pub ends_raw_name : List ℕ → Bool
+ends_raw_name [] = true
+ends_raw_name (b ∷ bs) = is_white b || (is_line_end b || b == 62)
+
+-- behind the name of a block: white space, `>`, `/>` or the end of the line or the text (CommonMark 4.6, start condition 6)
+abbrev pub ends_block_name : List ℕ → Bool
+ends_block_name [] = true
+ends_block_name (b ∷ bs) = is_white b || (is_line_end b || (b == 62 || (b == 47 && begins 62 bs)))
+
+-- the closing tag of a raw text, by its name in lower case (CommonMark 4.6, end condition 1, but for the opener's own name alone: this project)
+unfoldable pub raw_end_of : List ℕ → Option (List ℕ)
+raw_end_of name =
+    if bytes_eq name (codes "pre") then Some (codes "</pre>")
+    else (if bytes_eq name (codes "script") then Some (codes "</script>")
+    else (if bytes_eq name (codes "style") then Some (codes "</style>")
+    else (if bytes_eq name (codes "textarea") then Some (codes "</textarea>")
+    else None)))
+
+-- a name of raw text, in any case: pre, script, style or textarea (CommonMark 4.6, start conditions 1 and 7)
+unfoldable pub is_raw_name : List ℕ → Bool
+is_raw_name name = is_some (raw_end_of (in_lower_case name))
+
+-- what ends the raw text that begins here: its name in any case, and behind it what ends a name (CommonMark 4.6, kind 1)
+unfoldable pub raw_end : List ℕ → Option (List ℕ)
+raw_end bs = let n = prefix_len is_ascii_alphabetic bs in if ends_raw_name (drop n bs) then raw_end_of (in_lower_case (take n bs)) else None
+
+-- what ends the HTML block of the kinds 1 to 5 that begins here (CommonMark 4.6)
+unfoldable pub html_end : List ℕ → Option (List ℕ)
+html_end bs =
+    if begins_with (codes "!--") bs then Some (codes "-->")
+    else (if begins_with (codes "?") bs then Some (codes "?>")
+    else (if begins_with (codes "![CDATA[") bs then Some (codes "]]>")
+    else (if begins_with (codes "!") bs && begins_letter (drop 1 bs) then Some (codes ">")
+    else raw_end bs)))
+
+-- the bytes behind the slash of a closing tag, if there is one (CommonMark 4.6, start condition 6)
+abbrev pub past_slash : List ℕ → List ℕ
+past_slash [] = []
+past_slash (b ∷ bs) = if b == 47 then bs else b ∷ bs
+
+-- the name of a block in any case, and behind it what ends the name (CommonMark 4.6, start condition 6)
+pub record HasBlockName (bs : List ℕ) : Type 0 where
+  pub name : List ℕ
+  pub rest : List ℕ
+  pub parts : bs ≡ name ++ rest
+  pub is_name : IsBlockName name
+  pub ends : ends_block_name rest ≡ true

@@ -1,0 +1,107 @@
+-- Open tags and closing tags that stand on one line, so that blanks are spaces and tabs.
+use Rattle.std.specs.Prelude.{◌≡◌, ◌≤◌, ℕ, ◌⊎◌, Bool, true, false, ◌==◌, ◌&&◌, ◌||◌, not, List, [], ◌∷◌, ◌++◌, length, drop, take, Option, None, Some}
+use Rattle.std.specs.List.{list_all, concat, list_any}
+use Rattle.std.specs.Option.{is_some}
+use Rattle.std.specs.Char.{is_ascii_alphabetic, is_ascii_alphanumeric}
+use Rattle.first_pass_scan.specs.Lines.{is_line_end, blank_len}
+use Rattle.first_pass_html.specs.Starts.{is_raw_name}
+
+-- a space or a tab (CommonMark 2.1)
+abbrev pub is_blank : ℕ → Bool
+is_blank b = b == 32 || b == 9
+
+-- a byte of a tag name behind its first letter: a letter, a digit or a hyphen (CommonMark 6.6, tag name)
+abbrev pub is_tag_byte : ℕ → Bool
+is_tag_byte b = is_ascii_alphanumeric b || b == 45
+
+-- the first byte of an attribute name: a letter, `_` or `:` (CommonMark 6.6, attribute name)
+abbrev pub starts_attribute : ℕ → Bool
+starts_attribute b = is_ascii_alphabetic b || (b == 95 || b == 58)
+
+-- a byte of an attribute name behind the first: a letter, a digit, `_`, `.`, `:` or `-` (CommonMark 6.6, attribute name)
+abbrev pub is_attribute_byte : ℕ → Bool
+is_attribute_byte b = is_ascii_alphanumeric b || (b == 95 || (b == 46 || (b == 58 || b == 45)))
+
+-- a byte of an unquoted value: no blank, no line end, none of `"`, `'`, `=`, `<`, `>` and the backquote (CommonMark 6.6, unquoted attribute value)
+abbrev pub is_unquoted : ℕ → Bool
+is_unquoted b = not (is_blank b || (is_line_end b || (b == 34 || (b == 39 || (b == 61 || (b == 60 || (b == 62 || b == 96)))))))
+
+-- a byte inside quotes, on the line (CommonMark 6.6, quoted attribute value)
+abbrev pub is_quoted : ℕ → ℕ → Bool
+is_quoted quote b = not (b == quote || is_line_end b)
+
+-- one byte, and then any number of others (this project)
+abbrev pub is_word : (ℕ → Bool) → (ℕ → Bool) → List ℕ → Bool
+is_word first other [] = false
+is_word first other (b ∷ bs) = first b && list_all other bs
+
+-- a tag name (CommonMark 6.6)
+abbrev pub is_tag_name : List ℕ → Bool
+is_tag_name = is_word is_ascii_alphabetic is_tag_byte
+
+-- an attribute name (CommonMark 6.6)
+abbrev pub is_attribute_name : List ℕ → Bool
+is_attribute_name = is_word starts_attribute is_attribute_byte
+
+-- a value between two quotes of a kind (CommonMark 6.6, single-quoted and double-quoted attribute value)
+abbrev pub IsQuotedValue : ℕ → List ℕ → Type 0
+IsQuotedValue quote bs = (inside : List ℕ) × (bs ≡ quote ∷ (inside ++ quote ∷ [])) × (list_all (is_quoted quote) inside ≡ true)
+
+-- an attribute value (CommonMark 6.6)
+abbrev pub IsValue : List ℕ → Type 0
+IsValue bs = (is_word is_unquoted is_unquoted bs ≡ true) ⊎ IsQuotedValue 39 bs ⊎ IsQuotedValue 34 bs
+
+-- an attribute value specification: `=` with blanks around it, and a value (CommonMark 6.6)
+pub record IsValueSpecification (bs : List ℕ) : Type 0 where
+  pub before : List ℕ
+  pub behind : List ℕ
+  pub value : List ℕ
+  pub parts : bs ≡ before ++ 61 ∷ (behind ++ value)
+  pub before_blank : list_all is_blank before ≡ true
+  pub behind_blank : list_all is_blank behind ≡ true
+  pub is_value : IsValue value
+
+-- an attribute: one blank or more, a name, and a value specification if any (CommonMark 6.6)
+pub record IsAttribute (bs : List ℕ) : Type 0 where
+  pub blanks : List ℕ
+  pub name : List ℕ
+  pub specification : List ℕ
+  pub parts : bs ≡ blanks ++ (name ++ specification)
+  pub is_blanks : is_word is_blank is_blank blanks ≡ true
+  pub is_name : is_attribute_name name ≡ true
+  pub specified : (specification ≡ []) ⊎ IsValueSpecification specification
+
+-- each of the texts is an attribute (CommonMark 6.6)
+abbrev pub AreAttributes : List (List ℕ) → Type 0
+AreAttributes [] = Unit
+AreAttributes (bs ∷ others) = IsAttribute bs × AreAttributes others
+
+-- an open tag: `<`, a tag name, attributes, blanks, `/` or not, and `>` (CommonMark 6.6)
+pub record IsOpenTag (bs : List ℕ) : Type 0 where
+  pub name : List ℕ
+  pub attributes : List (List ℕ)
+  pub blanks : List ℕ
+  pub slash : List ℕ
+  pub parts : bs ≡ 60 ∷ (name ++ (concat attributes ++ (blanks ++ (slash ++ 62 ∷ []))))
+  pub is_name : is_tag_name name ≡ true
+  pub are_attributes : AreAttributes attributes
+  pub is_blanks : list_all is_blank blanks ≡ true
+  pub is_slash : (slash ≡ []) ⊎ (slash ≡ 47 ∷ [])
+
+-- a closing tag: `</`, a tag name, blanks, and `>` (CommonMark 6.6)
+pub record IsClosingTag (bs : List ℕ) : Type 0 where
+  pub name : List ℕ
+  pub blanks : List ℕ
+  pub parts : bs ≡ 60 ∷ (47 ∷ (name ++ (blanks ++ 62 ∷ [])))
+  pub is_name : is_tag_name name ≡ true
+  pub is_blanks : list_all is_blank blanks ≡ true
+
+-- an open tag whose name is none of raw text, or a closing tag (CommonMark 4.6, start condition 7; for the case of the names: this project)
+abbrev pub IsBlockTag : List ℕ → Type 0
+IsBlockTag bs = ((tag : IsOpenTag bs) × (is_raw_name tag.name ≡ false)) ⊎ IsClosingTag bs
+
+-- the first n bytes are a tag that begins an HTML block of the seventh kind, and the rest of the line is blank (CommonMark 4.6, start condition 7)
+pub record BeginsTagLine (bs : List ℕ) (n : ℕ) : Type 0 where
+  pub within : n ≤ length bs
+  pub tag : IsBlockTag (take n bs)
+  pub blank : is_some (blank_len (drop n bs)) ≡ true
