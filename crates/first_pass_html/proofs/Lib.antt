@@ -1,2 +1,5 @@
 pub mod ListFacts
 pub mod NameFacts
+pub mod TailFacts
+pub mod TagFacts
+pub mod FrontFacts

@@ -27,3 +27,7 @@ front_of n bs xs ys parts size = ap (λ k. take k bs) size ∙ ap (take (length 
 
 pub rest_behind : (n : ℕ) (bs xs ys : List ℕ) → bs ≡ xs ++ ys → n ≡ length xs → drop n bs ≡ ys
 rest_behind n bs xs ys parts size = ap (λ k. drop k bs) size ∙ ap (drop (length xs)) parts ∙ drop-append_seam xs ys
+
+-- nothing passes at the front
+pub prefix_none : (p : ℕ → Bool) (b : ℕ) (bs : List ℕ) → p b ≡ false → prefix_len p (b ∷ bs) ≡ 0
+prefix_none p b bs h = rw h

@@ -2,3 +2,4 @@ pub mod Names
 pub mod Starts
 pub mod Tags
 pub mod TagLengths
+pub mod Fronts

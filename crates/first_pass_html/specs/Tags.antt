@@ -76,17 +76,23 @@ abbrev pub AreAttributes : List (List ℕ) → Type 0
 AreAttributes [] = Unit
 AreAttributes (bs ∷ others) = IsAttribute bs × AreAttributes others
 
--- an open tag: `<`, a tag name, attributes, blanks, `/` or not, and `>` (CommonMark 6.6)
+-- how an open tag ends: blanks, `/` or not, and `>` (CommonMark 6.6)
+pub record IsOpenTagEnd (bs : List ℕ) : Type 0 where
+  pub blanks : List ℕ
+  pub slash : List ℕ
+  pub parts : bs ≡ blanks ++ (slash ++ 62 ∷ [])
+  pub is_blanks : list_all is_blank blanks ≡ true
+  pub is_slash : (slash ≡ []) ⊎ (slash ≡ 47 ∷ [])
+
+-- an open tag: `<`, a tag name, attributes, and its end (CommonMark 6.6)
 pub record IsOpenTag (bs : List ℕ) : Type 0 where
   pub name : List ℕ
   pub attributes : List (List ℕ)
-  pub blanks : List ℕ
-  pub slash : List ℕ
-  pub parts : bs ≡ 60 ∷ (name ++ (concat attributes ++ (blanks ++ (slash ++ 62 ∷ []))))
+  pub ending : List ℕ
+  pub parts : bs ≡ 60 ∷ (name ++ (concat attributes ++ ending))
   pub is_name : is_tag_name name ≡ true
   pub are_attributes : AreAttributes attributes
-  pub is_blanks : list_all is_blank blanks ≡ true
-  pub is_slash : (slash ≡ []) ⊎ (slash ≡ 47 ∷ [])
+  pub ends : IsOpenTagEnd ending
 
 -- a closing tag: `</`, a tag name, blanks, and `>` (CommonMark 6.6)
 pub record IsClosingTag (bs : List ℕ) : Type 0 where
@@ -96,9 +102,13 @@ pub record IsClosingTag (bs : List ℕ) : Type 0 where
   pub is_name : is_tag_name name ≡ true
   pub is_blanks : list_all is_blank blanks ≡ true
 
--- an open tag whose name is none of raw text, or a closing tag (CommonMark 4.6, start condition 7; for the case of the names: this project)
+-- an open tag whose name is none of raw text (CommonMark 4.6, start condition 7; for the case of the names: this project)
+abbrev pub IsBlockOpenTag : List ℕ → Type 0
+IsBlockOpenTag bs = (tag : IsOpenTag bs) × (is_raw_name tag.name ≡ false)
+
+-- a tag that begins an HTML block: such an open tag, or a closing tag (CommonMark 4.6, start condition 7)
 abbrev pub IsBlockTag : List ℕ → Type 0
-IsBlockTag bs = ((tag : IsOpenTag bs) × (is_raw_name tag.name ≡ false)) ⊎ IsClosingTag bs
+IsBlockTag bs = IsBlockOpenTag bs ⊎ IsClosingTag bs
 
 -- the first n bytes are a tag that begins an HTML block of the seventh kind, and the rest of the line is blank (CommonMark 4.6, start condition 7)
 pub record BeginsTagLine (bs : List ℕ) (n : ℕ) : Type 0 where

@@ -4,6 +4,7 @@ ghost use Rattle.std.specs.Prelude.{◌≡◌, ◌<◌, ◌≤◌, ◌+◌, ℕ,
 ghost use Rattle.std.specs.List.{prefix_len};
 ghost use Rattle.first_pass_html.specs.Tags as tags;
 ghost use Rattle.first_pass_html.specs.TagLengths as lengths;
+ghost use Rattle.first_pass_html.specs.Fronts.{IsOnlyFront, HasNoFront, IsPastAttributes};
 
 use crate::starts::is_raw_name;
 use first_pass_scan::lines::scan_blank_line;
@@ -121,4 +122,116 @@ fn scan_value(bytes: &[u8]) -> Option<usize>
             len => Some(len),
         },
     }
+}
+
+// How many bytes blanks and the value behind them have.
+#[tactic(auto, unfolding(crate::specs::TagLengths::blanks_value_len))]
+fn scan_blanks_value(bytes: &[u8]) -> Option<usize>
+    ensures value { result ≡ lengths.blanks_value_len bytes.now }
+    ensures within { IfSome result (λ n. n ≤ length bytes.now) }
+{
+    let blanks = blanks_len(bytes);
+    match scan_value(rest_of(bytes, blanks)) {
+        Some(len) => Some(blanks + len),
+        None => None,
+    }
+}
+
+// How many bytes the value specification has that stands first: 0 where there is none.
+#[tactic(auto, unfolding(crate::specs::TagLengths::specification_len))]
+fn scan_specification(bytes: &[u8]) -> usize
+    ensures value { result ≡ lengths.specification_len bytes.now }
+    ensures within { result ≤ length bytes.now }
+{
+    let blanks = blanks_len(bytes);
+    match rest_of(bytes, blanks) {
+        [b'=', ..] => match scan_blanks_value(rest_of(bytes, blanks + 1)) {
+            Some(len) => blanks + 1 + len,
+            None => 0,
+        },
+        _ => 0,
+    }
+}
+
+// How many bytes the name of an attribute and its value specification have.
+#[tactic(auto, unfolding(crate::specs::TagLengths::named_len))]
+fn scan_named(bytes: &[u8]) -> Option<usize>
+    ensures value { result ≡ lengths.named_len bytes.now }
+    ensures within { IfSome result (λ n. n ≤ length bytes.now) }
+{
+    match scan_attribute_name(bytes) {
+        Some(len) => Some(len + scan_specification(rest_of(bytes, len))),
+        None => None,
+    }
+}
+
+// How many bytes the attribute has that stands first, with the blanks before it.
+#[tactic(auto, unfolding(crate::specs::TagLengths::attribute_len))]
+fn scan_attribute(bytes: &[u8]) -> Option<usize>
+    ensures value { result ≡ lengths.attribute_len bytes.now }
+    ensures within { IfSome result (λ n. (0 < n) × (n ≤ length bytes.now)) }
+{
+    let blanks = blanks_len(bytes);
+    if blanks == 0 {
+        return None;
+    }
+    match scan_named(rest_of(bytes, blanks)) {
+        Some(len) => Some(blanks + len),
+        None => None,
+    }
+}
+
+// How many bytes `>` or `/>` has.
+fn scan_close(bytes: &[u8]) -> Option<usize>
+    ensures value { result ≡ lengths.close_len bytes.now }
+    ensures within { IfSome result (λ n. n ≤ length bytes.now) }
+{
+    match bytes {
+        [b'>', ..] => Some(1),
+        [b'/', b'>', ..] => Some(2),
+        _ => None,
+    }
+}
+
+// How many bytes the end of an open tag has that stands first: blanks, a slash or none, and `>`.
+#[tactic(auto, unfolding(crate::specs::TagLengths::open_end_len))]
+fn scan_open_end(bytes: &[u8]) -> Option<usize>
+    ensures value { result ≡ lengths.open_end_len bytes.now }
+    ensures within { IfSome result (λ n. n ≤ length bytes.now) }
+{
+    let blanks = blanks_len(bytes);
+    match scan_close(rest_of(bytes, blanks)) {
+        Some(len) => Some(blanks + len),
+        None => None,
+    }
+}
+
+// How many bytes the attributes have that stand first.
+fn scan_attributes(bytes: &[u8]) -> usize
+    ensures value { IsPastAttributes bytes.now result }
+    ensures within { result ≤ length bytes.now }
+{
+    let mut at = 0;
+    while let Some(len) = scan_attribute(rest_of(bytes, at)) {
+        at += len;
+    }
+    at
+}
+
+// How many bytes the open tag has that stands first, if its name is none of raw text.
+fn scan_open_tag(bytes: &[u8]) -> Option<usize>
+    ensures found { IfSome result (IsOnlyFront tags.IsBlockOpenTag bytes.now) }
+    ensures none { IfNone result (HasNoFront tags.IsBlockOpenTag bytes.now) }
+{
+    let [b'<', rest @ ..] = bytes else {
+        return None;
+    };
+    let name = scan_tag_name(rest)?;
+    if is_raw_name(&rest[..name]) {
+        return None;
+    }
+    let behind = rest_of(rest, name);
+    let attributes = scan_attributes(behind);
+    let end = scan_open_end(rest_of(behind, attributes))?;
+    Some(1 + name + attributes + end)
 }

@@ -1,0 +1,209 @@
+-- What is counted at the front of the bytes is a part of a tag.
+use Rattle.std.proofs.Common.{◌≡◌, ◌⊎◌, inl, inr, ℕ, zero, suc, ◌+◌, ◌≤◌, ◌<◌, Bool, true, false, true≢false, cond, not, ◌==◌, ◌&&◌, ◌||◌, List, [], ◌∷◌, ◌++◌, length, take, drop, Option, Some, None, unwrap_or, refl, sym, ap, ◌∙◌, subst, arith, append_assoc, length-append, append-nil, add-one, one-add}
+use Rattle.std.specs.Option.{option_map}
+use Rattle.std.specs.List.{prefix_len, list_all, concat}
+use Rattle.std.proofs.lemmas.Bool.{and_parts, and_from, eqb-true}
+use Rattle.std.proofs.lemmas.Bool.Decides.{nat_tests}
+use Rattle.std.proofs.lemmas.List.{drop-drop}
+use Rattle.std.proofs.lemmas.List.Folds.{length-prefix_len, concat-append}
+use Rattle.std.proofs.Math.Seq.{take-add}
+use Rattle.first_pass_scan.specs.Lines.{begins}
+use Rattle.first_pass_html.specs.Tags.{is_blank, is_tag_byte, starts_attribute, is_attribute_byte, is_unquoted, is_quoted, is_word, is_attribute_name, IsQuotedValue, IsValue, IsValueSpecification, IsAttribute, AreAttributes, IsOpenTagEnd}
+use Rattle.first_pass_html.specs.TagLengths.{word_len, unquoted_len, quoted_len, value_len, blanks_value_len, specification_len, attribute_name_len, named_len, attribute_len, close_len, open_end_len}
+use Rattle.first_pass_html.specs.Fronts.{IsTagRest, IsEndBefore}
+use Rattle.first_pass_html.proofs.ListFacts.{prefix_passes}
+
+-- what a test and a map of an option give
+some_if : (t : Bool) (x n : ℕ) → cond t (Some x) None ≡ Some n → (t ≡ true) × (x ≡ n)
+some_if true x n h = (refl, let e : x ≡ n = cc in e)
+some_if false x n h = cc
+
+some_unless : (t : Bool) (o : Option ℕ) (n : ℕ) → cond t None o ≡ Some n → (t ≡ false) × (o ≡ Some n)
+some_unless true o n h = cc
+some_unless false o n h = (refl, h)
+
+some_map : (f : ℕ → ℕ) (o : Option ℕ) (n : ℕ) → option_map f o ≡ Some n → (k : ℕ) × (o ≡ Some k) × (f k ≡ n)
+some_map f None n h = cc
+some_map f (Some k) n h = (k, refl, let e : f k ≡ n = cc in e)
+
+-- words
+word_from : (p : ℕ → Bool) (bs : List ℕ) → list_all p bs ≡ true → 0 < length bs → is_word p p bs ≡ true
+word_from p [] h some = absurd (omega arith)
+word_from p (b ∷ bs) h some = h
+
+word_front : (p : ℕ → Bool) (bs : List ℕ) → (prefix_len p bs == 0) ≡ false → is_word p p (take (prefix_len p bs) bs) ≡ true
+word_front p bs h =
+    let size = length-prefix_len p bs in
+    word_from p (take (prefix_len p bs) bs) (prefix_passes p bs) (grind (arith, nat_tests, size, h))
+
+pub name_front : (first other : ℕ → Bool) (bs : List ℕ) (n : ℕ) → word_len first other bs ≡ Some n → is_word first other (take n bs) ≡ true
+name_front first other [] n h = cc
+name_front first other (b ∷ bs) n h =
+    let both = some_if (first b) (1 + prefix_len other bs) n h in
+    let size : n ≡ suc (prefix_len other bs) = omega (arith, both.1) in
+    rw size (and_from (first b) _ both.0 (prefix_passes other bs))
+
+-- the byte that stands first
+begins_front : (c : ℕ) (bs : List ℕ) → begins c bs ≡ true → (others : List ℕ) × (bs ≡ c ∷ others)
+begins_front c [] h = absurd (true≢false (sym h))
+begins_front c (b ∷ bs) h = (bs, rw (eqb-true b c h))
+
+-- values
+quoted_front : (quote : ℕ) (bs : List ℕ) (n : ℕ) → quoted_len quote bs ≡ Some n → IsQuotedValue quote (take n (quote ∷ bs))
+unfolding quoted_len
+quoted_front quote bs n h =
+    let k : ℕ = prefix_len (is_quoted quote) bs in
+    let both = some_if (begins quote (drop k bs)) (k + 2) n h in
+    let end = begins_front quote (drop k bs) both.0 in
+    let size : n ≡ suc (k + 1) = omega (arith, both.1) in
+    let parts : take (k + 1) bs ≡ take k bs ++ quote ∷ [] = take-add k 1 bs ∙ ap (λ xs. take k bs ++ take 1 xs) end.1 in
+    (take k bs, rw size (ap (λ xs. quote ∷ xs) parts), prefix_passes (is_quoted quote) bs)
+
+value_front_by : (t u : Bool) (b : ℕ) (bs : List ℕ) (n : ℕ) → (b == 34) ≡ t → (b == 39) ≡ u → cond (t || u) (quoted_len b bs) (unquoted_len (b ∷ bs)) ≡ Some n → IsValue (take n (b ∷ bs))
+value_front_by true u b bs n h h' e = let same : b ≡ 34 = eqb-true b 34 h in inr (inr (subst (λ (q : ℕ). IsQuotedValue q (take n (b ∷ bs))) same (quoted_front b bs n e)))
+value_front_by false true b bs n h h' e = let same : b ≡ 39 = eqb-true b 39 h' in inr (inl (subst (λ (q : ℕ). IsQuotedValue q (take n (b ∷ bs))) same (quoted_front b bs n e)))
+value_front_by false false b bs n h h' e =
+    let both = some_unless (prefix_len is_unquoted (b ∷ bs) == 0) (Some (prefix_len is_unquoted (b ∷ bs))) n e in
+    let size : prefix_len is_unquoted (b ∷ bs) ≡ n = let o = both.1 in cc in
+    inl (rw (sym size) (word_front is_unquoted (b ∷ bs) both.0))
+
+value_front : (bs : List ℕ) (n : ℕ) → value_len bs ≡ Some n → IsValue (take n bs)
+unfolding value_len
+value_front [] n h = cc
+value_front (b ∷ bs) n h = value_front_by (b == 34) (b == 39) b bs n refl refl h
+
+-- value specifications
+record IsBlanksValue (bs : List ℕ) : Type 0 where
+  blanks : List ℕ
+  value : List ℕ
+  parts : bs ≡ blanks ++ value
+  is_blanks : list_all is_blank blanks ≡ true
+  is_value : IsValue value
+
+blanks_value_front : (bs : List ℕ) (n : ℕ) → blanks_value_len bs ≡ Some n → IsBlanksValue (take n bs)
+unfolding blanks_value_len
+blanks_value_front bs n h =
+    let k : ℕ = prefix_len is_blank bs in
+    let m = some_map (λ j. k + j) (value_len (drop k bs)) n h in
+    record {
+      blanks = take k bs;
+      value = take m.0 (drop k bs);
+      parts = ap (λ j. take j bs) (sym m.2) ∙ take-add k m.0 bs;
+      is_blanks = prefix_passes is_blank bs;
+      is_value = value_front (drop k bs) m.0 m.1;
+    }
+
+equals_front : (bs : List ℕ) (n : ℕ) → begins 61 (drop (prefix_len is_blank bs) bs) ≡ true → blanks_value_len (drop (prefix_len is_blank bs + 1) bs) ≡ Some n → IsValueSpecification (take (prefix_len is_blank bs + 1 + n) bs)
+equals_front bs n h e =
+    let k : ℕ = prefix_len is_blank bs in
+    let equals = begins_front 61 (drop k bs) h in
+    let v = blanks_value_front (drop (k + 1) bs) n e in
+    let front : take (k + 1) bs ≡ take k bs ++ 61 ∷ [] = take-add k 1 bs ∙ ap (λ xs. take k bs ++ take 1 xs) equals.1 in
+    let whole : take (k + 1 + n) bs ≡ take k bs ++ 61 ∷ take n (drop (k + 1) bs) =
+        take-add (k + 1) n bs ∙ ap (λ xs. xs ++ take n (drop (k + 1) bs)) front ∙ append_assoc (take k bs) (61 ∷ []) (take n (drop (k + 1) bs)) in
+    record {
+      before = take k bs;
+      behind = v.blanks;
+      value = v.value;
+      parts = whole ∙ ap (λ xs. take k bs ++ 61 ∷ xs) v.parts;
+      before_blank = prefix_passes is_blank bs;
+      behind_blank = v.is_blanks;
+      is_value = v.is_value;
+    }
+
+specification_front_by : (bs : List ℕ) (t : Bool) (o : Option ℕ) → begins 61 (drop (prefix_len is_blank bs) bs) ≡ t → blanks_value_len (drop (prefix_len is_blank bs + 1) bs) ≡ o
+    → let n : ℕ = cond t (unwrap_or (option_map (λ k. prefix_len is_blank bs + 1 + k) o) 0) 0 in (take n bs ≡ []) ⊎ IsValueSpecification (take n bs)
+specification_front_by bs true None h e = inl refl
+specification_front_by bs true (Some n) h e = inr (equals_front bs n h e)
+specification_front_by bs false o h e = inl refl
+
+specification_front : (bs : List ℕ) → (take (specification_len bs) bs ≡ []) ⊎ IsValueSpecification (take (specification_len bs) bs)
+unfolding specification_len
+specification_front bs = specification_front_by bs (begins 61 (drop (prefix_len is_blank bs) bs)) (blanks_value_len (drop (prefix_len is_blank bs + 1) bs)) refl refl
+
+-- attributes
+record IsNamed (bs : List ℕ) : Type 0 where
+  name : List ℕ
+  specification : List ℕ
+  parts : bs ≡ name ++ specification
+  is_name : is_attribute_name name ≡ true
+  specified : (specification ≡ []) ⊎ IsValueSpecification specification
+
+named_front : (bs : List ℕ) (n : ℕ) → named_len bs ≡ Some n → IsNamed (take n bs)
+unfolding named_len
+named_front bs n h =
+    let m = some_map (λ k. k + specification_len (drop k bs)) (attribute_name_len bs) n h in
+    record {
+      name = take m.0 bs;
+      specification = take (specification_len (drop m.0 bs)) (drop m.0 bs);
+      parts = ap (λ j. take j bs) (sym m.2) ∙ take-add m.0 (specification_len (drop m.0 bs)) bs;
+      is_name = name_front starts_attribute is_attribute_byte bs m.0 m.1;
+      specified = specification_front (drop m.0 bs);
+    }
+
+pub attribute_front : (bs : List ℕ) (n : ℕ) → attribute_len bs ≡ Some n → IsAttribute (take n bs)
+unfolding attribute_len
+attribute_front bs n h =
+    let k : ℕ = prefix_len is_blank bs in
+    let both = some_unless (k == 0) (option_map (λ j. k + j) (named_len (drop k bs))) n h in
+    let m = some_map (λ j. k + j) (named_len (drop k bs)) n both.1 in
+    let named = named_front (drop k bs) m.0 m.1 in
+    record {
+      blanks = take k bs;
+      name = named.name;
+      specification = named.specification;
+      parts = ap (λ j. take j bs) (sym m.2) ∙ take-add k m.0 bs ∙ ap (λ xs. take k bs ++ xs) named.parts;
+      is_blanks = word_front is_blank bs both.0;
+      is_name = named.is_name;
+      specified = named.specified;
+    }
+
+-- ends of open tags
+record IsClose (bs : List ℕ) : Type 0 where
+  slash : List ℕ
+  parts : bs ≡ slash ++ 62 ∷ []
+  is_slash : (slash ≡ []) ⊎ (slash ≡ 47 ∷ [])
+
+close_front_by : (t u : Bool) (b : ℕ) (bs : List ℕ) (n : ℕ) → (b == 62) ≡ t → (b == 47) ≡ u → cond t (Some 1) (cond (u && begins 62 bs) (Some 2) None) ≡ Some n → IsClose (take n (b ∷ bs))
+close_front_by true u b bs n h h' e =
+    let size : n ≡ 1 = cc in
+    record { slash = []; parts = rw size (ap (λ x. x ∷ []) (eqb-true b 62 h)); is_slash = inl refl }
+close_front_by false true b bs n h h' e =
+    let both = some_if (begins 62 bs) 2 n e in
+    let more = begins_front 62 bs both.0 in
+    let size : n ≡ 2 = sym both.1 in
+    record { slash = 47 ∷ []; parts = rw (size, more.1) (ap (λ x. x ∷ 62 ∷ []) (eqb-true b 47 h')); is_slash = inr refl }
+close_front_by false false b bs n h h' e = cc
+
+close_front : (bs : List ℕ) (n : ℕ) → close_len bs ≡ Some n → IsClose (take n bs)
+close_front [] n h = cc
+close_front (b ∷ bs) n h = close_front_by (b == 62) (b == 47) b bs n refl refl h
+
+pub end_front : (bs : List ℕ) (n : ℕ) → open_end_len bs ≡ Some n → IsOpenTagEnd (take n bs)
+unfolding open_end_len
+end_front bs n h =
+    let k : ℕ = prefix_len is_blank bs in
+    let m = some_map (λ j. k + j) (close_len (drop k bs)) n h in
+    let close = close_front (drop k bs) m.0 m.1 in
+    record {
+      blanks = take k bs;
+      slash = close.slash;
+      parts = ap (λ j. take j bs) (sym m.2) ∙ take-add k m.0 bs ∙ ap (λ xs. take k bs ++ xs) close.parts;
+      is_blanks = prefix_passes is_blank bs;
+      is_slash = close.is_slash;
+    }
+
+-- one more attribute
+are_more : (attributes : List (List ℕ)) (a : List ℕ) → AreAttributes attributes → IsAttribute a → AreAttributes (attributes ++ a ∷ [])
+are_more [] a are i = (i, tt)
+are_more (b ∷ others) a are i = (are.0, are_more others a are.1 i)
+
+concat_one : (a : List ℕ) → concat (a ∷ []) ≡ a
+concat_one a = append-nil a
+
+pub front_more : (bs : List ℕ) (at n : ℕ) → (attributes : List (List ℕ)) × (take at bs ≡ concat attributes) × AreAttributes attributes → attribute_len (drop at bs) ≡ Some n
+    → (attributes : List (List ℕ)) × (take (at + n) bs ≡ concat attributes) × AreAttributes attributes
+front_more bs at n (attributes, parts, are) h =
+    let a : List ℕ = take n (drop at bs) in
+    let joined : concat (attributes ++ a ∷ []) ≡ concat attributes ++ a = concat-append attributes (a ∷ []) ∙ ap (λ xs. concat attributes ++ xs) (concat_one a) in
+    (attributes ++ a ∷ [], take-add at n bs ∙ ap (λ xs. xs ++ a) parts ∙ sym joined, are_more attributes a are (attribute_front (drop at bs) n h))

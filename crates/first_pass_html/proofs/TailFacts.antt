@@ -1,0 +1,177 @@
+-- How the rest of an open tag behind its name begins.
+use Rattle.std.proofs.Common.{◌≡◌, ◌⊎◌, inl, inr, ℕ, ◌+◌, ◌≤◌, Bool, true, false, true≢false, cond, not, ◌==◌, ◌&&◌, ◌||◌, List, [], ◌∷◌, ◌++◌, length, take, drop, refl, sym, ap, ◌∙◌, subst, arith, append_assoc}
+use Rattle.std.specs.List.{prefix_len, list_all, concat}
+use Rattle.std.specs.Char.{is_ascii_alphabetic, is_ascii_alphanumeric}
+use Rattle.std.proofs.lemmas.Bool.{and_parts, and_from}
+use Rattle.std.proofs.lemmas.Bool.Decides.{nat_tests}
+use Rattle.std.proofs.Math.Seq.{drop-append_seam}
+use Rattle.first_pass_scan.specs.Lines.{is_line_end, begins}
+use Rattle.first_pass_html.specs.Tags.{is_blank, is_tag_byte, starts_attribute, is_attribute_byte, is_unquoted, is_word, is_attribute_name, IsAttribute, AreAttributes, IsOpenTagEnd}
+use Rattle.first_pass_html.specs.Fronts.{IsTagRest}
+use Rattle.first_pass_html.proofs.ListFacts.{prefix_all, prefix_none, rest_behind}
+
+-- a byte before which the blanks of a tag end
+abbrev pub is_stop : ℕ → Bool
+is_stop c = starts_attribute c || (c == 47 || c == 62)
+
+stop_solid : (c : ℕ) → is_stop c ≡ true → is_blank c ≡ false
+stop_solid c h = grind (arith, nat_tests, h)
+
+stop_equals : (c : ℕ) → is_stop c ≡ true → (c == 61) ≡ false
+stop_equals c h = grind (arith, nat_tests, h)
+
+name_stop : (c : ℕ) → starts_attribute c ≡ true → is_stop c ≡ true
+name_stop c h = grind (arith, nat_tests, h)
+
+blank_unquoted : (b : ℕ) → is_blank b ≡ true → is_unquoted b ≡ false
+blank_unquoted b h = grind (arith, nat_tests, h)
+
+-- the first byte of what is left of a tag
+abbrev pub is_tail : ℕ → Bool
+is_tail b = is_blank b || (b == 47 || b == 62)
+
+blank_tail : (b : ℕ) → is_blank b ≡ true → is_tail b ≡ true
+blank_tail b h = grind (arith, nat_tests, h)
+
+tail_attribute : (b : ℕ) → is_tail b ≡ true → is_attribute_byte b ≡ false
+tail_attribute b h = grind (arith, nat_tests, h)
+
+tail_tag : (b : ℕ) → is_tail b ≡ true → is_tag_byte b ≡ false
+tail_tag b h = grind (arith, nat_tests, h)
+
+-- the bytes begin with a byte that passes
+pub record StartsBy (p : ℕ → Bool) (bs : List ℕ) : Type 0 where
+  pub first : ℕ
+  pub others : List ℕ
+  pub parts : bs ≡ first ∷ others
+  pub passes : p first ≡ true
+
+-- blanks, and then a byte before which the blanks of a tag end
+pub record StopsAt (bs : List ℕ) : Type 0 where
+  pub blanks : List ℕ
+  pub stop : ℕ
+  pub others : List ℕ
+  pub parts : bs ≡ blanks ++ stop ∷ others
+  pub is_blanks : list_all is_blank blanks ≡ true
+  pub stops : is_stop stop ≡ true
+
+pub word_all : (p : ℕ → Bool) (bs : List ℕ) → is_word p p bs ≡ true → list_all p bs ≡ true
+word_all p [] h = refl
+word_all p (b ∷ bs) h = h
+
+-- no byte of a class at the front
+none_first : (p q : ℕ → Bool) (bs : List ℕ) → ((b : ℕ) → q b ≡ true → p b ≡ false) → StartsBy q bs → prefix_len p bs ≡ 0
+none_first p q bs apart s = rw s.parts (prefix_none p s.first s.others (apart s.first s.passes))
+
+-- the end of an open tag
+end_stops_by : (blanks slash behind : List ℕ) → list_all is_blank blanks ≡ true → (slash ≡ []) ⊎ (slash ≡ 47 ∷ []) → StopsAt ((blanks ++ (slash ++ 62 ∷ [])) ++ behind)
+end_stops_by blanks slash behind h (inl none) = record { blanks = blanks; stop = 62; others = behind; parts = rw none (append_assoc blanks (62 ∷ []) behind); is_blanks = h; stops = refl }
+end_stops_by blanks slash behind h (inr one) = record { blanks = blanks; stop = 47; others = 62 ∷ behind; parts = rw one (append_assoc blanks (47 ∷ 62 ∷ []) behind); is_blanks = h; stops = refl }
+
+pub end_stops : (ending behind : List ℕ) → IsOpenTagEnd ending → StopsAt (ending ++ behind)
+end_stops ending behind e = rw e.parts (end_stops_by e.blanks e.slash behind e.is_blanks e.is_slash)
+
+end_starts_by : (blanks slash behind : List ℕ) → list_all is_blank blanks ≡ true → (slash ≡ []) ⊎ (slash ≡ 47 ∷ []) → StartsBy is_tail ((blanks ++ (slash ++ 62 ∷ [])) ++ behind)
+end_starts_by [] slash behind h (inl none) = record { first = 62; others = behind; parts = rw none; passes = refl }
+end_starts_by [] slash behind h (inr one) = record { first = 47; others = 62 ∷ behind; parts = rw one; passes = refl }
+end_starts_by (b ∷ bs) slash behind h some = record { first = b; others = (bs ++ (slash ++ 62 ∷ [])) ++ behind; parts = refl; passes = blank_tail b (and_parts _ _ h).0 }
+
+-- an attribute
+attribute_stops_by : (blanks name specification others : List ℕ) → list_all is_blank blanks ≡ true → is_attribute_name name ≡ true → StopsAt ((blanks ++ (name ++ specification)) ++ others)
+attribute_stops_by blanks [] specification others h named = absurd (true≢false (sym named))
+attribute_stops_by blanks (c ∷ name) specification others h named = record {
+  blanks = blanks;
+  stop = c;
+  others = (name ++ specification) ++ others;
+  parts = append_assoc blanks (c ∷ (name ++ specification)) others;
+  is_blanks = h;
+  stops = name_stop c (and_parts _ _ named).0;
+}
+
+attribute_stops : (bs others : List ℕ) → IsAttribute bs → StopsAt (bs ++ others)
+attribute_stops bs others a = rw a.parts (attribute_stops_by a.blanks a.name a.specification others (word_all is_blank a.blanks a.is_blanks) a.is_name)
+
+attribute_starts_by : (blanks others : List ℕ) → is_word is_blank is_blank blanks ≡ true → StartsBy is_blank (blanks ++ others)
+attribute_starts_by [] others h = absurd (true≢false (sym h))
+attribute_starts_by (b ∷ bs) others h = record { first = b; others = bs ++ others; parts = refl; passes = (and_parts _ _ h).0 }
+
+attribute_starts : (bs others : List ℕ) → IsAttribute bs → StartsBy is_blank (bs ++ others)
+attribute_starts bs others a =
+    rw (a.parts, append_assoc a.blanks (a.name ++ a.specification) others) (attribute_starts_by a.blanks ((a.name ++ a.specification) ++ others) a.is_blanks)
+
+-- the rest of an open tag
+rest_stops_by : (attributes : List (List ℕ)) (ending behind : List ℕ) → AreAttributes attributes → IsOpenTagEnd ending → StopsAt (concat attributes ++ (ending ++ behind))
+rest_stops_by [] ending behind are e = end_stops ending behind e
+rest_stops_by (a ∷ others) ending behind are e = rw (append_assoc a (concat others) (ending ++ behind)) (attribute_stops a (concat others ++ (ending ++ behind)) are.0)
+
+pub rest_stops : (bs behind : List ℕ) → IsTagRest bs behind → StopsAt bs
+rest_stops bs behind r = rw r.parts (rest_stops_by r.attributes r.ending behind r.are_attributes r.ends)
+
+starts_tail : (bs : List ℕ) → StartsBy is_blank bs → StartsBy is_tail bs
+starts_tail bs s = record { first = s.first; others = s.others; parts = s.parts; passes = blank_tail s.first s.passes }
+
+rest_starts_by : (attributes : List (List ℕ)) (ending behind : List ℕ) → AreAttributes attributes → IsOpenTagEnd ending → StartsBy is_tail (concat attributes ++ (ending ++ behind))
+rest_starts_by [] ending behind are e = rw e.parts (end_starts_by e.blanks e.slash behind e.is_blanks e.is_slash)
+rest_starts_by (a ∷ others) ending behind are e =
+    rw (append_assoc a (concat others) (ending ++ behind)) (starts_tail _ (attribute_starts a (concat others ++ (ending ++ behind)) are.0))
+
+pub rest_starts : (bs behind : List ℕ) → IsTagRest bs behind → StartsBy is_tail bs
+rest_starts bs behind r = rw r.parts (rest_starts_by r.attributes r.ending behind r.are_attributes r.ends)
+
+-- at the rest of a tag no name goes on, and no value specification begins
+pub rest_no_tag : (bs behind : List ℕ) → IsTagRest bs behind → prefix_len is_tag_byte bs ≡ 0
+rest_no_tag bs behind r = none_first is_tag_byte is_tail bs tail_tag (rest_starts bs behind r)
+
+pub rest_no_attribute : (bs behind : List ℕ) → IsTagRest bs behind → prefix_len is_attribute_byte bs ≡ 0
+rest_no_attribute bs behind r = none_first is_attribute_byte is_tail bs tail_attribute (rest_starts bs behind r)
+
+pub stop_size : (bs : List ℕ) (s : StopsAt bs) → prefix_len is_blank bs ≡ length s.blanks
+stop_size bs s =
+    let all = prefix_all is_blank s.blanks (s.stop ∷ s.others) s.is_blanks in
+    let none = prefix_none is_blank s.stop s.others (stop_solid s.stop s.stops) in
+    rw s.parts (omega arith)
+
+pub stop_behind : (bs : List ℕ) (s : StopsAt bs) → drop (prefix_len is_blank bs) bs ≡ s.stop ∷ s.others
+stop_behind bs s = rest_behind (prefix_len is_blank bs) bs s.blanks (s.stop ∷ s.others) s.parts (stop_size bs s)
+
+pub rest_no_equals : (bs behind : List ℕ) → IsTagRest bs behind → begins 61 (drop (prefix_len is_blank bs) bs) ≡ false
+rest_no_equals bs behind r =
+    let s = rest_stops bs behind r in
+    ap (begins 61) (stop_behind bs s) ∙ stop_equals s.stop s.stops
+
+-- behind the bytes of an unquoted value that the rest of a tag begins with, there is still the rest of a tag: they are none, or the slash of its end
+kept : (bs behind : List ℕ) → prefix_len is_unquoted bs ≡ 0 → IsTagRest bs behind → IsTagRest (drop (prefix_len is_unquoted bs) bs) behind
+kept bs behind e r = rw e r
+
+blank_kept : (bs behind : List ℕ) → StartsBy is_blank bs → IsTagRest bs behind → IsTagRest (drop (prefix_len is_unquoted bs) bs) behind
+blank_kept bs behind s r = kept bs behind (none_first is_unquoted is_blank bs blank_unquoted s) r
+
+end_alone : (behind : List ℕ) → IsTagRest (62 ∷ behind) behind
+end_alone behind = record {
+  attributes = [];
+  ending = 62 ∷ [];
+  parts = refl;
+  are_attributes = tt;
+  ends = record { blanks = []; slash = []; parts = refl; is_blanks = refl; is_slash = inl refl };
+}
+
+end_unquoted_by : (blanks slash bs behind : List ℕ) → bs ≡ (blanks ++ (slash ++ 62 ∷ [])) ++ behind → list_all is_blank blanks ≡ true → (slash ≡ []) ⊎ (slash ≡ 47 ∷ []) → IsTagRest bs behind
+    → IsTagRest (drop (prefix_len is_unquoted bs) bs) behind
+end_unquoted_by [] slash bs behind parts h (inl none) r =
+    let whole : bs ≡ 62 ∷ behind = parts ∙ rw none refl in
+    rw whole (end_alone behind)
+end_unquoted_by [] slash bs behind parts h (inr one) r =
+    let whole : bs ≡ 47 ∷ 62 ∷ behind = parts ∙ rw one refl in
+    rw whole (end_alone behind)
+end_unquoted_by (b ∷ blanks) slash bs behind parts h some r =
+    blank_kept bs behind (record { first = b; others = (blanks ++ (slash ++ 62 ∷ [])) ++ behind; parts = parts; passes = (and_parts _ _ h).0 }) r
+
+rest_unquoted_by : (attributes : List (List ℕ)) (ending bs behind : List ℕ) → bs ≡ concat attributes ++ (ending ++ behind) → AreAttributes attributes → IsOpenTagEnd ending → IsTagRest bs behind
+    → IsTagRest (drop (prefix_len is_unquoted bs) bs) behind
+rest_unquoted_by [] ending bs behind parts are e r = end_unquoted_by e.blanks e.slash bs behind (parts ∙ ap (λ xs. xs ++ behind) e.parts) e.is_blanks e.is_slash r
+rest_unquoted_by (a ∷ others) ending bs behind parts are e r =
+    let whole : bs ≡ a ++ (concat others ++ (ending ++ behind)) = parts ∙ append_assoc a (concat others) (ending ++ behind) in
+    blank_kept bs behind (rw whole (attribute_starts a (concat others ++ (ending ++ behind)) are.0)) r
+
+pub rest_unquoted : (bs behind : List ℕ) → IsTagRest bs behind → IsTagRest (drop (prefix_len is_unquoted bs) bs) behind
+rest_unquoted bs behind r = rest_unquoted_by r.attributes r.ending bs behind r.parts r.are_attributes r.ends r

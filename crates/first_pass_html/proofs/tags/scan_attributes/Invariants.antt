@@ -1,0 +1,16 @@
+use Rattle.std.proofs.Common.{◌≡◌, ◌≤◌, ℕ, List, ◌-◌, length, take, drop}
+use Rattle.std.specs.List.{concat}
+use Rattle.first_pass_html.specs.Tags.{AreAttributes}
+use Rattle.first_pass_html.specs.Fronts.{IsTagRest}
+use Rattle.first_pass_html.proofs.tags.scan_attributes.Given as goal
+
+-- the bytes up to here are attributes, and where a tag goes on to its end at the start it does so from here
+abbrev pub invariant-loop-len : goal.invariant-loop-len
+invariant-loop-len l = record {
+  within : l.at ≤ length l.bytes;
+  front : (attributes : List (List ℕ)) × (take l.at l.bytes ≡ concat attributes) × AreAttributes attributes;
+  all : (behind : List ℕ) → IsTagRest l.bytes behind → IsTagRest (drop l.at l.bytes) behind;
+}
+
+abbrev pub decreases-loop-len : goal.decreases-loop-len
+decreases-loop-len l = length l.bytes - l.at

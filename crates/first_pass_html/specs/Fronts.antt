@@ -1,0 +1,35 @@
+-- What the bytes begin with.
+use Rattle.std.specs.Prelude.{◌≡◌, ◌≤◌, ℕ, List, ◌++◌, length, drop, take}
+use Rattle.std.specs.List.{concat}
+use Rattle.first_pass_html.specs.Tags.{AreAttributes, IsOpenTagEnd}
+
+-- of the fronts of the bytes the one of n bytes is such a text, and no other is (this project)
+pub record IsOnlyFront (IsText : List ℕ → Type 0) (bs : List ℕ) (n : ℕ) : Type 0 where
+  pub within : n ≤ length bs
+  pub is_text : IsText (take n bs)
+  pub only : (front rest : List ℕ) → bs ≡ front ++ rest → IsText front → length front ≡ n
+
+-- no front of the bytes is such a text (this project)
+abbrev pub HasNoFront : (List ℕ → Type 0) → List ℕ → Type 0
+HasNoFront IsText bs = (front rest : List ℕ) → bs ≡ front ++ rest → IsText front → ⊥
+
+-- attributes and the end of an open tag, before the bytes behind it (CommonMark 6.6, open tag)
+pub record IsTagRest (bs : List ℕ) (behind : List ℕ) : Type 0 where
+  pub attributes : List (List ℕ)
+  pub ending : List ℕ
+  pub parts : bs ≡ concat attributes ++ (ending ++ behind)
+  pub are_attributes : AreAttributes attributes
+  pub ends : IsOpenTagEnd ending
+
+-- the end of an open tag, before the bytes behind it (CommonMark 6.6, open tag)
+pub record IsEndBefore (bs : List ℕ) (behind : List ℕ) : Type 0 where
+  pub ending : List ℕ
+  pub parts : bs ≡ ending ++ behind
+  pub ends : IsOpenTagEnd ending
+
+-- the first n bytes are attributes, and where a tag goes on to its end here, its end alone is left behind them (CommonMark 6.6, open tag)
+pub record IsPastAttributes (bs : List ℕ) (n : ℕ) : Type 0 where
+  pub attributes : List (List ℕ)
+  pub parts : take n bs ≡ concat attributes
+  pub are_attributes : AreAttributes attributes
+  pub all : (behind : List ℕ) → IsTagRest bs behind → IsEndBefore (drop n bs) behind
