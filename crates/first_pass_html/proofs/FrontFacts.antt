@@ -1,20 +1,18 @@
 -- What is counted at the front of the bytes is a part of a tag.
-use Rattle.std.proofs.Common.{◌≡◌, ◌⊎◌, inl, inr, ℕ, zero, suc, ◌+◌, ◌≤◌, ◌<◌, Bool, true, false, true≢false, cond, not, ◌==◌, ◌&&◌, ◌||◌, List, [], ◌∷◌, ◌++◌, length, take, drop, Option, Some, None, unwrap_or, refl, sym, ap, ◌∙◌, subst, arith, append_assoc, length-append, append-nil, add-one, one-add}
+use Rattle.std.proofs.Common.{◌≡◌, ◌⊎◌, inl, inr, ℕ, suc, ◌+◌, ◌<◌, Bool, true, false, true≢false, cond, ◌==◌, ◌&&◌, ◌||◌, List, [], ◌∷◌, ◌++◌, length, take, drop, Option, Some, None, unwrap_or, refl, sym, ap, ◌∙◌, subst, arith, append_assoc, append-nil}
 use Rattle.std.specs.Option.{option_map}
 use Rattle.std.specs.List.{prefix_len, list_all, concat}
-use Rattle.std.proofs.lemmas.Bool.{and_parts, and_from, eqb-true}
+use Rattle.std.proofs.lemmas.Bool.{and_from, eqb-true}
 use Rattle.std.proofs.lemmas.Bool.Decides.{nat_tests}
-use Rattle.std.proofs.lemmas.List.{drop-drop}
 use Rattle.std.proofs.lemmas.List.Folds.{length-prefix_len, concat-append}
 use Rattle.std.proofs.Math.Seq.{take-add}
 use Rattle.first_pass_scan.specs.Lines.{begins}
-use Rattle.first_pass_html.specs.Tags.{is_blank, is_tag_byte, starts_attribute, is_attribute_byte, is_unquoted, is_quoted, is_word, is_attribute_name, IsQuotedValue, IsValue, IsValueSpecification, IsAttribute, AreAttributes, IsOpenTagEnd}
+use Rattle.first_pass_html.specs.Tags.{is_blank, starts_attribute, is_attribute_byte, is_unquoted, is_quoted, is_word, is_attribute_name, IsQuotedValue, IsValue, IsValueSpecification, IsAttribute, AreAttributes, IsOpenTagEnd}
 use Rattle.first_pass_html.specs.TagLengths.{word_len, unquoted_len, quoted_len, value_len, blanks_value_len, specification_len, attribute_name_len, named_len, attribute_len, close_len, open_end_len}
-use Rattle.first_pass_html.specs.Fronts.{IsTagRest, IsEndBefore}
 use Rattle.first_pass_html.proofs.ListFacts.{prefix_passes}
 
 -- what a test and a map of an option give
-some_if : (t : Bool) (x n : ℕ) → cond t (Some x) None ≡ Some n → (t ≡ true) × (x ≡ n)
+pub some_if : (t : Bool) (x n : ℕ) → cond t (Some x) None ≡ Some n → (t ≡ true) × (x ≡ n)
 some_if true x n h = (refl, let e : x ≡ n = cc in e)
 some_if false x n h = cc
 
@@ -44,7 +42,7 @@ name_front first other (b ∷ bs) n h =
     rw size (and_from (first b) _ both.0 (prefix_passes other bs))
 
 -- the byte that stands first
-begins_front : (c : ℕ) (bs : List ℕ) → begins c bs ≡ true → (others : List ℕ) × (bs ≡ c ∷ others)
+pub begins_front : (c : ℕ) (bs : List ℕ) → begins c bs ≡ true → (others : List ℕ) × (bs ≡ c ∷ others)
 begins_front c [] h = absurd (true≢false (sym h))
 begins_front c (b ∷ bs) h = (bs, rw (eqb-true b c h))
 
@@ -100,7 +98,7 @@ equals_front bs n h e =
     let v = blanks_value_front (drop (k + 1) bs) n e in
     let front : take (k + 1) bs ≡ take k bs ++ 61 ∷ [] = take-add k 1 bs ∙ ap (λ xs. take k bs ++ take 1 xs) equals.1 in
     let whole : take (k + 1 + n) bs ≡ take k bs ++ 61 ∷ take n (drop (k + 1) bs) =
-        take-add (k + 1) n bs ∙ ap (λ xs. xs ++ take n (drop (k + 1) bs)) front ∙ append_assoc (take k bs) (61 ∷ []) (take n (drop (k + 1) bs)) in
+    take-add (k + 1) n bs ∙ ap (λ xs. xs ++ take n (drop (k + 1) bs)) front ∙ append_assoc (take k bs) (61 ∷ []) (take n (drop (k + 1) bs)) in
     record {
       before = take k bs;
       behind = v.blanks;

@@ -3,3 +3,4 @@ pub mod NameFacts
 pub mod TailFacts
 pub mod TagFacts
 pub mod FrontFacts
+pub mod WholeTagFacts

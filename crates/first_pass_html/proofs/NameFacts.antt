@@ -1,5 +1,5 @@
 -- Facts on texts in order, and on names.
-use Rattle.std.proofs.Common.{◌≡◌, ◌↔◌, ℕ, zero, suc, ◌+◌, ◌<◌, ◌≤◌, Bool, true, false, true≢false, nat_le, ◌==◌, ◌&&◌, ◌||◌, IsTrue, List, [], ◌∷◌, ◌++◌, length, take, drop, map, get_or, Bor, Ordering, Less, Equal, Greater, nat_cmp, Result, Ok, Err, refl, sym, ap, ◌∙◌, subst, arith, add-one, inl, inr, ◌⊎◌}
+use Rattle.std.proofs.Common.{◌≡◌, ◌↔◌, ℕ, zero, suc, ◌<◌, Bool, true, false, true≢false, nat_le, ◌==◌, ◌&&◌, ◌||◌, IsTrue, List, [], ◌∷◌, length, take, drop, map, get_or, Bor, Less, Equal, Greater, nat_cmp, Result, Ok, Err, refl, sym, ap, ◌∙◌, subst, arith, add-one, inl, inr}
 use Rattle.std.specs.Ordering.{is_lt, ordering_reverse}
 use Rattle.std.specs.Result.{is_ok}
 use Rattle.std.specs.List.{Contains, HoldsAt, list_all}

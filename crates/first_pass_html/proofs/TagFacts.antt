@@ -1,16 +1,14 @@
 -- The parts of a tag that the bytes begin with have the lengths that are counted.
-use Rattle.std.proofs.Common.{◌≡◌, ◌⊎◌, inl, inr, ℕ, zero, suc, ◌+◌, ◌≤◌, ◌<◌, Bool, true, false, true≢false, cond, not, ◌==◌, ◌&&◌, ◌||◌, List, [], ◌∷◌, ◌++◌, length, take, drop, Option, Some, None, unwrap_or, refl, sym, ap, ◌∙◌, subst, arith, append_assoc, length-append, add-one, one-add}
-use Rattle.std.specs.Option.{option_map}
+use Rattle.std.proofs.Common.{◌≡◌, ◌⊎◌, inl, inr, ℕ, ◌+◌, Bool, true, false, true≢false, cond, ◌==◌, ◌||◌, List, [], ◌∷◌, ◌++◌, length, drop, Option, Some, None, refl, sym, ap, ◌∙◌, arith, append_assoc, length-append}
 use Rattle.std.specs.List.{prefix_len, list_all, concat}
-use Rattle.std.proofs.lemmas.Bool.{and_parts, and_from}
+use Rattle.std.proofs.lemmas.Bool.{and_parts}
 use Rattle.std.proofs.lemmas.Bool.Decides.{nat_tests}
 use Rattle.std.proofs.Math.Seq.{drop-append_seam, drop-append-add}
-use Rattle.first_pass_scan.specs.Lines.{is_line_end, begins}
-use Rattle.first_pass_html.specs.Tags.{is_blank, is_tag_byte, starts_attribute, is_attribute_byte, is_unquoted, is_quoted, is_word, is_attribute_name, IsQuotedValue, IsValue, IsValueSpecification, IsAttribute, AreAttributes, IsOpenTagEnd}
-use Rattle.first_pass_html.specs.TagLengths.{word_len, unquoted_len, quoted_len, value_len, blanks_value_len, specification_len, attribute_name_len, named_len, attribute_len, close_len, open_end_len}
+use Rattle.first_pass_html.specs.Tags.{is_blank, starts_attribute, is_attribute_byte, is_unquoted, is_quoted, is_word, is_attribute_name, IsQuotedValue, IsValue, IsValueSpecification, IsAttribute, AreAttributes, IsOpenTagEnd}
+use Rattle.first_pass_html.specs.TagLengths.{word_len, quoted_len, value_len, blanks_value_len, specification_len, attribute_name_len, named_len, attribute_len, close_len, open_end_len}
 use Rattle.first_pass_html.specs.Fronts.{IsTagRest, IsEndBefore}
-use Rattle.first_pass_html.proofs.ListFacts.{prefix_all, prefix_none, rest_behind}
-use Rattle.first_pass_html.proofs.TailFacts.{word_all, stop_size, stop_behind, rest_stops, rest_starts, rest_no_attribute, rest_no_equals, rest_unquoted, end_stops, StopsAt}
+use Rattle.first_pass_html.proofs.ListFacts.{prefix_all, prefix_none}
+use Rattle.first_pass_html.proofs.TailFacts.{word_all, rest_no_attribute, rest_no_equals, rest_unquoted}
 
 -- the byte is a quote
 abbrev pub is_quote : ℕ → Bool
@@ -119,7 +117,7 @@ specification_no_name : (s bs behind : List ℕ) → (s ≡ []) ⊎ IsValueSpeci
 specification_no_name s bs behind (inl none) r = rw none (rest_no_attribute bs behind r)
 specification_no_name s bs behind (inr i) r = rw (specification_whole s bs i) (specification_no_name_by i.before (i.behind ++ (i.value ++ bs)) i.before_blank)
 
-name_is : (first other : ℕ → Bool) (name bs : List ℕ) → is_word first other name ≡ true → prefix_len other bs ≡ 0 → word_len first other (name ++ bs) ≡ Some (length name)
+pub name_is : (first other : ℕ → Bool) (name bs : List ℕ) → is_word first other name ≡ true → prefix_len other bs ≡ 0 → word_len first other (name ++ bs) ≡ Some (length name)
 name_is first other [] bs h none = absurd (true≢false (sym h))
 name_is first other (b ∷ name) bs h none =
     let both = and_parts (first b) (list_all other name) h in
@@ -197,7 +195,7 @@ pub end_is : (ending behind : List ℕ) → IsOpenTagEnd ending → open_end_len
 end_is ending behind e = rw e.parts (end_is_by e.blanks e.slash behind e.is_blanks e.is_slash)
 
 -- the rest of a tag goes on behind an attribute, and without one it is its end
-rest_of_others : (others : List (List ℕ)) (ending behind : List ℕ) → AreAttributes others → IsOpenTagEnd ending → IsTagRest (concat others ++ (ending ++ behind)) behind
+pub rest_of_others : (others : List (List ℕ)) (ending behind : List ℕ) → AreAttributes others → IsOpenTagEnd ending → IsTagRest (concat others ++ (ending ++ behind)) behind
 rest_of_others others ending behind are e = record { attributes = others; ending = ending; parts = refl; are_attributes = are; ends = e }
 
 step_by : (attributes : List (List ℕ)) (ending behind : List ℕ) (n : ℕ) → AreAttributes attributes → IsOpenTagEnd ending → attribute_len (concat attributes ++ (ending ++ behind)) ≡ Some n

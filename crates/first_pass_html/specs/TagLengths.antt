@@ -58,3 +58,7 @@ close_len (b ∷ bs) = if b == 62 then Some 1 else (if b == 47 && begins 62 bs t
 -- how many bytes the end of an open tag has: blanks, `/` or not, and `>` (CommonMark 6.6)
 unfoldable pub open_end_len : List ℕ → Option ℕ
 open_end_len bs = let n = prefix_len is_blank bs in option_map (λ k. n + k) (close_len (drop n bs))
+
+-- how many bytes the end of a closing tag has: blanks, and `>` (CommonMark 6.6)
+unfoldable pub closing_end_len : List ℕ → Option ℕ
+closing_end_len bs = let n = prefix_len is_blank bs in if begins 62 (drop n bs) then Some (n + 1) else None

@@ -1,6 +1,6 @@
 -- Open tags and closing tags that stand on one line, so that blanks are spaces and tabs.
-use Rattle.std.specs.Prelude.{◌≡◌, ◌≤◌, ℕ, ◌⊎◌, Bool, true, false, ◌==◌, ◌&&◌, ◌||◌, not, List, [], ◌∷◌, ◌++◌, length, drop, take, Option, None, Some}
-use Rattle.std.specs.List.{list_all, concat, list_any}
+use Rattle.std.specs.Prelude.{◌≡◌, ◌≤◌, ℕ, ◌⊎◌, Bool, true, false, ◌==◌, ◌&&◌, ◌||◌, not, List, [], ◌∷◌, ◌++◌, length, drop, take}
+use Rattle.std.specs.List.{list_all, concat}
 use Rattle.std.specs.Option.{is_some}
 use Rattle.std.specs.Char.{is_ascii_alphabetic, is_ascii_alphanumeric}
 use Rattle.first_pass_scan.specs.Lines.{is_line_end, blank_len}
@@ -105,6 +105,14 @@ pub record IsClosingTag (bs : List ℕ) : Type 0 where
 -- an open tag whose name is none of raw text (CommonMark 4.6, start condition 7; for the case of the names: this project)
 abbrev pub IsBlockOpenTag : List ℕ → Type 0
 IsBlockOpenTag bs = (tag : IsOpenTag bs) × (is_raw_name tag.name ≡ false)
+
+-- such an open tag without its `<` (this project)
+abbrev pub IsBehindOpening : List ℕ → Type 0
+IsBehindOpening bs = IsBlockOpenTag (60 ∷ bs)
+
+-- a closing tag without its `</` (this project)
+abbrev pub IsBehindClosing : List ℕ → Type 0
+IsBehindClosing bs = IsClosingTag (60 ∷ (47 ∷ bs))
 
 -- a tag that begins an HTML block: such an open tag, or a closing tag (CommonMark 4.6, start condition 7)
 abbrev pub IsBlockTag : List ℕ → Type 0

@@ -1,6 +1,7 @@
 //! Tags that begin HTML blocks of the seventh kind.
 
-ghost use Rattle.std.specs.Prelude.{◌≡◌, ◌<◌, ◌≤◌, ◌+◌, ℕ, length, IfSome, IfNone};
+ghost use Rattle.std.specs.Prelude.{◌≡◌, ◌<◌, ◌≤◌, ◌+◌, ℕ, length, IsTrue, IfSome, IfNone};
+ghost use Rattle.first_pass_scan.specs.Lines.{begins};
 ghost use Rattle.std.specs.List.{prefix_len};
 ghost use Rattle.first_pass_html.specs.Tags as tags;
 ghost use Rattle.first_pass_html.specs.TagLengths as lengths;
@@ -218,20 +219,84 @@ fn scan_attributes(bytes: &[u8]) -> usize
     at
 }
 
-// How many bytes the open tag has that stands first, if its name is none of raw text.
+// How many bytes the open tag has behind its `<`, if its name is none of raw text.
 fn scan_open_tag(bytes: &[u8]) -> Option<usize>
-    ensures found { IfSome result (IsOnlyFront tags.IsBlockOpenTag bytes.now) }
-    ensures none { IfNone result (HasNoFront tags.IsBlockOpenTag bytes.now) }
+    ensures found { IfSome result (IsOnlyFront tags.IsBehindOpening bytes.now) }
+    ensures none { IfNone result (HasNoFront tags.IsBehindOpening bytes.now) }
 {
-    let [b'<', rest @ ..] = bytes else {
-        return None;
-    };
-    let name = scan_tag_name(rest)?;
-    if is_raw_name(&rest[..name]) {
+    let name = scan_tag_name(bytes)?;
+    if is_raw_name(&bytes[..name]) {
         return None;
     }
-    let behind = rest_of(rest, name);
+    let behind = rest_of(bytes, name);
     let attributes = scan_attributes(behind);
     let end = scan_open_end(rest_of(behind, attributes))?;
-    Some(1 + name + attributes + end)
+    Some(name + attributes + end)
+}
+
+// How many bytes the end of a closing tag has that stands first: blanks, and `>`.
+#[tactic(auto, unfolding(crate::specs::TagLengths::closing_end_len))]
+fn scan_closing_end(bytes: &[u8]) -> Option<usize>
+    ensures value { result ≡ lengths.closing_end_len bytes.now }
+    ensures within { IfSome result (λ n. n ≤ length bytes.now) }
+{
+    let blanks = blanks_len(bytes);
+    match rest_of(bytes, blanks) {
+        [b'>', ..] => Some(blanks + 1),
+        _ => None,
+    }
+}
+
+// How many bytes the closing tag has behind its `</`.
+fn scan_closing_tag(bytes: &[u8]) -> Option<usize>
+    ensures found { IfSome result (IsOnlyFront tags.IsBehindClosing bytes.now) }
+    ensures none { IfNone result (HasNoFront tags.IsBehindClosing bytes.now) }
+{
+    let name = scan_tag_name(bytes)?;
+    let end = scan_closing_end(rest_of(bytes, name))?;
+    Some(name + end)
+}
+
+// Whether the byte stands first.
+fn begins_with(byte: u8, bytes: &[u8]) -> bool
+    ensures value { result ≡ begins byte bytes.now }
+    ensures some { IsTrue result → 0 < length bytes.now }
+{
+    match bytes {
+        [] => false,
+        [first, ..] => *first == byte,
+    }
+}
+
+// How many bytes the tag has that stands first, if it begins HTML blocks.
+fn scan_tag(bytes: &[u8]) -> Option<usize>
+    ensures found { IfSome result (IsOnlyFront tags.IsBlockTag bytes.now) }
+    ensures none { IfNone result (HasNoFront tags.IsBlockTag bytes.now) }
+{
+    if !begins_with(b'<', bytes) {
+        return None;
+    }
+    let rest = rest_of(bytes, 1);
+    if begins_with(b'/', rest) {
+        let len = scan_closing_tag(rest_of(rest, 1))?;
+        return Some(len + 2);
+    }
+    let len = scan_open_tag(rest)?;
+    Some(len + 1)
+}
+
+/// How many bytes the tag has that `bytes`, which stand at the `<`, begin with, where it begins an HTML
+/// block of the seventh kind: an open tag whose name is not pre, script, style or textarea in any case,
+/// or a closing tag, whole on its line, with nothing but white space behind it on the line. `None` where
+/// no such tag stands here. CommonMark 4.6 and 6.6.
+pub fn scan_html_type_7(bytes: &[u8]) -> Option<usize>
+    ensures tag { IfSome result (tags.BeginsTagLine bytes.now) }
+    ensures only { IfSome result (λ n. (m : ℕ) → tags.BeginsTagLine bytes.now m → m ≡ n) }
+    ensures none { IfNone result ((m : ℕ) → tags.BeginsTagLine bytes.now m → ⊥) }
+{
+    let len = scan_tag(bytes)?;
+    match scan_blank_line(rest_of(bytes, len)) {
+        Some(_) => Some(len),
+        None => None,
+    }
 }

@@ -1,4 +1,4 @@
-use Rattle.std.proofs.Common.{◌≡◌, ◌≤◌, ℕ, Some, None, List, drop, length, arith, sym, ap, ◌∙◌}
+use Rattle.std.proofs.Common.{◌≡◌, ℕ, Some, None, List, drop, arith, sym}
 use Rattle.std.proofs.lemmas.List.{drop-drop}
 use Rattle.first_pass_html.specs.TagLengths.{attribute_len}
 use Rattle.first_pass_html.proofs.TagFacts.{step, last}

@@ -1,0 +1,262 @@
+-- Whole tags at the front of the bytes.
+use Rattle.std.proofs.Common.{◌≡◌, inl, inr, ℕ, suc, ◌+◌, ◌≤◌, true, false, true≢false, List, [], ◌∷◌, ◌++◌, length, take, drop, Some, None, refl, sym, ap, ◌∙◌, subst, arith, append_assoc, length-append, length-drop, add-one}
+use Rattle.std.specs.Option.{is_some}
+use Rattle.std.specs.List.{prefix_len, list_all, concat}
+use Rattle.std.proofs.lemmas.Bool.{and_parts, eqb-true}
+use Rattle.std.proofs.lemmas.List.{drop-drop, take-append-drop, length-take-le}
+use Rattle.std.proofs.Math.Seq.{take-add, drop-append_seam}
+use Rattle.std.specs.Char.{is_ascii_alphabetic}
+use Rattle.first_pass_scan.specs.Lines.{begins, blank_len}
+use Rattle.first_pass_html.specs.Starts.{is_raw_name}
+use Rattle.first_pass_html.specs.Tags.{is_blank, is_tag_byte, is_tag_name, IsClosingTag, IsBlockOpenTag, IsBehindOpening, IsBehindClosing, IsBlockTag, BeginsTagLine}
+use Rattle.first_pass_html.specs.TagLengths.{tag_name_len, open_end_len, closing_end_len}
+use Rattle.first_pass_html.specs.Fronts.{IsOnlyFront, HasNoFront, IsTagRest, IsEndBefore, IsPastAttributes}
+use Rattle.first_pass_html.proofs.ListFacts.{prefix_all, prefix_none, prefix_passes, rest_behind, front_of}
+use Rattle.first_pass_html.proofs.TailFacts.{rest_no_tag}
+use Rattle.first_pass_html.proofs.TagFacts.{name_is, rest_of_others, end_is}
+use Rattle.first_pass_html.proofs.FrontFacts.{name_front, end_front, some_if, begins_front}
+
+-- a tag behind its opening bytes: a tag name, and the rest of a tag
+record NameThenRest (bs : List ℕ) (behind : List ℕ) : Type 0 where
+  name : List ℕ
+  others : List ℕ
+  parts : bs ≡ name ++ others
+  is_name : is_tag_name name ≡ true
+  rest : IsTagRest others behind
+
+name_counted : (bs behind : List ℕ) (r : NameThenRest bs behind) → tag_name_len bs ≡ Some (length r.name)
+name_counted bs behind r = rw r.parts (name_is is_ascii_alphabetic is_tag_byte r.name r.others r.is_name (rest_no_tag r.others behind r.rest))
+
+-- the name that is counted is the tag's
+name_same : (bs behind : List ℕ) (n : ℕ) (r : NameThenRest bs behind) → tag_name_len bs ≡ Some n → n ≡ length r.name
+name_same bs behind n r h = let e = name_counted bs behind r in cc
+
+-- open tags
+opening_parts : (bs front behind : List ℕ) → bs ≡ front ++ behind → (tag : IsBehindOpening front) → bs ≡ tag.0.name ++ (concat tag.0.attributes ++ (tag.0.ending ++ behind))
+opening_parts bs front behind parts tag =
+    let t = tag.0 in
+    let inside : front ≡ t.name ++ (concat t.attributes ++ t.ending) = let e = t.parts in cc in
+    parts ∙ ap (λ xs. xs ++ behind) inside ∙ append_assoc t.name (concat t.attributes ++ t.ending) behind ∙ ap (λ xs. t.name ++ xs) (append_assoc (concat t.attributes) t.ending behind)
+
+opening_rest : (bs front behind : List ℕ) → bs ≡ front ++ behind → (tag : IsBehindOpening front) → NameThenRest bs behind
+opening_rest bs front behind parts tag = record {
+  name = tag.0.name;
+  others = concat tag.0.attributes ++ (tag.0.ending ++ behind);
+  parts = opening_parts bs front behind parts tag;
+  is_name = tag.0.is_name;
+  rest = rest_of_others tag.0.attributes tag.0.ending behind tag.0.are_attributes tag.0.ends;
+}
+
+pub opening_not_raw : (bs : List ℕ) (n : ℕ) → tag_name_len bs ≡ Some n → is_raw_name (take n bs) ≡ true → HasNoFront IsBehindOpening bs
+unfolding opening_rest
+opening_not_raw bs n h raw front behind parts tag =
+    let r = opening_rest bs front behind parts tag in
+    let same : take n bs ≡ tag.0.name = front_of n bs r.name r.others r.parts (name_same bs behind n r h) in
+    true≢false (sym raw ∙ ap is_raw_name same ∙ tag.1)
+
+-- behind the name and the attributes that are counted stands the end of the tag
+opening_end : (bs front behind : List ℕ) (n a : ℕ) → bs ≡ front ++ behind → IsBehindOpening front → tag_name_len bs ≡ Some n → IsPastAttributes (drop n bs) a → IsEndBefore (drop a (drop n bs)) behind
+opening_end bs front behind n a parts tag h past =
+    let r = opening_rest bs front behind parts tag in
+    let same : drop n bs ≡ r.others = rest_behind n bs r.name r.others r.parts (name_same bs behind n r h) in
+    past.all behind (rw same r.rest)
+
+end_counted : (bs behind : List ℕ) → (e : IsEndBefore bs behind) → open_end_len bs ≡ Some (length e.ending)
+end_counted bs behind e = rw e.parts (end_is e.ending behind e.ends)
+
+pub opening_needs_end : (bs : List ℕ) (n a : ℕ) → tag_name_len bs ≡ Some n → IsPastAttributes (drop n bs) a → open_end_len (drop a (drop n bs)) ≡ None → HasNoFront IsBehindOpening bs
+opening_needs_end bs n a h past none front behind parts tag =
+    let e = opening_end bs front behind n a parts tag h past in
+    let some = end_counted (drop a (drop n bs)) behind e in
+    cc
+
+opening_only : (bs front behind : List ℕ) (n a k : ℕ) → bs ≡ front ++ behind → IsBehindOpening front → tag_name_len bs ≡ Some n → n ≤ length bs → IsPastAttributes (drop n bs) a → a ≤ length (drop n bs)
+    → open_end_len (drop a (drop n bs)) ≡ Some k → length front ≡ n + a + k
+opening_only bs front behind n a k parts tag h fits past within some =
+    let e = opening_end bs front behind n a parts tag h past in
+    let counted = end_counted (drop a (drop n bs)) behind e in
+    let same : k ≡ length e.ending = cc in
+    let size : length bs ≡ length front + length behind = ap length parts ∙ length-append front behind in
+    let left : length (drop a (drop n bs)) ≡ length e.ending + length behind = ap length e.parts ∙ length-append e.ending behind in
+    omega (arith, length-drop a (drop n bs), length-drop n bs)
+
+opening_is : (bs : List ℕ) (n a k : ℕ) → tag_name_len bs ≡ Some n → is_raw_name (take n bs) ≡ false → IsPastAttributes (drop n bs) a → open_end_len (drop a (drop n bs)) ≡ Some k → IsBehindOpening (take (n + a + k) bs)
+opening_is bs n a k h raw past some =
+    let behind : drop (n + a) bs ≡ drop a (drop n bs) = sym (drop-drop a n bs) in
+    let whole : take (n + a + k) bs ≡ take n bs ++ (concat past.attributes ++ take k (drop a (drop n bs))) =
+    take-add (n + a) k bs
+    ∙ ap (λ xs. xs ++ take k (drop (n + a) bs)) (take-add n a bs ∙ ap (λ xs. take n bs ++ xs) past.parts)
+    ∙ append_assoc (take n bs) (concat past.attributes) (take k (drop (n + a) bs))
+    ∙ ap (λ xs. take n bs ++ (concat past.attributes ++ take k xs)) behind in (
+      record {
+        name = take n bs;
+        attributes = past.attributes;
+        ending = take k (drop a (drop n bs));
+        parts = ap (λ xs. 60 ∷ xs) whole;
+        is_name = name_front is_ascii_alphabetic is_tag_byte bs n h;
+        are_attributes = past.are_attributes;
+        ends = end_front (drop a (drop n bs)) k some;
+      },
+      raw,
+    )
+
+pub opening_found : (bs : List ℕ) (n a k : ℕ) → tag_name_len bs ≡ Some n → n ≤ length bs → is_raw_name (take n bs) ≡ false → IsPastAttributes (drop n bs) a → a ≤ length (drop n bs)
+    → open_end_len (drop a (drop n bs)) ≡ Some k → k ≤ length (drop a (drop n bs)) → IsOnlyFront IsBehindOpening bs (n + a + k)
+opening_found bs n a k h fits raw past within some ends = record {
+  within = omega (arith, length-drop a (drop n bs), length-drop n bs);
+  is_text = opening_is bs n a k h raw past some;
+  only = λ front behind parts tag. opening_only bs front behind n a k parts tag h fits past within some;
+}
+
+-- closing tags
+closing_rest : (bs front behind : List ℕ) → bs ≡ front ++ behind → (tag : IsBehindClosing front) → bs ≡ tag.name ++ ((tag.blanks ++ 62 ∷ []) ++ behind)
+closing_rest bs front behind parts tag =
+    let inside : front ≡ tag.name ++ (tag.blanks ++ 62 ∷ []) = let e = tag.parts in cc in
+    parts ∙ ap (λ xs. xs ++ behind) inside ∙ append_assoc tag.name (tag.blanks ++ 62 ∷ []) behind
+
+closing_name : (bs front behind : List ℕ) → bs ≡ front ++ behind → (tag : IsBehindClosing front) → NameThenRest bs behind
+closing_name bs front behind parts tag = record {
+  name = tag.name;
+  others = (tag.blanks ++ 62 ∷ []) ++ behind;
+  parts = closing_rest bs front behind parts tag;
+  is_name = tag.is_name;
+  rest = rest_of_others [] (tag.blanks ++ 62 ∷ []) behind tt (record { blanks = tag.blanks; slash = []; parts = refl; is_blanks = tag.is_blanks; is_slash = inl refl });
+}
+
+closing_end_is : (blanks behind : List ℕ) → list_all is_blank blanks ≡ true → closing_end_len ((blanks ++ 62 ∷ []) ++ behind) ≡ Some (length blanks + 1)
+unfolding closing_end_len
+closing_end_is blanks behind h =
+    let more = prefix_all is_blank blanks (62 ∷ behind) h in
+    let none : prefix_len is_blank (62 ∷ behind) ≡ 0 = prefix_none is_blank 62 behind refl in
+    let size : prefix_len is_blank (blanks ++ 62 ∷ behind) ≡ length blanks = omega arith in
+    rw (append_assoc blanks (62 ∷ []) behind, size, drop-append_seam)
+
+closing_end : (bs front behind : List ℕ) (n : ℕ) → bs ≡ front ++ behind → (tag : IsBehindClosing front) → tag_name_len bs ≡ Some n → (n ≡ length tag.name) × (closing_end_len (drop n bs) ≡ Some (length tag.blanks + 1))
+unfolding closing_name
+closing_end bs front behind n parts tag h =
+    let r = closing_name bs front behind parts tag in
+    let same : n ≡ length tag.name = name_same bs behind n r h in
+    (same, ap closing_end_len (rest_behind n bs tag.name ((tag.blanks ++ 62 ∷ []) ++ behind) r.parts same) ∙ closing_end_is tag.blanks behind tag.is_blanks)
+
+pub closing_needs_end : (bs : List ℕ) (n : ℕ) → tag_name_len bs ≡ Some n → closing_end_len (drop n bs) ≡ None → HasNoFront IsBehindClosing bs
+closing_needs_end bs n h none front behind parts tag = let some = (closing_end bs front behind n parts tag h).1 in cc
+
+closing_only : (bs front behind : List ℕ) (n k : ℕ) → bs ≡ front ++ behind → IsBehindClosing front → tag_name_len bs ≡ Some n → closing_end_len (drop n bs) ≡ Some k → length front ≡ n + k
+closing_only bs front behind n k parts tag h some =
+    let both = closing_end bs front behind n parts tag h in
+    let size : k ≡ length tag.blanks + 1 = let counted = both.1 in cc in
+    let inside : front ≡ tag.name ++ (tag.blanks ++ 62 ∷ []) = let e = tag.parts in cc in
+    ap length inside ∙ omega (arith, both.0, length-append tag.name (tag.blanks ++ 62 ∷ []), length-append tag.blanks (62 ∷ []))
+
+closing_is : (bs : List ℕ) (n k : ℕ) → tag_name_len bs ≡ Some n → closing_end_len (drop n bs) ≡ Some k → IsBehindClosing (take (n + k) bs)
+unfolding closing_end_len
+closing_is bs n k h some =
+    let left : List ℕ = drop n bs in
+    let j : ℕ = prefix_len is_blank left in
+    let both = some_if (begins 62 (drop j left)) (j + 1) k some in
+    let end = begins_front 62 (drop j left) both.0 in
+    let front : take k left ≡ take j left ++ 62 ∷ [] = ap (λ i. take i left) (sym both.1) ∙ take-add j 1 left ∙ ap (λ xs. take j left ++ take 1 xs) end.1 in
+    record {
+      name = take n bs;
+      blanks = take j left;
+      parts = ap (λ xs. 60 ∷ 47 ∷ xs) (take-add n k bs ∙ ap (λ xs. take n bs ++ xs) front);
+      is_name = name_front is_ascii_alphabetic is_tag_byte bs n h;
+      is_blanks = prefix_passes is_blank left;
+    }
+
+pub closing_found : (bs : List ℕ) (n k : ℕ) → tag_name_len bs ≡ Some n → n ≤ length bs → closing_end_len (drop n bs) ≡ Some k → k ≤ length (drop n bs) → IsOnlyFront IsBehindClosing bs (n + k)
+closing_found bs n k h fits some within = record {
+  within = omega (arith, length-drop n bs);
+  is_text = closing_is bs n k h some;
+  only = λ front behind parts tag. closing_only bs front behind n k parts tag h some;
+}
+
+-- tags with the bytes before the name
+pub first_byte : (c : ℕ) (bs : List ℕ) → begins c bs ≡ true → bs ≡ c ∷ drop 1 bs
+first_byte c [] h = absurd (true≢false (sym h))
+first_byte c (b ∷ bs) h = rw (eqb-true b c h)
+
+behind_first : (c : ℕ) (bs rest front others behind : List ℕ) → bs ≡ c ∷ rest → bs ≡ front ++ behind → front ≡ c ∷ others → rest ≡ others ++ behind
+behind_first c bs rest front others behind whole parts first =
+    let e : c ∷ rest ≡ c ∷ (others ++ behind) = sym whole ∙ parts ∙ ap (λ xs. xs ++ behind) first in cc
+
+name_no_slash : (name others rest : List ℕ) → is_tag_name name ≡ true → name ++ others ≡ 47 ∷ rest → ⊥
+name_no_slash [] others rest h e = true≢false (sym h)
+name_no_slash (b ∷ name) others rest h e =
+    let same : b ≡ 47 = cc in
+    true≢false (sym (and_parts _ _ h).0 ∙ ap is_ascii_alphabetic same)
+
+open_tag : (bs rest front behind : List ℕ) → bs ≡ 60 ∷ rest → bs ≡ front ++ behind → IsBlockOpenTag front → (others : List ℕ) × (front ≡ 60 ∷ others) × (rest ≡ others ++ behind) × IsBehindOpening others
+open_tag bs rest front behind whole parts tag =
+    let others : List ℕ = tag.0.name ++ (concat tag.0.attributes ++ tag.0.ending) in
+    (others, tag.0.parts, behind_first 60 bs rest front others behind whole parts tag.0.parts, subst IsBlockOpenTag tag.0.parts tag)
+
+closing_tag : (bs rest front behind : List ℕ) → bs ≡ 60 ∷ rest → bs ≡ front ++ behind → IsClosingTag front → (others : List ℕ) × (front ≡ 60 ∷ 47 ∷ others) × (rest ≡ 47 ∷ (others ++ behind)) × IsBehindClosing others
+closing_tag bs rest front behind whole parts tag =
+    let others : List ℕ = tag.name ++ (tag.blanks ++ 62 ∷ []) in
+    (others, tag.parts, behind_first 60 bs rest front (47 ∷ others) behind whole parts tag.parts, subst IsClosingTag tag.parts tag)
+
+-- an open tag, where no slash stands behind the first byte
+no_closing : (bs rest front behind : List ℕ) → bs ≡ 60 ∷ rest → begins 47 rest ≡ false → bs ≡ front ++ behind → IsClosingTag front → ⊥
+no_closing bs rest front behind whole plain parts tag =
+    let t = closing_tag bs rest front behind whole parts tag in
+    true≢false (ap (begins 47) (sym t.2) ∙ plain)
+
+pub open_found : (bs rest : List ℕ) (n : ℕ) → bs ≡ 60 ∷ rest → begins 47 rest ≡ false → IsOnlyFront IsBehindOpening rest n → IsOnlyFront IsBlockTag bs (n + 1)
+open_found bs rest n whole plain o = record {
+  within = let fits = o.within in omega (arith, ap length whole);
+  is_text = inl (rw (whole, add-one) o.is_text);
+  only = λ front behind parts tag. elim tag [
+    | inl tag ↦ let t = open_tag bs rest front behind whole parts tag in ap length t.1 ∙ omega (arith, o.only t.0 behind t.2 t.3)
+    | inr tag ↦ absurd (no_closing bs rest front behind whole plain parts tag)
+  ];
+}
+
+pub open_none : (bs rest : List ℕ) → bs ≡ 60 ∷ rest → begins 47 rest ≡ false → HasNoFront IsBehindOpening rest → HasNoFront IsBlockTag bs
+open_none bs rest whole plain none front behind parts (inl tag) = let t = open_tag bs rest front behind whole parts tag in none t.0 behind t.2 t.3
+open_none bs rest whole plain none front behind parts (inr tag) = no_closing bs rest front behind whole plain parts tag
+
+-- a closing tag, where a slash stands there
+no_open : (bs rest front behind : List ℕ) → bs ≡ 60 ∷ 47 ∷ rest → bs ≡ front ++ behind → IsBlockOpenTag front → ⊥
+no_open bs rest front behind whole parts tag =
+    let t = open_tag bs (47 ∷ rest) front behind whole parts tag in
+    let r = opening_rest (47 ∷ rest) t.0 behind t.2 t.3 in
+    name_no_slash r.name r.others rest r.is_name (sym r.parts)
+
+closing_behind : (bs rest front behind : List ℕ) → bs ≡ 60 ∷ 47 ∷ rest → bs ≡ front ++ behind → IsClosingTag front → (others : List ℕ) × (front ≡ 60 ∷ 47 ∷ others) × (rest ≡ others ++ behind) × IsBehindClosing others
+closing_behind bs rest front behind whole parts tag =
+    let t = closing_tag bs (47 ∷ rest) front behind whole parts tag in
+    (t.0, t.1, let e = t.2 in cc, t.3)
+
+pub close_found : (bs rest : List ℕ) (n : ℕ) → bs ≡ 60 ∷ 47 ∷ rest → IsOnlyFront IsBehindClosing rest n → IsOnlyFront IsBlockTag bs (n + 2)
+close_found bs rest n whole o =
+    let two : n + 2 ≡ suc (suc n) = omega arith in
+    record {
+      within = let fits = o.within in omega (arith, ap length whole);
+      is_text = inr (rw (whole, two) o.is_text);
+      only = λ front behind parts tag. elim tag [
+        | inl tag ↦ absurd (no_open bs rest front behind whole parts tag)
+        | inr tag ↦ let t = closing_behind bs rest front behind whole parts tag in ap length t.1 ∙ omega (arith, o.only t.0 behind t.2 t.3)
+      ];
+    }
+
+pub close_none : (bs rest : List ℕ) → bs ≡ 60 ∷ 47 ∷ rest → HasNoFront IsBehindClosing rest → HasNoFront IsBlockTag bs
+close_none bs rest whole none front behind parts (inl tag) = no_open bs rest front behind whole parts tag
+close_none bs rest whole none front behind parts (inr tag) = let t = closing_behind bs rest front behind whole parts tag in none t.0 behind t.2 t.3
+
+-- no tag begins with another byte
+pub needs_bracket : (bs : List ℕ) → begins 60 bs ≡ false → HasNoFront IsBlockTag bs
+needs_bracket bs plain front behind parts (inl tag) = true≢false (ap (begins 60) (sym (parts ∙ ap (λ xs. xs ++ behind) tag.0.parts)) ∙ plain)
+needs_bracket bs plain front behind parts (inr tag) = true≢false (ap (begins 60) (sym (parts ∙ ap (λ xs. xs ++ behind) tag.parts)) ∙ plain)
+
+-- tags with a blank rest of the line
+pub tag_line_only : (bs : List ℕ) (n m : ℕ) → IsOnlyFront IsBlockTag bs n → BeginsTagLine bs m → m ≡ n
+tag_line_only bs n m o t = sym (length-take-le m bs t.within) ∙ o.only (take m bs) (drop m bs) (sym (take-append-drop m bs)) t.tag
+
+pub tag_line_none : (bs : List ℕ) (m : ℕ) → HasNoFront IsBlockTag bs → BeginsTagLine bs m → ⊥
+tag_line_none bs m none t = none (take m bs) (drop m bs) (sym (take-append-drop m bs)) t.tag
+
+pub tag_line_not_blank : (bs : List ℕ) (n m : ℕ) → IsOnlyFront IsBlockTag bs n → blank_len (drop n bs) ≡ None → BeginsTagLine bs m → ⊥
+tag_line_not_blank bs n m o none t =
+    let same = tag_line_only bs n m o t in
+    true≢false (sym t.blank ∙ ap (λ k. is_some (blank_len (drop k bs))) same ∙ ap is_some none)
