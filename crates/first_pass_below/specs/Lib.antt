@@ -7,3 +7,4 @@ pub use Rattle.first_pass_scan.specs.Rest
 pub use Rattle.first_pass_scan.specs.Places
 pub mod Walk
 pub mod Flank
+pub mod Flanking

@@ -2,6 +2,7 @@
 
 ghost use Rattle.std.specs.Prelude.{◌≡◌, ◌<◌, ◌≤◌, length, drop, take, IsCharBoundary};
 ghost use Rattle.first_pass_below.specs.Flank as flanks;
+ghost use Rattle.first_pass_below.specs.Flanking.{is_left_flanking, is_right_flanking, underscore_opens, underscore_closes, GoesBy};
 
 use unicode::properties::{GeneralCategory, GeneralCategoryGroup};
 
@@ -98,6 +99,15 @@ pub fn delim_run_can_close(
         Some(after) => closes_between(&run, before, after),
     }
 }
+
+/// Runs of `*` and `_` outside the rows of a table open and close emphasis just as the first four rules
+/// of CommonMark 6.2 say, by left-flanking and right-flanking runs.
+pub fn law_of_emphasis(run: &DelimiterRun)
+    ensures star_opens { GoesBy 42 flanks.can_open is_left_flanking run.now }
+    ensures star_closes { GoesBy 42 flanks.can_close is_right_flanking run.now }
+    ensures underscore_opens { GoesBy 95 flanks.can_open underscore_opens run.now }
+    ensures underscore_closes { GoesBy 95 flanks.can_close underscore_closes run.now }
+{}
 
 // The run that `suffix` begins with, and what stands beside it.
 #[tactic(auto, unfolding(crate::specs::Flank::run_beside))]
