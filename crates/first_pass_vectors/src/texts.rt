@@ -8,6 +8,23 @@ const WHOLE: usize = usize::MAX;
 /// The option bits (none where it is empty), the text, and what is printed.
 const TEXTS: &[(&str, &str, &str)] = &[
     ("", "", "Root 0..0\n"),
+    (
+        "",
+        "> a\nb",
+        "Root 0..5\n  BlockQuote 0..5\n    Paragraph 2..5\n      Text 2..3\n      SoftBreak 3..4\n      Text 4..5\n",
+    ),
+    (
+        "",
+        ">\té",
+        "Root 0..4\n  BlockQuote 0..4\n    Paragraph 2..4\n      Text 2..4\n",
+    ),
+    (
+        "",
+        "a\n>> # b\n> c\n\nd",
+        "Root 0..15\n  Paragraph 0..2\n    Text 0..1\n  BlockQuote 2..13\n    BlockQuote 3..9\n      Heading(1) 5..9\n        Text 7..8\n    Paragraph 11..13\n      Text 11..12\n  Paragraph 14..15\n    Text 14..15\n",
+    ),
+    ("", "    > a", "Root 0..7\n  Paragraph 4..7\n    Text 4..7\n"),
+    ("", ">\n", "Root 0..2\n  BlockQuote 0..2\n"),
     ("", "###\n", "Root 0..4\n  Heading(3) 0..4\n"),
     (
         "",
