@@ -6,7 +6,7 @@ use Rattle.std.specs.Str.{IsCharBoundary}
 use Rattle.std.proofs.lemmas.Bool.{cases_Bool, eqb-true, false≢true, and_parts, lt-ltb, cases_lt}
 use Rattle.std.proofs.lemmas.Bool.Decides.{nat_tests}
 use Rattle.std.proofs.lemmas.Grind.{common_steps}
-use Rattle.std.proofs.lemmas.Str.{IsCharBoundary-after_ascii}
+use Rattle.std.proofs.lemmas.Str.{IsCharBoundary-after_ascii, IsCharBoundary-start}
 use Rattle.std.proofs.lemmas.List.{drop_more, drop-drop, drop_all, get_or-drop, get_or_past, length-take-le, map-append, length-map, append-nil}
 use Rattle.first_pass_scan.specs.Lines.{begins, is_line_end, ends_line}
 use Rattle.first_pass_links.specs.declared.label.Unit.{Unit}
@@ -633,3 +633,7 @@ known_as characters solid bytes = record { characters = characters; solid = soli
 
 pub closing_bracket : (b : ℕ) → is_bracket b ≡ true → (b ≡ 91 → ⊥) → b ≡ 93
 closing_bracket b h f = eqb-true b 93 (rw (differs b 91 f) at h)
+
+-- a prefix of no bytes, and one that ends with an ASCII byte
+pub no_prefix : (bs : List ℕ) (n : ℕ) → IsUtf8 bs → n ≡ 0 → IsCharBoundary bs n
+no_prefix bs n u e = rw e (IsCharBoundary-start bs u)

@@ -5,3 +5,5 @@ pub mod destination;
 pub mod entity;
 pub mod escape;
 pub mod label;
+#[cfg(test)]
+mod tests;
