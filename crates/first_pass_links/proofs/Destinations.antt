@@ -104,10 +104,10 @@ run_unit deepest nesting bs at n l e s u i =
     let d = drop_more bs at 0 l in
     let x = run_unit_by _ deepest nesting b (drop (at + 1) bs) refl s u (le-ltb _ _ i) in
     let v : run_len deepest nesting 0 (drop at bs) ≡ longer (if begins_escape (drop at bs) then 2 else 1) (run_len deepest behind 0 (drop (if begins_escape (drop at bs) then 2 else 1) (drop at bs))) =
-        subst (λ xs. run_len deepest nesting 0 xs ≡ longer (if begins_escape xs then 2 else 1) (run_len deepest behind 0 (drop (if begins_escape xs then 2 else 1) xs))) (sym d) x
+    subst (λ xs. run_len deepest nesting 0 xs ≡ longer (if begins_escape xs then 2 else 1) (run_len deepest behind 0 (drop (if begins_escape xs then 2 else 1) xs))) (sym d) x
     in
     let w : run_len deepest nesting 0 (drop at bs) ≡ longer n (run_len deepest behind 0 (drop n (drop at bs))) =
-        v ∙ ap (λ m. longer m (run_len deepest behind 0 (drop m (drop at bs)))) (sym e)
+    v ∙ ap (λ m. longer m (run_len deepest behind 0 (drop m (drop at bs)))) (sym e)
     in
     sym (ap (longer at) w ∙ longer-longer at n (run_len deepest behind 0 (drop n (drop at bs))) ∙ ap (λ xs. longer (at + n) (run_len deepest behind 0 xs)) (drop-drop n at bs))
 

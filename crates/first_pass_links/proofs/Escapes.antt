@@ -82,7 +82,7 @@ entity_replaced bs h = rw h
 cell_pipe_escape : (bs : List ℕ) → unescaped true (92 ∷ 92 ∷ 124 ∷ bs) ≡ 124 ∷ unescaped true bs
 cell_pipe_escape bs =
     let e : without_pipe_escapes (92 ∷ 92 ∷ 124 ∷ bs) ≡ 92 ∷ 124 ∷ without_pipe_escapes bs =
-        cell-kept 92 (92 ∷ 124 ∷ bs) refl ∙ ap (λ xs. 92 ∷ xs) (cell-dropped 92 (124 ∷ bs) refl refl ∙ pipe_behind (124 ∷ bs) refl)
+    cell-kept 92 (92 ∷ 124 ∷ bs) refl ∙ ap (λ xs. 92 ∷ xs) (cell-dropped 92 (124 ∷ bs) refl refl ∙ pipe_behind (124 ∷ bs) refl)
     in
     ap (unescaped_behind 0) e ∙ behind_changed 92 1 124 (124 ∷ without_pipe_escapes bs) (escape_at 124 (without_pipe_escapes bs) refl) ∙ ap (λ xs. xs ++ unescaped true bs) (encode_ascii 124 (omega arith))
 
@@ -203,7 +203,7 @@ cell_entity (b ∷ bs) n c h q =
     let e = cell-other b bs (plain_first _ b bs refl (omega arith)) in
     let k : begins_escape (b ∷ without_pipe_escapes bs) ≡ false = rw (plain_first _ b bs refl (omega arith)) in
     let z : replaced_at (without_pipe_escapes (b ∷ bs)) ≡ Some (n, c) =
-        entity_replaced (without_pipe_escapes (b ∷ bs)) (ap begins_escape e ∙ k) ∙ entity_at-cell (b ∷ bs) ∙ h
+    entity_replaced (without_pipe_escapes (b ∷ bs)) (ap begins_escape e ∙ k) ∙ entity_at-cell (b ∷ bs) ∙ h
     in
     let l = ap length e in
     changed_at n c (without_pipe_escapes (b ∷ bs)) (omega arith) some z ∙ ap (λ xs. encode_utf8 c ++ unescaped_behind 0 xs) (drop-without_pipe_escapes n (b ∷ bs) plain)
@@ -246,7 +246,7 @@ cell_plain false b bs h q e =
     let w = cell-other b bs h in
     let k : begins_escape (b ∷ without_pipe_escapes bs) ≡ false = rw h in
     let z : replaced_at (b ∷ without_pipe_escapes bs) ≡ None =
-        entity_replaced (b ∷ without_pipe_escapes bs) k ∙ ap entity_at (sym w) ∙ entity_at-cell (b ∷ bs) ∙ e
+    entity_replaced (b ∷ without_pipe_escapes bs) k ∙ ap entity_at (sym w) ∙ entity_at-cell (b ∷ bs) ∙ e
     in
     ap (unescaped_behind 0) w ∙ behind_plain b (without_pipe_escapes bs) z
 cell_plain true b bs h q e =
@@ -255,7 +255,7 @@ cell_plain true b bs h q e =
     let w = cell-kept b bs s.0 in
     let k : begins_escape (b ∷ without_pipe_escapes bs) ≡ false = rw (h, s.1, i) in
     let z : replaced_at (b ∷ without_pipe_escapes bs) ≡ None =
-        entity_replaced (b ∷ without_pipe_escapes bs) k ∙ no_entity b (without_pipe_escapes bs) (rw (eqb-true b 92 h))
+    entity_replaced (b ∷ without_pipe_escapes bs) k ∙ no_entity b (without_pipe_escapes bs) (rw (eqb-true b 92 h))
     in
     ap (unescaped_behind 0) w ∙ behind_plain b (without_pipe_escapes bs) z
 

@@ -123,7 +123,7 @@ is_label-append : (known : Known) (u s w : List ℕ) → is_label known (u ++ s)
 is_label-append known u s w =
     let a : known.characters + count_by begins_character (u ++ s) ≡ known.characters + count_by begins_character u + count_by begins_character s = omega (arith, count_append begins_character u s) in
     let b : (known.solid || list_any is_solid (u ++ s)) ≡ ((known.solid || list_any is_solid u) || list_any is_solid s) =
-        ap (λ t. known.solid || t) (any_append is_solid u s) ∙ or_assoc known.solid (list_any is_solid u) (list_any is_solid s)
+    ap (λ t. known.solid || t) (any_append is_solid u s) ∙ or_assoc known.solid (list_any is_solid u) (list_any is_solid s)
     in
     rw (a, b)
 
@@ -134,7 +134,7 @@ label_by : (t : Bool) (known : Known) (us cs : List (ℕ × ℕ)) (w : List ℕ)
     → n ≡ length us + m
     → shown t (bytes_of us ++ take m (bytes_of cs)) ≡ w ++ shown t (take m (bytes_of cs))
     → (if begins 93 (drop n (bytes_of (us ++ cs))) && is_label known (take n (bytes_of (us ++ cs))) then Some (found (slice_index (offsets_of (us ++ cs)) n + 1) (known.bytes ++ shown t (take n (bytes_of (us ++ cs))))) else None)
-      ≡ (if begins 93 (drop m (bytes_of cs)) && is_label (known_more known (bytes_of us) w) (take m (bytes_of cs)) then Some (found (slice_index (offsets_of cs) m + 1) ((known.bytes ++ w) ++ shown t (take m (bytes_of cs)))) else None)
+    ≡ (if begins 93 (drop m (bytes_of cs)) && is_label (known_more known (bytes_of us) w) (take m (bytes_of cs)) then Some (found (slice_index (offsets_of cs) m + 1) ((known.bytes ++ w) ++ shown t (take m (bytes_of cs)))) else None)
 label_by t known us cs w n m e s =
     let bytes = map-append (λ (c : ℕ × ℕ). c.1) us cs in
     let offsets = map-append (λ (c : ℕ × ℕ). c.0) us cs in
@@ -145,7 +145,7 @@ label_by t known us cs w n m e s =
     let i : slice_index (offsets_of (us ++ cs)) n ≡ slice_index (offsets_of cs) m = ap (λ xs. slice_index xs n) offsets ∙ index_past (offsets_of us) (offsets_of cs) n m (omega arith) in
     let test : is_label known (take n (bytes_of (us ++ cs))) ≡ is_label (known_more known (bytes_of us) w) (take m (bytes_of cs)) = ap (is_label known) f ∙ is_label-append known (bytes_of us) (take m (bytes_of cs)) w in
     let text : known.bytes ++ shown t (take n (bytes_of (us ++ cs))) ≡ (known.bytes ++ w) ++ shown t (take m (bytes_of cs)) =
-        ap (λ xs. known.bytes ++ xs) (ap (shown t) f ∙ s) ∙ sym (append_assoc known.bytes w (shown t (take m (bytes_of cs))))
+    ap (λ xs. known.bytes ++ xs) (ap (shown t) f ∙ s) ∙ sym (append_assoc known.bytes w (shown t (take m (bytes_of cs))))
     in
     rw (d, test, i, text)
 
@@ -259,8 +259,8 @@ pub unit_reads : (h : List ℕ → Option ℕ) (t : Bool) (text : List ℕ) (at 
     → Reads h t text at unit
 unit_reads h t text at unit us joins count solid len shows =
     λ known.
-        let k : known_more known (bytes_of us) (read_of text at unit) ≡ known_behind text at unit known = rw (count, solid) in
-        ap (label_of t known) joins ∙ label_unit t known us (left_at h text unit.next) (read_of text at unit) len shows ∙ ap (λ x. label_of t x (left_at h text unit.next)) k
+    let k : known_more known (bytes_of us) (read_of text at unit) ≡ known_behind text at unit known = rw (count, solid) in
+    ap (label_of t known) joins ∙ label_unit t known us (left_at h text unit.next) (read_of text at unit) len shows ∙ ap (λ x. label_of t x (left_at h text unit.next)) k
 
 pub read-kept : (text : List ℕ) (at n c : ℕ) (s : Bool) → read_of text at (kept_unit n c s) ≡ part text at n
 read-kept text at n c s = ap (λ xs. part text at n ++ xs) (part-none text n) ∙ append-nil (part text at n)
@@ -312,7 +312,7 @@ run_reads_by x h t text at next characters kind l r some e =
     let len = length-map r.run (λ (c : ℕ × ℕ). c.1) in
     let count = r.count in
     let first : is_space (slice_index (drop next text) 0) ≡ false =
-        ap is_space (get_or-drop next text 0 0 ∙ ap (λ n. get_or text n 0) (let z : next + 0 ≡ next = omega arith in z)) ∙ e
+    ap is_space (get_or-drop next text 0 0 ∙ ap (λ n. get_or text n 0) (let z : next + 0 ≡ next = omega arith in z)) ∙ e
     in
     let first' = first_fails is_space refl h text next first in
     unit_reads h t text at (space_unit text at next characters) r.run
@@ -321,9 +321,9 @@ run_reads_by x h t text at next characters kind l r some e =
     (c.1 ∙ sym f.2)
     (ap (λ n. label_len (bytes_of r.run ++ bytes_of (left_at h text n))) f.0 ∙ upto-run (bytes_of r.run) X r.white ∙ ap (λ n. n + label_len X) len ∙ ap (λ n. length r.run + label_len (bytes_of (left_at h text n))) (sym f.0))
     (λ n. ap (λ k. shown t (bytes_of r.run ++ take n (bytes_of (left_at h text k)))) f.0
-        ∙ shown-run t (bytes_of r.run) (take n X) r.white (omega arith) (taken_fails is_space refl n X first')
-        ∙ ap (λ xs. xs ++ shown t (take n X)) (sym (read-space text at next characters x kind l))
-        ∙ ap (λ k. read_of text at (space_unit text at next characters) ++ shown t (take n (bytes_of (left_at h text k)))) (sym f.0))
+    ∙ shown-run t (bytes_of r.run) (take n X) r.white (omega arith) (taken_fails is_space refl n X first')
+    ∙ ap (λ xs. xs ++ shown t (take n X)) (sym (read-space text at next characters x kind l))
+    ∙ ap (λ k. read_of text at (space_unit text at next characters) ++ shown t (take n (bytes_of (left_at h text k)))) (sym f.0))
 
 -- a backslash that stands alone
 lone_reads : (h : List ℕ → Option ℕ) (t : Bool) (text : List ℕ) (at : ℕ) → at < length text → get_or text at 0 ≡ 92 → is_ascii_punctuation (slice_index (drop (at + 1) text) 0) ≡ false → Reads h t text at (kept_unit (at + 1) 1 true)
@@ -361,8 +361,8 @@ pair_reads h t text at l e p no_pipe_here no_pipe_next =
     refl
     (upto-escape is_bracket 92 b X p)
     (λ n. pair_shown t b (take n X) f.0 no_pipe_here
-        (λ i j. begins_from 124 (take n X) (taken_fails (λ x. x == 124) refl n X (first_fails (λ x. x == 124) refl h text (at + 2) (no_pipe_next i j))))
-        ∙ ap (λ xs. xs ++ shown t (take n X)) (sym (read-kept text at (at + 2) 2 true ∙ part-two text at l ∙ ap (λ x. x ∷ b ∷ []) e)))
+    (λ i j. begins_from 124 (take n X) (taken_fails (λ x. x == 124) refl n X (first_fails (λ x. x == 124) refl h text (at + 2) (no_pipe_next i j))))
+    ∙ ap (λ xs. xs ++ shown t (take n X)) (sym (read-kept text at (at + 2) 2 true ∙ part-two text at l ∙ ap (λ x. x ∷ b ∷ []) e)))
 
 -- in a table, a backslash that is dropped before a pipe
 pipe_reads : (h : List ℕ → Option ℕ) (text : List ℕ) (at : ℕ) → at + 1 < length text → get_or text at 0 ≡ 92 → get_or text (at + 1) 0 ≡ 124 → Reads h true text at (dropped_unit (at + 2) 2 at)
@@ -370,7 +370,7 @@ pipe_reads h text at l e p =
     let X = bytes_of (left_at h text (at + 2)) in
     let k : at + 1 + 1 ≡ at + 2 = omega arith in
     let w : read_of text at (dropped_unit (at + 2) 2 at) ≡ 124 ∷ [] =
-        ap (λ xs. xs ++ part text (at + 1) (at + 2)) (part-none text at) ∙ ap (part text (at + 1)) (sym k) ∙ part-one text (at + 1) l ∙ ap (λ b. b ∷ []) p
+    ap (λ xs. xs ++ part text (at + 1) (at + 2)) (part-none text at) ∙ ap (part text (at + 1)) (sym k) ∙ part-one text (at + 1) l ∙ ap (λ b. b ∷ []) p
     in
     unit_reads h true text at (dropped_unit (at + 2) 2 at) ((at, 92) ∷ (at + 1, 124) ∷ [])
     (pair_joins h text at l e (rw p) ∙ ap (λ b. (at, 92) ∷ (at + 1, b) ∷ left_at h text (at + 2)) p)
@@ -386,12 +386,12 @@ pipe_escape_reads h text at l e p q =
     let k : at + 2 + 1 ≡ at + 3 = omega arith in
     let k' : at + 1 + 1 ≡ at + 2 = omega arith in
     let w : read_of text at (dropped_unit (at + 3) 3 (at + 1)) ≡ 92 ∷ 124 ∷ [] =
-        ap (λ xs. xs ++ part text (at + 1 + 1) (at + 3)) (part-one text at (omega arith) ∙ ap (λ b. b ∷ []) e)
-        ∙ ap (λ xs. 92 ∷ xs) (ap (λ n. part text n (at + 3)) k' ∙ ap (part text (at + 2)) (sym k) ∙ part-one text (at + 2) l ∙ ap (λ b. b ∷ []) q)
+    ap (λ xs. xs ++ part text (at + 1 + 1) (at + 3)) (part-one text at (omega arith) ∙ ap (λ b. b ∷ []) e)
+    ∙ ap (λ xs. 92 ∷ xs) (ap (λ n. part text n (at + 3)) k' ∙ ap (part text (at + 2)) (sym k) ∙ part-one text (at + 2) l ∙ ap (λ b. b ∷ []) q)
     in
     unit_reads h true text at (dropped_unit (at + 3) 3 (at + 1)) ((at, 92) ∷ (at + 1, 92) ∷ (at + 2, 124) ∷ [])
     (pair_joins h text at (omega arith) e (rw p) ∙ ap (λ b. (at, 92) ∷ (at + 1, b) ∷ left_at h text (at + 2)) p
-        ∙ ap (λ cs. (at, 92) ∷ (at + 1, 92) ∷ cs) (left-byte h text (at + 2) l (rw q) ∙ ap (λ b. (at + 2, b) ∷ left_at h text (at + 2 + 1)) q ∙ ap (λ n. (at + 2, 124) ∷ left_at h text n) k))
+    ∙ ap (λ cs. (at, 92) ∷ (at + 1, 92) ∷ cs) (left-byte h text (at + 2) l (rw q) ∙ ap (λ b. (at + 2, b) ∷ left_at h text (at + 2 + 1)) q ∙ ap (λ n. (at + 2, 124) ∷ left_at h text n) k))
     refl
     refl
     (upto-escape is_bracket 92 92 (124 ∷ X) refl ∙ ap (λ n. 2 + n) (upto-byte is_bracket 124 X refl refl) ∙ three (label_len X))
@@ -440,10 +440,10 @@ no_third text at l h e f =
 lone_second : (text : List ℕ) (at : ℕ) → get_or text at 0 ≡ 92 → begins_escape (drop at text) ≡ false → is_ascii_punctuation (slice_index (drop (at + 1) text) 0) ≡ false
 lone_second text at e h = elim (cases_lt at (length text)) [
   | inl l ↦ (
-    let a : begins 92 (drop at text) ≡ true = ap (begins 92) (drop_more text at 0 l) ∙ rw e in
-    let b : is_ascii_punctuation (slice_index (drop at text) 1) ≡ false = rw a at h in
-    let g : slice_index (drop (at + 1) text) 0 ≡ slice_index (drop at text) 1 = ap (λ xs. slice_index xs 0) (sym (drop-drop 1 at text)) ∙ get_or-drop 1 (drop at text) 0 0 in
-    ap is_ascii_punctuation g ∙ b)
+      let a : begins 92 (drop at text) ≡ true = ap (begins 92) (drop_more text at 0 l) ∙ rw e in
+      let b : is_ascii_punctuation (slice_index (drop at text) 1) ≡ false = rw a at h in
+      let g : slice_index (drop (at + 1) text) 0 ≡ slice_index (drop at text) 1 = ap (λ xs. slice_index xs 0) (sym (drop-drop 1 at text)) ∙ get_or-drop 1 (drop at text) 0 0 in
+      ap is_ascii_punctuation g ∙ b)
   | inr l ↦ absurd (let z = get_or_past text at 0 l in omega arith)
 ]
 
@@ -457,7 +457,12 @@ dropped_is_unit text at n c p u l m w f e =
     let some = weight-length (get_or text p 0 ∷ []) in
     let none = weight-nil in
     record {
-      begins = l; order = omega arith; resumes = omega arith; later = omega arith; within = w; few = f;
+      begins = l;
+      order = omega arith;
+      resumes = omega arith;
+      later = omega arith;
+      within = w;
+      few = f;
       change = inr (omega arith, IsCharBoundary-after_ascii text p u (omega arith) (omega arith), omega arith);
       same = λ z. refl;
     }
@@ -484,7 +489,12 @@ space_unit_by false text at next c k e s =
     let w = run_weight text at next e.later e.within s k (cases_lt (at + 1) next) in
     let one = weight-space in
     rw k (record {
-      begins = omega arith; order = omega arith; resumes = omega arith; later = later; within = e.within; few = e.few;
+      begins = omega arith;
+      order = omega arith;
+      resumes = omega arith;
+      later = later;
+      within = e.within;
+      few = e.few;
       change = inr ((white_is_ascii (get_or text at 0) s).0, e.boundary, omega arith);
       same = λ z. absurd (omega arith);
     })
@@ -544,12 +554,12 @@ pub blank_stops : (h : List ℕ → Option ℕ) (t : Bool) (text : List ℕ) (at
 unfolding label_of
 blank_stops h t text at b =
     λ known.
-        let X = bytes_of (left_at h text at) in
-        let e = upto-run X [] b in
-        let f = ap label_len (sym (append-nil X)) ∙ e in
-        let z = upto-nil is_bracket in
-        let d : drop (label_len X) X ≡ [] = drop_all (label_len X) X (omega arith) in
-        rw d
+    let X = bytes_of (left_at h text at) in
+    let e = upto-run X [] b in
+    let f = ap label_len (sym (append-nil X)) ∙ e in
+    let z = upto-nil is_bracket in
+    let d : drop (label_len X) X ≡ [] = drop_all (label_len X) X (omega arith) in
+    rw d
 
 pub end_stops : (h : List ℕ → Option ℕ) (t : Bool) (text : List ℕ) (at : ℕ) → length text ≤ at → Stops h t text at
 end_stops h t text at l = blank_stops h t text at (ap (λ cs. list_all is_space (bytes_of cs)) (left-past h text at l))

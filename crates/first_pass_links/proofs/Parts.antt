@@ -87,7 +87,7 @@ unit_kept text written from at unit r u e =
     let resumes = u.resumes in
     let s = u.same e in
     let a : read_of text at unit ≡ part text at unit.next =
-        rw s (ap (λ n. part text at n ++ part text unit.resumed unit.next) e ∙ part-split text at unit.resumed unit.next (omega arith) resumes)
+    rw s (ap (λ n. part text at n ++ part text unit.resumed unit.next) e ∙ part-split text at unit.resumed unit.next (omega arith) resumes)
     in
     sym (append_assoc written (part text from at) (read_of text at unit) ∙ ap (λ xs. written ++ (part text from at ++ xs)) a ∙ ap (λ xs. written ++ xs) (part-split text from at unit.next order (omega arith)))
 
@@ -136,9 +136,9 @@ pub whole_differs : (text written : List ℕ) (from at : ℕ) → IsRead text wr
 whole_differs text written from at r n e = elim r.lighter [
   | inl h ↦ n h.0
   | inr h ↦ (
-    let order = r.order in
-    let a = ap weight e in
-    let b = weight-append written (part text from at) in
-    let d = ap weight (take-part text from at order) ∙ weight-append (take from text) (part text from at) in
-    omega arith)
+      let order = r.order in
+      let a = ap weight e in
+      let b = weight-append written (part text from at) in
+      let d = ap weight (take-part text from at order) ∙ weight-append (take from text) (part text from at) in
+      omega arith)
 ]

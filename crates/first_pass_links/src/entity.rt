@@ -22,10 +22,7 @@ pub fn scan_entity(bytes: &[u8]) -> (usize, Option<CowStr<'static>>)
     ensures in_place { IfSome result.1 TakesNoMemory }
 {
     match scan_reference(bytes) {
-        Some((len, character)) => (
-            len,
-            Some(CowStr::Inlined(InlineStr::from_char(character))),
-        ),
+        Some((len, character)) => (len, Some(CowStr::Inlined(InlineStr::from_char(character)))),
         None => (0, None),
     }
 }

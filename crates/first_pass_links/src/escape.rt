@@ -16,11 +16,7 @@ use std::alloc::{AllocError, Global};
 /// In a table a backslash directly before a pipe is dropped first. Where nothing changes the answer
 /// borrows the text, and no memory is taken; else the error is want of memory. CommonMark 2.4, 2.5,
 /// GFM 4.10.
-pub fn unescape<'a>(
-    alloc: Global,
-    text: &'a str,
-    in_table: bool,
-) -> Result<CowStr<'a>, AllocError>
+pub fn unescape<'a>(alloc: Global, text: &'a str, in_table: bool) -> Result<CowStr<'a>, AllocError>
     ensures value { IfOk result (λ answer. text_of answer ≡ unescaped in_table text.now) }
     ensures borrowed { unescaped in_table text.now ≡ text.now → IsOkAnd result (Borrows text.now) }
 {

@@ -36,8 +36,8 @@ where
     requires places { AnswersPlaces (F.post linebreak_handler) }
     ensures value { IfOk result (λ answer. (prefix : List ℕ → Option ℕ) → AnswersWith prefix (F.post linebreak_handler)
         → MatchOption (label_at prefix is_in_table text.now)
-            (answer ≡ None)
-            (λ label. IsSomeAnd answer (λ found. (found.0 ≡ label.0) × (text_of found.1 ≡ label.1)))) }
+        (answer ≡ None)
+        (λ label. IsSomeAnd answer (λ found. (found.0 ≡ label.0) × (text_of found.1 ≡ label.1)))) }
     ensures within { IfOk result (λ answer. IfSome answer (λ found. (0 < found.0) × (found.0 ≤ length text.now))) }
     ensures borrowed { IfOk result (λ answer. IfSome answer (λ found.
         text_of found.1 ≡ take (found.0 - 1) text.now → Borrows (take (found.0 - 1) text.now) found.1)) }

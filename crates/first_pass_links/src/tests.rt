@@ -80,7 +80,11 @@ fn unescaped_texts(rt: HostRuntime) -> Result<(), Fail> {
         ("", false, ""),
         ("foo", true, "foo"),
         ("\\!\\\"\\#\\[\\\\\\~", false, "!\"#[\\~"),
-        ("\\\t\\A\\a\\ \\3\\\u{3c6}\\\u{ab}", false, "\\\t\\A\\a\\ \\3\\\u{3c6}\\\u{ab}"),
+        (
+            "\\\t\\A\\a\\ \\3\\\u{3c6}\\\u{ab}",
+            false,
+            "\\\t\\A\\a\\ \\3\\\u{3c6}\\\u{ab}",
+        ),
         ("\\&amp;", false, "&amp;"),
         ("\\\\&amp;", false, "\\&"),
         ("&amp;lt;", false, "&lt;"),
@@ -95,7 +99,10 @@ fn unescaped_texts(rt: HostRuntime) -> Result<(), Fail> {
         ("\\\\\\\\|", true, "\\|"),
         ("&am\\|p;", true, "&am|p;"),
     ] {
-        assert!(rt; unescapes(rt.alloc(), text, in_table, unescaped)?, "{text} {in_table}");
+        assert!(rt;
+            unescapes(rt.alloc(), text, in_table, unescaped)?,
+            "{text} {in_table}"
+        );
     }
     Ok(())
 }
@@ -145,7 +152,10 @@ fn destinations(rt: HostRuntime) {
         ("((a))", 0, 1, 0, ""),
         ("", 0, 32, 0, ""),
     ] {
-        assert!(rt; has_destination(text, at, deepest, len, destination), "{text:?}");
+        assert!(rt;
+            has_destination(text, at, deepest, len, destination),
+            "{text:?}"
+        );
     }
 }
 
@@ -171,7 +181,12 @@ fn has_label(
 #[test]
 fn labels(rt: HostRuntime) -> Result<(), Fail> {
     for (text, in_table, len, label) in [
-        ("\u{ab}\t\tBlurry Eyes\t\t\u{bb}]", false, 20, "\u{ab} Blurry Eyes \u{bb}"),
+        (
+            "\u{ab}\t\tBlurry Eyes\t\t\u{bb}]",
+            false,
+            20,
+            "\u{ab} Blurry Eyes \u{bb}",
+        ),
         ("hello\r\nworld\r\n]", false, 15, "hello world "),
         ("foo]: /url", false, 4, "foo"),
         ("Foo*bar\\]]:my", false, 10, "Foo*bar\\]"),
@@ -190,7 +205,10 @@ fn labels(rt: HostRuntime) -> Result<(), Fail> {
         ("a\\\\|b]", true, 6, "a\\|b"),
         ("a\\\\\\|]", true, 6, "a\\\\|"),
     ] {
-        assert!(rt; has_label(rt.alloc(), text, in_table, len, label)?, "{text:?}");
+        assert!(rt;
+            has_label(rt.alloc(), text, in_table, len, label)?,
+            "{text:?}"
+        );
     }
     Ok(())
 }

@@ -1,10 +1,10 @@
 //! Each call of the pass that may be refused memory, once with memory.
 
+use bitflags::Flags;
 use first_pass::flank::TableParseMode;
 use first_pass::pass::{FirstPass, run_first_pass, scan_paragraph_interrupt_no_table};
 use first_pass_items::option_set::Options;
 use first_pass_scan::lines::scan_atx_heading;
-use bitflags::Flags;
 use std::test::Fail;
 
 const TEXT: &str = "# a\nb\\\nc";
@@ -14,15 +14,7 @@ fn blocks_of_a_text(rt: HostRuntime) -> Result<(), Fail> {
     let (tree, _allocs) = run_first_pass(rt.alloc(), TEXT, Options::empty())?;
     assert_eq!(rt; tree.node_count(), 7);
     assert_eq!(rt;
-        scan_paragraph_interrupt_no_table(
-            rt.alloc(),
-            "## b",
-            true,
-            false,
-            false,
-            &tree,
-            0
-        )?,
+        scan_paragraph_interrupt_no_table(rt.alloc(), "## b", true, false, false, &tree, 0)?,
         true
     );
     let mut pass = FirstPass::new(rt.alloc(), TEXT, Options::empty())?;

@@ -23,7 +23,11 @@ const TEXTS: &[(&str, &str, &str)] = &[
         "a\n>> # b\n> c\n\nd",
         "Root 0..15\n  Paragraph 0..2\n    Text 0..1\n  BlockQuote 2..13\n    BlockQuote 3..9\n      Heading(1) 5..9\n        Text 7..8\n    Paragraph 11..13\n      Text 11..12\n  Paragraph 14..15\n    Text 14..15\n",
     ),
-    ("", "    > a", "Root 0..7\n  Paragraph 4..7\n    Text 4..7\n"),
+    (
+        "",
+        "    > a",
+        "Root 0..7\n  Paragraph 4..7\n    Text 4..7\n",
+    ),
     ("", ">\n", "Root 0..2\n  BlockQuote 0..2\n"),
     ("", "###\n", "Root 0..4\n  Heading(3) 0..4\n"),
     (

@@ -26,7 +26,7 @@ loop-at-preserved c =
     let behind = c.nesting_behind-nesting.ensures.value in
     let e = c.unit_len-at.ensures.value ∙ ap (λ xs. if begins_escape xs then 2 else 1) c.rest_of.ensures.value in
     let u = run_unit c.args.deepest c.loop-at.nesting bs c.loop-at.at c.unit_len-at.result c.loop-at-test.true e
-        (sym c.ends_run.ensures ∙ c.if-not-ends_run.true) (sym c.closes_none.ensures ∙ c.if-closes_none.false) (omega arith)
+    (sym c.ends_run.ensures ∙ c.if-not-ends_run.true) (sym c.closes_none.ensures ∙ c.if-closes_none.false) (omega arith)
     in
     let within = c.unit_len-at.ensures.within in
     let whole = c.rest_of.ensures.whole in

@@ -21,7 +21,7 @@ returns-in-Some-change_at-clause-some c =
     let k = upto (goal.at.returns-in-Some-change_at-clause-some c).In-Some in
     let at = c.loop-plain.at + c.in-Some.plain in
     let e : change_at c.args.in_table (drop at c.args.bytes.now) ≡ Some (c.in-Some-change_at.len, c.in-Some-change_at.character) =
-        ap (change_at c.args.in_table) (sym c.rest_of-in-Some.ensures.value) ∙ sym c.change_at.ensures ∙ c.in-Some-change_at.is
+    ap (change_at c.args.in_table) (sym c.rest_of-in-Some.ensures.value) ∙ sym c.change_at.ensures ∙ c.in-Some-change_at.is
     in
     change_here c.args.in_table c.args.bytes.now c.args.from at c.in-Some-change_at.len c.in-Some-change_at.character k e
 
@@ -30,7 +30,7 @@ loop-plain-preserved c =
     let k = upto (goal.at.loop-plain-preserved c).In-Some in
     let at = c.loop-plain.at + c.in-Some.plain in
     let e : change_at c.args.in_table (drop at c.args.bytes.now) ≡ None =
-        ap (change_at c.args.in_table) (sym c.rest_of-in-Some.ensures.value) ∙ sym c.change_at.ensures ∙ c.in_default-change_at.is
+    ap (change_at c.args.in_table) (sym c.rest_of-in-Some.ensures.value) ∙ sym c.change_at.ensures ∙ c.in_default-change_at.is
     in
     let whole = c.rest_of.ensures.whole in
     let found = c.in-Some.ensures in
@@ -43,7 +43,7 @@ returns-clause-none c =
     let none = c.in_default.ensures in
     let n : ℕ = length c.rest_of.result.now in
     let k = kept_run c.args.in_table c.args.bytes.now c.args.from c.loop-plain.at n c.loop-plain.invariant.kept
-        (omega arith)
-        (λ j l h. none j (omega arith) l (ap (λ xs. is_byte2 92 38 (get_or xs j 0)) hay ∙ h))
+    (omega arith)
+    (λ j l h. none j (omega arith) l (ap (λ xs. is_byte2 92 38 (get_or xs j 0)) hay ∙ h))
     in
     kept_all c.args.in_table c.args.bytes.now c.args.from (c.loop-plain.at + n) k whole

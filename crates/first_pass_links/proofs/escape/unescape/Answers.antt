@@ -25,6 +25,6 @@ pub loop-at-preserved : goal.loop-at-preserved
 loop-at-preserved c =
     let w = written_more c.args.in_table c.args.text.now c.loop-at.from c.in-Some.at c.in-Some.len c.in-Some.character _ c.utf8.text c.loop-at.invariant.so_far (change (goal.at.loop-at-preserved c).In-Some) in
     let e : string_bytes c.push.new.self ≡ (string_bytes c.loop-at.written ++ take (c.in-Some.at - c.loop-at.from) (drop c.loop-at.from c.args.text.now)) ++ encode_utf8 c.in-Some.character =
-        c.in_ok-push.ensures.bytes ∙ ap (λ xs. xs ++ encode_utf8 c.in-Some.character) (c.in_ok-push_str.ensures.bytes ∙ ap (λ xs. string_bytes c.loop-at.written ++ xs) c.range.ensures.value)
+    c.in_ok-push.ensures.bytes ∙ ap (λ xs. xs ++ encode_utf8 c.in-Some.character) (c.in_ok-push_str.ensures.bytes ∙ ap (λ xs. string_bytes c.loop-at.written ++ xs) c.range.ensures.value)
     in
     record { so_far = subst (IsWritten c.args.in_table c.args.text.now (c.in-Some.at + c.in-Some.len)) (sym e) w }

@@ -23,20 +23,20 @@ pub returns-then-characters-gt999-clause-value : goal.returns-then-characters-gt
 returns-then-characters-gt999-clause-value g c =
     let reads = rw c.in-Some.is at c.in_ok-unit.ensures.reads in
     λ h a.
-        let r : Reads h c.args.is_in_table c.args.text.now c.loop-at.at c.in-Some.unit = subst (λ xs. Reads h c.args.is_in_table xs c.loop-at.at c.in-Some.unit) c.as_bytes-bytes.ensures.value (reads h a) in
-        let e : label_at h c.args.is_in_table c.args.text.now ≡ None = sym (c.loop-at.invariant.label h a) ∙ r _ ∙ too_long c.args.is_in_table _ (left_at h c.args.text.now c.in-Some.unit.next) c.if-characters-gt999.true in
-        rw e refl
+    let r : Reads h c.args.is_in_table c.args.text.now c.loop-at.at c.in-Some.unit = subst (λ xs. Reads h c.args.is_in_table xs c.loop-at.at c.in-Some.unit) c.as_bytes-bytes.ensures.value (reads h a) in
+    let e : label_at h c.args.is_in_table c.args.text.now ≡ None = sym (c.loop-at.invariant.label h a) ∙ r _ ∙ too_long c.args.is_in_table _ (left_at h c.args.text.now c.in-Some.unit.next) c.if-characters-gt999.true in
+    rw e refl
 
 pub returns-then-at-bytes-clause-value : goal.returns-then-at-bytes-clause-value
 returns-then-at-bytes-clause-value g c =
     let b = c.as_bytes-bytes.ensures.value in
     let l = ap length b in
     λ h a.
-        let e : label_at h c.args.is_in_table c.args.text.now ≡ None = elim c.then-at-bytes.branch [
-          | then-at-bytes-via-then-at-bytes w ↦ sym (c.loop-at.invariant.label h a) ∙ end_stops h c.args.is_in_table c.args.text.now c.loop-at.at (omega (arith, w.if-at-bytes.true)) _
-          | then-at-bytes-via-else-at-bytes+then-bytes-at-eq91 w ↦ sym (c.loop-at.invariant.label h a) ∙ open_stops h c.args.is_in_table c.args.text.now c.loop-at.at (omega (arith, w.if-at-bytes.false)) (ap (λ xs. get_or xs c.loop-at.at 0) (sym b) ∙ w.if-bytes-at-eq91.true) _
-        ] in
-        rw e refl
+    let e : label_at h c.args.is_in_table c.args.text.now ≡ None = elim c.then-at-bytes.branch [
+      | then-at-bytes-via-then-at-bytes w ↦ sym (c.loop-at.invariant.label h a) ∙ end_stops h c.args.is_in_table c.args.text.now c.loop-at.at (omega (arith, w.if-at-bytes.true)) _
+      | then-at-bytes-via-else-at-bytes+then-bytes-at-eq91 w ↦ sym (c.loop-at.invariant.label h a) ∙ open_stops h c.args.is_in_table c.args.text.now c.loop-at.at (omega (arith, w.if-at-bytes.false)) (ap (λ xs. get_or xs c.loop-at.at 0) (sym b) ∙ w.if-bytes-at-eq91.true) _
+    ] in
+    rw e refl
 
 pub returns-then-not-solid-clause-value : goal.returns-then-not-solid-clause-value
 returns-then-not-solid-clause-value g c =
@@ -49,8 +49,8 @@ returns-then-not-solid-clause-value g c =
     ] in
     let closing = closing_bracket _ bracket (λ e. c.if-bytes-at-eq91.false (ap (λ xs. get_or xs c.loop-at.at 0) b ∙ e)) in
     λ h a.
-        let e : label_at h c.args.is_in_table c.args.text.now ≡ None = sym (c.loop-at.invariant.label h a) ∙ blank_label h c.args.is_in_table c.args.text.now c.loop-at.at _ within closing c.if-not-solid.true in
-        rw e refl
+    let e : label_at h c.args.is_in_table c.args.text.now ≡ None = sym (c.loop-at.invariant.label h a) ∙ blank_label h c.args.is_in_table c.args.text.now c.loop-at.at _ within closing c.if-not-solid.true in
+    rw e refl
 
 pub returns-clause-value : goal.returns-clause-value
 returns-clause-value g c =
@@ -63,7 +63,7 @@ returns-clause-value g c =
     ] in
     let closing = closing_bracket _ bracket (λ e. c.if-bytes-at-eq91.false (ap (λ xs. get_or xs c.loop-at.at 0) b ∙ e)) in
     λ h a.
-        let e : label_at h c.args.is_in_table c.args.text.now ≡ Some (c.loop-at.at + 1, string_bytes c.loop-at.written ++ part c.args.text.now c.loop-at.from c.loop-at.at) =
-            sym (c.loop-at.invariant.label h a) ∙ closed h c.args.is_in_table c.args.text.now c.loop-at.at _ within closing c.loop-at.invariant.few c.if-not-solid.false
-        in
-        rw e (refl, c.in_ok-finish.ensures.value)
+    let e : label_at h c.args.is_in_table c.args.text.now ≡ Some (c.loop-at.at + 1, string_bytes c.loop-at.written ++ part c.args.text.now c.loop-at.from c.loop-at.at) =
+    sym (c.loop-at.invariant.label h a) ∙ closed h c.args.is_in_table c.args.text.now c.loop-at.at _ within closing c.loop-at.invariant.few c.if-not-solid.false
+    in
+    rw e (refl, c.in_ok-finish.ensures.value)
