@@ -1,9 +1,9 @@
 -- Unescaped texts, change by change.
-use Rattle.std.proofs.Common.{◌≡◌, ◌⊎◌, inl, inr, ℕ, zero, suc, ◌+◌, ◌-◌, ◌<◌, ◌≤◌, ◌==◌, ◌&&◌, Bool, true, false, List, [], ◌∷◌, ◌++◌, length, take, drop, get_or, slice_index, encode_utf8, Option, Some, None, refl, sym, ap, subst, ◌∙◌, arith, append_assoc, length-append, length-drop, IsUtf8, if◌then◌else◌}
+use Rattle.std.proofs.Common.{◌≡◌, ◌⊎◌, inl, inr, ℕ, zero, suc, ◌+◌, ◌-◌, ◌<◌, ◌≤◌, ◌==◌, ◌&&◌, Bool, true, false, List, [], ◌∷◌, ◌++◌, length, take, drop, get_or, slice_index, encode_utf8, Option, Some, None, refl, sym, ap, subst, ◌∙◌, arith, append_assoc, length-append, length-drop, IsUtf8}
 use Rattle.std.specs.List.{prefix_len}
-use Rattle.std.specs.Char.{is_ascii_punctuation, len_utf8}
+use Rattle.std.specs.Char.{is_ascii_punctuation}
 use Rattle.std.specs.Str.{IsCharBoundary}
-use Rattle.std.proofs.lemmas.Bool.{eqb-true, false≢true, cases_Bool, and_parts}
+use Rattle.std.proofs.lemmas.Bool.{eqb-true, cases_Bool, and_parts}
 use Rattle.std.proofs.lemmas.Bool.Decides.{nat_tests}
 use Rattle.std.proofs.lemmas.List.{drop_more, take_more, drop-drop, get_or-drop, length-take, take_all, append-nil, drop_all}
 use Rattle.std.proofs.lemmas.List.Sums.{prefix_len-le-length}
@@ -14,7 +14,7 @@ use Rattle.first_pass_scan.specs.Lines.{begins}
 use Rattle.first_pass_links.specs.Entities.{entity_at}
 use Rattle.first_pass_links.specs.Escapes.{unescaped, unescaped_behind, replaced_at, begins_escape, without_pipe_escapes}
 use Rattle.first_pass_links.specs.Changes.{change_at, begins_pipe_escape, IsChange}
-use Rattle.first_pass_links.proofs.EntityFacts.{is_plain, EndsReference, entity_is_reference}
+use Rattle.first_pass_links.proofs.EntityFacts.{is_plain, entity_is_reference}
 use Rattle.first_pass_links.proofs.PipeEscapes.{cell-nil, cell-other, cell-kept, cell-dropped, pipe_behind, drop-without_pipe_escapes, entity_at-cell}
 
 -- the text from one offset on keeps its bytes up to another

@@ -1,23 +1,22 @@
 -- The units of a label.
-use Rattle.std.proofs.Common.{◌≡◌, ◌⊎◌, inl, inr, ℕ, zero, suc, ◌+◌, ◌-◌, ◌<◌, ◌≤◌, ◌==◌, ◌&&◌, ◌||◌, not, nat_le, Bool, true, false, List, [], ◌∷◌, ◌++◌, length, map, take, drop, get_or, slice_index, Option, Some, None, refl, sym, ap, subst, ◌∙◌, arith, append_assoc, length-append, length-drop, IsUtf8, if◌then◌else◌}
+use Rattle.std.proofs.Common.{◌≡◌, ◌⊎◌, inl, inr, ℕ, zero, suc, ◌+◌, ◌-◌, ◌<◌, ◌≤◌, ◌==◌, ◌&&◌, ◌||◌, not, nat_le, Bool, true, false, List, [], ◌∷◌, ◌++◌, length, map, take, drop, get_or, slice_index, Option, Some, None, refl, sym, ap, ◌∙◌, arith, append_assoc, length-append, length-drop, IsUtf8, if◌then◌else◌}
 use Rattle.std.specs.List.{list_any, list_all, count_by}
 use Rattle.std.specs.Char.{is_ascii_punctuation}
 use Rattle.std.specs.Str.{IsCharBoundary}
-use Rattle.std.proofs.lemmas.Bool.{cases_Bool, eqb-true, false≢true, and_parts, lt-ltb, cases_lt}
+use Rattle.std.proofs.lemmas.Bool.{cases_Bool, eqb-true, false≢true, and_parts, cases_lt}
 use Rattle.std.proofs.lemmas.Bool.Decides.{nat_tests}
 use Rattle.std.proofs.lemmas.Grind.{common_steps}
 use Rattle.std.proofs.lemmas.Str.{IsCharBoundary-after_ascii, IsCharBoundary-start}
 use Rattle.std.proofs.lemmas.List.{drop_more, drop-drop, drop_all, get_or-drop, get_or_past, length-take-le, map-append, length-map, append-nil}
 use Rattle.first_pass_scan.specs.Lines.{begins, is_line_end, ends_line}
 use Rattle.first_pass_links.specs.declared.label.Unit.{Unit}
-use Rattle.first_pass_links.specs.Escapes.{begins_escape, read_in, without_pipe_escapes}
+use Rattle.first_pass_links.specs.Escapes.{begins_escape, without_pipe_escapes}
 use Rattle.first_pass_links.specs.Changes.{begins_pipe_escape}
-use Rattle.first_pass_links.specs.Destinations.{unescaped_upto}
-use Rattle.first_pass_links.specs.Labels.{is_space, is_bracket, begins_character, joined, label_len, single_spaced, shown, Known, is_label, label_of, label_at}
+use Rattle.first_pass_links.specs.Labels.{is_space, is_bracket, begins_character, joined, label_len, single_spaced, shown, Known, is_label, label_of}
 use Rattle.first_pass_links.specs.Units.{part, read_of, left_at, known_behind, kept_unit, space_unit, dropped_unit, backslash_unit, IsUnit, Reads, Stops, IsRun, IsBlankRest, EndsRun, weight}
 use Rattle.first_pass_links.proofs.PipeEscapes.{cell-nil, cell-other, cell-kept, cell-dropped, pipe_behind}
 use Rattle.first_pass_links.proofs.Destinations.{upto-nil, upto-stop, upto-byte, upto-escape, first_byte}
-use Rattle.first_pass_links.proofs.Parts.{part-none, part-split, part-one, part-two, weight-length, weight-nil, weight-space, weight-other}
+use Rattle.first_pass_links.proofs.Parts.{part-none, part-one, part-two, weight-length, weight-nil, weight-space, weight-other}
 
 -- the bytes, and their offsets
 abbrev pub bytes_of : List (ℕ × ℕ) → List ℕ

@@ -1,5 +1,5 @@
 -- The places at which a text is changed as it is unescaped. Contracts of private functions alone cite this.
-use Rattle.std.specs.Prelude.{◌≡◌, ℕ, ◌+◌, ◌-◌, ◌<◌, ◌≤◌, ◌&&◌, Bool, List, ◌++◌, length, take, drop, slice_index, encode_utf8, Option, Some, None, if◌then◌else◌}
+use Rattle.std.specs.Prelude.{◌≡◌, ℕ, ◌+◌, ◌-◌, ◌<◌, ◌≤◌, ◌&&◌, Bool, List, ◌++◌, length, take, drop, slice_index, encode_utf8, Option, Some, if◌then◌else◌}
 use Rattle.first_pass_scan.specs.Lines.{begins}
 use Rattle.first_pass_links.specs.Escapes.{replaced_at, unescaped}
 

@@ -14,6 +14,9 @@ use first_pass_items::cow_str::CowStr;
 use first_pass_scan::places::rest_of;
 use std::alloc::{AllocError, Global};
 
+// How many characters a label has at most (CommonMark 4.7).
+const MOST_CHARACTERS: usize = 999;
+
 /// The label that `text`, the bytes behind a `[`, begins with: how many bytes it has with its `]`, and
 /// its text, in which each run of white space is one space and backslashes stay; in a table one directly
 /// before a pipe is dropped. It is borrowed where nothing changes, and then no memory is taken.
@@ -53,7 +56,7 @@ where
             return Ok(None);
         };
         characters += unit.characters;
-        if characters > 999 {
+        if characters > MOST_CHARACTERS {
             return Ok(None);
         }
         solid = solid | unit.solid;

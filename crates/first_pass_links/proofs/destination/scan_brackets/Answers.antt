@@ -1,7 +1,7 @@
-use Rattle.std.proofs.Common.{◌≡◌, ℕ, ◌==◌, ◌+◌, ◌<◌, ◌≤◌, true, false, length, drop, get_or, sym, ap, ◌∙◌, arith, if◌then◌else◌}
+use Rattle.std.proofs.Common.{◌≡◌, ℕ, ◌==◌, true, false, sym, ap, ◌∙◌, arith, if◌then◌else◌}
 use Rattle.std.proofs.lemmas.Bool.Decides.{nat_tests}
 use Rattle.first_pass_links.specs.Escapes.{begins_escape}
-use Rattle.first_pass_links.specs.Destinations.{unescaped_upto, ends_brackets}
+use Rattle.first_pass_links.specs.Destinations.{ends_brackets}
 use Rattle.first_pass_links.proofs.Destinations.{upto_unit, upto_stopped, upto_ended}
 use Rattle.first_pass_links.proofs.destination.scan_brackets.Goals as goal
 

@@ -1,7 +1,7 @@
-use Rattle.std.proofs.Common.{◌≡◌, ◌==◌, ◌&&◌, ℕ, inl, inr, ◌+◌, ◌-◌, ◌<◌, ◌≤◌, true, false, length, drop, get_or, Some, None, sym, ap, subst, ◌∙◌, arith, if◌then◌else◌}
+use Rattle.std.proofs.Common.{◌≡◌, ◌==◌, ℕ, inl, inr, ◌+◌, drop, Some, None, sym, ap, ◌∙◌, arith, if◌then◌else◌}
 use Rattle.std.proofs.lemmas.Bool.{cases_Bool, eqb-true}
 use Rattle.first_pass_links.specs.Escapes.{begins_escape}
-use Rattle.first_pass_links.specs.Destinations.{run_len, longer, ends_run, nesting_behind, if_closed}
+use Rattle.first_pass_links.specs.Destinations.{run_len, longer, if_closed}
 use Rattle.first_pass_links.proofs.Destinations.{run_unit, run_deep, run_unopened, run_stopped, run_ended}
 use Rattle.first_pass_links.proofs.destination.scan_run.Goals as goal
 use Rattle.first_pass_links.proofs.destination.scan_run.Goals.{then-loop-at-test+else-not-ends_run, else-loop-at-test}

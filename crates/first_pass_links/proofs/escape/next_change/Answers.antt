@@ -1,6 +1,5 @@
-use Rattle.std.proofs.Common.{◌≡◌, ℕ, ◌+◌, ◌-◌, ◌<◌, ◌≤◌, true, length, drop, get_or, Some, None, sym, ap, subst, ◌∙◌, arith}
+use Rattle.std.proofs.Common.{◌≡◌, ℕ, ◌+◌, length, drop, get_or, Some, None, sym, ap, ◌∙◌, arith}
 use Rattle.memchr.specs.Find.{is_byte2}
-use Rattle.first_pass_links.specs.Escapes.{unescaped}
 use Rattle.first_pass_links.specs.Changes.{change_at}
 use Rattle.first_pass_links.proofs.Escapes.{IsKept, kept_run, kept_more, change_here, kept_all}
 use Rattle.first_pass_links.proofs.escape.next_change.Goals as goal

@@ -1,5 +1,4 @@
-use Rattle.std.proofs.Common.{◌≡◌, ◌≤◌, ◌-◌, ◌++◌, length, drop, take}
-use Rattle.first_pass_links.specs.Escapes.{unescaped}
+use Rattle.std.proofs.Common.{◌-◌, length}
 use Rattle.first_pass_links.proofs.Escapes.{IsKept}
 use Rattle.first_pass_links.proofs.escape.next_change.Given as goal
 

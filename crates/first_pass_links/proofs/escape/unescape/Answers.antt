@@ -1,8 +1,8 @@
-use Rattle.std.proofs.Common.{◌≡◌, ℕ, ◌+◌, ◌-◌, List, ◌++◌, take, drop, encode_utf8, length, sym, ap, subst, ◌∙◌, arith}
+use Rattle.std.proofs.Common.{◌≡◌, ◌+◌, ◌-◌, ◌++◌, take, drop, encode_utf8, sym, ap, subst, ◌∙◌}
 use Rattle.std.specs.String.{string_bytes}
 use Rattle.std.proofs.lemmas.Str.{IsCharBoundary-start}
 use Rattle.first_pass_links.specs.Changes.{IsChange}
-use Rattle.first_pass_links.proofs.Escapes.{IsWritten, written_none, written_more, change_differs, written_differs, written_all, written_nothing}
+use Rattle.first_pass_links.proofs.Escapes.{IsWritten, written_none, written_more, change_differs}
 use Rattle.first_pass_links.proofs.escape.unescape.Goals as goal
 use Rattle.first_pass_links.proofs.escape.unescape.Goals.{In-Some}
 

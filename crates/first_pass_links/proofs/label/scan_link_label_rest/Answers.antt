@@ -1,13 +1,12 @@
-use Rattle.std.proofs.Common.{◌≡◌, ◌==◌, ◌||◌, inl, inr, ℕ, List, Option, Some, None, [], ◌∷◌, ◌++◌, ◌+◌, ◌<◌, ◌≤◌, Bool, true, false, length, get_or, refl, sym, ap, subst, ◌∙◌, arith}
+use Rattle.std.proofs.Common.{◌≡◌, Some, None, [], ◌++◌, ◌+◌, ◌<◌, true, false, length, get_or, refl, sym, ap, subst, ◌∙◌, arith}
 use Rattle.std.specs.String.{string_bytes}
 use Rattle.std.proofs.lemmas.Str.{IsCharBoundary-start}
-use Rattle.first_pass_links.specs.Labels.{AnswersWith, Known, is_bracket, label_of, label_at}
+use Rattle.first_pass_links.specs.Labels.{is_bracket, label_of, label_at}
 use Rattle.first_pass_links.specs.Units.{part, left_at, IsRead, Reads}
 use Rattle.first_pass_links.proofs.Parts.{read_none, part-none}
 use Rattle.first_pass_links.proofs.Labels.{too_long, end_stops, open_stops, blank_label, closed, known_as, closing_bracket}
 use Rattle.first_pass_links.proofs.label.scan_link_label_rest.Goals as goal
 use Rattle.first_pass_links.proofs.label.scan_link_label_rest.Goals.{then-at-bytes-via-then-at-bytes, then-at-bytes-via-else-at-bytes+then-bytes-at-eq91, then-loop-at-test+else-not-is_bracket, else-loop-at-test, Else-at-bytes}
-use Rattle.first_pass_links.proofs.label.scan_link_label_rest.Given.{Over}
 
 pub loop-at-init : goal.loop-at-init
 loop-at-init g c =
@@ -19,12 +18,12 @@ loop-at-init g c =
       label = λ h a. ap (λ bs. label_of c.args.is_in_table (known_as 0 false bs) (left_at h text 0)) e;
     }
 
-pub returns-then-characters-gt999-clause-value : goal.returns-then-characters-gt999-clause-value
-returns-then-characters-gt999-clause-value g c =
+pub returns-then-characters-gt-MOST_CHARACTERS-clause-value : goal.returns-then-characters-gt-MOST_CHARACTERS-clause-value
+returns-then-characters-gt-MOST_CHARACTERS-clause-value g c =
     let reads = rw c.in-Some.is at c.in_ok-unit.ensures.reads in
     λ h a.
     let r : Reads h c.args.is_in_table c.args.text.now c.loop-at.at c.in-Some.unit = subst (λ xs. Reads h c.args.is_in_table xs c.loop-at.at c.in-Some.unit) c.as_bytes-bytes.ensures.value (reads h a) in
-    let e : label_at h c.args.is_in_table c.args.text.now ≡ None = sym (c.loop-at.invariant.label h a) ∙ r _ ∙ too_long c.args.is_in_table _ (left_at h c.args.text.now c.in-Some.unit.next) c.if-characters-gt999.true in
+    let e : label_at h c.args.is_in_table c.args.text.now ≡ None = sym (c.loop-at.invariant.label h a) ∙ r _ ∙ too_long c.args.is_in_table _ (left_at h c.args.text.now c.in-Some.unit.next) c.if-characters-gt-MOST_CHARACTERS.true in
     rw e refl
 
 pub returns-then-at-bytes-clause-value : goal.returns-then-at-bytes-clause-value

@@ -1,5 +1,5 @@
-use Rattle.std.proofs.Common.{◌≡◌, ◌∙◌, sym, ap, subst}
-use Rattle.first_pass_links.specs.Units.{IsUnit, Reads, backslash_unit}
+use Rattle.std.proofs.Common.{◌∙◌, sym, subst}
+use Rattle.first_pass_links.specs.Units.{IsUnit, Reads}
 use Rattle.first_pass_links.proofs.Labels.{byte_reads, differs, run_reads, space_is_unit, backslash_is_unit, blank_stops}
 use Rattle.first_pass_links.proofs.label.scan_unit.Goals as goal
 

@@ -1,4 +1,4 @@
-use Rattle.std.proofs.Common.{◌≡◌, ◌+◌, sym, ◌∙◌, arith}
+use Rattle.std.proofs.Common.{sym, ◌∙◌, arith}
 use Rattle.first_pass_links.proofs.Labels.{run_more, run_blank}
 use Rattle.first_pass_links.proofs.label.scan_white_run.Goals as goal
 

@@ -1,4 +1,4 @@
-use Rattle.std.proofs.Common.{◌≡◌, ◌++◌, ◌∷◌, [], List, ℕ, sym, ap, subst, ◌∙◌, arith, if◌then◌else◌}
+use Rattle.std.proofs.Common.{◌≡◌, ◌++◌, ◌∷◌, [], sym, ap, subst, ◌∙◌, if◌then◌else◌}
 use Rattle.std.specs.String.{string_bytes}
 use Rattle.first_pass_links.specs.Units.{part, IsRead}
 use Rattle.first_pass_links.proofs.Parts.{unit_kept, unit_changed, unit_read}

@@ -1,4 +1,4 @@
-use Rattle.std.proofs.Common.{rules, ◌≡◌, ℕ, sym, subst, arith}
+use Rattle.std.proofs.Common.{rules}
 use Rattle.first_pass_links.proofs.Labels.{no_prefix}
 use Rattle.first_pass_links.proofs.tests.has_label.Goals as goal
 

@@ -1,4 +1,4 @@
-use Rattle.std.proofs.Common.{rules, ◌≡◌, ℕ, List, ◌+◌, ◌<◌, length, slice_index, sym, subst, arith, IsUtf8}
+use Rattle.std.proofs.Common.{rules, ◌≡◌, ℕ, List, ◌<◌, length, slice_index, arith, IsUtf8}
 use Rattle.std.specs.Str.{IsCharBoundary}
 use Rattle.std.proofs.lemmas.Str.{IsCharBoundary-after_ascii}
 use Rattle.first_pass_links.proofs.tests.quoted_label.Goals as goal
