@@ -44,7 +44,7 @@ run_beside content text size at mode = record {
   after = first_char (drop size text);
 }
 
--- a run of `*`, or of two tildes and more, which may stand inside a word (CommonMark 6.2, rules 1 and 2; GFM 6.5)
+-- a run of `*`, or of two tildes and more: such a run may open and close inside a word, where a run of `_` may not (CommonMark 6.2; GFM 6.5)
 abbrev pub is_intraword : DelimiterRun → Bool
 is_intraword r = r.delimiter == 42 || (r.delimiter == 126 && nat_lt 1 r.size)
 

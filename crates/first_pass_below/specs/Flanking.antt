@@ -24,11 +24,11 @@ abbrev pub is_right_flanking : DelimiterRun → Bool
 is_right_flanking r =
     not (is_space_beside r.before) && (not (is_punctuation_beside r.before) || (is_space_beside r.after || is_punctuation_beside r.after))
 
--- a run of `_` can open: it is left-flanking, and not right-flanking or behind punctuation (CommonMark 6.2, rule 2)
+-- a run of `_` can open emphasis: it is left-flanking, and not right-flanking or behind punctuation (CommonMark 6.2)
 abbrev pub underscore_opens : DelimiterRun → Bool
 underscore_opens r = is_left_flanking r && (not (is_right_flanking r) || is_punctuation_beside r.before)
 
--- a run of `_` can close: it is right-flanking, and not left-flanking or before punctuation (CommonMark 6.2, rule 4)
+-- a run of `_` can close emphasis: it is right-flanking, and not left-flanking or before punctuation (CommonMark 6.2)
 abbrev pub underscore_closes : DelimiterRun → Bool
 underscore_closes r = is_right_flanking r && (not (is_left_flanking r) || is_punctuation_beside r.after)
 
