@@ -1,2 +1,3 @@
 pub mod Completions
+pub mod Tightening
 pub mod Unique

@@ -1,19 +1,26 @@
 -- Which lines go on with the containers that are open (CommonMark 5).
-use Rattle.std.specs.Prelude.{Option, Some, None, List, [], ◌∷◌}
+use Rattle.std.specs.Prelude.{ℕ, nat_le, Bool, false, ◌||◌, Option, Some, None, List, [], ◌∷◌, is_some, if◌then◌else◌}
 use Rattle.std.specs.Option.{option_map, option_and_then}
-use Rattle.first_pass_scan.specs.Rest.{Rest, after_columns, past_quote}
+use Rattle.first_pass_scan.specs.Lines.{at_line_end}
+use Rattle.first_pass_scan.specs.Rest.{Rest, indent, after_columns, past_quote}
 use Rattle.first_pass_scan.specs.Places.{Place}
 use Rattle.first_pass_grammar.specs.declared.kind.Container.{Container}
-use Rattle.first_pass_grammar.specs.declared.kind.Container.TheVariants.{BlockQuote}
+use Rattle.first_pass_grammar.specs.declared.kind.Container.TheVariants.{BlockQuote, ListItem}
 
 -- a place in the same line, of which this is left
 abbrev pub at_rest : Place → Rest → Place
 at_rest p r = record { line = p.line; rest = r }
 
--- what is left of a line behind the prefix by which it goes on with a container, or none where it doesn't:
--- a block quote has up to three columns, `>` with no column owed before it, and one column if there is one (CommonMark 5.1)
+-- so many columns are there, or fewer and then the end of the line (CommonMark 5.2)
+abbrev pub has_columns : ℕ → Rest → Bool
+has_columns n r = nat_le n (indent r) || at_line_end (after_columns n r).left
+
+-- What is left of a line behind the prefix by which it goes on with a container, or none where it doesn't:
+-- a block quote has up to three columns, `>` with no column owed before it, and one column if there is one (CommonMark 5.1);
+-- a list item has the columns of its indent, or fewer and then the end of the line (CommonMark 5.2).
 unfoldable pub prefix : Container → Rest → Option Rest
 prefix (BlockQuote kind) r = option_map (after_columns 1) (past_quote (after_columns 3 r))
+prefix (ListItem n) r = if has_columns n r then Some (after_columns n r) else None
 
 -- the same for a path of containers, the innermost first: each takes its prefix in turn
 unfoldable pub after : List Container → Rest → Option Rest
@@ -28,3 +35,16 @@ or_shorter None r = r
 unfoldable pub front : List Container → Rest → Rest
 front [] r = r
 front (c ∷ path) r = or_shorter (after (c ∷ path) r) (front path r)
+
+-- the place in a line behind what a path takes of it, where the line goes on with the whole path
+abbrev pub taken : List Container → Place → Option Place
+taken path line = option_map (at_rest line) (after path line.rest)
+
+-- the line that begins at a place goes on with the whole path
+abbrev pub goes_on : List Container → Place → Bool
+goes_on path line = is_some (after path line.rest)
+
+-- there is a next line, and it goes on with the whole path
+abbrev pub next_goes_on : List Container → List Place → Bool
+next_goes_on path [] = false
+next_goes_on path (line ∷ lines) = goes_on path line

@@ -1,13 +1,15 @@
--- Which kind of block begins at a place, and which lines end a paragraph before them (CommonMark 4).
-use Rattle.std.specs.Prelude.{ℕ, List, Option, Some, None, Bool, nat_lt, is_some, ◌||◌, if◌then◌else◌}
+-- Which kind of block begins at a place, and which lines end a paragraph before them (CommonMark 4, 5).
+use Rattle.std.specs.Prelude.{ℕ, ◌==◌, ◌&&◌, ◌||◌, not, Bool, false, List, drop, Option, Some, None, nat_lt, is_some, if◌then◌else◌}
 use Rattle.first_pass_items.specs.declared.item.HeadingLevel.{HeadingLevel}
 use Rattle.std.specs.Option.{option_map}
 use Rattle.first_pass_scan.specs.Lines.{at_line_end, begins, blank_len, atx_level}
-use Rattle.first_pass_scan.specs.Rest.{Rest, indent, after_columns, past_quote}
-use Rattle.first_pass_scan.specs.Places.{Place}
+use Rattle.first_pass_scan.specs.Rest.{Rest, indent, after_columns}
+use Rattle.first_pass_scan.specs.Places.{Place, offset, moved_columns}
+use Rattle.first_pass_scan.specs.Markers.{is_bullet, listitem, item_of}
+use Rattle.first_pass_grammar.specs.declared.kind.Container.TheVariants.{BlockQuote}
 use Rattle.first_pass_grammar.specs.declared.kind.Kind.{Kind}
 use Rattle.first_pass_grammar.specs.declared.kind.Kind.TheVariants.{Blank, AtxHeading, Paragraph}
-use Rattle.first_pass_grammar.specs.Containers.{at_rest}
+use Rattle.first_pass_grammar.specs.Containers.{at_rest, prefix}
 
 -- what is left behind all columns: from the first byte on that is no space or tab
 abbrev pub all_taken : Rest → Rest
@@ -17,6 +19,10 @@ all_taken r = after_columns (indent r) r
 abbrev pub unindented : Place → Place
 unindented p = at_rest p (all_taken p.rest)
 
+-- the line is blank from a place on (CommonMark 2.1)
+abbrev pub is_blank_rest : Rest → Bool
+is_blank_rest r = is_some (blank_len r.left)
+
 abbrev pub heading_or : Option HeadingLevel → Kind → Kind
 heading_or (Some level) other = AtxHeading level
 heading_or None other = other
@@ -24,20 +30,32 @@ heading_or None other = other
 -- the first that fits: a blank line (CommonMark 4.9), an ATX heading at under four columns (4.2), a paragraph (4.8)
 unfoldable pub kind_of : Rest → Kind
 kind_of r =
-    if is_some (blank_len r.left) then Blank
+    if is_blank_rest r then Blank
     else (if nat_lt (indent r) 4 then heading_or (atx_level (all_taken r).left) Paragraph else Paragraph)
 
--- the rest inside a block quote that begins here: at under four columns `>` with no column owed before it, and one column if there is one (CommonMark 5.1)
-unfoldable pub quote_rest : Rest → Option Rest
-quote_rest r = if nat_lt (indent r) 4 then option_map (after_columns 1) (past_quote (all_taken r)) else None
-
+-- the place inside a block quote that begins here, where one does: what begins it is what goes on with it (CommonMark 5.1)
 abbrev pub quote_inside : Place → Option Place
-quote_inside p = option_map (at_rest p) (quote_rest p.rest)
+quote_inside p = option_map (at_rest p) (prefix (BlockQuote None) p.rest)
 
--- What interrupts a paragraph at under four columns: the line's end, an ATX heading or a block quote (CommonMark 4.8, 4.2, 5.1).
-abbrev pub interrupts_with : List ℕ → Bool
-interrupts_with bs = at_line_end bs || is_some (atx_level bs) || begins 62 bs
+-- where a block quote begins: at its `>`, behind at most three columns (CommonMark 5.1)
+abbrev pub quote_start : Place → ℕ
+quote_start p = offset (moved_columns 3 p)
+
+-- the list item that begins here at under four columns: its marker's byte, its number and its indent, and what is left of its line (CommonMark 5.2)
+unfoldable pub item_at : Rest → Option ((ℕ × ℕ × ℕ) × Rest)
+item_at r = if nat_lt (indent r) 4 then item_of (indent r) (all_taken r) else None
+
+-- A list item interrupts a paragraph where its line doesn't go on with all containers, or where its marker is a bullet or has the number 1 and
+-- its rest isn't blank (CommonMark 5.2, 5.3).
+abbrev pub item_interrupts : Bool → List ℕ → Option (ℕ × ℕ × ℕ × ℕ) → Bool
+item_interrupts whole bs None = false
+item_interrupts whole bs (Some m) = not whole || ((is_bullet m.1 || (m.2 == 1)) && not (is_some (blank_len (drop m.0 bs))))
+
+-- What interrupts a paragraph at under four columns, in a line that goes on with all its containers or not: the line's end, an ATX heading, a
+-- block quote or a list item (CommonMark 4.8, 4.2, 5.1, 5.2).
+abbrev pub interrupts_with : Bool → List ℕ → Bool
+interrupts_with whole bs = at_line_end bs || is_some (atx_level bs) || begins 62 bs || item_interrupts whole bs (listitem bs)
 
 -- A line ends a paragraph before it where its text interrupts the paragraph; at four columns or more only where nothing but spaces and tabs is left.
-unfoldable pub interrupts : Rest → Bool
-interrupts r = if nat_lt (indent r) 4 then interrupts_with (all_taken r).left else at_line_end (all_taken r).left
+unfoldable pub interrupts : Bool → Rest → Bool
+interrupts whole r = if nat_lt (indent r) 4 then interrupts_with whole (all_taken r).left else at_line_end (all_taken r).left

@@ -3,4 +3,5 @@ pub mod Containers
 pub mod Derivation
 pub mod Kinds
 pub mod Leaves
+pub mod Lists
 pub mod Skeleton

@@ -1,83 +1,154 @@
 -- Sequences of blocks, and the blocks in them (CommonMark 3.1).
-use Rattle.std.specs.Prelude.{◌≡◌, ℕ, Option, Some, None, List, [], ◌∷◌, length}
-use Rattle.std.specs.Option.{option_map}
+use Rattle.std.specs.Prelude.{◌≡◌, ℕ, Bool, true, false, Option, Some, None, List, [], ◌∷◌, length, if◌then◌else◌}
 use Rattle.first_pass_items.specs.declared.item.Item.{Item}
+use Rattle.first_pass_items.specs.declared.item.BlockQuoteKind.{BlockQuoteKind}
 use Rattle.first_pass_scan.specs.Lines.{level_number}
+use Rattle.first_pass_scan.specs.Rest.{Rest}
 use Rattle.first_pass_scan.specs.Places.{Place, offset, start_of}
 use Rattle.first_pass_grammar.specs.declared.kind.Container.{Container}
-use Rattle.first_pass_grammar.specs.declared.kind.Container.TheVariants.{BlockQuote}
+use Rattle.first_pass_grammar.specs.declared.kind.Container.TheVariants.{BlockQuote, ListItem}
 use Rattle.first_pass_grammar.specs.declared.kind.Kind.{Kind}
 use Rattle.first_pass_grammar.specs.declared.kind.Kind.TheVariants.{Blank, AtxHeading, Paragraph}
-use Rattle.first_pass_grammar.specs.Containers.{at_rest, after}
-use Rattle.first_pass_grammar.specs.Kinds.{unindented, quote_inside, kind_of}
+use Rattle.first_pass_grammar.specs.Containers.{at_rest, after, taken, next_goes_on}
+use Rattle.first_pass_grammar.specs.Kinds.{unindented, is_blank_rest, quote_inside, quote_start, item_at, kind_of}
 use Rattle.first_pass_grammar.specs.Leaves.{Document, IsParagraph, IsHeading, heading_text_at, heading_block, paragraph_block}
 
--- a blank line, or a block with no blocks in it: its items with their depths below it
+-- a blank line; or a block with no blocks in it: where it ends a list before it, and its items with their depths below it
 pub data Leaf : Type 0 where
   BlankLine : Leaf
-  Block : List (ℕ × Item) → Leaf
+  Block : ℕ → List (ℕ × Item) → Leaf
 
--- What begins at a place: a leaf, with the place inside a line, if any, and the lines that it leaves; or a container, with where it starts
--- and the place inside it.
+-- what opens a container: the marker of a block quote, with its kind; or of a list item, its byte and number, with the item's indent (CommonMark 5.1, 5.2)
+pub data Opener : Type 0 where
+  QuoteMarker : Option BlockQuoteKind → Opener
+  ItemMarker : ℕ → ℕ → ℕ → Opener
+
+-- how a container begins: what opens it, where it starts, and where it ends a list before it
+pub record Head : Type 0 where
+  pub opener : Opener
+  pub start : ℕ
+  pub closes : ℕ
+
+-- the container that is opened
+abbrev pub opened : Opener → Container
+opened (QuoteMarker kind) = BlockQuote kind
+opened (ItemMarker byte number indent) = ListItem indent
+
+-- Where blocks go on: at the next line; at a place inside a line; or, in an item that takes blank lines alone, at the next line as long as it is
+-- blank, with the offset behind the line of the item's marker.
+pub data From : Type 0 where
+  Line : From
+  Inside : Place → From
+  Blanks : ℕ → From
+
+-- What begins at a place: a leaf, with where the blocks behind it go on and the lines that it leaves; or a container, with where the blocks in
+-- it go on and the lines behind.
 pub data Opening : Type 0 where
-  OpensLeaf : Leaf → Option Place → List Place → Opening
-  OpensNode : Container → ℕ → Place → Opening
+  OpensLeaf : Leaf → From → List Place → Opening
+  OpensNode : Head → From → List Place → Opening
 
--- What a kind opens at a place that has these lines behind it, inside the containers of the path.
+-- What a kind opens at a place that has these lines behind it, inside the containers of the path. A list before it ends at a paragraph's first
+-- byte, and at the start of another block's line (this project).
 unfoldable pub OpensAs : Document → List Container → Place → List Place → Kind → Opening → Type 0
-OpensAs d path p lines Blank opening = opening ≡ OpensLeaf BlankLine None lines
+OpensAs d path p lines Blank opening = opening ≡ OpensLeaf BlankLine Line lines
 OpensAs d path p lines (AtxHeading level) opening =
     (chain : List Item) × (end_of_line : ℕ) × IsHeading d (heading_text_at d.text (offset (unindented p)) (level_number level)) chain end_of_line
-    × (opening ≡ OpensLeaf (Block (heading_block (offset (unindented p)) end_of_line level chain)) None lines)
+    × (opening ≡ OpensLeaf (Block p.line (heading_block (offset (unindented p)) end_of_line level chain)) Line lines)
 OpensAs d path p lines Paragraph opening =
     (chain : List Item) × (left : List Place) × IsParagraph d path (offset (unindented p)) [] lines chain left
-    × (opening ≡ OpensLeaf (Block (paragraph_block (offset (unindented p)) (start_of (length d.text) left) chain)) None left)
+    × (opening ≡ OpensLeaf (Block (offset (unindented p)) (paragraph_block (offset (unindented p)) (start_of (length d.text) left) chain)) Line left)
 
--- What begins at a place: a block quote where one does, else what the kind of the place says.
-unfoldable pub OpensFrom : Document → List Container → Place → List Place → Option Place → Opening → Type 0
-OpensFrom d path p lines (Some inside) opening = opening ≡ OpensNode (BlockQuote None) (offset (unindented p)) inside
-OpensFrom d path p lines None opening = OpensAs d path p lines (kind_of p.rest) opening
+-- the next line goes on with the path, and is blank behind what the path takes of it
+abbrev pub is_blank_behind : Option Rest → Bool
+is_blank_behind None = false
+is_blank_behind (Some r) = is_blank_rest r
+
+abbrev pub next_is_blank : List Container → List Place → Bool
+next_is_blank path [] = false
+next_is_blank path (line ∷ lines) = is_blank_behind (after path line.rest)
+
+-- a list item starts where the reading of its line had come before its indentation, and there it ends a list of another kind before it (this project)
+abbrev pub item_head : Place → ℕ → ℕ → ℕ → Head
+item_head p byte number columns = record { opener = ItemMarker byte number columns; start = offset p; closes = offset p }
+
+-- The item whose marker has this byte and number. An item may begin with one blank line, that of its marker; where the next is blank too, the item
+-- takes blank lines alone, and its indent is 0 (CommonMark 5.2).
+abbrev pub item_opening : Document → List Container → Place → List Place → ℕ → ℕ → ℕ → Rest → Opening
+item_opening d path p lines byte number columns r =
+    if is_blank_rest r
+    then (if next_is_blank (ListItem columns ∷ path) lines
+    then OpensNode (item_head p byte number 0) (Blanks (start_of (length d.text) lines)) lines
+    else OpensNode (item_head p byte number columns) Line lines)
+    else OpensNode (item_head p byte number columns) (Inside (at_rest p r)) lines
+
+abbrev pub quote_head : Place → Head
+quote_head p = record { opener = QuoteMarker None; start = quote_start p; closes = p.line }
+
+-- What begins at a place: a list item where one does, else a block quote where one does, else what the kind of the place says.
+unfoldable pub OpensFrom : Document → List Container → Place → List Place → Option ((ℕ × ℕ × ℕ) × Rest) → Option Place → Opening → Type 0
+OpensFrom d path p lines (Some item) quote opening = opening ≡ item_opening d path p lines item.0.0 item.0.1 item.0.2 item.1
+OpensFrom d path p lines None (Some inside) opening = opening ≡ OpensNode (quote_head p) (Inside inside) lines
+OpensFrom d path p lines None None opening = OpensAs d path p lines (kind_of p.rest) opening
 
 abbrev pub Opens : Document → List Container → Place → List Place → Opening → Type 0
-Opens d path p lines opening = OpensFrom d path p lines (quote_inside p) opening
+Opens d path p lines opening = OpensFrom d path p lines (item_at p.rest) (quote_inside p) opening
 
 -- The blocks of a container, with what is in each: a first block, and those after it.
 pub data Skeleton : Type 0 where
   Nil : Skeleton
   Then : Leaf → Skeleton → Skeleton
-  -- a container's start and end, its kind, and the blocks in it
-  Node : ℕ → ℕ → Container → Skeleton → Skeleton → Skeleton
+  -- how a container begins, its end, and the blocks in it
+  Node : Head → ℕ → Skeleton → Skeleton → Skeleton
 
 -- Where a block begins: at a place inside a line, or behind what the path takes of the next line.
-abbrev pub Begins : List Container → Option Place → List Place → Place → List Place → Type 0
-Begins path (Some p) lines q behind = (q ≡ p) × (behind ≡ lines)
-Begins path None [] q behind = ⊥
-Begins path None (line ∷ lines) q behind = (option_map (at_rest line) (after path line.rest) ≡ Some q) × (behind ≡ lines)
+abbrev pub Begins : List Container → From → List Place → Place → List Place → Type 0
+Begins path (Inside p) lines q behind = (q ≡ p) × (behind ≡ lines)
+Begins path Line [] q behind = ⊥
+Begins path Line (line ∷ lines) q behind = (taken path line ≡ Some q) × (behind ≡ lines)
+Begins path (Blanks e) [] q behind = ⊥
+Begins path (Blanks e) (line ∷ lines) q behind = (taken path line ≡ Some q) × (behind ≡ lines) × (is_blank_rest q.rest ≡ true)
 
--- A sequence of blocks ends where the next line doesn't go on with its path, or with the text.
-abbrev pub Ends : List Container → Option Place → List Place → Type 0
-Ends path (Some p) lines = ⊥
-Ends path None [] = Unit {0}
-Ends path None (line ∷ lines) = after path line.rest ≡ None
+-- A sequence of blocks ends where the next line doesn't go on with its path, or with the text; in an item that takes blank lines alone also where
+-- the next line isn't blank.
+abbrev pub Ends : List Container → From → List Place → Type 0
+Ends path (Inside p) lines = ⊥
+Ends path Line [] = Unit {0}
+Ends path Line (line ∷ lines) = after path line.rest ≡ None
+Ends path (Blanks e) lines = next_is_blank path lines ≡ false
 
--- a first block that is a leaf, and the place and the lines that it leaves
-pub record IsLeafHere (d : Document) (path : List Container) (here : Option Place) (lines : List Place) (leaf : Leaf) (there : Option Place) (left : List Place) : Type 0 where
+-- where blocks go on behind the first of a sequence
+abbrev pub behind_first : From → From → From
+behind_first (Blanks e) there = Blanks e
+behind_first Line there = there
+behind_first (Inside p) there = there
+
+-- Where a container ends before these lines, with a path around it: at the start of the next line; an item that takes blank lines alone ends behind the
+-- line of its marker, where the next line goes on with that path (this project).
+abbrev pub end_before : ℕ → List Container → From → List Place → ℕ
+end_before n path (Blanks e) lines = if next_goes_on path lines then e else start_of n lines
+end_before n path Line lines = start_of n lines
+end_before n path (Inside p) lines = start_of n lines
+
+-- a first block that is a leaf, where the blocks behind it go on, and the lines that it leaves
+pub record IsLeafHere (d : Document) (path : List Container) (from : From) (lines : List Place) (leaf : Leaf) (there : From) (left : List Place) : Type 0 where
   pub place : Place
   pub behind : List Place
-  pub begins : Begins path here lines place behind
+  pub begins : Begins path from lines place behind
   pub opens : Opens d path place behind (OpensLeaf leaf there left)
 
--- a first block that is a container, the place inside it and the lines behind that
-pub record IsNodeHere (d : Document) (path : List Container) (here : Option Place) (lines : List Place) (container : Container) (start : ℕ) (inside : Place) (behind : List Place) : Type 0 where
+-- a first block that is a container, where the blocks in it go on, and the lines behind
+pub record IsNodeHere (d : Document) (path : List Container) (from : From) (lines : List Place) (head : Head) (inside : From) (left : List Place) : Type 0 where
   pub place : Place
-  pub begins : Begins path here lines place behind
-  pub opens : Opens d path place behind (OpensNode container start inside)
+  pub behind : List Place
+  pub begins : Begins path from lines place behind
+  pub opens : Opens d path place behind (OpensNode head inside left)
 
--- The blocks of a container, whose path this is, take this place and these lines up to the lines that are left.
-unfoldable pub IsSequence : Document → Skeleton → List Container → Option Place → List Place → List Place → Type 0
-IsSequence d Nil path here lines left = Ends path here lines × (left ≡ lines)
-IsSequence d (Then leaf next) path here lines left =
-    (there : Option Place) × (mid : List Place) × IsLeafHere d path here lines leaf there mid × IsSequence d next path there mid left
-IsSequence d (Node start «end» container kids next) path here lines left =
-    (inside : Place) × (behind : List Place) × (mid : List Place) × IsNodeHere d path here lines container start inside behind
-    × IsSequence d kids (container ∷ path) (Some inside) behind mid × («end» ≡ start_of (length d.text) mid) × IsSequence d next path None mid left
+-- The blocks of a container, whose path this is, take what is from here on up to the lines that are left.
+unfoldable pub IsSequence : Document → Skeleton → List Container → From → List Place → List Place → Type 0
+IsSequence d Nil path from lines left = Ends path from lines × (left ≡ lines)
+IsSequence d (Then leaf next) path from lines left =
+    (there : From) × (mid : List Place) × IsLeafHere d path from lines leaf there mid × IsSequence d next path (behind_first from there) mid left
+IsSequence d (Node head e kids next) path from lines left =
+    (inside : From) × (behind : List Place) × (mid : List Place) × IsNodeHere d path from lines head inside behind
+    × IsSequence d kids (opened head.opener ∷ path) inside behind mid × (e ≡ end_before (length d.text) path inside mid)
+    × IsSequence d next path (behind_first from Line) mid left

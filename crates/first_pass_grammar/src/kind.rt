@@ -18,4 +18,6 @@ pub enum Kind {
 pub enum Container {
     /// A block quote, with the kind that a tag gives it (CommonMark 5.1).
     BlockQuote(Option<BlockQuoteKind>),
+    /// A list item, with the columns that a line needs to go on with it (CommonMark 5.2).
+    ListItem(usize),
 }
