@@ -8,8 +8,8 @@ use Rattle.first_pass_tokens.proofs.LineLemmas.{one_line}
 use Rattle.first_pass_grammar.specs.declared.kind.Container.{Container}
 use Rattle.first_pass_grammar.specs.declared.kind.Kind.{Kind}
 use Rattle.first_pass_grammar.specs.declared.kind.Kind.TheVariants.{Blank, AtxHeading, Paragraph}
-use Rattle.first_pass_grammar.specs.Containers.{at_rest, after, front}
-use Rattle.first_pass_grammar.specs.Kinds.{unindented, quote_inside, kind_of, interrupts}
+use Rattle.first_pass_grammar.specs.Containers.{at_rest, front}
+use Rattle.first_pass_grammar.specs.Kinds.{unindented, kind_of}
 use Rattle.first_pass_grammar.specs.Leaves.{Document, add_break, IsParagraph, IsHeading}
 use Rattle.first_pass_grammar.specs.Skeleton.{Leaf, Opening, OpensLeaf, OpensNode, OpensAs, OpensFrom, Opens, Skeleton, Nil, Then, Node, Begins, Ends, IsLeafHere, IsNodeHere, IsSequence}
 use Rattle.first_pass_grammar.specs.Derivation.{Tables, forest_of, tables_of, root_of, Derives}

@@ -3,11 +3,12 @@ use Rattle.std.specs.Prelude.{ℕ, List, Option, Some, None, Bool, nat_lt, is_so
 use Rattle.first_pass_items.specs.declared.item.HeadingLevel.{HeadingLevel}
 use Rattle.std.specs.Option.{option_map}
 use Rattle.first_pass_scan.specs.Lines.{at_line_end, begins, blank_len, atx_level}
-use Rattle.first_pass_scan.specs.Rest.{Rest, indent, after_columns, past_quote}
-use Rattle.first_pass_scan.specs.Places.{Place}
+use Rattle.first_pass_scan.specs.Rest.{Rest, indent, after_columns}
+use Rattle.first_pass_scan.specs.Places.{Place, offset, moved_columns}
+use Rattle.first_pass_grammar.specs.declared.kind.Container.TheVariants.{BlockQuote}
 use Rattle.first_pass_grammar.specs.declared.kind.Kind.{Kind}
 use Rattle.first_pass_grammar.specs.declared.kind.Kind.TheVariants.{Blank, AtxHeading, Paragraph}
-use Rattle.first_pass_grammar.specs.Containers.{at_rest}
+use Rattle.first_pass_grammar.specs.Containers.{at_rest, prefix}
 
 -- what is left behind all columns: from the first byte on that is no space or tab
 abbrev pub all_taken : Rest → Rest
@@ -27,12 +28,13 @@ kind_of r =
     if is_some (blank_len r.left) then Blank
     else (if nat_lt (indent r) 4 then heading_or (atx_level (all_taken r).left) Paragraph else Paragraph)
 
--- the rest inside a block quote that begins here: at under four columns `>` with no column owed before it, and one column if there is one (CommonMark 5.1)
-unfoldable pub quote_rest : Rest → Option Rest
-quote_rest r = if nat_lt (indent r) 4 then option_map (after_columns 1) (past_quote (all_taken r)) else None
-
+-- the place inside a block quote that begins here: behind the prefix by which a line goes on with one (CommonMark 5.1)
 abbrev pub quote_inside : Place → Option Place
-quote_inside p = option_map (at_rest p) (quote_rest p.rest)
+quote_inside p = option_map (at_rest p) (prefix (BlockQuote None) p.rest)
+
+-- where that block quote begins: behind up to three columns (CommonMark 5.1)
+abbrev pub quote_start : Place → ℕ
+quote_start p = offset (moved_columns 3 p)
 
 -- What interrupts a paragraph at under four columns: the line's end, an ATX heading or a block quote (CommonMark 4.8, 4.2, 5.1).
 abbrev pub interrupts_with : List ℕ → Bool

@@ -9,7 +9,7 @@ use Rattle.first_pass_grammar.specs.declared.kind.Container.TheVariants.{BlockQu
 use Rattle.first_pass_grammar.specs.declared.kind.Kind.{Kind}
 use Rattle.first_pass_grammar.specs.declared.kind.Kind.TheVariants.{Blank, AtxHeading, Paragraph}
 use Rattle.first_pass_grammar.specs.Containers.{at_rest, after}
-use Rattle.first_pass_grammar.specs.Kinds.{unindented, quote_inside, kind_of}
+use Rattle.first_pass_grammar.specs.Kinds.{unindented, quote_inside, quote_start, kind_of}
 use Rattle.first_pass_grammar.specs.Leaves.{Document, IsParagraph, IsHeading, heading_text_at, heading_block, paragraph_block}
 
 -- a blank line, or a block with no blocks in it: its items with their depths below it
@@ -35,7 +35,7 @@ OpensAs d path p lines Paragraph opening =
 
 -- What begins at a place: a block quote where one does, else what the kind of the place says.
 unfoldable pub OpensFrom : Document → List Container → Place → List Place → Option Place → Opening → Type 0
-OpensFrom d path p lines (Some inside) opening = opening ≡ OpensNode (BlockQuote None) (offset (unindented p)) inside
+OpensFrom d path p lines (Some inside) opening = opening ≡ OpensNode (BlockQuote None) (quote_start p) inside
 OpensFrom d path p lines None opening = OpensAs d path p lines (kind_of p.rest) opening
 
 abbrev pub Opens : Document → List Container → Place → List Place → Opening → Type 0
