@@ -18,8 +18,8 @@ use Rattle.first_pass_grammar.specs.declared.kind.Container.{Container}
 use Rattle.first_pass_grammar.specs.declared.kind.Container.TheVariants.{BlockQuote}
 use Rattle.first_pass_grammar.specs.declared.kind.Kind.{Kind}
 use Rattle.first_pass_grammar.specs.declared.kind.Kind.TheVariants.{Blank, AtxHeading, Paragraph}
-use Rattle.first_pass_grammar.specs.Containers.{at_rest, after}
-use Rattle.first_pass_grammar.specs.Kinds.{unindented, quote_rest, heading_or, kind_of}
+use Rattle.first_pass_grammar.specs.Containers.{at_rest, prefix, after}
+use Rattle.first_pass_grammar.specs.Kinds.{unindented, quote_start, heading_or, kind_of}
 use Rattle.first_pass_grammar.specs.Leaves.{Document, document, IsParagraph, IsHeading, heading_text_at, heading_block, paragraph_block}
 use Rattle.first_pass_grammar.specs.Skeleton.{Leaf, BlankLine, Block, Opening, OpensLeaf, OpensNode, OpensAs, OpensFrom, Opens, Ends}
 use Rattle.first_pass_grammar.specs.Derivation.{Derives, leaf_items, node_of}
@@ -177,13 +177,13 @@ ready_leaf d old new p lines left leaf opens nodes_are spine_is ready =
     let b = built new.nodes new.spine nodes_are spine_is in
     record { containers = b.0; completes = b.1 }
 
-no_container : (d : Document) (path : List Container) (p : Place) (lines : List Place) (k : Kind) (o : Opening) → quote_rest p.rest ≡ None → kind_of p.rest ≡ k → OpensAs d path p lines k o → Opens d path p lines o
+no_container : (d : Document) (path : List Container) (p : Place) (lines : List Place) (k : Kind) (o : Opening) → prefix (BlockQuote None) p.rest ≡ None → kind_of p.rest ≡ k → OpensAs d path p lines k o → Opens d path p lines o
 unfolding OpensFrom
 no_container d path p lines k o none kind opens =
     subst (λ (q : Option Rest). OpensFrom d path p lines (option_map (at_rest p) q) o) (sym none) (subst (λ k. OpensAs d path p lines k o) (sym kind) opens)
 
 -- behind a blank line
-pub ready_blank : (d : Document) (tree : Forest Item) (p : Place) (next : ℕ) → quote_rest p.rest ≡ None → kind_of p.rest ≡ Blank → next ≡ line_end p
+pub ready_blank : (d : Document) (tree : Forest Item) (p : Place) (next : ℕ) → prefix (BlockQuote None) p.rest ≡ None → kind_of p.rest ≡ Blank → next ≡ line_end p
     → ReadyAt d tree (Some p) (lines_from d.text (line_end p)) → ReadyAt d tree None (lines_from d.text next)
 unfolding OpensAs
 ready_blank d tree p next none kind next_is ready =
@@ -204,7 +204,7 @@ line_end_of text p i =
     omega arith
 
 -- behind a heading
-pub ready_heading : (d : Document) (old new : Forest Item) (p : Place) (at next : ℕ) (level : HeadingLevel) → quote_rest p.rest ≡ None → kind_of p.rest ≡ AtxHeading level
+pub ready_heading : (d : Document) (old new : Forest Item) (p : Place) (at next : ℕ) (level : HeadingLevel) → prefix (BlockQuote None) p.rest ≡ None → kind_of p.rest ≡ AtxHeading level
     → at ≡ offset (unindented p) → IsPlaceOf d.text (unindented p) → AddsHeading d at level old new next
     → ReadyAt d old (Some p) (lines_from d.text (line_end p)) → ReadyAt d new None (lines_from d.text next)
 unfolding OpensAs
@@ -224,7 +224,7 @@ ready_heading d old new p at next level none kind at_is place h ready =
     ready_leaf d old new p lines (lines_from d.text next) (Block block) (no_container d (path_of old) p lines (AtxHeading level) o none kind heading) u.0 u.1 ready
 
 -- behind a paragraph
-pub ready_paragraph : (d : Document) (old new : Forest Item) (p : Place) (at next : ℕ) → quote_rest p.rest ≡ None → kind_of p.rest ≡ Paragraph
+pub ready_paragraph : (d : Document) (old new : Forest Item) (p : Place) (at next : ℕ) → prefix (BlockQuote None) p.rest ≡ None → kind_of p.rest ≡ Paragraph
     → at ≡ offset (unindented p) → IsPlaceOf d.text (unindented p) → AddsParagraph d at None old new next
     → ReadyAt d old (Some p) (lines_from d.text (line_end p)) → ReadyAt d new None (lines_from d.text next)
 unfolding OpensAs
@@ -263,17 +263,17 @@ kind_level text p at level kind at_is place =
     ap (λ k. atx_level (drop k text)) at_is ∙ ap atx_level (sym place.left) ∙ level_by (is_some (blank_len p.rest.left)) (nat_lt (indent p.rest) 4) (atx_level (unindented p).rest.left) level kind
 
 -- inside a block quote that begins here
-pub ready_quote : (d : Document) (g new : Forest Item) (x : Item) (ix : TreeIndex) (p : Place) (lines : List Place) (inside : Rest) → quote_rest p.rest ≡ Some inside
-    → x ≡ record { start = offset (unindented p); «end» = 0; body = BlockQuoteBody None } → ix.0 ≡ length g.nodes → new ≡ pushed (appended g x) ix
+pub ready_quote : (d : Document) (g new : Forest Item) (x : Item) (ix : TreeIndex) (p : Place) (lines : List Place) (inside : Rest) → prefix (BlockQuote None) p.rest ≡ Some inside
+    → x ≡ record { start = quote_start p; «end» = 0; body = BlockQuoteBody None } → ix.0 ≡ length g.nodes → new ≡ pushed (appended g x) ix
     → ReadyAt d g (Some p) lines → ReadyAt d new (Some (at_rest p inside)) lines
 unfolding OpensFrom
 ready_quote d g new x ix p lines inside quote x_is at new_is ready =
-    let y : Item = node_of (offset (unindented p)) 0 (BlockQuote None) in
+    let y : Item = node_of (quote_start p) 0 (BlockQuote None) in
     let os : List ℕ = map (λ (i : TreeIndex). i.0) g.spine in
     let open_in = containers_in g.nodes g.spine ready.containers in
-    let opens : Opens d (path_of g) p lines (OpensNode (BlockQuote None) (offset (unindented p)) (at_rest p inside)) =
-    subst (λ (q : Option Rest). OpensFrom d (path_of g) p lines (option_map (at_rest p) q) (OpensNode (BlockQuote None) (offset (unindented p)) (at_rest p inside))) (sym quote) refl in
-    let c = completes-node d (path_of g) g.nodes os p lines (BlockQuote None) (offset (unindented p)) 0 (at_rest p inside) opens ready.completes in
+    let opens : Opens d (path_of g) p lines (OpensNode (BlockQuote None) (quote_start p) (at_rest p inside)) =
+    subst (λ (q : Option Rest). OpensFrom d (path_of g) p lines (option_map (at_rest p) q) (OpensNode (BlockQuote None) (quote_start p) (at_rest p inside))) (sym quote) refl in
+    let c = completes-node d (path_of g) g.nodes os p lines (BlockQuote None) (quote_start p) 0 (at_rest p inside) opens ready.completes in
     let l : suc (length os) ≡ length g.spine + 1 = (let k = length-map g.spine (λ (i : TreeIndex). i.0) in omega arith) in
     let c' : Completes d (BlockQuote None ∷ path_of g) (g.nodes ++ (length g.spine + 1, y) ∷ []) (ix.0 ∷ os) (Some (at_rest p inside)) lines =
     subst (λ k. Completes d (BlockQuote None ∷ path_of g) (g.nodes ++ (length g.spine + 1, y) ∷ []) (k ∷ os) (Some (at_rest p inside)) lines) (sym at)
