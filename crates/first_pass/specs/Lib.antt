@@ -1,4 +1,5 @@
 pub mod Appends
+pub mod Closing
 pub mod Path
 pub mod Reading
 pub mod State

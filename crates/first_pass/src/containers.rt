@@ -4,17 +4,36 @@ ghost use Rattle.std.specs.Prelude.{◌≡◌, ℕ, ◌<◌, ◌≤◌, ◌-◌,
 ghost use Rattle.first_pass_scan.specs.Rest.{after_columns};
 ghost use Rattle.first_pass_scan.specs.Places.{Place, place_at, line_end, IsPlaceOf};
 ghost use Rattle.first_pass_grammar.specs.Leaves.{document};
-ghost use Rattle.first_pass_grammar.specs.declared.kind.Container.TheVariants.{BlockQuote};
+ghost use Rattle.first_pass_grammar.specs.declared.kind.Container.TheVariants.{BlockQuote, ListItem};
 ghost use Rattle.first_pass_grammar.specs.Containers.{prefix, after, front};
+ghost use Rattle.first_pass_grammar.specs.Kinds.{item_at};
 ghost use Rattle.first_pass.specs.Path.{container_of, prefix_of, path_in, path_of, outer};
-ghost use Rattle.first_pass.specs.State.{ReadyAt, closed_times};
+ghost use Rattle.first_pass.specs.Closing.{reading, popped_times};
 
+use crate::indentation::scan_indentation;
 use crate::pass::FirstPass;
 use first_pass_items::item::{Item, ItemBody};
 use first_pass_items::option_set::Options;
 use first_pass_scan::line_start::LineStart;
+use first_pass_scan::lines::scan_blank_line;
+use first_pass_scan::places::{next_line, rest_of};
 use first_pass_tree::forest::Tree;
 use std::alloc::AllocError;
+
+// Takes the columns of an item's indent, or fewer where the line ends behind them, and says whether they are
+// there; takes nothing where they aren't.
+#[tactic(auto, unfolding(first_pass_grammar::specs::Containers::prefix))]
+fn takes_columns<'a>(columns: usize, line_start: &mut LineStart<'a>) -> bool
+    ensures { MatchOption (prefix (ListItem columns) line_start.old)
+        ((result ≡ false) × (line_start.new ≡ line_start.old)) (λ next. (result ≡ true) × (line_start.new ≡ next)) }
+{
+    let mut next = line_start.copy();
+    if !next.scan_space(columns) && !next.is_at_eol() {
+        return false;
+    }
+    *line_start = next;
+    true
+}
 
 // Takes the prefix by which the line goes on with a node, and says whether it does; takes nothing where it doesn't.
 #[tactic(auto, unfolding(first_pass_grammar::specs::Containers::prefix))]
@@ -24,6 +43,7 @@ fn takes_prefix<'a>(body: ItemBody, line_start: &mut LineStart<'a>) -> bool
 {
     match body {
         ItemBody::BlockQuote(_) => scan_quote(line_start).is_some(),
+        ItemBody::ListItem(columns) => takes_columns(columns, line_start),
         _ => true,
     }
 }
@@ -52,6 +72,16 @@ pub fn scan_containers<'a>(
     spine.len()
 }
 
+// What is opened at a place in a line.
+pub(crate) enum Opened {
+    // No container begins there.
+    Nothing,
+    // A container, and more of the line is left in it.
+    Container,
+    // An item with nothing behind its marker; the next line begins at the offset.
+    EmptyItem(usize),
+}
+
 impl<'a> FirstPass<'a> {
     /// Closes the open nodes at the offset `ix`, but the outermost `kept` of them.
     pub(crate) fn close_containers(&mut self, kept: usize, ix: usize)
@@ -59,42 +89,88 @@ impl<'a> FirstPass<'a> {
         ensures text { self.new.text.now ≡ self.old.text.now }
         ensures options { self.new.options ≡ self.old.options }
         ensures allocs { self.new.allocs ≡ self.old.allocs }
-        ensures tree { self.new.tree ≡ closed_times (length self.old.tree.spine - kept) ix self.old.tree }
+        ensures reading { reading self.new ≡ popped_times (length self.old.tree.spine - kept) ix (reading self.old) }
     {
         while kept < self.tree.spine_len() {
             self.pop(ix);
         }
     }
 
+    /// Closes the containers that the line doesn't go on with that begins at `start_ix`, and answers what is
+    /// left of the line; `None` where it is a blank line, which is read then.
+    pub(crate) fn enter_line(&mut self, start_ix: usize) -> Option<LineStart<'a>>
+        requires within { start_ix < length self.old.text.now }
+    {
+        let mut line_start = LineStart::new(rest_of(self.text.as_bytes(), start_ix));
+        let kept = scan_containers(&self.tree, &mut line_start, self.options, false);
+        self.close_containers(kept, start_ix);
+        if scan_blank_line(line_start.left()).is_some() {
+            self.read_blank_line();
+            return None;
+        }
+        self.finish_empty_list_item();
+        Some(line_start)
+    }
+
     /// Opens the containers that begin at a place in the line whose reading began at `start_ix`, one
-    /// inside the other, and takes their markers (CommonMark 5).
+    /// inside the other, and takes their markers (CommonMark 5). Where the last is an item with nothing
+    /// behind its marker, the answer is the offset at which the next line begins.
     pub(crate) fn open_containers(
         &mut self,
         start_ix: usize,
         line_start: &mut LineStart<'a>,
-    ) -> Result<(), AllocError>
-        requires utf8 { IsUtf8 self.old.text.now }
-        requires place { IsPlaceOf self.old.text.now (place_at start_ix line_start.old) }
-        ensures text { OnOk result (self.new.text.now ≡ self.old.text.now) }
-        ensures options { OnOk result (self.new.options ≡ self.old.options) }
-        ensures allocs { OnOk result (self.new.allocs ≡ self.old.allocs) }
-        ensures place { OnOk result (IsPlaceOf self.old.text.now (place_at start_ix line_start.new)) }
-        ensures same_end { OnOk result (line_end (place_at start_ix line_start.new) ≡ line_end (place_at start_ix line_start.old)) }
-        ensures no_quote { OnOk result (prefix (BlockQuote None) line_start.new ≡ None) }
-        ensures ready { OnOk result ((lines : List Place)
-            → ReadyAt (document self.old.text.now self.old.options) self.old.tree (Some (place_at start_ix line_start.old)) lines
-            → ReadyAt (document self.old.text.now self.old.options) self.new.tree (Some (place_at start_ix line_start.new)) lines) }
+    ) -> Result<Option<usize>, AllocError>
     {
-        while let Some(quote) = scan_quote(line_start) {
-            self.tree.append(Item {
-                start: start_ix + quote,
-                end: 0,
-                body: ItemBody::BlockQuote(None),
-            })?;
-            self.tree.push()?;
+        loop {
+            match self.open_container(start_ix, line_start)? {
+                Opened::Nothing => return Ok(None),
+                Opened::Container => {}
+                Opened::EmptyItem(next) => return Ok(Some(next)),
+            }
         }
-        Ok(())
     }
+
+    // Opens the container that begins at a place in the line whose reading began at `start_ix`, and takes its
+    // marker.
+    fn open_container(
+        &mut self,
+        start_ix: usize,
+        line_start: &mut LineStart<'a>,
+    ) -> Result<Opened, AllocError>
+    {
+        let before = start_ix + line_start.bytes_scanned();
+        if let Some((byte, number, indent)) = scan_item(line_start) {
+            self.open_item(before, byte, number, indent)?;
+            if scan_blank_line(line_start.left()).is_none() {
+                return Ok(Opened::Container);
+            }
+            let next = next_line(self.text.as_bytes(), start_ix + line_start.bytes_scanned());
+            self.begin_list_item = Some(next);
+            return Ok(Opened::EmptyItem(next));
+        }
+        if let Some(quote) = scan_quote(line_start) {
+            self.open_quote(start_ix, start_ix + quote)?;
+            return Ok(Opened::Container);
+        }
+        Ok(Opened::Nothing)
+    }
+}
+
+// Takes the list item marker here and the columns before it, where an item begins at under four columns, and
+// answers its byte, its number and its indent; takes nothing where none does.
+#[tactic(auto, unfolding(first_pass_grammar::specs::Kinds::item_at))]
+fn scan_item<'a>(line_start: &mut LineStart<'a>) -> Option<(u8, u64, usize)>
+    ensures { MatchOption (item_at line_start.old) ((result ≡ None) × (line_start.new ≡ line_start.old))
+        (λ item. (result ≡ Some item.0) × (line_start.new ≡ item.1)) }
+{
+    let mut next = line_start.copy();
+    let columns = scan_indentation(&mut next);
+    if columns >= 4 {
+        return None;
+    }
+    let item = next.scan_list_marker_with_indent(columns)?;
+    *line_start = next;
+    Some(item)
 }
 
 // Takes the prefix of a block quote, where it is there, and answers how many bytes of the line stand before

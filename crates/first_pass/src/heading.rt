@@ -92,7 +92,7 @@ impl<'a> FirstPass<'a> {
         let heading_ix = self.tree.push()?;
         let header_start = heading_text_start(self.text.as_bytes(), start, atx_level);
         let end = self.heading_text(header_start, heading_ix)?;
-        self.pop(end);
+        self.close_node(end);
         self.tree
             .set_body(heading_ix, ItemBody::Heading(atx_level, None));
         Ok(end)

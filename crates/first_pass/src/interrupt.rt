@@ -1,19 +1,20 @@
 //! Which lines end a paragraph before them.
 
-ghost use Rattle.std.specs.Prelude.{◌≡◌, min, drop, IfOk, OnOk, Some, None, if◌then◌else◌, IsUtf8, IsCharBoundary};
+ghost use Rattle.std.specs.Prelude.{◌≡◌, min, drop, is_some, IfOk, OnOk, Some, None, if◌then◌else◌, IsUtf8, IsCharBoundary};
 ghost use Rattle.first_pass_scan.specs.Places.{line_rest, place_at, offset, IsPlaceOf};
 ghost use Rattle.first_pass_scan.specs.Lines.{begins};
 ghost use Rattle.first_pass_scan.specs.Rest.{indent};
-ghost use Rattle.first_pass_grammar.specs.Containers.{front};
-ghost use Rattle.first_pass_grammar.specs.Kinds.{interrupts, interrupts_with, unindented};
+ghost use Rattle.first_pass_scan.specs.Markers.{is_bullet, listitem};
+ghost use Rattle.first_pass_grammar.specs.Containers.{after, front};
+ghost use Rattle.first_pass_grammar.specs.Kinds.{interrupts, interrupts_with, item_interrupts, unindented};
 ghost use Rattle.first_pass.specs.Path.{path_of};
 
 use crate::containers::scan_containers;
 use crate::indentation::scan_indentation;
 use first_pass_items::item::Item;
 use first_pass_items::option_set::Options;
-use first_pass_scan::line_start::LineStart;
-use first_pass_scan::lines::{scan_atx_heading, scan_eol};
+use first_pass_scan::line_start::{LineStart, scan_listitem};
+use first_pass_scan::lines::{scan_atx_heading, scan_blank_line, scan_eol};
 use first_pass_scan::places::rest_of;
 use first_pass_tree::forest::Tree;
 use std::alloc::{AllocError, Global};
@@ -25,36 +26,70 @@ fn begins_quote(bytes: &[u8]) -> bool
     matches!(bytes.first(), Some(b'>'))
 }
 
+// Whether a list item interrupts a paragraph at the beginning of `bytes`, in a line that goes on with all
+// containers or not.
+fn interrupts_as_item(bytes: &[u8], current_container: bool) -> bool
+    ensures { result ≡ item_interrupts current_container bytes.now (listitem bytes.now) }
+{
+    match scan_listitem(bytes) {
+        None => false,
+        Some((width, byte, number, _)) => {
+            !current_container
+                || (is_bullet(byte) || number == 1) && scan_blank_line(rest_of(bytes, width)).is_none()
+        }
+    }
+}
+
+fn is_bullet(byte: u8) -> bool
+    ensures { result ≡ is_bullet byte }
+{
+    matches!(byte, b'-' | b'+' | b'*')
+}
+
 /// Whether `text`, what is left of a line behind its indentation of under four columns, interrupts a
-/// paragraph: its line ends, or an ATX heading or a block quote begins (CommonMark 4.8, 4.2, 5.1). Which
-/// containers the line goes on with, and the tree so far, make no difference yet.
+/// paragraph: its line ends, or an ATX heading, a block quote or a list item begins. An item interrupts where
+/// the line doesn't go on with all containers; else only a bullet or the number 1 does, and only with a rest
+/// that isn't blank (CommonMark 4.8, 4.2, 5.1, 5.2). The tree so far makes no difference yet.
 pub fn scan_paragraph_interrupt_no_table(
     _alloc: Global,
     text: &str,
-    _current_container: bool,
+    current_container: bool,
     _has_footnote: bool,
     _definition_list: bool,
     _tree: &Tree<Item>,
     _tree_position: usize,
 ) -> Result<bool, AllocError>
-    ensures { IfOk result (λ yes. yes ≡ interrupts_with text.now) }
+    ensures { IfOk result (λ yes. yes ≡ interrupts_with current_container text.now) }
 {
     let bytes = text.as_bytes();
-    Ok(scan_eol(bytes).is_some() || scan_atx_heading(bytes).is_some() || begins_quote(bytes))
+    Ok(scan_eol(bytes).is_some()
+        || scan_atx_heading(bytes).is_some()
+        || begins_quote(bytes)
+        || interrupts_as_item(bytes, current_container))
 }
 
-// The columns of indentation, but 4 where there are more, behind what the line that begins at `start` takes
-// for the open containers, and the offset behind those columns.
-fn scan_prefixes(text: &str, start: usize, tree: &Tree<Item>, options: Options) -> (usize, usize)
+// Whether the line that begins at `start` goes on with all open containers; the columns of indentation, but
+// 4 where there are more, behind what it takes for them; and the offset behind those columns.
+fn scan_prefixes(
+    text: &str,
+    start: usize,
+    tree: &Tree<Item>,
+    options: Options,
+) -> (bool, usize, usize)
     requires { IsCharBoundary text.now start }
-    ensures columns { result.0 ≡ min 4 (indent (front (path_of tree.now) (line_rest (drop start text.now)))) }
-    ensures behind { result.1 ≡ offset (unindented (place_at start (front (path_of tree.now) (line_rest (drop start text.now))))) }
+    ensures whole { result.0 ≡ is_some (after (path_of tree.now) (line_rest (drop start text.now))) }
+    ensures columns { result.1 ≡ min 4 (indent (front (path_of tree.now) (line_rest (drop start text.now)))) }
+    ensures behind { result.2 ≡ offset (unindented (place_at start (front (path_of tree.now) (line_rest (drop start text.now))))) }
     ensures place { IsPlaceOf text.now (unindented (place_at start (front (path_of tree.now) (line_rest (drop start text.now))))) }
 {
     let mut line_start = LineStart::new(rest_of(text.as_bytes(), start));
-    let _ = scan_containers(tree, &mut line_start, options, false);
+    let kept = scan_containers(tree, &mut line_start, options, false);
     let columns = scan_indentation(&mut line_start);
-    (columns, start + line_start.bytes_scanned())
+    (
+        kept == tree.spine_len(),
+        columns,
+        start + line_start.bytes_scanned(),
+    )
 }
 
 /// Where the text of the line begins, as an offset into `text`, by which a paragraph goes on at the line
@@ -69,14 +104,14 @@ pub fn next_paragraph_text(
     options: Options,
 ) -> Result<Option<usize>, AllocError>
     requires { IsCharBoundary text.now start }
-    ensures value { IfOk result (λ next. next ≡ (if interrupts (front (path_of tree.now) (line_rest (drop start text.now)))
+    ensures value { IfOk result (λ next. next ≡ (if interrupts (is_some (after (path_of tree.now) (line_rest (drop start text.now)))) (front (path_of tree.now) (line_rest (drop start text.now)))
         then None else Some (offset (unindented (place_at start (front (path_of tree.now) (line_rest (drop start text.now)))))))) }
     ensures place { OnOk result (IsPlaceOf text.now (unindented (place_at start (front (path_of tree.now) (line_rest (drop start text.now)))))) }
     ensures utf8 { IsUtf8 text.now }
 {
-    let (columns, at) = scan_prefixes(text, start, tree, options);
+    let (whole, columns, at) = scan_prefixes(text, start, tree, options);
     let interrupted = if columns < 4 {
-        scan_paragraph_interrupt_no_table(alloc, &text[at..], true, false, false, tree, 0)?
+        scan_paragraph_interrupt_no_table(alloc, &text[at..], whole, false, false, tree, 0)?
     } else {
         scan_eol(rest_of(text.as_bytes(), at)).is_some()
     };

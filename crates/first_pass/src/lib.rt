@@ -8,6 +8,7 @@ mod indentation;
 mod interrupt;
 pub mod items;
 mod kinds;
+pub mod list;
 mod paragraph;
 pub mod pass;
 

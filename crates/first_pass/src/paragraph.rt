@@ -74,7 +74,7 @@ impl<'a> FirstPass<'a> {
         self.tree.push()?;
         append_item(&mut self.tree, tasklist_marker)?;
         let ix = self.paragraph_lines(start_ix)?;
-        self.pop(ix);
+        self.close_node(ix);
         Ok(ix)
     }
 

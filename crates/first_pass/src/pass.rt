@@ -27,6 +27,7 @@ use first_pass_scan::line_start::LineStart;
 use first_pass_scan::places::{next_line, rest_of};
 use first_pass_tokens::line::append_line;
 use first_pass_tree::forest::Tree;
+use first_pass_tree::tree_index::TreeIndex;
 use std::alloc::{AllocError, Global};
 use std::cmp::max;
 
@@ -36,6 +37,10 @@ pub struct FirstPass<'a> {
     pub(crate) alloc: Global,
     pub(crate) text: &'a str,
     pub(crate) tree: Tree<Item>,
+    // Where the line of its marker ends, of the innermost item as long as that is empty.
+    pub(crate) begin_list_item: Option<usize>,
+    // Whether a blank line that counts is in the run of them before the next line.
+    pub(crate) last_line_blank: bool,
     pub(crate) allocs: Allocations<'a>,
     pub(crate) options: Options,
     pub(crate) lookup_table: [bool; 256],
@@ -72,6 +77,8 @@ impl<'a> FirstPass<'a> {
             alloc,
             text,
             tree,
+            begin_list_item: None,
+            last_line_blank: false,
             allocs: Allocations::new(alloc),
             options,
             lookup_table: special_bytes(&options),
@@ -95,10 +102,12 @@ impl<'a> FirstPass<'a> {
         ensures ready { IfOk result (λ next. Ready (document self.old.text.now self.old.options) self.old.tree start_ix
             → Ready (document self.old.text.now self.old.options) self.new.tree next) }
     {
-        let mut line_start = LineStart::new(rest_of(self.text.as_bytes(), start_ix));
-        let kept = scan_containers(&self.tree, &mut line_start, self.options, false);
-        self.close_containers(kept, start_ix);
-        self.open_containers(start_ix, &mut line_start)?;
+        let Some(mut line_start) = self.enter_line(start_ix) else {
+            return Ok(next_line(self.text.as_bytes(), start_ix));
+        };
+        if let Some(next) = self.open_containers(start_ix, &mut line_start)? {
+            return Ok(next);
+        }
         let next = self.parse_leaf(start_ix, line_start)?;
         Ok(next)
     }
@@ -126,12 +135,17 @@ impl<'a> FirstPass<'a> {
         let kind = kind_at(&mut line_start);
         let at = start_ix + line_start.bytes_scanned();
         match kind {
-            Kind::Blank => Ok(next_line(self.text.as_bytes(), at)),
+            Kind::Blank => {
+                self.read_blank_line();
+                Ok(next_line(self.text.as_bytes(), at))
+            }
             Kind::AtxHeading(level) => {
+                self.finish_list(start_ix);
                 let next = self.parse_atx_heading(at, level)?;
                 Ok(next)
             }
             Kind::Paragraph => {
+                self.finish_list(at);
                 let next = self.parse_paragraph(at, None)?;
                 Ok(next)
             }
@@ -171,17 +185,21 @@ impl<'a> FirstPass<'a> {
         Ok(answer)
     }
 
-    /// Closes the innermost open node, of which there has to be one, at the offset `ix`.
-    pub fn pop(&mut self, ix: usize)
+    // Closes the innermost open node, of which there has to be one, at the offset `ix`, and answers its place.
+    pub(crate) fn close_node(&mut self, ix: usize) -> TreeIndex
         requires { IsSome (slice_get self.old.tree.spine 0) }
         ensures text { self.new.text.now ≡ self.old.text.now }
         ensures options { self.new.options ≡ self.old.options }
         ensures allocs { self.new.allocs ≡ self.old.allocs }
+        ensures empty_item { self.new.begin_list_item ≡ self.old.begin_list_item }
+        ensures blank { self.new.last_line_blank ≡ self.old.last_line_blank }
+        ensures node { slice_get self.old.tree.spine 0 ≡ Some result }
         ensures tree { self.new.tree ≡ closed_by self.old.tree ix self.old.tree.spine }
     {
         self.tree.is_forest();
         let cur_ix = self.tree.pop().unwrap();
         self.tree.set_end(cur_ix, ix);
+        cur_ix
     }
 }
 
@@ -206,6 +224,8 @@ pub fn run_first_pass<'a>(
         alloc: _,
         text: _,
         tree,
+        begin_list_item: _,
+        last_line_blank: _,
         allocs,
         options: _,
         lookup_table: _,

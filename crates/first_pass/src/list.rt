@@ -1,0 +1,196 @@
+//! Lists and their items: how they go on, become loose and are closed (CommonMark 5.2, 5.3).
+
+ghost use Rattle.std.specs.Prelude.{◌≡◌, ◌<◌, length, None, IsSome, slice_get, OnOk};
+ghost use Rattle.first_pass.specs.Closing.{tight_items, loosened_at, reading, popped, item_finished, list_finished, list_continued, begun, blank_read};
+ghost use Rattle.first_pass_items.specs.declared.item.ItemBody.TheVariants.{BlockQuote as BlockQuoteBody, ListItem as ListItemBody};
+
+use bitflags::Flags;
+use crate::pass::FirstPass;
+use first_pass_items::item::{Item, ItemBody, ListFlags};
+use first_pass_tree::forest::Tree;
+use first_pass_tree::tree_index::TreeIndex;
+use std::alloc::AllocError;
+
+/// Makes the paragraphs tight that stand directly in the items of the list `list_ix` (CommonMark 5.3).
+pub fn surgerize_tight_list(tree: &mut Tree<Item>, list_ix: TreeIndex)
+    requires { list_ix.0 < length tree.old.nodes }
+    ensures { tree.new ≡ tight_items tree.old list_ix }
+{
+    let depth = tree.nodes()[list_ix.0].0;
+    let mut at = list_ix.0 + 1;
+    while at < tree.node_count() && depth < tree.nodes()[at].0 {
+        if tree.nodes()[at].0 == depth + 2 && matches!(tree[TreeIndex(at)].body, ItemBody::Paragraph) {
+            tree.set_body(TreeIndex(at), ItemBody::TightParagraph);
+        }
+        at += 1;
+    }
+}
+
+/// Makes a list loose; another node stays.
+fn loosen(tree: &mut Tree<Item>, ix: TreeIndex)
+    requires { ix.0 < length tree.old.nodes }
+    ensures { tree.new ≡ loosened_at tree.old ix }
+{
+    if let ItemBody::List(_, byte, number) = tree[ix].body {
+        tree.set_body(ix, ItemBody::List(ListFlags::empty(), byte, number));
+    }
+}
+
+impl<'a> FirstPass<'a> {
+    /// Closes the innermost open node, of which there has to be one, at the offset `ix`. The paragraphs of
+    /// a list become tight, unless it is loose (CommonMark 5.3).
+    pub fn pop(&mut self, ix: usize)
+        requires { IsSome (slice_get self.old.tree.spine 0) }
+        ensures text { self.new.text.now ≡ self.old.text.now }
+        ensures options { self.new.options ≡ self.old.options }
+        ensures allocs { self.new.allocs ≡ self.old.allocs }
+        ensures reading { reading self.new ≡ popped ix (reading self.old) }
+    {
+        self.tree.is_forest();
+        let cur_ix = self.close_node(ix);
+        match self.tree[cur_ix].body {
+            ItemBody::List(flags, _, _) if flags.contains(ListFlags::IS_TIGHT) => {
+                surgerize_tight_list(&mut self.tree, cur_ix);
+            }
+            ItemBody::ListItem(_) => self.begin_list_item = None,
+            _ => {}
+        }
+    }
+
+    /// Closes the innermost open node, if it is an item that began with two blank lines, behind the line of
+    /// its marker (CommonMark 5.2). No item is empty then.
+    pub fn finish_empty_list_item(&mut self)
+        ensures text { self.new.text.now ≡ self.old.text.now }
+        ensures options { self.new.options ≡ self.old.options }
+        ensures allocs { self.new.allocs ≡ self.old.allocs }
+        ensures reading { reading self.new ≡ item_finished (reading self.old) }
+    {
+        self.tree.is_forest();
+        if let Some(marker_end) = self.begin_list_item {
+            if self.last_line_blank {
+                if let Some(ix) = self.tree.peek_up() {
+                    if matches!(self.tree[ix].body, ItemBody::ListItem(_)) {
+                        self.pop(marker_end);
+                    }
+                }
+            }
+        }
+        self.begin_list_item = None;
+    }
+
+    /// Closes what a new block ends: an empty item, and the list that is then innermost, at the offset
+    /// `ix`. Where a blank line stands before the block, the list becomes loose in whose item it stands.
+    pub fn finish_list(&mut self, ix: usize)
+        ensures text { self.new.text.now ≡ self.old.text.now }
+        ensures options { self.new.options ≡ self.old.options }
+        ensures allocs { self.new.allocs ≡ self.old.allocs }
+        ensures reading { reading self.new ≡ list_finished ix (reading self.old) }
+    {
+        self.finish_empty_list_item();
+        self.tree.is_forest();
+        if let Some(list_ix) = self.tree.peek_up() {
+            if matches!(self.tree[list_ix].body, ItemBody::List(_, _, _)) {
+                self.pop(ix);
+            }
+        }
+        if self.last_line_blank {
+            self.tree.is_forest();
+            if let Some(list_ix) = self.tree.peek_grandparent() {
+                loosen(&mut self.tree, list_ix);
+            }
+            self.last_line_blank = false;
+        }
+    }
+
+    // Reads a blank line: where an item was empty, it takes blank lines alone from then on.
+    pub(crate) fn read_blank_line(&mut self)
+        ensures text { self.new.text.now ≡ self.old.text.now }
+        ensures options { self.new.options ≡ self.old.options }
+        ensures allocs { self.new.allocs ≡ self.old.allocs }
+        ensures reading { reading self.new ≡ blank_read (reading self.old) }
+    {
+        self.tree.is_forest();
+        if let Some(ix) = self.tree.peek_up() {
+            match self.tree[ix].body {
+                ItemBody::BlockQuote(_) => return,
+                ItemBody::ListItem(_) if self.begin_list_item.is_some() => {
+                    self.tree.set_body(ix, ItemBody::ListItem(0));
+                }
+                _ => {}
+            }
+        }
+        self.last_line_blank = true;
+    }
+
+    /// Goes on with the list that is innermost, where its byte is `ch`: it is loose if a blank line stands
+    /// before. Else a list with that byte and the number `index` is opened at the offset `start`.
+    pub fn continue_list(
+        &mut self,
+        start: usize,
+        ch: u8,
+        index: u64,
+    ) -> Result<(), AllocError>
+        ensures text { OnOk result (self.new.text.now ≡ self.old.text.now) }
+        ensures options { OnOk result (self.new.options ≡ self.old.options) }
+        ensures allocs { OnOk result (self.new.allocs ≡ self.old.allocs) }
+        ensures reading { OnOk result (reading self.new ≡ list_continued start ch index (reading self.old)) }
+    {
+        self.finish_empty_list_item();
+        self.tree.is_forest();
+        if let Some(list_ix) = self.tree.peek_up() {
+            if matches!(self.tree[list_ix].body, ItemBody::List(_, byte, _) if byte == ch) {
+                if self.last_line_blank {
+                    loosen(&mut self.tree, list_ix);
+                    self.last_line_blank = false;
+                }
+                return Ok(());
+            }
+        }
+        self.finish_list(start);
+        self.open_node(start, ItemBody::List(ListFlags::IS_TIGHT, ch, index))
+    }
+
+    // Opens an item that starts at the offset `start`, in the list that goes on or in a new one.
+    pub(crate) fn open_item(
+        &mut self,
+        start: usize,
+        byte: u8,
+        number: u64,
+        indent: usize,
+    ) -> Result<(), AllocError>
+        ensures text { OnOk result (self.new.text.now ≡ self.old.text.now) }
+        ensures options { OnOk result (self.new.options ≡ self.old.options) }
+        ensures allocs { OnOk result (self.new.allocs ≡ self.old.allocs) }
+        ensures reading { OnOk result (reading self.new ≡ begun start (ListItemBody indent) (list_continued start byte number (reading self.old))) }
+    {
+        self.continue_list(start, byte, number)?;
+        self.open_node(start, ItemBody::ListItem(indent))
+    }
+
+    // Opens a block quote at the offset `start`, in the line that begins at `line`.
+    pub(crate) fn open_quote(&mut self, line: usize, start: usize) -> Result<(), AllocError>
+        ensures text { OnOk result (self.new.text.now ≡ self.old.text.now) }
+        ensures options { OnOk result (self.new.options ≡ self.old.options) }
+        ensures allocs { OnOk result (self.new.allocs ≡ self.old.allocs) }
+        ensures reading { OnOk result (reading self.new ≡ begun start (BlockQuoteBody None) (list_finished line (reading self.old))) }
+    {
+        self.finish_list(line);
+        self.open_node(start, ItemBody::BlockQuote(None))
+    }
+
+    // Opens a node at the offset `start`, as a last child of the innermost open one.
+    fn open_node(&mut self, start: usize, body: ItemBody) -> Result<(), AllocError>
+        ensures text { OnOk result (self.new.text.now ≡ self.old.text.now) }
+        ensures options { OnOk result (self.new.options ≡ self.old.options) }
+        ensures allocs { OnOk result (self.new.allocs ≡ self.old.allocs) }
+        ensures reading { OnOk result (reading self.new ≡ begun start body (reading self.old)) }
+    {
+        self.tree.append(Item {
+            start,
+            end: 0,
+            body,
+        })?;
+        self.tree.push()?;
+        Ok(())
+    }
+}
