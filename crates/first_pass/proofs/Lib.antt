@@ -1,7 +1,13 @@
 pub mod BlockLemmas
+pub mod EnterLemmas
+pub mod FinishLemmas
 pub mod FrontLemmas
 pub mod HeadingLemmas
+pub mod ListLemmas
+pub mod OpenLemmas
+pub mod OpenerLemmas
 pub mod ParagraphLemmas
 pub mod PathLemmas
 pub mod PlaceLemmas
+pub mod PopLemmas
 pub mod StateLemmas

@@ -1,5 +1,5 @@
 -- The lines of a paragraph, one after the other.
-use Rattle.std.proofs.Common.{◌≡◌, ◌⊎◌, inl, inr, ℕ, zero, suc, ◌+◌, ◌<◌, ◌≤◌, Bool, true, false, List, [], ◌∷◌, length, drop, ◌^◌, if◌then◌else◌, Option, Some, None, IfSome, IsUtf8, IsCharBoundary, refl, sym, ap, subst, ◌∙◌, arith}
+use Rattle.std.proofs.Common.{◌≡◌, ◌⊎◌, inl, inr, ℕ, zero, suc, ◌+◌, ◌<◌, ◌≤◌, Bool, true, false, List, [], ◌∷◌, length, drop, ◌^◌, if◌then◌else◌, Option, Some, None, is_some, IfSome, IsUtf8, IsCharBoundary, refl, sym, ap, subst, ◌∙◌, arith}
 use Rattle.std.proofs.lemmas.Bool.{cases_lt, false≢true}
 use Rattle.std.proofs.lemmas.Str.{IsCharBoundary-end}
 use Rattle.first_pass_items.specs.declared.item.Item.{Item}
@@ -14,8 +14,8 @@ use Rattle.first_pass_tokens.specs.LineTokens.{IsLine, EndsLine, IsBreak}
 use Rattle.first_pass_tokens.specs.Chains.{add_tokens, close_break, is_backslash_break}
 use Rattle.first_pass_tokens.specs.TreeTokens.{chained, with_tokens, JoinsNone, AppendsLine}
 use Rattle.first_pass_tokens.proofs.ChainLemmas.{with_tokens-chained, with_text-chained, appended-chained}
-use Rattle.first_pass_grammar.specs.Containers.{front}
-use Rattle.first_pass_grammar.specs.Kinds.{unindented, interrupts}
+use Rattle.first_pass_grammar.specs.Containers.{after, front}
+use Rattle.first_pass_grammar.specs.Kinds.{unindented, interrupts, ends_paragraph}
 use Rattle.first_pass_grammar.specs.Leaves.{Document, document, content_at, add_break, IsParagraph}
 use Rattle.first_pass_grammar.specs.Completion.{lines_from}
 use Rattle.first_pass.specs.Appends.{line_end_at, with_child, with_closed_break, AppendsParagraph}
@@ -25,9 +25,9 @@ use Rattle.first_pass.proofs.PathLemmas.{AreIn, front-end, path_of-chained}
 use Rattle.first_pass.proofs.PlaceLemmas.{text_place}
 
 -- At the end of the text a paragraph ends.
-interrupts-end : interrupts (line_rest []) ≡ true
+interrupts-end : (whole : Bool) → interrupts whole (line_rest []) ≡ true
 unfolding interrupts
-interrupts-end = refl
+interrupts-end whole = refl
 
 ends_past : (text : List ℕ) (n : ℕ) → length text ≤ n → drop n text ≡ []
 ends_past [] zero h = refl
@@ -35,11 +35,11 @@ ends_past [] (suc n) h = refl
 ends_past (b ∷ bs) zero h = absurd (omega arith)
 ends_past (b ∷ bs) (suc n) h = ends_past bs n (omega arith)
 
-pub goes_within : (path : List Container) (text : List ℕ) (n : ℕ) → interrupts (front path (line_rest (drop n text))) ≡ false → n < length text
+pub goes_within : (path : List Container) (text : List ℕ) (n : ℕ) → ends_paragraph path (line_rest (drop n text)) ≡ false → n < length text
 goes_within path text n h =
     elim (cases_lt n (length text)) [
       | inl more ↦ more
-      | inr past ↦ absurd (false≢true (sym h ∙ ap (λ bs. interrupts (front path (line_rest bs))) (ends_past text n past) ∙ ap interrupts (front-end path) ∙ interrupts-end))
+      | inr past ↦ absurd (false≢true (sym h ∙ ap (λ bs. ends_paragraph path (line_rest bs)) (ends_past text n past) ∙ ap (interrupts (is_some (after path (line_rest [])))) (front-end path) ∙ interrupts-end (is_some (after path (line_rest [])))))
     ]
 
 -- The text of a line ends where the line ends.
@@ -52,7 +52,7 @@ line_end-text path text n u b =
 
 -- one more line of a paragraph
 paragraph_more : (path : List Container) (d : Document) (ix n : ℕ) (chain tokens whole : List Item) (line_break : Option Item) (left : List Place) → IsLine (content_at d ix) tokens (n, line_break) → n ≡ line_end_at d.text ix
-    → interrupts (front path (line_rest (drop n d.text))) ≡ false → IsUtf8 d.text → IsCharBoundary d.text n
+    → ends_paragraph path (line_rest (drop n d.text)) ≡ false → IsUtf8 d.text → IsCharBoundary d.text n
     → (let at : ℕ = offset (unindented (place_at n (front path (line_rest (drop n d.text))))) in IsParagraph d path at (add_break line_break (add_tokens chain tokens)) (lines_from d.text (line_end_at d.text at)) whole left)
     → IsParagraph d path ix chain (lines_from d.text (line_end_at d.text ix)) whole left
 unfolding IsParagraph front
@@ -66,7 +66,7 @@ paragraph_more path d ix n chain tokens whole line_break left line place goes u 
 
 -- the last line of a paragraph
 last_by : (path : List Container) (d : Document) (ix n : ℕ) (chain tokens : List Item) (line_break : Option Item) (lines : List Place) → IsLine (content_at d ix) tokens (n, line_break)
-    → (lines ≡ []) ⊎ ((more : List Place) × (lines ≡ line_place n (drop n d.text) ∷ more)) → interrupts (front path (line_rest (drop n d.text))) ≡ true
+    → (lines ≡ []) ⊎ ((more : List Place) × (lines ≡ line_place n (drop n d.text) ∷ more)) → ends_paragraph path (line_rest (drop n d.text)) ≡ true
     → IsParagraph d path ix chain lines (close_break line_break (add_tokens chain tokens)) lines
 unfolding IsParagraph front
 last_by path d ix n chain tokens line_break lines line (inl none) ends =
@@ -80,7 +80,7 @@ last_by path d ix n chain tokens line_break lines line (inr (more, some)) ends =
     subst (λ ls. IsParagraph d path ix chain ls whole ls) (sym some) p
 
 paragraph_last : (path : List Container) (d : Document) (ix n : ℕ) (chain tokens : List Item) (line_break : Option Item) → IsLine (content_at d ix) tokens (n, line_break) → n ≡ line_end_at d.text ix
-    → interrupts (front path (line_rest (drop n d.text))) ≡ true
+    → ends_paragraph path (line_rest (drop n d.text)) ≡ true
     → IsParagraph d path ix chain (lines_from d.text (line_end_at d.text ix)) (close_break line_break (add_tokens chain tokens)) (lines_from d.text n)
 paragraph_last path d ix n chain tokens line_break line place ends =
     let lines : (lines_from d.text n ≡ []) ⊎ ((more : List Place) × (lines_from d.text n ≡ line_place n (drop n d.text) ∷ more)) =
@@ -127,7 +127,7 @@ read_path d start ix old now read answer s apart line there =
 -- behind a line, where the paragraph goes on
 pub so_far_more : (path : List Container) (d : Document) (start ix n at : ℕ) (old now read new : Forest Item) (line_break : Option Item) → path ≡ path_of old → IsUtf8 d.text → ParagraphSoFar d start old now ix → JoinsNone old
     → AppendsLine (content_at d ix) now read (n, line_break) → EndsLine (content_at d ix) (n, line_break)
-    → interrupts (front path (line_rest (drop n d.text))) ≡ false → at ≡ offset (unindented (place_at n (front path (line_rest (drop n d.text))))) → IsPlaceOf d.text (unindented (place_at n (front path (line_rest (drop n d.text)))))
+    → ends_paragraph path (line_rest (drop n d.text)) ≡ false → at ≡ offset (unindented (place_at n (front path (line_rest (drop n d.text))))) → IsPlaceOf d.text (unindented (place_at n (front path (line_rest (drop n d.text)))))
     → new ≡ with_child read line_break → (ParagraphSoFar d start old new at) × (ix < at)
 so_far_more path d start ix n at old now read new line_break path_is u s apart line ends goes at_is i new_is =
     let b = next_boundary d ix n line_break u s.boundary ends in
@@ -152,7 +152,7 @@ so_far_more path d start ix n at old now read new line_break path_is u s apart l
 -- behind the last line
 pub so_far_end : (path : List Container) (d : Document) (start ix n : ℕ) (old now read new : Forest Item) (line_break : Option Item) → path ≡ path_of old → ParagraphSoFar d start old now ix → JoinsNone old
     → AppendsLine (content_at d ix) now read (n, line_break) → EndsLine (content_at d ix) (n, line_break)
-    → interrupts (front path (line_rest (drop n d.text))) ≡ true → IsCharBoundary d.text n
+    → ends_paragraph path (line_rest (drop n d.text)) ≡ true → IsCharBoundary d.text n
     → new ≡ with_closed_break read line_break → AppendsParagraph d start old new n
 so_far_end path d start ix n old now read new line_break path_is s apart line ends stops boundary new_is =
     let chain : List Item = add_tokens s.chain line.tokens in
@@ -198,23 +198,23 @@ same_end t u o w ix answer e f ends = subst (λ z. EndsLine (record { options = 
 pub so_far_next : (first text now_text : List ℕ) (o w : Options) (start ix n at : ℕ) (old now read new : Forest Item) (line_break : Option Item) (found : Option ℕ) (path : List Container)
     → text ≡ first → o ≡ w → now_text ≡ text → path ≡ path_of read → AreIn (length old.nodes) old.spine → IsUtf8 first → ParagraphSoFar (document first w) start old now ix → JoinsNone old
     → AppendsLine (record { options = o; text = text; start = ix }) now read (n, line_break) → EndsLine (record { options = o; text = text; start = ix }) (n, line_break)
-    → found ≡ (if interrupts (front path (line_rest (drop n now_text))) then None else Some (offset (unindented (place_at n (front path (line_rest (drop n now_text))))))) → found ≡ Some at
+    → found ≡ (if ends_paragraph path ((line_rest (drop n now_text))) then None else Some (offset (unindented (place_at n (front path (line_rest (drop n now_text))))))) → found ≡ Some at
     → IsPlaceOf now_text (unindented (place_at n (front path (line_rest (drop n now_text))))) → new ≡ with_child read line_break
     → (ParagraphSoFar (document first w) start old new at) × (ix < at)
 so_far_next first text now_text o w start ix n at old now read new line_break found path same same_options kept path_is there u s apart line ends value is place new_is =
     let e : now_text ≡ first = kept ∙ same in
-    let goes = goes_by _ _ _ _ (subst (λ t. found ≡ (if interrupts (front path (line_rest (drop n t))) then None else Some (offset (unindented (place_at n (front path (line_rest (drop n t)))))))) e value) is in
+    let goes = goes_by _ _ _ _ (subst (λ t. found ≡ (if ends_paragraph path ((line_rest (drop n t))) then None else Some (offset (unindented (place_at n (front path (line_rest (drop n t)))))))) e value) is in
     so_far_more path (document first w) start ix n at old now read new line_break (path_is ∙ read_path (document first w) start ix old now read (n, line_break) s apart (same_line text first o w ix now read (n, line_break) same same_options line) there) u s apart (same_line text first o w ix now read (n, line_break) same same_options line)
     (same_end text first o w ix (n, line_break) same same_options ends) goes.0 goes.1 (subst (λ t. IsPlaceOf t (unindented (place_at n (front path (line_rest (drop n t)))))) e place) new_is
 
 pub so_far_stop : (first text now_text : List ℕ) (o w : Options) (start ix n : ℕ) (old now read new : Forest Item) (line_break : Option Item) (found : Option ℕ) (path : List Container)
     → text ≡ first → o ≡ w → now_text ≡ text → path ≡ path_of read → AreIn (length old.nodes) old.spine → IsUtf8 first → ParagraphSoFar (document first w) start old now ix → JoinsNone old
     → AppendsLine (record { options = o; text = text; start = ix }) now read (n, line_break) → EndsLine (record { options = o; text = text; start = ix }) (n, line_break)
-    → found ≡ (if interrupts (front path (line_rest (drop n now_text))) then None else Some (offset (unindented (place_at n (front path (line_rest (drop n now_text))))))) → found ≡ None
+    → found ≡ (if ends_paragraph path ((line_rest (drop n now_text))) then None else Some (offset (unindented (place_at n (front path (line_rest (drop n now_text))))))) → found ≡ None
     → IsCharBoundary text n → new ≡ with_closed_break read line_break
     → AppendsParagraph (document first w) start old new n
 so_far_stop first text now_text o w start ix n old now read new line_break found path same same_options kept path_is there u s apart line ends value is boundary new_is =
     let e : now_text ≡ first = kept ∙ same in
-    let stops = stops_by _ _ _ (subst (λ t. found ≡ (if interrupts (front path (line_rest (drop n t))) then None else Some (offset (unindented (place_at n (front path (line_rest (drop n t)))))))) e value) is in
+    let stops = stops_by _ _ _ (subst (λ t. found ≡ (if ends_paragraph path ((line_rest (drop n t))) then None else Some (offset (unindented (place_at n (front path (line_rest (drop n t)))))))) e value) is in
     so_far_end path (document first w) start ix n old now read new line_break (path_is ∙ read_path (document first w) start ix old now read (n, line_break) s apart (same_line text first o w ix now read (n, line_break) same same_options line) there) s apart (same_line text first o w ix now read (n, line_break) same same_options line)
     (same_end text first o w ix (n, line_break) same same_options ends) stops (subst (λ t. IsCharBoundary t n) same boundary) new_is

@@ -1,17 +1,19 @@
 -- The containers among the open nodes, as the tree grows and nodes are closed.
-use Rattle.std.proofs.Common.{◌≡◌, ◌⊎◌, inl, inr, ℕ, zero, suc, ◌+◌, ◌<◌, ◌≤◌, List, [], ◌∷◌, ◌++◌, length, slice_get, Option, Some, None, refl, ap, subst, ◌∙◌, arith, length-append}
+use Rattle.std.proofs.Common.{◌≡◌, ◌⊎◌, inl, inr, ℕ, zero, suc, ◌+◌, ◌<◌, ◌≤◌, nat_le, ◌||◌, Bool, true, false, List, [], ◌∷◌, ◌++◌, length, slice_get, Option, Some, None, refl, ap, subst, ◌∙◌, arith, length-append}
 use Rattle.std.proofs.lemmas.List.{length-map}
 use Rattle.std.specs.Option.{option_map, option_and_then}
 use Rattle.first_pass_items.specs.declared.item.Item.{Item}
 use Rattle.first_pass_tree.specs.declared.tree_index.TreeIndex.{TreeIndex}
 use Rattle.first_pass_tree.specs.Forest.{Forest, IsOpenPath, depths, appended, pushed, at_depth}
-use Rattle.first_pass_scan.specs.Rest.{Rest}
+use Rattle.first_pass_scan.specs.Lines.{at_line_end}
+use Rattle.first_pass_scan.specs.Rest.{Rest, indent, after_columns}
+use Rattle.first_pass_scan.proofs.Columns.{after-none}
 use Rattle.first_pass_scan.specs.Places.{line_rest}
 use Rattle.first_pass_tokens.specs.TreeTokens.{chained, leaves}
 use Rattle.first_pass_tokens.proofs.ChainLemmas.{chained-spine, chained-nodes}
 use Rattle.first_pass_grammar.specs.declared.kind.Container.{Container}
-use Rattle.first_pass_grammar.specs.declared.kind.Container.TheVariants.{BlockQuote}
-use Rattle.first_pass_grammar.specs.Containers.{prefix, after, front}
+use Rattle.first_pass_grammar.specs.declared.kind.Container.TheVariants.{BlockQuote, ListItem}
+use Rattle.first_pass_grammar.specs.Containers.{has_columns, prefix, after, or_shorter, front}
 use Rattle.first_pass.specs.Appends.{with_child}
 use Rattle.first_pass.specs.Path.{container_of, container_at, with_container, path_in, path_of}
 
@@ -42,24 +44,39 @@ path_of-chained f chain a =
     ap (λ s. path_in (chained f chain).nodes s) (chained-spine f chain)
     ∙ ap (λ ns. path_in ns f.spine) (chained-nodes f chain) ∙ path_in-append f.nodes (at_depth (length f.spine + 1) (leaves chain)) f.spine a
 
--- At the end of the text a line goes on with no container.
-after-end : (path : List Container) → (after path (line_rest []) ≡ None) ⊎ (after path (line_rest []) ≡ Some (line_rest []))
+or_true : (t : Bool) → (t || true) ≡ true
+or_true true = refl
+or_true false = refl
+
+columns-end : (n : ℕ) → after_columns n (line_rest []) ≡ line_rest []
+columns-end n = after-none n (line_rest []) refl
+
+item_prefix : (n : ℕ) (r : Rest) → has_columns n r ≡ true → prefix (ListItem n) r ≡ Some (after_columns n r)
+unfolding prefix
+item_prefix n r h = rw h refl
+
+item-end : (n : ℕ) → prefix (ListItem n) (line_rest []) ≡ Some (line_rest [])
+item-end n =
+    let e = columns-end n in
+    let h : has_columns n (line_rest []) ≡ true = ap (λ (r : Rest). nat_le n (indent (line_rest [])) || at_line_end r.left) e ∙ or_true (nat_le n 0) in
+    item_prefix n (line_rest []) h ∙ ap (λ r. Some r) e
+
+-- At the end of the text a line goes on with a path, or doesn't.
+pub after-end : (path : List Container) → (after path (line_rest []) ≡ None) ⊎ (after path (line_rest []) ≡ Some (line_rest []))
 unfolding after prefix
 after-end [] = inr refl
 after-end (BlockQuote kind ∷ path) = elim (after-end path) [ inl none ↦ inl (rw none refl) | inr some ↦ inl (rw some refl) ]
+after-end (ListItem n ∷ path) = elim (after-end path) [ inl none ↦ inl (rw none refl) | inr some ↦ (let e = item-end n in inr (rw some e)) ]
 
-front_short : (c : Container) (path : List Container) (r : Rest) → after (c ∷ path) r ≡ None → front (c ∷ path) r ≡ front path r
-unfolding front
-front_short c path r e = rw e refl
-
-more_end : (c : Container) (path : List Container) → after (c ∷ path) (line_rest []) ≡ None
-unfolding after prefix
-more_end (BlockQuote kind) path = elim (after-end path) [ inl none ↦ rw none refl | inr some ↦ rw some refl ]
+front_by : (o : Option Rest) (r q : Rest) → (o ≡ None) ⊎ (o ≡ Some r) → q ≡ r → or_shorter o q ≡ r
+front_by None r q h e = e
+front_by (Some x) r q (inl none) e = cc
+front_by (Some x) r q (inr some) e = cc
 
 pub front-end : (path : List Container) → front path (line_rest []) ≡ line_rest []
 unfolding front
 front-end [] = refl
-front-end (c ∷ path) = front_short c path (line_rest []) (more_end c path) ∙ front-end path
+front-end (c ∷ path) = front_by (after (c ∷ path) (line_rest [])) (line_rest []) (front path (line_rest [])) (after-end (c ∷ path)) (front-end path)
 
 pub AreIn-more : (n m : ℕ) (spine : List TreeIndex) → n ≤ m → AreIn n spine → AreIn m spine
 AreIn-more n m [] h a = tt

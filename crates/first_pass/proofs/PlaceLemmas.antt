@@ -1,7 +1,7 @@
 -- Facts on places behind a line's indentation.
 use Rattle.std.proofs.Common.{◌≡◌, inl, inr, ◌≤◌, ℕ, ◌+◌, ◌<◌, zero, suc, List, [], ◌∷◌, length, drop, MatchOption, Option, Some, None, IsUtf8, IsCharBoundary, refl, sym, ap, subst, ◌∙◌, arith}
 use Rattle.std.proofs.lemmas.Bool.{cases_lt}
-use Rattle.std.proofs.lemmas.Option.{none-some}
+use Rattle.std.proofs.lemmas.Option.{cond_some, none-some}
 use Rattle.std.specs.Option.{option_map, option_and_then}
 use Rattle.first_pass_scan.specs.Lines.{line_len}
 use Rattle.first_pass_scan.specs.Rest.{Rest, next_column, after_columns, indent, past_quote}
@@ -10,8 +10,8 @@ use Rattle.first_pass_scan.proofs.LineFacts.{line_len-none}
 use Rattle.first_pass_scan.proofs.Columns.{after-more, after-none, all-more}
 use Rattle.first_pass_scan.proofs.PlaceFacts.{line_is_place, columns_keep, place_line_end, columns_line_end, columns_shorter, quote_keeps, quote_line_end, quote_shorter}
 use Rattle.first_pass_grammar.specs.declared.kind.Container.{Container}
-use Rattle.first_pass_grammar.specs.declared.kind.Container.TheVariants.{BlockQuote}
-use Rattle.first_pass_grammar.specs.Containers.{prefix, after, or_shorter, front}
+use Rattle.first_pass_grammar.specs.declared.kind.Container.TheVariants.{BlockQuote, ListItem}
+use Rattle.first_pass_grammar.specs.Containers.{has_columns, prefix, after, or_shorter, front}
 use Rattle.first_pass_grammar.specs.Kinds.{all_taken, unindented}
 
 all_by : (k : ℕ) (r : Rest) (o : Option Rest) → next_column r ≡ o → ((s : Rest) → after_columns (indent (after_columns k s)) (after_columns k s) ≡ after_columns (indent s) s)
@@ -43,6 +43,9 @@ unfolding prefix
 prefix_keeps text line (BlockQuote kind) r s u e i =
     let f = quote_prefix text line (after_columns 3 r) (past_quote (after_columns 3 r)) s u refl e (columns_keep text 3 (place_at line r) u i) in
     (f.0, f.1 ∙ columns_line_end 3 (place_at line r))
+prefix_keeps text line (ListItem n) r s u e i =
+    let f : after_columns n r ≡ s = (cond_some (has_columns n r) (after_columns n r) s e).1 in
+    (subst (λ z. IsPlaceOf text (place_at line z)) f (columns_keep text n (place_at line r) u i), ap (λ z. line_end (place_at line z)) (sym f) ∙ columns_line_end n (place_at line r))
 
 after_by : (text : List ℕ) (line : ℕ) (c : Container) (r s : Rest) (o : Option Rest) → IsUtf8 text → option_and_then (prefix c) o ≡ Some s
     → ((q : Rest) → o ≡ Some q → IsPlaceOf text (place_at line q) × (line_end (place_at line q) ≡ line_end (place_at line r)))
@@ -96,10 +99,10 @@ quote_less r s (Some t) q e =
     let b = quote_shorter r t q in
     omega arith
 
--- A prefix takes a byte.
-pub prefix_shorter : (c : Container) (r s : Rest) → prefix c r ≡ Some s → length s.left < length r.left
+-- The prefix of a block quote takes a byte.
+pub quote_prefix_shorter : (r s : Rest) → prefix (BlockQuote None) r ≡ Some s → length s.left < length r.left
 unfolding prefix
-prefix_shorter (BlockQuote kind) r s e =
+quote_prefix_shorter r s e =
     let a = quote_less (after_columns 3 r) s (past_quote (after_columns 3 r)) refl e in
     let b = columns_shorter 3 r in
     omega arith

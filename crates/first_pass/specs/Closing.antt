@@ -8,7 +8,6 @@ use Rattle.first_pass_items.specs.declared.item.ItemBody.TheVariants.{BlockQuote
 use Rattle.first_pass_tree.specs.declared.tree_index.TreeIndex.{TreeIndex}
 use Rattle.first_pass_tree.specs.Forest.{Forest, appended, pushed, with_body_at, body_at, depths}
 use Rattle.first_pass_grammar.specs.Derivation.{list_flags, tightened}
-use Rattle.first_pass.specs.declared.pass.FirstPass.{FirstPass}
 use Rattle.first_pass.specs.Appends.{closed_by}
 
 -- the tree so far; where the line of its marker ends, of the innermost item as long as it is empty; and whether a blank line that counts is in the run of
@@ -18,8 +17,8 @@ pub record Reading : Type 0 where
   pub empty_item : Option ℕ
   pub blank : Bool
 
-abbrev pub reading : FirstPass → Reading
-reading pass = record { tree = pass.tree; empty_item = pass.begin_list_item; blank = pass.last_line_blank }
+abbrev pub remembered : Forest Item → Option ℕ → Bool → Reading
+remembered tree empty_item blank = record { tree = tree; empty_item = empty_item; blank = blank }
 
 -- the nodes below one of this depth, up to the first that isn't: paragraphs two deeper are tight
 unfoldable pub tight_run : ℕ → List (ℕ × Item) → List (ℕ × Item)

@@ -1,5 +1,6 @@
 pub mod Appends
 pub mod Closing
+pub mod Opening
 pub mod Path
 pub mod Reading
 pub mod State

@@ -1,19 +1,20 @@
 -- The containers that are open in a tree.
-use Rattle.std.specs.Prelude.{ℕ, ◌-◌, ◌<◌, List, [], ◌∷◌, length, drop, Option, Some, None, IsSome}
+use Rattle.std.specs.Prelude.{ℕ, ◌-◌, List, [], ◌∷◌, length, drop, Option, Some, None}
 use Rattle.std.specs.Option.{option_and_then}
 use Rattle.first_pass_items.specs.declared.item.Item.{Item}
 use Rattle.first_pass_items.specs.declared.item.ItemBody.{ItemBody}
-use Rattle.first_pass_items.specs.declared.item.ItemBody.TheVariants.{BlockQuote as BlockQuoteBody}
+use Rattle.first_pass_items.specs.declared.item.ItemBody.TheVariants.{BlockQuote as BlockQuoteBody, ListItem as ListItemBody}
 use Rattle.first_pass_tree.specs.declared.tree_index.TreeIndex.{TreeIndex}
 use Rattle.first_pass_tree.specs.Forest.{Forest, body_at}
 use Rattle.first_pass_scan.specs.Rest.{Rest}
 use Rattle.first_pass_grammar.specs.declared.kind.Container.{Container}
-use Rattle.first_pass_grammar.specs.declared.kind.Container.TheVariants.{BlockQuote}
+use Rattle.first_pass_grammar.specs.declared.kind.Container.TheVariants.{BlockQuote, ListItem}
 use Rattle.first_pass_grammar.specs.Containers.{prefix}
 
 -- the container that a node is, if it is one
 abbrev pub container_of : ItemBody → Option Container
 container_of (BlockQuoteBody kind) = Some (BlockQuote kind)
+container_of (ListItemBody columns) = Some (ListItem columns)
 container_of _ = None
 
 abbrev pub container_at : List (ℕ × Item) → TreeIndex → Option Container
@@ -39,8 +40,3 @@ path_of f = path_in f.nodes f.spine
 -- the outermost m open nodes
 abbrev pub outer : ℕ → List TreeIndex → List TreeIndex
 outer m spine = drop (length spine - m) spine
-
--- each of these nodes is a container
-abbrev pub AreContainers : List (ℕ × Item) → List TreeIndex → Type 0
-AreContainers ns [] = Unit {0}
-AreContainers ns (ix ∷ spine) = (ix.0 < length ns) × IsSome (container_at ns ix) × AreContainers ns spine

@@ -1,23 +1,68 @@
 -- What the tree of the pass stands for between two blocks.
-use Rattle.std.specs.Prelude.{ℕ, zero, suc, List, map, Option, None}
+use Rattle.std.specs.Prelude.{◌≡◌, ℕ, ◌==◌, Bool, true, false, List, [], ◌∷◌, map, Option, Some, None, if◌then◌else◌}
+use Rattle.std.specs.Option.{option_and_then}
 use Rattle.first_pass_items.specs.declared.item.Item.{Item}
-use Rattle.first_pass_tree.specs.Forest.{Forest}
+use Rattle.first_pass_items.specs.declared.item.ItemBody.{ItemBody}
+use Rattle.first_pass_items.specs.declared.item.ItemBody.TheVariants.{BlockQuote as BlockQuoteBody, List as ListBody, ListItem as ListItemBody}
+use Rattle.first_pass_tree.specs.declared.tree_index.TreeIndex.{TreeIndex}
+use Rattle.first_pass_tree.specs.Forest.{Forest, body_at}
 use Rattle.first_pass_scan.specs.Places.{Place}
+use Rattle.first_pass_grammar.specs.declared.kind.Container.TheVariants.{BlockQuote, ListItem}
 use Rattle.first_pass_grammar.specs.Leaves.{Document}
-use Rattle.first_pass_grammar.specs.Completion.{lines_from, Completes}
-use Rattle.first_pass.specs.Appends.{closed_by}
-use Rattle.first_pass.specs.Path.{path_of, AreContainers}
+use Rattle.first_pass_grammar.specs.Skeleton.{From, Line, Blanks, next_is_blank}
+use Rattle.first_pass_grammar.specs.Completion.{Frame, InContainer, InList, Completes}
+use Rattle.first_pass.specs.Closing.{Reading, emptied}
+use Rattle.first_pass.specs.Path.{path_of}
 
--- Only containers are open, and whatever completes the nodes from a place or from these lines on, the text derives.
-pub record ReadyAt (d : Document) (tree : Forest Item) (here : Option Place) (lines : List Place) : Type 0 where
-  pub containers : AreContainers tree.nodes tree.spine
-  pub completes : Completes d (path_of tree) tree.nodes (map (λ ix. ix.0) tree.spine) here lines
+-- a list that is tight so far, or isn't
+abbrev pub list_frame : ℕ → ℕ → Option Frame
+list_frame flags byte = if flags == 1 then Some (InList byte false) else (if flags == 0 then Some (InList byte true) else None)
 
--- the same before the line that begins at an offset
-abbrev pub Ready : Document → Forest Item → ℕ → Type 0
-Ready d tree at = ReadyAt d tree None (lines_from d.text at)
+-- what is open in a node: a container, or a list
+abbrev pub frame_of : ItemBody → Option Frame
+frame_of (BlockQuoteBody kind) = Some (InContainer (BlockQuote kind))
+frame_of (ListItemBody columns) = Some (InContainer (ListItem columns))
+frame_of (ListBody flags byte number) = list_frame flags.0 byte
+frame_of _ = None
 
--- the n innermost open nodes closed at an offset, one after the other
-abbrev pub closed_times : ℕ → ℕ → Forest Item → Forest Item
-closed_times zero e f = f
-closed_times (suc n) e f = closed_times n e (closed_by f e f.spine)
+abbrev pub frame_at : List (ℕ × Item) → ℕ → Option Frame
+frame_at nodes i = option_and_then frame_of (body_at nodes i)
+
+-- the open nodes are what the frames say
+abbrev pub AreOpen : List (ℕ × Item) → List TreeIndex → List Frame → Type 0
+AreOpen nodes [] [] = Unit {0}
+AreOpen nodes [] (frame ∷ frames) = ⊥
+AreOpen nodes (ix ∷ spine) [] = ⊥
+AreOpen nodes (ix ∷ spine) (frame ∷ frames) = (frame_at nodes ix.0 ≡ Some frame) × AreOpen nodes spine frames
+
+-- Only containers and lists are open, and whatever completes the nodes from a place or from these lines on, the text derives; the run of blank lines before
+-- holds one that counts, or doesn't.
+pub record ReadyAt (d : Document) (tree : Forest Item) (run : Bool) (from : From) (lines : List Place) : Type 0 where
+  pub frames : List Frame
+  pub are_open : AreOpen tree.nodes tree.spine frames
+  pub completes : Completes d run frames tree.nodes (map (λ ix. ix.0) tree.spine) from lines
+
+-- the same with an empty item innermost, whose marker's line ends at an offset: whether it takes blank lines alone is seen at the next line
+abbrev pub ReadyBeforeLine : Document → Forest Item → ℕ → List Place → Bool → Type 0
+ReadyBeforeLine d tree e lines true = ReadyAt d (emptied tree tree.spine) false (Blanks e) lines
+ReadyBeforeLine d tree e lines false = ReadyAt d tree false Line lines
+
+abbrev pub ReadyInItem : Document → Forest Item → ℕ → ℕ → List Place → Bool → Type 0
+ReadyInItem d tree e columns lines true = (columns ≡ 0) × ReadyAt d tree true (Blanks e) lines
+ReadyInItem d tree e columns lines false = ReadyBeforeLine d tree e lines (next_is_blank (path_of tree) lines)
+
+pub record ReadyEmpty (d : Document) (r : Reading) (e : ℕ) (lines : List Place) : Type 0 where
+  pub place : TreeIndex
+  pub outer : List TreeIndex
+  pub columns : ℕ
+  pub spine : r.tree.spine ≡ place ∷ outer
+  pub item : body_at r.tree.nodes place.0 ≡ Some (ListItemBody columns)
+  pub ready : ReadyInItem d r.tree e columns lines r.blank
+
+abbrev pub ReadyWith : Document → Reading → List Place → Option ℕ → Type 0
+ReadyWith d r lines None = ReadyAt d r.tree r.blank Line lines
+ReadyWith d r lines (Some e) = ReadyEmpty d r e lines
+
+-- what the pass remembers begins a derivation of the text that goes on with these lines
+unfoldable pub Ready : Document → Reading → List Place → Type 0
+Ready d r lines = ReadyWith d r lines r.empty_item

@@ -1,14 +1,19 @@
 //! The open containers, and how far a line goes on with them (CommonMark 5).
 
-ghost use Rattle.std.specs.Prelude.{◌≡◌, ℕ, ◌<◌, ◌≤◌, ◌-◌, List, length, Some, None, true, false, MatchOption, OnOk, IsUtf8};
+ghost use Rattle.std.specs.Prelude.{◌≡◌, ℕ, ◌+◌, ◌<◌, ◌≤◌, ◌-◌, length, drop, Some, None, true, false, MatchOption, IfOk, IfSome, OnOk, IsUtf8, IsCharBoundary};
 ghost use Rattle.first_pass_scan.specs.Rest.{after_columns};
-ghost use Rattle.first_pass_scan.specs.Places.{Place, place_at, line_end, IsPlaceOf};
+ghost use Rattle.first_pass_scan.specs.Places.{place_at, line_end, IsPlaceOf};
 ghost use Rattle.first_pass_grammar.specs.Leaves.{document};
 ghost use Rattle.first_pass_grammar.specs.declared.kind.Container.TheVariants.{BlockQuote, ListItem};
 ghost use Rattle.first_pass_grammar.specs.Containers.{prefix, after, front};
 ghost use Rattle.first_pass_grammar.specs.Kinds.{item_at};
 ghost use Rattle.first_pass.specs.Path.{container_of, prefix_of, path_in, path_of, outer};
-ghost use Rattle.first_pass.specs.Closing.{reading, popped_times};
+ghost use Rattle.first_pass_scan.specs.Lines.{line_len};
+ghost use Rattle.first_pass_grammar.specs.Skeleton.{Inside};
+ghost use Rattle.first_pass_grammar.specs.Completion.{lines_from};
+ghost use Rattle.first_pass.specs.Closing.{remembered, popped_times};
+ghost use Rattle.first_pass.specs.State.{Ready, ReadyAt};
+ghost use Rattle.first_pass.specs.Opening.{IsOpenedAt, ReadyIn};
 
 use crate::indentation::scan_indentation;
 use crate::pass::FirstPass;
@@ -89,7 +94,7 @@ impl<'a> FirstPass<'a> {
         ensures text { self.new.text.now ≡ self.old.text.now }
         ensures options { self.new.options ≡ self.old.options }
         ensures allocs { self.new.allocs ≡ self.old.allocs }
-        ensures reading { reading self.new ≡ popped_times (length self.old.tree.spine - kept) ix (reading self.old) }
+        ensures reading { remembered self.new.tree self.new.begin_list_item self.new.last_line_blank ≡ popped_times (length self.old.tree.spine - kept) ix (remembered self.old.tree self.old.begin_list_item self.old.last_line_blank) }
     {
         while kept < self.tree.spine_len() {
             self.pop(ix);
@@ -100,6 +105,19 @@ impl<'a> FirstPass<'a> {
     /// left of the line; `None` where it is a blank line, which is read then.
     pub(crate) fn enter_line(&mut self, start_ix: usize) -> Option<LineStart<'a>>
         requires within { start_ix < length self.old.text.now }
+        requires boundary { IsCharBoundary self.old.text.now start_ix }
+        ensures text { self.new.text.now ≡ self.old.text.now }
+        ensures options { self.new.options ≡ self.old.options }
+        ensures allocs { self.new.allocs ≡ self.old.allocs }
+        ensures utf8 { IsUtf8 self.old.text.now }
+        ensures place { IfSome result (λ line_start. IsPlaceOf self.old.text.now (place_at start_ix line_start)) }
+        ensures same_end { IfSome result (λ line_start. line_end (place_at start_ix line_start) ≡ start_ix + line_len (drop start_ix self.old.text.now)) }
+        ensures no_empty { IfSome result (λ line_start. self.new.begin_list_item ≡ None) }
+        ensures ready { Ready (document self.old.text.now self.old.options) (remembered self.old.tree self.old.begin_list_item self.old.last_line_blank) (lines_from self.old.text.now start_ix)
+            → MatchOption result
+            (Ready (document self.old.text.now self.old.options) (remembered self.new.tree self.new.begin_list_item self.new.last_line_blank) (lines_from self.old.text.now (start_ix + line_len (drop start_ix self.old.text.now))))
+            (λ line_start. ReadyAt (document self.old.text.now self.old.options) self.new.tree self.new.last_line_blank (Inside (place_at start_ix line_start))
+            (lines_from self.old.text.now (start_ix + line_len (drop start_ix self.old.text.now)))) }
     {
         let mut line_start = LineStart::new(rest_of(self.text.as_bytes(), start_ix));
         let kept = scan_containers(&self.tree, &mut line_start, self.options, false);
@@ -120,6 +138,22 @@ impl<'a> FirstPass<'a> {
         start_ix: usize,
         line_start: &mut LineStart<'a>,
     ) -> Result<Option<usize>, AllocError>
+        requires utf8 { IsUtf8 self.old.text.now }
+        requires place { IsPlaceOf self.old.text.now (place_at start_ix line_start.old) }
+        requires no_empty { self.old.begin_list_item ≡ None }
+        ensures text { OnOk result (self.new.text.now ≡ self.old.text.now) }
+        ensures options { OnOk result (self.new.options ≡ self.old.options) }
+        ensures allocs { OnOk result (self.new.allocs ≡ self.old.allocs) }
+        ensures place { OnOk result (IsPlaceOf self.old.text.now (place_at start_ix line_start.new)) }
+        ensures same_end { OnOk result (line_end (place_at start_ix line_start.new) ≡ line_end (place_at start_ix line_start.old)) }
+        ensures opened { IfOk result (λ answer. MatchOption answer
+            ((item_at line_start.new ≡ None) × (prefix (BlockQuote None) line_start.new ≡ None) × (self.new.begin_list_item ≡ None))
+            (λ next. next ≡ line_end (place_at start_ix line_start.old))) }
+        ensures ready { IfOk result (λ answer.
+            ReadyAt (document self.old.text.now self.old.options) self.old.tree self.old.last_line_blank (Inside (place_at start_ix line_start.old)) (lines_from self.old.text.now (line_end (place_at start_ix line_start.old)))
+            → MatchOption answer
+            (ReadyAt (document self.old.text.now self.old.options) self.new.tree self.new.last_line_blank (Inside (place_at start_ix line_start.new)) (lines_from self.old.text.now (line_end (place_at start_ix line_start.old))))
+            (λ next. Ready (document self.old.text.now self.old.options) (remembered self.new.tree self.new.begin_list_item self.new.last_line_blank) (lines_from self.old.text.now next))) }
     {
         loop {
             match self.open_container(start_ix, line_start)? {
@@ -137,6 +171,18 @@ impl<'a> FirstPass<'a> {
         start_ix: usize,
         line_start: &mut LineStart<'a>,
     ) -> Result<Opened, AllocError>
+        requires utf8 { IsUtf8 self.old.text.now }
+        requires place { IsPlaceOf self.old.text.now (place_at start_ix line_start.old) }
+        requires no_empty { self.old.begin_list_item ≡ None }
+        ensures text { OnOk result (self.new.text.now ≡ self.old.text.now) }
+        ensures options { OnOk result (self.new.options ≡ self.old.options) }
+        ensures allocs { OnOk result (self.new.allocs ≡ self.old.allocs) }
+        ensures place { OnOk result (IsPlaceOf self.old.text.now (place_at start_ix line_start.new)) }
+        ensures same_end { OnOk result (line_end (place_at start_ix line_start.new) ≡ line_end (place_at start_ix line_start.old)) }
+        ensures opened { IfOk result (λ answer. IsOpenedAt answer self.new.begin_list_item line_start.old line_start.new (line_end (place_at start_ix line_start.old))) }
+        ensures ready { IfOk result (λ answer.
+            ReadyAt (document self.old.text.now self.old.options) self.old.tree self.old.last_line_blank (Inside (place_at start_ix line_start.old)) (lines_from self.old.text.now (line_end (place_at start_ix line_start.old)))
+            → ReadyIn (document self.old.text.now self.old.options) (remembered self.new.tree self.new.begin_list_item self.new.last_line_blank) (place_at start_ix line_start.new) (line_end (place_at start_ix line_start.old)) answer) }
     {
         let before = start_ix + line_start.bytes_scanned();
         if let Some((byte, number, indent)) = scan_item(line_start) {

@@ -6,7 +6,7 @@ ghost use Rattle.first_pass_scan.specs.Lines.{begins};
 ghost use Rattle.first_pass_scan.specs.Rest.{indent};
 ghost use Rattle.first_pass_scan.specs.Markers.{is_bullet, listitem};
 ghost use Rattle.first_pass_grammar.specs.Containers.{after, front};
-ghost use Rattle.first_pass_grammar.specs.Kinds.{interrupts, interrupts_with, item_interrupts, unindented};
+ghost use Rattle.first_pass_grammar.specs.Kinds.{interrupts_with, item_interrupts, ends_paragraph, unindented};
 ghost use Rattle.first_pass.specs.Path.{path_of};
 
 use crate::containers::scan_containers;
@@ -104,7 +104,7 @@ pub fn next_paragraph_text(
     options: Options,
 ) -> Result<Option<usize>, AllocError>
     requires { IsCharBoundary text.now start }
-    ensures value { IfOk result (λ next. next ≡ (if interrupts (is_some (after (path_of tree.now) (line_rest (drop start text.now)))) (front (path_of tree.now) (line_rest (drop start text.now)))
+    ensures value { IfOk result (λ next. next ≡ (if ends_paragraph (path_of tree.now) (line_rest (drop start text.now))
         then None else Some (offset (unindented (place_at start (front (path_of tree.now) (line_rest (drop start text.now)))))))) }
     ensures place { OnOk result (IsPlaceOf text.now (unindented (place_at start (front (path_of tree.now) (line_rest (drop start text.now)))))) }
     ensures utf8 { IsUtf8 text.now }

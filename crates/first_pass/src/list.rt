@@ -1,7 +1,7 @@
 //! Lists and their items: how they go on, become loose and are closed (CommonMark 5.2, 5.3).
 
 ghost use Rattle.std.specs.Prelude.{◌≡◌, ◌<◌, length, None, IsSome, slice_get, OnOk};
-ghost use Rattle.first_pass.specs.Closing.{tight_items, loosened_at, reading, popped, item_finished, list_finished, list_continued, begun, blank_read};
+ghost use Rattle.first_pass.specs.Closing.{tight_items, loosened_at, remembered, popped, item_finished, list_finished, list_continued, begun, blank_read};
 ghost use Rattle.first_pass_items.specs.declared.item.ItemBody.TheVariants.{BlockQuote as BlockQuoteBody, ListItem as ListItemBody};
 
 use bitflags::Flags;
@@ -39,12 +39,13 @@ fn loosen(tree: &mut Tree<Item>, ix: TreeIndex)
 impl<'a> FirstPass<'a> {
     /// Closes the innermost open node, of which there has to be one, at the offset `ix`. The paragraphs of
     /// a list become tight, unless it is loose (CommonMark 5.3).
+    #[tactic(auto, unfolding(crate::specs::Closing::popped))]
     pub fn pop(&mut self, ix: usize)
         requires { IsSome (slice_get self.old.tree.spine 0) }
         ensures text { self.new.text.now ≡ self.old.text.now }
         ensures options { self.new.options ≡ self.old.options }
         ensures allocs { self.new.allocs ≡ self.old.allocs }
-        ensures reading { reading self.new ≡ popped ix (reading self.old) }
+        ensures reading { remembered self.new.tree self.new.begin_list_item self.new.last_line_blank ≡ popped ix (remembered self.old.tree self.old.begin_list_item self.old.last_line_blank) }
     {
         self.tree.is_forest();
         let cur_ix = self.close_node(ix);
@@ -59,11 +60,12 @@ impl<'a> FirstPass<'a> {
 
     /// Closes the innermost open node, if it is an item that began with two blank lines, behind the line of
     /// its marker (CommonMark 5.2). No item is empty then.
+    #[tactic(auto, unfolding(crate::specs::Closing::item_finished))]
     pub fn finish_empty_list_item(&mut self)
         ensures text { self.new.text.now ≡ self.old.text.now }
         ensures options { self.new.options ≡ self.old.options }
         ensures allocs { self.new.allocs ≡ self.old.allocs }
-        ensures reading { reading self.new ≡ item_finished (reading self.old) }
+        ensures reading { remembered self.new.tree self.new.begin_list_item self.new.last_line_blank ≡ item_finished (remembered self.old.tree self.old.begin_list_item self.old.last_line_blank) }
     {
         self.tree.is_forest();
         if let Some(marker_end) = self.begin_list_item {
@@ -80,11 +82,12 @@ impl<'a> FirstPass<'a> {
 
     /// Closes what a new block ends: an empty item, and the list that is then innermost, at the offset
     /// `ix`. Where a blank line stands before the block, the list becomes loose in whose item it stands.
+    #[tactic(auto, unfolding(crate::specs::Closing::list_finished))]
     pub fn finish_list(&mut self, ix: usize)
         ensures text { self.new.text.now ≡ self.old.text.now }
         ensures options { self.new.options ≡ self.old.options }
         ensures allocs { self.new.allocs ≡ self.old.allocs }
-        ensures reading { reading self.new ≡ list_finished ix (reading self.old) }
+        ensures reading { remembered self.new.tree self.new.begin_list_item self.new.last_line_blank ≡ list_finished ix (remembered self.old.tree self.old.begin_list_item self.old.last_line_blank) }
     {
         self.finish_empty_list_item();
         self.tree.is_forest();
@@ -103,11 +106,12 @@ impl<'a> FirstPass<'a> {
     }
 
     // Reads a blank line: where an item was empty, it takes blank lines alone from then on.
+    #[tactic(auto, unfolding(crate::specs::Closing::blank_read))]
     pub(crate) fn read_blank_line(&mut self)
         ensures text { self.new.text.now ≡ self.old.text.now }
         ensures options { self.new.options ≡ self.old.options }
         ensures allocs { self.new.allocs ≡ self.old.allocs }
-        ensures reading { reading self.new ≡ blank_read (reading self.old) }
+        ensures reading { remembered self.new.tree self.new.begin_list_item self.new.last_line_blank ≡ blank_read (remembered self.old.tree self.old.begin_list_item self.old.last_line_blank) }
     {
         self.tree.is_forest();
         if let Some(ix) = self.tree.peek_up() {
@@ -124,6 +128,7 @@ impl<'a> FirstPass<'a> {
 
     /// Goes on with the list that is innermost, where its byte is `ch`: it is loose if a blank line stands
     /// before. Else a list with that byte and the number `index` is opened at the offset `start`.
+    #[tactic(auto, unfolding(crate::specs::Closing::list_continued))]
     pub fn continue_list(
         &mut self,
         start: usize,
@@ -133,7 +138,7 @@ impl<'a> FirstPass<'a> {
         ensures text { OnOk result (self.new.text.now ≡ self.old.text.now) }
         ensures options { OnOk result (self.new.options ≡ self.old.options) }
         ensures allocs { OnOk result (self.new.allocs ≡ self.old.allocs) }
-        ensures reading { OnOk result (reading self.new ≡ list_continued start ch index (reading self.old)) }
+        ensures reading { OnOk result (remembered self.new.tree self.new.begin_list_item self.new.last_line_blank ≡ list_continued start ch index (remembered self.old.tree self.old.begin_list_item self.old.last_line_blank)) }
     {
         self.finish_empty_list_item();
         self.tree.is_forest();
@@ -161,7 +166,7 @@ impl<'a> FirstPass<'a> {
         ensures text { OnOk result (self.new.text.now ≡ self.old.text.now) }
         ensures options { OnOk result (self.new.options ≡ self.old.options) }
         ensures allocs { OnOk result (self.new.allocs ≡ self.old.allocs) }
-        ensures reading { OnOk result (reading self.new ≡ begun start (ListItemBody indent) (list_continued start byte number (reading self.old))) }
+        ensures reading { OnOk result (remembered self.new.tree self.new.begin_list_item self.new.last_line_blank ≡ begun start (ListItemBody indent) (list_continued start byte number (remembered self.old.tree self.old.begin_list_item self.old.last_line_blank))) }
     {
         self.continue_list(start, byte, number)?;
         self.open_node(start, ItemBody::ListItem(indent))
@@ -172,7 +177,7 @@ impl<'a> FirstPass<'a> {
         ensures text { OnOk result (self.new.text.now ≡ self.old.text.now) }
         ensures options { OnOk result (self.new.options ≡ self.old.options) }
         ensures allocs { OnOk result (self.new.allocs ≡ self.old.allocs) }
-        ensures reading { OnOk result (reading self.new ≡ begun start (BlockQuoteBody None) (list_finished line (reading self.old))) }
+        ensures reading { OnOk result (remembered self.new.tree self.new.begin_list_item self.new.last_line_blank ≡ begun start (BlockQuoteBody None) (list_finished line (remembered self.old.tree self.old.begin_list_item self.old.last_line_blank))) }
     {
         self.finish_list(line);
         self.open_node(start, ItemBody::BlockQuote(None))
@@ -183,7 +188,7 @@ impl<'a> FirstPass<'a> {
         ensures text { OnOk result (self.new.text.now ≡ self.old.text.now) }
         ensures options { OnOk result (self.new.options ≡ self.old.options) }
         ensures allocs { OnOk result (self.new.allocs ≡ self.old.allocs) }
-        ensures reading { OnOk result (reading self.new ≡ begun start body (reading self.old)) }
+        ensures reading { OnOk result (remembered self.new.tree self.new.begin_list_item self.new.last_line_blank ≡ begun start body (remembered self.old.tree self.old.begin_list_item self.old.last_line_blank)) }
     {
         self.tree.append(Item {
             start,

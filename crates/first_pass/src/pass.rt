@@ -1,6 +1,6 @@
 //! The block pass: the lines of a text, one block after the other.
 
-ghost use Rattle.std.specs.Prelude.{◌≡◌, ◌<◌, ◌≤◌, [], length, Some, None, IsSome, slice_get, IfOk, IfSome, OnOk, IsUtf8, IsCharBoundary};
+ghost use Rattle.std.specs.Prelude.{◌≡◌, ◌<◌, ◌≤◌, [], length, None, Some, IsSome, slice_get, IfOk, IfSome, OnOk, IsUtf8, IsCharBoundary};
 ghost use Rattle.first_pass_scan.specs.Places.{place_at, line_end, IsPlaceOf};
 ghost use Rattle.first_pass_below.specs.Walk.{MarksSpecial};
 ghost use Rattle.first_pass_tokens.specs.LineTokens.{EndsLine};
@@ -11,6 +11,9 @@ ghost use Rattle.first_pass_grammar.specs.Containers.{prefix};
 ghost use Rattle.first_pass_grammar.specs.Derivation.{Derives};
 ghost use Rattle.first_pass_grammar.specs.Completion.{lines_from};
 ghost use Rattle.first_pass.specs.Appends.{text_upto, closed_by};
+ghost use Rattle.first_pass_grammar.specs.Skeleton.{Inside, Line};
+ghost use Rattle.first_pass_grammar.specs.Kinds.{item_at};
+ghost use Rattle.first_pass.specs.Closing.{remembered};
 ghost use Rattle.first_pass.specs.State.{Ready, ReadyAt};
 ghost use Rattle.first_pass.specs.TableEntries.{tables, no_tables};
 
@@ -66,7 +69,7 @@ impl<'a> FirstPass<'a> {
         ensures text { IfOk result (λ pass. pass.text.now ≡ text.now) }
         ensures options { IfOk result (λ pass. pass.options ≡ options) }
         ensures tables { IfOk result (λ pass. tables pass.allocs ≡ no_tables) }
-        ensures ready { IfOk result (λ pass. Ready (document text.now options) pass.tree 0) }
+        ensures ready { IfOk result (λ pass. Ready (document text.now options) (remembered pass.tree pass.begin_list_item pass.last_line_blank) (lines_from text.now 0)) }
     {
         // A guess at how many nodes the text will have.
         let capacity = max(128, text.len() / 32);
@@ -99,8 +102,8 @@ impl<'a> FirstPass<'a> {
         ensures allocs { OnOk result (self.new.allocs ≡ self.old.allocs) }
         ensures later { IfOk result (λ next. (start_ix < next) × (next ≤ length self.old.text.now)) }
         ensures boundary { IfOk result (λ next. IsCharBoundary self.old.text.now next) }
-        ensures ready { IfOk result (λ next. Ready (document self.old.text.now self.old.options) self.old.tree start_ix
-            → Ready (document self.old.text.now self.old.options) self.new.tree next) }
+        ensures ready { IfOk result (λ next. Ready (document self.old.text.now self.old.options) (remembered self.old.tree self.old.begin_list_item self.old.last_line_blank) (lines_from self.old.text.now start_ix)
+            → Ready (document self.old.text.now self.old.options) (remembered self.new.tree self.new.begin_list_item self.new.last_line_blank) (lines_from self.old.text.now next)) }
     {
         let Some(mut line_start) = self.enter_line(start_ix) else {
             return Ok(next_line(self.text.as_bytes(), start_ix));
@@ -122,14 +125,16 @@ impl<'a> FirstPass<'a> {
         requires utf8 { IsUtf8 self.old.text.now }
         requires place { IsPlaceOf self.old.text.now (place_at start_ix line_start) }
         requires no_quote { prefix (BlockQuote None) line_start ≡ None }
+        requires no_item { item_at line_start ≡ None }
+        requires no_empty { self.old.begin_list_item ≡ None }
         ensures text { OnOk result (self.new.text.now ≡ self.old.text.now) }
         ensures options { OnOk result (self.new.options ≡ self.old.options) }
         ensures allocs { OnOk result (self.new.allocs ≡ self.old.allocs) }
         ensures later { IfOk result (λ next. line_end (place_at start_ix line_start.entry) ≤ next) }
         ensures boundary { IfOk result (λ next. IsCharBoundary self.old.text.now next) }
         ensures ready { IfOk result (λ next.
-            ReadyAt (document self.old.text.now self.old.options) self.old.tree (Some (place_at start_ix line_start.entry)) (lines_from self.old.text.now (line_end (place_at start_ix line_start.entry)))
-            → ReadyAt (document self.old.text.now self.old.options) self.new.tree None (lines_from self.old.text.now next)) }
+            ReadyAt (document self.old.text.now self.old.options) self.old.tree self.old.last_line_blank (Inside (place_at start_ix line_start.entry)) (lines_from self.old.text.now (line_end (place_at start_ix line_start.entry)))
+            → Ready (document self.old.text.now self.old.options) (remembered self.new.tree self.new.begin_list_item self.new.last_line_blank) (lines_from self.old.text.now next)) }
     {
         let mut line_start = line_start;
         let kind = kind_at(&mut line_start);

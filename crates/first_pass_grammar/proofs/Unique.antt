@@ -10,7 +10,7 @@ use Rattle.first_pass_grammar.specs.declared.kind.Container.{Container}
 use Rattle.first_pass_grammar.specs.declared.kind.Kind.{Kind}
 use Rattle.first_pass_grammar.specs.declared.kind.Kind.TheVariants.{Blank, AtxHeading, Paragraph}
 use Rattle.first_pass_grammar.specs.Containers.{at_rest, after, front, taken}
-use Rattle.first_pass_grammar.specs.Kinds.{unindented, is_blank_rest, quote_inside, item_at, kind_of, interrupts}
+use Rattle.first_pass_grammar.specs.Kinds.{unindented, is_blank_rest, quote_inside, item_at, kind_of}
 use Rattle.first_pass_grammar.specs.Leaves.{Document, add_break, IsParagraph, IsHeading}
 use Rattle.first_pass_grammar.specs.Skeleton.{Leaf, Head, opened, From, Line, Inside, Blanks, Opening, OpensLeaf, OpensNode, OpensAs, is_blank_behind, OpensFrom, Opens, Skeleton, Nil, Then, Node, Begins, Ends, behind_first, end_before, IsLeafHere, IsNodeHere, IsSequence}
 use Rattle.first_pass_grammar.specs.Derivation.{Tables, forest_of, tables_of, root_of, Derives}

@@ -6,10 +6,11 @@ use Rattle.first_pass_scan.specs.Lines.{at_line_end, begins, blank_len, atx_leve
 use Rattle.first_pass_scan.specs.Rest.{Rest, indent, after_columns}
 use Rattle.first_pass_scan.specs.Places.{Place, offset, moved_columns}
 use Rattle.first_pass_scan.specs.Markers.{is_bullet, listitem, item_of}
+use Rattle.first_pass_grammar.specs.declared.kind.Container.{Container}
 use Rattle.first_pass_grammar.specs.declared.kind.Container.TheVariants.{BlockQuote}
 use Rattle.first_pass_grammar.specs.declared.kind.Kind.{Kind}
 use Rattle.first_pass_grammar.specs.declared.kind.Kind.TheVariants.{Blank, AtxHeading, Paragraph}
-use Rattle.first_pass_grammar.specs.Containers.{at_rest, prefix}
+use Rattle.first_pass_grammar.specs.Containers.{at_rest, prefix, after, front}
 
 -- what is left behind all columns: from the first byte on that is no space or tab
 abbrev pub all_taken : Rest → Rest
@@ -59,3 +60,7 @@ interrupts_with whole bs = at_line_end bs || is_some (atx_level bs) || begins 62
 -- A line ends a paragraph before it where its text interrupts the paragraph; at four columns or more only where nothing but spaces and tabs is left.
 unfoldable pub interrupts : Bool → Rest → Bool
 interrupts whole r = if nat_lt (indent r) 4 then interrupts_with whole (all_taken r).left else at_line_end (all_taken r).left
+
+-- the line of which this is left ends a paragraph in the containers of a path (CommonMark 4.8, and 5.1 on lazy continuation lines)
+abbrev pub ends_paragraph : List Container → Rest → Bool
+ends_paragraph path r = interrupts (is_some (after path r)) (front path r)

@@ -14,8 +14,8 @@ use Rattle.first_pass_tokens.specs.LineTokens.{IsLine}
 use Rattle.first_pass_tokens.specs.TreeTokens.{leaves}
 use Rattle.first_pass_tokens.specs.Chains.{add_tokens, close_break, cut}
 use Rattle.first_pass_grammar.specs.declared.kind.Container.{Container}
-use Rattle.first_pass_grammar.specs.Containers.{at_rest, front, goes_on}
-use Rattle.first_pass_grammar.specs.Kinds.{unindented, interrupts}
+use Rattle.first_pass_grammar.specs.Containers.{at_rest, front}
+use Rattle.first_pass_grammar.specs.Kinds.{unindented, ends_paragraph}
 
 -- a text, and the options under which it is read
 pub record Document : Type 0 where
@@ -47,8 +47,8 @@ IsParagraph d path start chain [] whole left =
     × (whole ≡ close_break answer.1 (add_tokens chain tokens)) × (left ≡ [])
 IsParagraph d path start chain (line ∷ lines) whole left =
     (tokens : List Item) × (answer : ℕ × Option Item) × IsLine (content_at d start) tokens answer
-    × (((interrupts (goes_on path line) (front path line.rest) ≡ true) × (whole ≡ close_break answer.1 (add_tokens chain tokens)) × (left ≡ line ∷ lines))
-    ⊎ ((interrupts (goes_on path line) (front path line.rest) ≡ false)
+    × (((ends_paragraph path line.rest ≡ true) × (whole ≡ close_break answer.1 (add_tokens chain tokens)) × (left ≡ line ∷ lines))
+    ⊎ ((ends_paragraph path line.rest ≡ false)
     × IsParagraph d path (offset (unindented (at_rest line (front path line.rest)))) (add_break answer.1 (add_tokens chain tokens)) lines whole left))
 
 -- spaces and line ends

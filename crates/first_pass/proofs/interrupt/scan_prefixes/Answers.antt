@@ -8,19 +8,19 @@ use Rattle.first_pass.proofs.interrupt.scan_prefixes.Goals as goal
 pub overflow_add-result : goal.overflow_add-result
 overflow_add-result c =
     let i = (text_place c.args.text.now c.args.start (path_of c.args.tree.now) c.utf8.text c.requires).0 in
-    let line = front_read _ _ _ c.args.start (path_of c.args.tree.now) _ _ c.as_bytes.ensures.value c.rest_of.ensures.value c.new-line_start.ensures c.scan_containers.ensures.front in
+    let line = front_read _ _ _ c.args.start (path_of c.args.tree.now) _ _ c.as_bytes.ensures.value c.rest_of.ensures.value c.new-line_start.ensures c.scan_containers-kept.ensures.front in
     let e = ap (λ (r : Rest). r.taken) (c.scan_indentation-columns.ensures.rest ∙ ap all_taken line) in
     let n = c.bytes_scanned.ensures in
     omega (arith, i.within)
 
 pub returns-clause-columns : goal.returns-clause-columns
 returns-clause-columns c =
-    let line = front_read _ _ _ c.args.start (path_of c.args.tree.now) _ _ c.as_bytes.ensures.value c.rest_of.ensures.value c.new-line_start.ensures c.scan_containers.ensures.front in
+    let line = front_read _ _ _ c.args.start (path_of c.args.tree.now) _ _ c.as_bytes.ensures.value c.rest_of.ensures.value c.new-line_start.ensures c.scan_containers-kept.ensures.front in
     c.scan_indentation-columns.ensures.columns ∙ ap (λ r. min 4 (indent r)) line
 
 pub returns-clause-behind : goal.returns-clause-behind
 returns-clause-behind c =
-    let line = front_read _ _ _ c.args.start (path_of c.args.tree.now) _ _ c.as_bytes.ensures.value c.rest_of.ensures.value c.new-line_start.ensures c.scan_containers.ensures.front in
+    let line = front_read _ _ _ c.args.start (path_of c.args.tree.now) _ _ c.as_bytes.ensures.value c.rest_of.ensures.value c.new-line_start.ensures c.scan_containers-kept.ensures.front in
     ap (λ n. c.args.start + n) (c.bytes_scanned.ensures ∙ ap (λ (r : Rest). r.taken) (c.scan_indentation-columns.ensures.rest ∙ ap all_taken line))
 
 pub returns-clause-place : goal.returns-clause-place

@@ -12,8 +12,8 @@ pub heading_text-requires-clause-opened : goal.heading_text-requires-clause-open
 heading_text-requires-clause-opened c =
     just_pushed c.args.self.now.tree c.append.new.self c.push.new.self (record { start = c.args.start; «end» = 0; body = c.default.result }) c.in_ok-heading_ix.heading_ix c.in_ok-append.ensures.ok c.in_ok-heading_ix.ensures.index c.in_ok-heading_ix.ensures.ok
 
-pub pop-requires : goal.pop-requires
-pop-requires c =
+pub close_node-requires : goal.close_node-requires
+close_node-requires c =
     let g = c.args.self.now.tree in
     let x : Item = record { start = c.args.start; «end» = 0; body = c.default.result } in
     let ix = c.in_ok-heading_ix.heading_ix in
@@ -30,7 +30,7 @@ set_body-requires c =
     let at = opened_at g c.append.new.self x ix c.in_ok-append.ensures.ok c.in_ok-heading_ix.ensures.index in
     let opened = opened_is g c.append.new.self c.push.new.self x ix c.in_ok-append.ensures.ok c.in_ok-heading_ix.ensures.ok in
     let line = c.in_ok-end.ensures.line in
-    block_place g c.heading_text.new.self.tree x line.chain ix at (line.tree_is ∙ ap (λ f. chained f line.chain) opened) c.pop.new.self.tree c.in_ok-end.end c.pop.ensures.tree
+    block_place g c.heading_text.new.self.tree x line.chain ix at (line.tree_is ∙ ap (λ f. chained f line.chain) opened) c.close_node.new.self.tree c.in_ok-end.end c.close_node.ensures.tree
 
 pub returns-clause-block : goal.returns-clause-block
 returns-clause-block c =
@@ -47,6 +47,6 @@ returns-clause-block c =
     record {
       chain = line.chain;
       line = subst (λ k. IsHeading d k line.chain c.in_ok-end.end) begins line.line;
-      tree_is = block_named g c.heading_text.new.self.tree x line.chain ix at (line.tree_is ∙ ap (λ f. chained f line.chain) opened) c.pop.new.self.tree c.set_body.new.self c.in_ok-end.end _ c.pop.ensures.tree c.set_body.ensures;
+      tree_is = block_named g c.heading_text.new.self.tree x line.chain ix at (line.tree_is ∙ ap (λ f. chained f line.chain) opened) c.close_node.new.self.tree c.set_body.new.self c.in_ok-end.end _ c.close_node.ensures.tree c.set_body.ensures;
       end_is = line.end_is ∙ ap (line_end_at text) begins ∙ heading_line_end text c.args.start c.args.atx_level c.requires.within c.requires.heading;
     }

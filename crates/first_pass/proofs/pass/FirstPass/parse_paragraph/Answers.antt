@@ -8,8 +8,8 @@ use Rattle.first_pass.proofs.PathLemmas.{open_are_in, path_of-paragraph}
 use Rattle.first_pass.proofs.BlockLemmas.{opened_at, opened_is, marked_chain, still_open, block_closed}
 use Rattle.first_pass.proofs.pass.FirstPass.parse_paragraph.Goals as goal
 
-pub pop-requires : goal.pop-requires
-pop-requires c =
+pub close_node-requires : goal.close_node-requires
+close_node-requires c =
     let g = c.args.self.now.tree in
     let x : Item = record { start = c.args.start_ix; «end» = 0; body = Paragraph } in
     let ix = c.in_ok-push.field-0 in
@@ -32,7 +32,7 @@ returns-clause-block c =
       chain = lines.chain;
       lines = subst (λ path. IsParagraph (document c.args.self.now.text.now c.args.self.now.options) path c.args.start_ix [] (lines_from c.args.self.now.text.now (line_end_at c.args.self.now.text.now c.args.start_ix)) lines.chain (lines_from c.args.self.now.text.now c.in_ok-ix.ix))
           (path_of-paragraph g c.push.new.self c.append_item.new.tree x ix c.args.tasklist_marker refl opened c.in_ok-append_item.ensures at (open_are_in g.nodes g.spine c.is_forest.ensures.opened)) lines.lines;
-      tree_is = block_closed g c.paragraph_lines.new.self.tree x (marker_items c.args.tasklist_marker ++ lines.chain) ix at filled c.pop.new.self.tree c.in_ok-ix.ix c.pop.ensures.tree;
+      tree_is = block_closed g c.paragraph_lines.new.self.tree x (marker_items c.args.tasklist_marker ++ lines.chain) ix at filled c.close_node.new.self.tree c.in_ok-ix.ix c.close_node.ensures.tree;
       later = lines.later;
       boundary = lines.boundary;
     }

@@ -1,0 +1,137 @@
+-- What the open nodes are, as the tree grows and nodes are closed.
+use Rattle.std.proofs.Common.{◌≡◌, ℕ, zero, suc, ◌+◌, ◌<◌, ◌≤◌, ◌==◌, Bool, true, false, List, [], ◌∷◌, ◌++◌, length, map, slice_get, Option, Some, None, refl, sym, ap, subst, ◌∙◌, arith, if◌then◌else◌, length-append}
+use Rattle.std.proofs.lemmas.List.{length-map}
+use Rattle.std.specs.Option.{option_map, option_and_then}
+use Rattle.first_pass_items.specs.declared.item.Item.{Item}
+use Rattle.first_pass_items.specs.declared.item.ItemBody.{ItemBody}
+use Rattle.first_pass_items.specs.declared.item.ItemBody.TheVariants.{BlockQuote as BlockQuoteBody, List as ListBody, ListItem as ListItemBody}
+use Rattle.first_pass_tree.specs.declared.tree_index.TreeIndex.{TreeIndex}
+use Rattle.first_pass_tree.specs.Forest.{Forest, modify, map_from, body_at, item_at}
+use Rattle.first_pass_grammar.specs.declared.kind.Container.{Container}
+use Rattle.first_pass_grammar.specs.Derivation.{tight_body, tightened}
+use Rattle.first_pass_grammar.specs.Completion.{ended, flagged, reflagged, list_closed, Frame, InContainer, InList, containers_of, loosened, AreBelow}
+use Rattle.first_pass.specs.Path.{container_of, container_at, with_container, path_in}
+use Rattle.first_pass.specs.State.{list_frame, frame_of, frame_at, AreOpen}
+use Rattle.first_pass.proofs.PathLemmas.{get_front}
+
+-- the container that a frame is, if it is one
+abbrev framed : Option Frame → Option Container
+framed None = None
+framed (Some (InContainer c)) = Some c
+framed (Some (InList byte loose)) = None
+
+framed_list : (a b : Bool) (byte : ℕ) → framed (if a then Some (InList byte false) else (if b then Some (InList byte true) else None)) ≡ None
+framed_list true b byte = refl
+framed_list false true byte = refl
+framed_list false false byte = refl
+
+container_framed : (b : ItemBody) → container_of b ≡ framed (frame_of b)
+container_framed (BlockQuoteBody kind) = refl
+container_framed (ListItemBody columns) = refl
+container_framed (ListBody flags byte number) = sym (framed_list (flags.0 == 1) (flags.0 == 0) byte)
+container_framed b = refl
+
+container_framed_at : (o : Option ItemBody) → option_and_then container_of o ≡ framed (option_and_then frame_of o)
+container_framed_at None = refl
+container_framed_at (Some b) = container_framed b
+
+with_frame : (frame : Frame) (frames : List Frame) → with_container (framed (Some frame)) (containers_of frames) ≡ containers_of (frame ∷ frames)
+with_frame (InContainer c) frames = refl
+with_frame (InList byte loose) frames = refl
+
+-- the containers of the frames are those of the path
+pub open_path : (nodes : List (ℕ × Item)) (spine : List TreeIndex) (frames : List Frame) → AreOpen nodes spine frames → path_in nodes spine ≡ containers_of frames
+open_path nodes [] [] o = refl
+open_path nodes [] (frame ∷ frames) o = absurd o
+open_path nodes (ix ∷ spine) [] o = absurd o
+open_path nodes (ix ∷ spine) (frame ∷ frames) o =
+    ap (λ c. with_container c (path_in nodes spine)) (container_framed_at (body_at nodes ix.0) ∙ ap framed o.0)
+    ∙ ap (with_container (framed (Some frame))) (open_path nodes spine frames o.1) ∙ with_frame frame frames
+
+-- what is below a place alone counts
+pub open_below : (nodes other : List (ℕ × Item)) (n : ℕ) (spine : List TreeIndex) (frames : List Frame) → ((i : ℕ) → i < n → frame_at other i ≡ frame_at nodes i) → AreBelow n (map (λ ix. ix.0) spine) → AreOpen nodes spine frames → AreOpen other spine frames
+open_below nodes other n [] [] same below o = tt
+open_below nodes other n [] (frame ∷ frames) same below o = o
+open_below nodes other n (ix ∷ spine) [] same below o = o
+open_below nodes other n (ix ∷ spine) (frame ∷ frames) same below o =
+    let b : ix.0 < n = below.0 in
+    (same ix.0 b ∙ o.0, open_below nodes other ix.0 spine frames (λ i h. same i (omega arith)) below.1 o.1)
+
+frame_by : (a b : Option ItemBody) → a ≡ b → option_and_then frame_of a ≡ option_and_then frame_of b
+frame_by a b e = ap (option_and_then frame_of) e
+
+-- more nodes
+pub frame-append : (nodes more : List (ℕ × Item)) (i : ℕ) → i < length nodes → frame_at (nodes ++ more) i ≡ frame_at nodes i
+frame-append nodes more i h = frame_by (body_at (nodes ++ more) i) (body_at nodes i) (ap (option_map (λ n. n.1.body)) (get_front nodes more i h))
+
+-- a change that keeps the body
+pub body-kept : (nodes : List (ℕ × Item)) (place i : ℕ) (g : Item → Item) → ((x : Item) → (g x).body ≡ x.body) → body_at (modify nodes place g) i ≡ body_at nodes i
+body-kept [] place i g h = refl
+body-kept (n ∷ nodes) zero zero g h = ap (λ b. Some b) (h n.1)
+body-kept (n ∷ nodes) zero (suc i) g h = refl
+body-kept (n ∷ nodes) (suc place) zero g h = refl
+body-kept (n ∷ nodes) (suc place) (suc i) g h = body-kept nodes place i g h
+
+-- a change at another place
+pub body-other : (nodes : List (ℕ × Item)) (place i : ℕ) (g : Item → Item) → i < place → body_at (modify nodes place g) i ≡ body_at nodes i
+body-other [] place i g h = refl
+body-other (n ∷ nodes) zero i g h = absurd (omega arith)
+body-other (n ∷ nodes) (suc place) zero g h = refl
+body-other (n ∷ nodes) (suc place) (suc i) g h = body-other nodes place i g (omega arith)
+
+pub body-later : (nodes : List (ℕ × Item)) (place i : ℕ) (g : Item → Item) → place < i → body_at (modify nodes place g) i ≡ body_at nodes i
+body-later [] place i g h = refl
+body-later (n ∷ nodes) zero zero g h = absurd (omega arith)
+body-later (n ∷ nodes) zero (suc i) g h = refl
+body-later (n ∷ nodes) (suc place) zero g h = refl
+body-later (n ∷ nodes) (suc place) (suc i) g h = body-later nodes place i g (omega arith)
+
+-- a change at a place
+pub body-changed : (nodes : List (ℕ × Item)) (place : ℕ) (g : Item → Item) (b c : ItemBody) → body_at nodes place ≡ Some b → ((x : Item) → x.body ≡ b → (g x).body ≡ c) → body_at (modify nodes place g) place ≡ Some c
+body-changed [] place g b c h f = cc
+body-changed (n ∷ nodes) zero g b c h f = (let e : n.1.body ≡ b = cc in ap (λ z. Some z) (f n.1 e))
+body-changed (n ∷ nodes) (suc place) g b c h f = body-changed nodes place g b c h f
+
+body-front : (nodes : List (ℕ × Item)) (o i depth : ℕ) → i < o → body_at (map_from (tightened depth) o nodes) i ≡ body_at nodes i
+body-front nodes zero i depth h = absurd (omega arith)
+body-front [] (suc o) i depth h = refl
+body-front (n ∷ nodes) (suc o) zero depth h = refl
+body-front (n ∷ nodes) (suc o) (suc i) depth h = body-front nodes o i depth (omega arith)
+
+-- a closed list
+pub frame-closed : (nodes : List (ℕ × Item)) (o depth : ℕ) (loose : Bool) (e i : ℕ) → i < o → frame_at (list_closed nodes o depth loose e) i ≡ frame_at nodes i
+unfolding list_closed
+frame-closed nodes o depth true e i h = frame_by _ _ (body-other nodes o i _ h)
+frame-closed nodes o depth false e i h = frame_by _ _ (body-other (map_from (tightened depth) o nodes) o i _ h ∙ body-front nodes o i depth h)
+
+-- a node with its end
+pub frame-ended : (nodes : List (ℕ × Item)) (place e i : ℕ) → frame_at (ended nodes place e) i ≡ frame_at nodes i
+unfolding ended
+frame-ended nodes place e i = frame_by _ _ (body-kept nodes place i _ (λ x. refl))
+
+-- the last node
+pub get_end : (nodes : List (ℕ × Item)) (x : ℕ × Item) (more : List (ℕ × Item)) (i : ℕ) → i ≡ length nodes → body_at (nodes ++ x ∷ more) i ≡ Some x.1.body
+get_end [] x more zero h = refl
+get_end [] x more (suc i) h = absurd (omega arith)
+get_end (n ∷ nodes) x more zero h = absurd (omega arith)
+get_end (n ∷ nodes) x more (suc i) h = get_end nodes x more i (omega arith)
+
+-- a change at a place that agrees with another there
+pub changed_alike : (nodes : List (ℕ × Item)) (place : ℕ) (g h : Item → Item) (b : ItemBody) → body_at nodes place ≡ Some b → ((x : Item) → x.body ≡ b → g x ≡ h x) → modify nodes place g ≡ modify nodes place h
+changed_alike [] place g h b is same = refl
+changed_alike (n ∷ nodes) zero g h b is same = (let e : n.1.body ≡ b = cc in ap (λ z. (n.0, z) ∷ nodes) (same n.1 e))
+changed_alike (n ∷ nodes) (suc place) g h b is same = ap (λ z. n ∷ z) (changed_alike nodes place g h b is same)
+
+-- a change that changes nothing there
+pub not_changed : (nodes : List (ℕ × Item)) (place : ℕ) (g : Item → Item) (b : ItemBody) → body_at nodes place ≡ Some b → ((x : Item) → x.body ≡ b → g x ≡ x) → modify nodes place g ≡ nodes
+not_changed [] place g b is same = refl
+not_changed (n ∷ nodes) zero g b is same = (let e : n.1.body ≡ b = cc in ap (λ z. (n.0, z) ∷ nodes) (same n.1 e))
+not_changed (n ∷ nodes) (suc place) g b is same = ap (λ z. n ∷ z) (not_changed nodes place g b is same)
+
+body_by : (o : Option (ℕ × Item)) (x : Item) → option_map (λ n. n.1) o ≡ Some x → option_map (λ n. n.1.body) o ≡ Some x.body
+body_by None x h = cc
+body_by (Some n) x h = (let e : n.1 ≡ x = cc in ap (λ (y : Item). Some y.body) e)
+
+-- the body of a node that is read
+pub body_of : (f : Forest Item) (ix : TreeIndex) (x : Item) → item_at f ix ≡ Some x → body_at f.nodes ix.0 ≡ Some x.body
+body_of f ix x h = body_by (slice_get f.nodes ix.0) x h

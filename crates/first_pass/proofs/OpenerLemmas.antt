@@ -1,0 +1,311 @@
+-- A container opened at a place in a line: a block quote, or a list item in its list.
+use Rattle.std.proofs.Common.{◌≡◌, ℕ, zero, suc, ◌+◌, ◌-◌, ◌<◌, ◌≤◌, ◌==◌, Bool, true, false, not, ◌||◌, ◌&&◌, List, [], ◌∷◌, ◌++◌, length, map, slice_get, Option, Some, None, is_some, refl, sym, ap, subst, ◌∙◌, arith, if◌then◌else◌, append_assoc, length-append}
+use Rattle.std.proofs.lemmas.List.{length-map}
+use Rattle.std.proofs.lemmas.Bool.Decides.{nat_tests}
+use Rattle.std.specs.Option.{option_map, option_and_then}
+use Rattle.first_pass_items.specs.declared.item.Item.{Item}
+use Rattle.first_pass_items.specs.declared.item.ItemBody.{ItemBody}
+use Rattle.first_pass_items.specs.declared.item.ItemBody.TheVariants.{BlockQuote as BlockQuoteBody, List as ListBody, ListItem as ListItemBody}
+use Rattle.first_pass_items.specs.declared.item.ListFlags.{ListFlags}
+use Rattle.first_pass_tree.specs.declared.tree_index.TreeIndex.{TreeIndex}
+use Rattle.first_pass_tree.proofs.Blocks.{modify-at}
+use Rattle.first_pass_tree.specs.Forest.{Forest, IsForest, modify, with_body_at, body_at, appended, pushed}
+use Rattle.first_pass_scan.specs.Rest.{Rest}
+use Rattle.first_pass_scan.specs.Places.{Place, offset, start_of}
+use Rattle.first_pass_grammar.specs.declared.kind.Container.{Container}
+use Rattle.first_pass_grammar.specs.declared.kind.Container.TheVariants.{BlockQuote, ListItem}
+use Rattle.first_pass_grammar.specs.Containers.{at_rest, prefix, after}
+use Rattle.first_pass_grammar.specs.Kinds.{is_blank_rest, quote_inside, quote_start, item_at}
+use Rattle.first_pass_grammar.specs.Leaves.{Document}
+use Rattle.first_pass_grammar.specs.Skeleton.{Head, QuoteMarker, ItemMarker, From, Line, Inside, Blanks, Opening, OpensLeaf, OpensNode, next_is_blank, item_head, item_opening, quote_head, OpensFrom, Opens}
+use Rattle.first_pass_grammar.specs.Derivation.{node_of, list_flags}
+use Rattle.first_pass_grammar.specs.Completion.{Frame, InContainer, InList, containers_of, AreBelow, IsPlain, Completes}
+use Rattle.first_pass_grammar.proofs.Completions.{OpensAway, OpensBlock, completes-quote, completes-list, completes-item, completes-reflag_list}
+use Rattle.first_pass.specs.Closing.{Reading, loosened_by, loosened_at, top_body, is_list_of, item_finished_by, item_finished, list_finished, loosened_top, list_kept, begun, list_continued, emptied}
+use Rattle.first_pass.specs.Path.{container_of, container_at, with_container, path_in, path_of}
+use Rattle.first_pass.specs.State.{list_frame, frame_of, frame_at, AreOpen, ReadyAt, ReadyBeforeLine, ReadyInItem, ReadyEmpty, ReadyWith, Ready}
+use Rattle.first_pass.proofs.PathLemmas.{get_front}
+use Rattle.first_pass.proofs.EnterLemmas.{path_below}
+use Rattle.first_pass.proofs.OpenLemmas.{open_path, open_below, frame-append, get_end, body-other, body-changed}
+use Rattle.first_pass.proofs.ListLemmas.{open_flags}
+use Rattle.first_pass.proofs.FinishLemmas.{ReadyPlain, EndsListAt, Finished, ready_finished, loose_is, loose_frame, loosened_spine, loosened_paths}
+
+or_false : (a : Bool) → (a || false) ≡ a
+or_false true = refl
+or_false false = refl
+
+not_container : (a b : Bool) (list : ℕ) (c : Container) → (if a then Some (InList list false) else (if b then Some (InList list true) else None)) ≡ Some (InContainer c) → ⊥
+not_container true b list c h = cc
+not_container false true list c h = cc
+not_container false false list c h = cc
+
+-- a node that is opened behind others
+opened_too : (nodes : List (ℕ × Item)) (k : ℕ) (x : Item) (s : List TreeIndex) (frames : List Frame) (frame : Frame) → frame_of x.body ≡ Some frame → AreBelow (length nodes) (map (λ ix. ix.0) s) → AreOpen nodes s frames
+    → AreOpen (nodes ++ (k, x) ∷ []) (record { 0 = length nodes } ∷ s) (frame ∷ frames)
+opened_too nodes k x s frames frame is below o =
+    (ap (option_and_then frame_of) (get_end nodes (k, x) [] (length nodes) refl) ∙ is, open_below nodes (nodes ++ (k, x) ∷ []) (length nodes) s frames (λ i h. frame-append nodes ((k, x) ∷ []) i h) below o)
+
+depth_of : (s : List TreeIndex) → suc (length (map (λ (i : TreeIndex). i.0) s)) ≡ length s + 1
+depth_of s = let k = length-map s (λ (i : TreeIndex). i.0) in omega arith
+
+-- what opens a quote opens a block, and ends any list at its line
+quote_away : (b : Option ItemBody) (p : Place) (lines : List Place) (inside : From) → EndsListAt p.line b (OpensNode (quote_head p) inside lines)
+quote_away None p lines inside = tt
+quote_away (Some (ListBody flags list number)) p lines inside = (refl, refl)
+quote_away (Some b) p lines inside = tt
+
+opens_quote : (d : Document) (path : List Container) (p : Place) (lines : List Place) (r : Rest) → item_at p.rest ≡ None → prefix (BlockQuote None) p.rest ≡ Some r → Opens d path p lines (OpensNode (quote_head p) (Inside (at_rest p r)) lines)
+unfolding OpensFrom
+opens_quote d path p lines r none is =
+    subst (λ o. OpensFrom d path p lines o (quote_inside p) (OpensNode (quote_head p) (Inside (at_rest p r)) lines)) (sym none)
+    (subst (λ o. OpensFrom d path p lines None (option_map (at_rest p) o) (OpensNode (quote_head p) (Inside (at_rest p r)) lines)) (sym is) refl)
+
+-- a block quote opened
+pub ready_quote : (d : Document) (r : Reading) (p : Place) (lines : List Place) (inside : Rest) → IsForest r.tree → item_at p.rest ≡ None → prefix (BlockQuote None) p.rest ≡ Some inside → r.empty_item ≡ None
+    → ReadyAt d r.tree r.blank (Inside p) lines → (let q : Reading = begun (quote_start p) (BlockQuoteBody None) (list_finished p.line r) in ReadyAt d q.tree q.blank (Inside (at_rest p inside)) lines × (q.empty_item ≡ None))
+ready_quote d r p lines inside forest no_item is none ready =
+    let opening : Opening = OpensNode (quote_head p) (Inside (at_rest p inside)) lines in
+    let opens = opens_quote d (path_of r.tree) p lines inside no_item is in
+    let done = ready_finished d r p lines p.line opening forest opens tt (quote_away (top_body r.tree) p lines (Inside (at_rest p inside))) none ready in
+    let f : Forest Item = (list_finished p.line r).tree in
+    let frames : List Frame = done.ready.0.frames in
+    let opens' : Opens d (containers_of frames) p lines opening = subst (λ z. Opens d z p lines opening) (sym done.path ∙ open_path f.nodes f.spine frames done.ready.0.are_open) opens in
+    let os : List ℕ = map (λ (i : TreeIndex). i.0) f.spine in
+    let x : Item = node_of (quote_start p) 0 (BlockQuoteBody None) in
+    let k = completes-quote d frames f.nodes os p lines lines None (quote_start p) p.line 0 (Inside (at_rest p inside)) done.ready.1 opens' done.ready.0.completes in
+    let now : ReadyAt d (pushed (appended f x) (record { 0 = length f.nodes })) false (Inside (at_rest p inside)) lines = record {
+      frames = InContainer (BlockQuote None) ∷ frames;
+      are_open = opened_too f.nodes (length f.spine + 1) x f.spine frames (InContainer (BlockQuote None)) refl done.ready.0.completes.below done.ready.0.are_open;
+      completes = subst (λ z. Completes d false (InContainer (BlockQuote None) ∷ frames) (f.nodes ++ (z, x) ∷ []) (length f.nodes ∷ os) (Inside (at_rest p inside)) lines) (depth_of f.spine) k;
+    } in
+    (subst (λ t. ReadyAt d (pushed (appended f x) (record { 0 = length f.nodes })) t (Inside (at_rest p inside)) lines) (sym done.blank) now, done.none)
+
+-- the tree with an item opened in its list, which goes on or begins
+abbrev pub item_opened : ℕ → ℕ → ℕ → ℕ → Reading → Reading
+item_opened start byte number columns r = begun start (ListItemBody columns) (list_continued start byte number r)
+
+-- what opens an item opens a block, and ends a list of another byte where the item starts
+item_away : (b : Option ItemBody) (p : Place) (byte number columns : ℕ) (inside : From) (lines : List Place) → is_list_of byte b ≡ false → EndsListAt (offset p) b (OpensNode (item_head p byte number columns) inside lines)
+item_away None p byte number columns inside lines other = tt
+item_away (Some (ListBody flags list n)) p byte number columns inside lines other = (refl, other)
+item_away (Some b) p byte number columns inside lines other = tt
+
+module _ (d : Document) (r : Reading) (p : Place) (lines : List Place) (byte number columns : ℕ) (inside : From) (forest : IsForest r.tree) (opens : Opens d (path_of r.tree) p lines (OpensNode (item_head p byte number columns) inside lines))
+    (none : r.empty_item ≡ None) (ready : ReadyAt d r.tree r.blank (Inside p) lines) where
+  -- in a list that begins with it
+  in_new_list : is_list_of byte (top_body r.tree) ≡ false
+      → (let q : Reading = begun (offset p) (ListItemBody columns) (begun (offset p) (ListBody (list_flags true) byte number) (list_finished (offset p) r)) in ReadyAt d q.tree false inside lines × (path_of q.tree ≡ ListItem columns ∷ path_of r.tree) × (q.blank ≡ false) × (q.empty_item ≡ None))
+  in_new_list other =
+      let opening : Opening = OpensNode (item_head p byte number columns) inside lines in
+      let done = ready_finished d r p lines (offset p) opening forest opens tt (item_away (top_body r.tree) p byte number columns inside lines other) none ready in
+      let f : Forest Item = (list_finished (offset p) r).tree in
+      let frames : List Frame = done.ready.0.frames in
+      let opens' : Opens d (containers_of frames) p lines opening = subst (λ z. Opens d z p lines opening) (sym done.path ∙ open_path f.nodes f.spine frames done.ready.0.are_open) opens in
+      let os : List ℕ = map (λ (i : TreeIndex). i.0) f.spine in
+      let y : Item = node_of (offset p) 0 (ListBody (list_flags true) byte number) in
+      let x : Item = node_of (offset p) 0 (ListItemBody columns) in
+      let g : Forest Item = pushed (appended f y) (record { 0 = length f.nodes }) in
+      let h : Forest Item = pushed (appended g x) (record { 0 = length g.nodes }) in
+      let k = completes-list d frames f.nodes os p lines lines byte number columns (offset p) (offset p) 0 0 (list_flags true) inside done.ready.1 opens' done.ready.0.completes in
+      let n : length g.nodes ≡ suc (length f.nodes) = (let l = length-append f.nodes ((length f.spine + 1, y) ∷ []) in omega arith) in
+      let deep : suc (length os) ≡ length f.spine + 1 = depth_of f.spine in
+      let deeper : suc (suc (length os)) ≡ length g.spine + 1 = omega arith in
+      let nodes : f.nodes ++ (suc (length os), y) ∷ (suc (suc (length os)), x) ∷ [] ≡ h.nodes =
+      sym (append_assoc f.nodes ((suc (length os), y) ∷ []) ((suc (suc (length os)), x) ∷ []))
+      ∙ ap (λ z. (f.nodes ++ (z, y) ∷ []) ++ (suc (suc (length os)), x) ∷ []) deep ∙ ap (λ z. (f.nodes ++ (length f.spine + 1, y) ∷ []) ++ (z, x) ∷ []) deeper in
+      let list_open : AreOpen g.nodes g.spine (InList byte false ∷ frames) = opened_too f.nodes (length f.spine + 1) y f.spine frames (InList byte false) refl done.ready.0.completes.below done.ready.0.are_open in
+      let below : AreBelow (length g.nodes) (length f.nodes ∷ os) = (omega arith, done.ready.0.completes.below) in
+      let q : ReadyAt d h false inside lines = record {
+        frames = InContainer (ListItem columns) ∷ InList byte false ∷ frames;
+        are_open = opened_too g.nodes (length g.spine + 1) x g.spine (InList byte false ∷ frames) (InContainer (ListItem columns)) refl below list_open;
+        completes = subst (λ z. Completes d false (InContainer (ListItem columns) ∷ InList byte false ∷ frames) h.nodes (z ∷ length f.nodes ∷ os) inside lines) (sym n)
+            (subst (λ z. Completes d false (InContainer (ListItem columns) ∷ InList byte false ∷ frames) z (suc (length f.nodes) ∷ length f.nodes ∷ os) inside lines) nodes k);
+      } in
+      let same : path_of h ≡ ListItem columns ∷ path_of r.tree =
+      open_path h.nodes h.spine q.frames q.are_open ∙ ap (λ z. ListItem columns ∷ z) (sym (open_path f.nodes f.spine frames done.ready.0.are_open) ∙ done.path) in
+      (q, same, done.blank, done.none)
+
+  -- the list that goes on, made loose where a blank line is before the item
+  kept_by : (run : Bool) → r.blank ≡ run → (ix : TreeIndex) (rest : List TreeIndex) (flags : ListFlags) (list n : ℕ) → r.tree.spine ≡ ix ∷ rest → body_at r.tree.nodes ix.0 ≡ Some (ListBody flags list n)
+      → (let q : Reading = if run then record r { tree = loosened_top r.tree r.tree.spine; blank = false } else r in
+      (q.tree ≡ (if run then loosened_at r.tree ix else r.tree)) × (q.blank ≡ false) × (q.empty_item ≡ None))
+  kept_by true is ix rest flags list n spine body = (ap (loosened_top r.tree) spine, refl, none)
+  kept_by false is ix rest flags list n spine body = (refl, is, none)
+
+  goes_on_as : (run : Bool) (ix : TreeIndex) (rest : List TreeIndex) (flags : ListFlags) (list n b : ℕ) (loose : Bool) (frames : List Frame) → r.tree.spine ≡ ix ∷ rest → body_at r.tree.nodes ix.0 ≡ Some (ListBody flags list n)
+      → AreOpen r.tree.nodes (ix ∷ rest) (InList b loose ∷ frames) → Completes d run (InList b loose ∷ frames) r.tree.nodes (ix.0 ∷ map (λ i. i.0) rest) (Inside p) lines
+      → (let f : Forest Item = if run then loosened_at r.tree ix else r.tree in
+      AreOpen f.nodes (ix ∷ rest) (InList b (loose || run) ∷ frames) × Completes d run (InList b loose ∷ frames) f.nodes (ix.0 ∷ map (λ i. i.0) rest) (Inside p) lines × (f.spine ≡ ix ∷ rest))
+  goes_on_as true ix rest flags list n b loose frames spine body o k =
+      let g : Forest Item = loosened_at r.tree ix in
+      let nodes = loose_is r.tree ix flags list n body in
+      let now : Forest Item = with_body_at r.tree ix (ListBody (list_flags false) list n) in
+      let named : g ≡ now = ap (loosened_by r.tree ix) body in
+      let outer : AreOpen g.nodes rest frames =
+      subst (λ (z : Forest Item). AreOpen z.nodes rest frames) (sym named)
+      (open_below r.tree.nodes now.nodes ix.0 rest frames (λ i h. ap (option_and_then frame_of) (body-other r.tree.nodes ix.0 i (λ x. record { start = x.start; «end» = x.«end»; body = ListBody (list_flags false) list n }) h)) k.below.1 o.1) in
+      (
+        (loose_frame r.tree ix flags list n b loose body o.0, outer),
+        subst (λ z. Completes d true (InList b loose ∷ frames) z (ix.0 ∷ map (λ i. i.0) rest) (Inside p) lines) (sym nodes) (completes-reflag_list d true b loose true frames r.tree.nodes ix.0 (map (λ i. i.0) rest) (Inside p) lines k),
+        loosened_spine r.tree ix (body_at r.tree.nodes ix.0) ∙ spine,
+      )
+  goes_on_as false ix rest flags list n b loose frames spine body o k =
+      ((ap (λ l. l) o.0 ∙ ap (λ l. Some (InList b l)) (sym (or_false loose)), o.1), k, spine)
+
+  item_by : (run : Bool) (ix : TreeIndex) (rest : List TreeIndex) (flags : ListFlags) (list n : ℕ) (frames : List Frame) → r.tree.spine ≡ ix ∷ rest → body_at r.tree.nodes ix.0 ≡ Some (ListBody flags list n) → list ≡ byte
+      → AreOpen r.tree.nodes (ix ∷ rest) frames → Completes d run frames r.tree.nodes (ix.0 ∷ map (λ i. i.0) rest) (Inside p) lines
+      → (let f : Forest Item = if run then loosened_at r.tree ix else r.tree in let g : Forest Item = pushed (appended f (node_of (offset p) 0 (ListItemBody columns))) (record { 0 = length f.nodes }) in
+      ReadyAt d g false inside lines × (path_of g ≡ ListItem columns ∷ path_of r.tree))
+  item_by run ix rest flags list n [] spine body same o k = absurd o
+  item_by run ix rest flags list n (InContainer c ∷ frames) spine body same o k = absurd (not_container (flags.0 == 1) (flags.0 == 0) list c (sym (ap (option_and_then frame_of) body) ∙ o.0))
+  item_by run ix rest flags list n (InList b loose ∷ frames) spine body same o k =
+      let f : Forest Item = if run then loosened_at r.tree ix else r.tree in
+      let set = open_flags flags list n b loose (sym (ap (option_and_then frame_of) body) ∙ o.0) in
+      let os : List ℕ = map (λ (i : TreeIndex). i.0) rest in
+      let b_is : b ≡ byte = sym set.0 ∙ same in
+      let path : path_of r.tree ≡ containers_of frames = ap (path_in r.tree.nodes) spine ∙ open_path r.tree.nodes (ix ∷ rest) (InList b loose ∷ frames) o in
+      let now = goes_on_as run ix rest flags list n b loose frames spine body o k in
+      let opens' : Opens d (containers_of frames) p lines (OpensNode (item_head p byte number columns) inside lines) = subst (λ z. Opens d z p lines (OpensNode (item_head p byte number columns) inside lines)) path opens in
+      let x : Item = node_of (offset p) 0 (ListItemBody columns) in
+      let k' : Completes d run (InList byte loose ∷ frames) f.nodes (ix.0 ∷ os) (Inside p) lines = subst (λ z. Completes d run (InList z loose ∷ frames) f.nodes (ix.0 ∷ os) (Inside p) lines) b_is now.1 in
+      let done = completes-item d run loose frames f.nodes ix.0 os p lines lines byte number columns (offset p) (offset p) 0 inside opens' k' in
+      let deep : suc (suc (length os)) ≡ length f.spine + 1 = (let l = depth_of rest in let m = ap (λ (s : List TreeIndex). length s) now.2 in omega arith) in
+      let frames' : List Frame = InList byte (loose || run) ∷ frames in
+      let o' : AreOpen f.nodes (ix ∷ rest) frames' = subst (λ z. AreOpen f.nodes (ix ∷ rest) (InList z (loose || run) ∷ frames)) b_is now.0 in
+      let q : ReadyAt d (pushed (appended f x) (record { 0 = length f.nodes })) false inside lines = record {
+        frames = InContainer (ListItem columns) ∷ frames';
+        are_open = opened_too f.nodes (length f.spine + 1) x f.spine frames' (InContainer (ListItem columns)) refl (subst (λ s. AreBelow (length f.nodes) (map (λ (i : TreeIndex). i.0) s)) (sym now.2) now.1.below)
+            (subst (λ s. AreOpen f.nodes s frames') (sym now.2) o');
+        completes = subst (λ s. Completes d false (InContainer (ListItem columns) ∷ frames') (f.nodes ++ (length f.spine + 1, x) ∷ []) (length f.nodes ∷ map (λ (i : TreeIndex). i.0) s) inside lines) (sym now.2)
+            (subst (λ z. Completes d false (InContainer (ListItem columns) ∷ frames') (f.nodes ++ (z, x) ∷ []) (length f.nodes ∷ ix.0 ∷ os) inside lines) deep done);
+      } in
+      let g : Forest Item = pushed (appended f x) (record { 0 = length f.nodes }) in
+      (q, open_path g.nodes g.spine q.frames q.are_open ∙ ap (λ z. ListItem columns ∷ z) (sym path))
+
+  -- what is remembered with the item opened
+  abbrev ItemIsOpen : Reading → Type 0
+  ItemIsOpen q = ReadyAt d q.tree false inside lines × (path_of q.tree ≡ ListItem columns ∷ path_of r.tree) × (q.blank ≡ false) × (q.empty_item ≡ None)
+
+  in_list_by : (s : List TreeIndex) (b : Option ItemBody) → r.tree.spine ≡ s → option_and_then (λ (ix : TreeIndex). body_at r.tree.nodes ix.0) (slice_get s 0) ≡ b → is_list_of byte b ≡ true → ItemIsOpen (begun (offset p) (ListItemBody columns) (list_kept r))
+  in_list_by s None spine is same = cc
+  in_list_by [] (Some b) spine is same = cc
+  in_list_by (ix ∷ rest) (Some (ListBody flags list n)) spine is same =
+      let kept = kept_by r.blank refl ix rest flags list n spine is in
+      let equal : list ≡ byte = grind (arith, nat_tests, same) in
+      let f : Forest Item = if r.blank then loosened_at r.tree ix else r.tree in
+      let done = item_by r.blank ix rest flags list n ready.frames spine is equal (subst (λ z. AreOpen r.tree.nodes z ready.frames) spine ready.are_open) (subst (λ z. Completes d r.blank ready.frames r.tree.nodes (map (λ (i : TreeIndex). i.0) z) (Inside p) lines) spine ready.completes) in
+      (
+        subst (λ (z : Forest Item). ReadyAt d (pushed (appended z (node_of (offset p) 0 (ListItemBody columns))) (record { 0 = length z.nodes })) false inside lines) (sym kept.0) done.0,
+        subst (λ (z : Forest Item). path_of (pushed (appended z (node_of (offset p) 0 (ListItemBody columns))) (record { 0 = length z.nodes })) ≡ ListItem columns ∷ path_of r.tree) (sym kept.0) done.1,
+        kept.1,
+        kept.2,
+      )
+  in_list_by (ix ∷ rest) (Some b) spine is same = cc
+
+  item_is_open_by : (t : Bool) → is_list_of byte (top_body r.tree) ≡ t
+      → ItemIsOpen (begun (offset p) (ListItemBody columns) (if t then list_kept r else begun (offset p) (ListBody (list_flags true) byte number) (list_finished (offset p) r)))
+  item_is_open_by true is = in_list_by r.tree.spine (top_body r.tree) refl refl is
+  item_is_open_by false is = in_new_list is
+
+  -- an item opened, in the list that goes on or in a new one
+  item_is_open : ItemIsOpen (item_opened (offset p) byte number columns r)
+  unfolding list_continued item_finished
+  item_is_open =
+      let same : item_finished_by r r.empty_item ≡ r = ap (item_finished_by r) none in
+      subst (λ q. ItemIsOpen (begun (offset p) (ListItemBody columns) (if is_list_of byte (top_body q.tree) then list_kept q else begun (offset p) (ListBody (list_flags true) byte number) (list_finished (offset p) q)))) (sym same)
+      (item_is_open_by (is_list_of byte (top_body r.tree)) refl)
+
+opens_item : (d : Document) (path : List Container) (p : Place) (lines : List Place) (item : (ℕ × ℕ × ℕ) × Rest) → item_at p.rest ≡ Some item → Opens d path p lines (item_opening d path p lines item.0.0 item.0.1 item.0.2 item.1)
+unfolding OpensFrom
+opens_item d path p lines item is = subst (λ o. OpensFrom d path p lines o (quote_inside p) (item_opening d path p lines item.0.0 item.0.1 item.0.2 item.1)) (sym is) refl
+
+-- what the marker opens
+inside_by : (d : Document) (path : List Container) (p : Place) (lines : List Place) (item : (ℕ × ℕ × ℕ) × Rest) → is_blank_rest item.1 ≡ false
+    → item_opening d path p lines item.0.0 item.0.1 item.0.2 item.1 ≡ OpensNode (item_head p item.0.0 item.0.1 item.0.2) (Inside (at_rest p item.1)) lines
+inside_by d path p lines item h = rw h refl
+
+-- an item with something behind its marker
+pub ready_item : (d : Document) (r : Reading) (p : Place) (lines : List Place) (item : (ℕ × ℕ × ℕ) × Rest) → IsForest r.tree → item_at p.rest ≡ Some item → is_blank_rest item.1 ≡ false → r.empty_item ≡ None → ReadyAt d r.tree r.blank (Inside p) lines
+    → (let q : Reading = item_opened (offset p) item.0.0 item.0.1 item.0.2 r in ReadyAt d q.tree q.blank (Inside (at_rest p item.1)) lines × (q.empty_item ≡ None))
+ready_item d r p lines item forest is some none ready =
+    let inside : Opening = OpensNode (item_head p item.0.0 item.0.1 item.0.2) (Inside (at_rest p item.1)) lines in
+    let opens : Opens d (path_of r.tree) p lines inside = subst (Opens d (path_of r.tree) p lines) (inside_by d (path_of r.tree) p lines item some) (opens_item d (path_of r.tree) p lines item is) in
+    let done = item_is_open d r p lines item.0.0 item.0.1 item.0.2 (Inside (at_rest p item.1)) forest opens none ready in
+    let q : Reading = item_opened (offset p) item.0.0 item.0.1 item.0.2 r in
+    (subst (λ t. ReadyAt d q.tree t (Inside (at_rest p item.1)) lines) (sym done.2) done.0, done.3)
+
+emptied_opened : (g : Forest Item) (start columns : ℕ)
+    → (let f : Forest Item = pushed (appended g (node_of start 0 (ListItemBody columns))) (record { 0 = length g.nodes }) in emptied f f.spine)
+    ≡ pushed (appended g (node_of start 0 (ListItemBody 0))) (record { 0 = length g.nodes })
+emptied_opened g start columns =
+    ap (λ ns. record (pushed (appended g (node_of start 0 (ListItemBody columns))) (record { 0 = length g.nodes })) { nodes = ns })
+    (modify-at g.nodes [] (length g.spine + 1, node_of start 0 (ListItemBody columns)) (length g.nodes) (λ x. record { start = x.start; «end» = x.«end»; body = ListItemBody 0 }) refl)
+
+empty_opening : (d : Document) (path : List Container) (p : Place) (lines : List Place) (item : (ℕ × ℕ × ℕ) × Rest) (e : ℕ) → is_blank_rest item.1 ≡ true → next_is_blank (ListItem item.0.2 ∷ path) lines ≡ true → start_of (length d.text) lines ≡ e
+    → item_opening d path p lines item.0.0 item.0.1 item.0.2 item.1 ≡ OpensNode (item_head p item.0.0 item.0.1 0) (Blanks e) lines
+empty_opening d path p lines item e h n e_is = rw (h, n) (ap (λ k. OpensNode (item_head p item.0.0 item.0.1 0) (Blanks k) lines) e_is)
+
+line_opening : (d : Document) (path : List Container) (p : Place) (lines : List Place) (item : (ℕ × ℕ × ℕ) × Rest) → is_blank_rest item.1 ≡ true → next_is_blank (ListItem item.0.2 ∷ path) lines ≡ false
+    → item_opening d path p lines item.0.0 item.0.1 item.0.2 item.1 ≡ OpensNode (item_head p item.0.0 item.0.1 item.0.2) Line lines
+line_opening d path p lines item h n = rw (h, n) refl
+
+item_body : (g : Forest Item) (start columns : ℕ) → body_at (g.nodes ++ (length g.spine + 1, node_of start 0 (ListItemBody columns)) ∷ []) (length g.nodes) ≡ Some (ListItemBody columns)
+item_body g start columns = get_end g.nodes (length g.spine + 1, node_of start 0 (ListItemBody columns)) [] (length g.nodes) refl
+
+in_item : (d : Document) (f : Forest Item) (e columns : ℕ) (lines : List Place) (t blank : Bool) → blank ≡ false → next_is_blank (path_of f) lines ≡ t → ReadyBeforeLine d f e lines t → ReadyInItem d f e columns lines blank
+in_item d f e columns lines t true none is ready = cc
+in_item d f e columns lines t false none is ready = subst (ReadyBeforeLine d f e lines) (sym is) ready
+
+-- the path with an item opened, whatever its indent
+opened_path : (g : Forest Item) (start m n : ℕ) (path : List Container)
+    → (let f : ℕ → Forest Item = λ k. pushed (appended g (node_of start 0 (ListItemBody k))) (record { 0 = length g.nodes }) in
+    AreBelow (length (f m).nodes) (map (λ (i : TreeIndex). i.0) (f m).spine) → path_of (f m) ≡ ListItem m ∷ path → path_of (f n) ≡ ListItem n ∷ path)
+opened_path g start m n path below is =
+    let f : ℕ → Forest Item = λ k. pushed (appended g (node_of start 0 (ListItemBody k))) (record { 0 = length g.nodes }) in
+    let top : (k : ℕ) → path_of (f k) ≡ ListItem k ∷ path_in (f k).nodes g.spine = λ k. ap (λ o. with_container (option_and_then container_of o) (path_in (f k).nodes g.spine)) (item_body g start k) in
+    let outer : path_in (f m).nodes g.spine ≡ path = (let e = sym (top m) ∙ is in cc) in
+    let same : (k : ℕ) → path_in (f k).nodes g.spine ≡ path_in g.nodes g.spine = λ k. path_below g.nodes (f k).nodes (length g.nodes) g.spine (λ i h. ap (option_map (λ (n : ℕ × Item). n.1.body)) (get_front g.nodes _ i h)) below.1 in
+    top n ∙ ap (λ z. ListItem n ∷ z) (same n ∙ sym (same m) ∙ outer)
+
+empty_by : (d : Document) (r : Reading) (p : Place) (lines : List Place) (item : (ℕ × ℕ × ℕ) × Rest) (e : ℕ) (t : Bool) → next_is_blank (ListItem item.0.2 ∷ path_of r.tree) lines ≡ t → IsForest r.tree → item_at p.rest ≡ Some item
+    → is_blank_rest item.1 ≡ true → start_of (length d.text) lines ≡ e → r.empty_item ≡ None → ReadyAt d r.tree r.blank (Inside p) lines
+    → (let q : Reading = item_opened (offset p) item.0.0 item.0.1 item.0.2 r in ReadyEmpty d (record q { empty_item = Some e }) e lines)
+empty_by d r p lines item e true next forest is blank e_is none ready =
+    let byte : ℕ = item.0.0 in let number : ℕ = item.0.1 in let columns : ℕ = item.0.2 in
+    let g : Forest Item = (list_continued (offset p) byte number r).tree in
+    let q : Reading = item_opened (offset p) byte number columns r in
+    let opens : Opens d (path_of r.tree) p lines (OpensNode (item_head p byte number 0) (Blanks e) lines) =
+    subst (Opens d (path_of r.tree) p lines) (empty_opening d (path_of r.tree) p lines item e blank next e_is) (opens_item d (path_of r.tree) p lines item is) in
+    let done = item_is_open d r p lines byte number 0 (Blanks e) forest opens none ready in
+    let there : ReadyAt d (emptied q.tree q.tree.spine) false (Blanks e) lines = subst (λ f. ReadyAt d f false (Blanks e) lines) (sym (emptied_opened g (offset p) columns)) done.0 in
+    let path : path_of q.tree ≡ ListItem columns ∷ path_of r.tree = opened_path g (offset p) 0 columns (path_of r.tree) done.0.completes.below done.1 in
+    record {
+      place = record { 0 = length g.nodes };
+      outer = g.spine;
+      columns = columns;
+      spine = refl;
+      item = item_body g (offset p) columns;
+      ready = in_item d q.tree e columns lines true q.blank done.2 (ap (λ z. next_is_blank z lines) path ∙ next) there;
+    }
+empty_by d r p lines item e false next forest is blank e_is none ready =
+    let byte : ℕ = item.0.0 in let number : ℕ = item.0.1 in let columns : ℕ = item.0.2 in
+    let g : Forest Item = (list_continued (offset p) byte number r).tree in
+    let q : Reading = item_opened (offset p) byte number columns r in
+    let opens : Opens d (path_of r.tree) p lines (OpensNode (item_head p byte number columns) Line lines) =
+    subst (Opens d (path_of r.tree) p lines) (line_opening d (path_of r.tree) p lines item blank next) (opens_item d (path_of r.tree) p lines item is) in
+    let done = item_is_open d r p lines byte number columns Line forest opens none ready in
+    record {
+      place = record { 0 = length g.nodes };
+      outer = g.spine;
+      columns = columns;
+      spine = refl;
+      item = item_body g (offset p) columns;
+      ready = in_item d q.tree e columns lines false q.blank done.2 (ap (λ z. next_is_blank z lines) done.1 ∙ next) done.0;
+    }
+
+-- an item with nothing behind its marker
+pub ready_empty_item : (d : Document) (r : Reading) (p : Place) (lines : List Place) (item : (ℕ × ℕ × ℕ) × Rest) (e : ℕ) → IsForest r.tree → item_at p.rest ≡ Some item → is_blank_rest item.1 ≡ true → start_of (length d.text) lines ≡ e → r.empty_item ≡ None
+    → ReadyAt d r.tree r.blank (Inside p) lines → (let q : Reading = item_opened (offset p) item.0.0 item.0.1 item.0.2 r in Ready d (record q { empty_item = Some e }) lines)
+unfolding Ready
+ready_empty_item d r p lines item e forest is blank e_is none ready =
+    empty_by d r p lines item e (next_is_blank (ListItem item.0.2 ∷ path_of r.tree) lines) refl forest is blank e_is none ready
