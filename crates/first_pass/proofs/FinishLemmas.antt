@@ -46,6 +46,17 @@ plain_by nodes (ix ∷ s) [] o n = absurd o
 plain_by nodes (ix ∷ s) (InContainer c ∷ frames) o n = tt
 plain_by nodes (ix ∷ s) (InList byte loose ∷ frames) o n = absurd (no_list_frame (body_at nodes ix.0) byte loose o.0 n)
 
+-- what is closed is no container
+path_left : (r : Reading) (at : ℕ) (s : List TreeIndex) (b : Option ItemBody) → r.tree.spine ≡ s → option_and_then (λ (ix : TreeIndex). body_at r.tree.nodes ix.0) (slice_get s 0) ≡ b → path_of (if is_list b then popped at r else r).tree ≡ path_of r.tree
+path_left r at [] None spine is = refl
+path_left r at [] (Some b) spine is = cc
+path_left r at (ix ∷ rest) None spine is = refl
+path_left r at (ix ∷ rest) (Some (ListBody flags list number)) spine is =
+    let now : (popped at r).tree.spine ≡ rest = popped_spine at r ix rest spine in
+    popped_paths at r ix rest spine (popped at r).tree.spine ∙ ap (path_in r.tree.nodes) now
+    ∙ sym (ap (path_in r.tree.nodes) spine ∙ ap (λ o. with_container (option_and_then container_of o) (path_in r.tree.nodes rest)) is)
+path_left r at (ix ∷ rest) (Some b) spine is = refl
+
 module _ (d : Document) (r : Reading) (p : Place) (lines : List Place) (at : ℕ) (opening : Opening) (forest : IsForest r.tree) (opens : Opens d (path_of r.tree) p lines opening) where
   left_by : (s : List TreeIndex) (b : Option ItemBody) → r.tree.spine ≡ s → option_and_then (λ (ix : TreeIndex). body_at r.tree.nodes ix.0) (slice_get s 0) ≡ b → EndsListAt at b opening → ReadyAt d r.tree r.blank (Inside p) lines
       → ReadyPlain d (if is_list b then popped at r else r).tree r.blank p lines
@@ -65,16 +76,6 @@ module _ (d : Document) (r : Reading) (p : Place) (lines : List Place) (at : ℕ
   -- the list that is innermost, if one is, closed
   ready_left : EndsListAt at (top_body r.tree) opening → ReadyAt d r.tree r.blank (Inside p) lines → ReadyPlain d (list_left at r).tree r.blank p lines
   ready_left away ready = left_by r.tree.spine (top_body r.tree) refl refl away ready
-
-  path_left : (s : List TreeIndex) (b : Option ItemBody) → r.tree.spine ≡ s → option_and_then (λ (ix : TreeIndex). body_at r.tree.nodes ix.0) (slice_get s 0) ≡ b → path_of (if is_list b then popped at r else r).tree ≡ path_of r.tree
-  path_left [] None spine is = refl
-  path_left [] (Some b) spine is = cc
-  path_left (ix ∷ rest) None spine is = refl
-  path_left (ix ∷ rest) (Some (ListBody flags list number)) spine is =
-      let now : (popped at r).tree.spine ≡ rest = popped_spine at r ix rest spine in
-      popped_paths at r ix rest spine (popped at r).tree.spine ∙ ap (path_in r.tree.nodes) now
-      ∙ sym (ap (path_in r.tree.nodes) spine ∙ ap (λ o. with_container (option_and_then container_of o) (path_in r.tree.nodes rest)) is)
-  path_left (ix ∷ rest) (Some b) spine is = refl
 
   kept_left : (s : List TreeIndex) (b : Option ItemBody) → r.tree.spine ≡ s → option_and_then (λ (ix : TreeIndex). body_at r.tree.nodes ix.0) (slice_get s 0) ≡ b
       → ((if is_list b then popped at r else r).blank ≡ r.blank) × ((if is_list b then popped at r else r).empty_item ≡ r.empty_item)
@@ -241,10 +242,22 @@ unfolding list_finished item_finished
 ready_finished d r p lines at opening forest opens block away none ready =
     let l : Reading = list_left at r in
     let kept = kept_left d r p lines at opening forest opens r.tree.spine (top_body r.tree) refl refl in
-    let path : path_of l.tree ≡ path_of r.tree = path_left d r p lines at opening forest opens r.tree.spine (top_body r.tree) refl refl in
+    let path : path_of l.tree ≡ path_of r.tree = path_left r at r.tree.spine (top_body r.tree) refl refl in
     let left : ReadyPlain d l.tree r.blank p lines = ready_left d r p lines at opening forest opens away ready in
     let left' : ReadyPlain d l.tree l.blank p lines = subst (λ t. ReadyPlain d l.tree t p lines) (sym kept.0) left in
     let noted : ReadyPlain d (if l.blank then gap_tree l.tree l.tree.spine else l.tree) false p lines = ready_noted d l.tree p lines opening (subst (λ z. Opens d z p lines opening) (sym path) opens) block l.blank left' in
     let done = noted_as d l p lines l.blank refl (kept.1 ∙ none) noted in
     let same : item_finished_by r r.empty_item ≡ r = ap (item_finished_by r) none in
     subst (λ q. Finished d r (gap_noted (list_left at q)) p lines) (sym same) (record { ready = done.0; path = done.1 ∙ path; blank = done.2; none = done.3 })
+
+path_noted : (t : Bool) (r : Reading) → path_of (if t then record r { tree = gap_tree r.tree r.tree.spine; blank = false } else r).tree ≡ path_of r.tree
+path_noted true r = gap_path r.tree r.tree.spine
+path_noted false r = refl
+
+-- a new block ends no container
+pub path_finished : (at : ℕ) (r : Reading) → r.empty_item ≡ None → path_of (list_finished at r).tree ≡ path_of r.tree
+unfolding list_finished item_finished
+path_finished at r none =
+    let same : item_finished_by r r.empty_item ≡ r = ap (item_finished_by r) none in
+    let l : Reading = list_left at r in
+    subst (λ q. path_of (gap_noted (list_left at q)).tree ≡ path_of r.tree) (sym same) (path_noted l.blank l ∙ path_left r at r.tree.spine (top_body r.tree) refl refl)

@@ -3,6 +3,8 @@ pub mod EnterLemmas
 pub mod FinishLemmas
 pub mod FrontLemmas
 pub mod HeadingLemmas
+pub mod LeafLemmas
+pub mod LineLemmas
 pub mod ListLemmas
 pub mod OpenLemmas
 pub mod OpenerLemmas

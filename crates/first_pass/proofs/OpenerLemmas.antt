@@ -45,7 +45,7 @@ opened_too : (nodes : List (ℕ × Item)) (k : ℕ) (x : Item) (s : List TreeInd
 opened_too nodes k x s frames frame is below o =
     (ap (option_and_then frame_of) (get_end nodes (k, x) [] (length nodes) refl) ∙ is, open_below nodes (nodes ++ (k, x) ∷ []) (length nodes) s frames (λ i h. frame-append nodes ((k, x) ∷ []) i h) below o)
 
-depth_of : (s : List TreeIndex) → suc (length (map (λ (i : TreeIndex). i.0) s)) ≡ length s + 1
+pub depth_of : (s : List TreeIndex) → suc (length (map (λ (i : TreeIndex). i.0) s)) ≡ length s + 1
 depth_of s = let k = length-map s (λ (i : TreeIndex). i.0) in omega arith
 
 -- what opens a quote opens a block, and ends any list at its line

@@ -1,10 +1,14 @@
 -- Facts on places behind a line's indentation.
-use Rattle.std.proofs.Common.{◌≡◌, inl, inr, ◌≤◌, ℕ, ◌+◌, ◌<◌, zero, suc, List, [], ◌∷◌, length, drop, MatchOption, Option, Some, None, IsUtf8, IsCharBoundary, refl, sym, ap, subst, ◌∙◌, arith}
+use Rattle.std.proofs.Common.{◌≡◌, inl, inr, ◌≤◌, ℕ, ◌+◌, ◌-◌, ◌<◌, zero, suc, nat_lt, Bool, true, false, if◌then◌else◌, List, [], ◌∷◌, length, drop, MatchOption, Option, Some, None, IsUtf8, IsCharBoundary, refl, sym, ap, subst, ◌∙◌, arith}
+use Rattle.std.proofs.lemmas.List.{length-drop}
+use Rattle.std.proofs.lemmas.List.Sums.{prefix_len-le-length}
 use Rattle.std.proofs.lemmas.Bool.{cases_lt}
 use Rattle.std.proofs.lemmas.Option.{cond_some, none-some}
 use Rattle.std.specs.Option.{option_map, option_and_then}
-use Rattle.first_pass_scan.specs.Lines.{line_len}
-use Rattle.first_pass_scan.specs.Rest.{Rest, next_column, after_columns, indent, past_quote}
+use Rattle.first_pass_scan.specs.Lines.{is_content, line_len}
+use Rattle.first_pass_scan.specs.Markers.{item_of}
+use Rattle.first_pass_scan.proofs.MarkerPlaces.{IsMarked, item-marked, marked-keeps, marked-line_end}
+use Rattle.first_pass_scan.specs.Rest.{Rest, next_column, after_columns, indent, past_bytes, past_quote}
 use Rattle.first_pass_scan.specs.Places.{Place, line_rest, place_at, offset, line_end, IsPlaceOf}
 use Rattle.first_pass_scan.proofs.LineFacts.{line_len-none}
 use Rattle.first_pass_scan.proofs.Columns.{after-more, after-none, all-more}
@@ -12,7 +16,7 @@ use Rattle.first_pass_scan.proofs.PlaceFacts.{line_is_place, columns_keep, place
 use Rattle.first_pass_grammar.specs.declared.kind.Container.{Container}
 use Rattle.first_pass_grammar.specs.declared.kind.Container.TheVariants.{BlockQuote, ListItem}
 use Rattle.first_pass_grammar.specs.Containers.{has_columns, prefix, after, or_shorter, front}
-use Rattle.first_pass_grammar.specs.Kinds.{all_taken, unindented}
+use Rattle.first_pass_grammar.specs.Kinds.{all_taken, unindented, item_at}
 
 all_by : (k : ℕ) (r : Rest) (o : Option Rest) → next_column r ≡ o → ((s : Rest) → after_columns (indent (after_columns k s)) (after_columns k s) ≡ after_columns (indent s) s)
     → after_columns (indent (after_columns (suc k) r)) (after_columns (suc k) r) ≡ after_columns (indent r) r
@@ -137,3 +141,47 @@ place_end text p u i = elim (cases_lt 0 (length p.rest.left)) [
 -- where the line ends that begins at an offset
 pub line_start_end : (text : List ℕ) (start : ℕ) → line_end (place_at start (line_rest (drop start text))) ≡ start + line_len (drop start text)
 line_start_end text start = let z : start + 0 ≡ start = omega arith in ap (λ k. k + line_len (drop start text)) z
+
+-- what a list item's marker that was taken says
+pub item_found : (o : Option ((ℕ × ℕ × ℕ) × Rest)) (found : Option (ℕ × ℕ × ℕ)) (m : ℕ × ℕ × ℕ) (old new : Rest) → found ≡ Some m → MatchOption o ((found ≡ None) × (new ≡ old)) (λ item. (found ≡ Some item.0) × (new ≡ item.1)) → o ≡ Some (m, new)
+item_found None found m old new e h = (let z : None ≡ Some m = sym h.0 ∙ e in cc)
+item_found (Some item) found m old new e h = (let z : Some item.0 ≡ Some m = sym h.0 ∙ e in let w : item.0 ≡ m = cc in
+    ap (λ (k : ℕ × ℕ × ℕ). Some (k, item.1)) w ∙ ap (λ (q : Rest). Some (m, q)) (sym h.1))
+
+pub item_absent : (o : Option ((ℕ × ℕ × ℕ) × Rest)) (found : Option (ℕ × ℕ × ℕ)) (old new : Rest) → found ≡ None → MatchOption o ((found ≡ None) × (new ≡ old)) (λ item. (found ≡ Some item.0) × (new ≡ item.1)) → (o ≡ None) × (new ≡ old)
+item_absent None found old new e h = (refl, h.1)
+item_absent (Some item) found old new e h = (let z : None ≡ Some item.0 = sym e ∙ h.0 in cc)
+
+item_by : (t : Bool) (r : Rest) (item : (ℕ × ℕ × ℕ) × Rest) → (if t then item_of (indent r) (all_taken r) else None) ≡ Some item → item_of (indent r) (all_taken r) ≡ Some item
+item_by true r item h = h
+item_by false r item h = cc
+
+item_marked : (r : Rest) (item : (ℕ × ℕ × ℕ) × Rest) → item_at r ≡ Some item → IsMarked (all_taken r) item.1
+unfolding item_at
+item_marked r item h = item-marked (indent r) (all_taken r) item (item_by (nat_lt (indent r) 4) r item h)
+
+-- behind a list item's marker
+pub item_keeps : (text : List ℕ) (line : ℕ) (r : Rest) (item : (ℕ × ℕ × ℕ) × Rest) → IsUtf8 text → item_at r ≡ Some item → IsPlaceOf text (place_at line r)
+    → IsPlaceOf text (place_at line item.1) × (line_end (place_at line item.1) ≡ line_end (place_at line r))
+item_keeps text line r item u h i =
+    let m = item_marked r item h in
+    (marked-keeps text line (all_taken r) item.1 u m (all_keep text line r u i), marked-line_end line (all_taken r) item.1 m ∙ columns_line_end (indent r) (place_at line r))
+
+pub item_shorter : (r : Rest) (item : (ℕ × ℕ × ℕ) × Rest) → item_at r ≡ Some item → length item.1.left < length r.left
+item_shorter r item h =
+    let m = item_marked r item h in
+    let q : Rest = past_bytes m.width (all_taken r) in
+    let a = columns_shorter (indent r) r in
+    let b = columns_shorter m.first q in
+    let c = columns_shorter m.further (after_columns m.first q) in
+    let p = m.within in
+    let n = prefix_len-le-length is_content (all_taken r).left in
+    let w : m.width ≤ length (all_taken r).left = omega arith in
+    let some = m.some in
+    let l : length q.left ≡ length (all_taken r).left - m.width = length-drop m.width (all_taken r).left in
+    let e : length item.1.left ≡ length (after_columns m.further (after_columns m.first q)).left = ap (λ (z : Rest). length z.left) m.same in
+    omega arith
+
+-- a line ends where the bytes from a place on say
+pub read_end : (text : List ℕ) (start : ℕ) (r : Rest) → IsPlaceOf text (place_at start r) → start + r.taken + line_len (drop (start + r.taken) text) ≡ line_end (place_at start r)
+read_end text start r i = ap (λ bs. start + r.taken + line_len bs) (sym i.left)

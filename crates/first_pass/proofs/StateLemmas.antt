@@ -1,5 +1,5 @@
 -- The tree between two blocks, over what its nodes can still become: open nodes closed before the next line.
-use Rattle.std.proofs.Common.{◌≡◌, ℕ, zero, suc, ◌+◌, ◌-◌, ◌<◌, ◌≤◌, ◌==◌, nat_le, nat_lt, Bool, true, false, not, ◌||◌, List, [], ◌∷◌, ◌++◌, length, map, slice_get, drop, Option, Some, None, is_some, refl, sym, ap, subst, ◌∙◌, arith, if◌then◌else◌}
+use Rattle.std.proofs.Common.{◌≡◌, ℕ, zero, suc, ◌+◌, ◌-◌, ◌<◌, ◌≤◌, ◌==◌, nat_le, nat_lt, Bool, true, false, not, ◌||◌, List, [], ◌∷◌, ◌++◌, length, map, slice_get, drop, Option, Some, None, IsSome, is_some, refl, sym, ap, subst, ◌∙◌, arith, if◌then◌else◌}
 use Rattle.std.proofs.lemmas.Bool.Decides.{nat_tests}
 use Rattle.std.specs.Int.RustNames.{bit_and}
 use Rattle.std.specs.Option.{option_map, option_and_then}
@@ -21,9 +21,10 @@ use Rattle.first_pass_grammar.specs.Completion.{lines_from, Frame, InContainer, 
 use Rattle.first_pass_grammar.proofs.Completions.{completes-first, completes-end}
 use Rattle.first_pass.specs.Appends.{closed_by}
 use Rattle.first_pass.specs.Closing.{Reading, remembered, tight_run, tight_at, tight_items, popped_by, popped_at, popped, emptied}
-use Rattle.first_pass.specs.Path.{container_of, container_at, with_container, path_in, path_of}
-use Rattle.first_pass.specs.State.{frame_of, frame_at, AreOpen, ReadyAt, ReadyBeforeLine, ReadyInItem, ReadyEmpty, ReadyWith, Ready}
+use Rattle.first_pass.specs.Path.{container_of, container_at, with_container, path_in, path_of, outer}
+use Rattle.first_pass.specs.State.{frame_of, frame_at, AreOpen, ReadyAt, ReadyBeforeLine, ReadyInItem, ReadyEmpty, ReadyWith, NoMore, Ready}
 use Rattle.first_pass.specs.TableEntries.{no_tables}
+use Rattle.first_pass.proofs.FrontLemmas.{outer-all}
 use Rattle.first_pass.proofs.OpenLemmas.{body-kept}
 use Rattle.first_pass.proofs.PopLemmas.{pop_container, pop_list, list_popped}
 
@@ -229,3 +230,55 @@ module _ (e : ℕ) (r : Reading) (ix : TreeIndex) (rest : List TreeIndex) where
 
   pub popped_spine : r.tree.spine ≡ ix ∷ rest → (popped e r).tree.spine ≡ rest
   popped_spine spine = ap (λ (q : Reading). q.tree.spine) (popped_is e r ix rest spine) ∙ spine_by (body_at r.tree.nodes ix.0)
+
+drop_next : (k : ℕ) (s : List TreeIndex) (x : TreeIndex) (xs : List TreeIndex) → drop k s ≡ x ∷ xs → drop (suc k) s ≡ xs
+drop_next zero [] x xs h = cc
+drop_next zero (y ∷ s) x xs h = cc
+drop_next (suc k) [] x xs h = cc
+drop_next (suc k) (y ∷ s) x xs h = drop_next k s x xs h
+
+outer_next : (s : List TreeIndex) (x : TreeIndex) (xs : List TreeIndex) → suc (length xs) ≤ length s → x ∷ xs ≡ outer (suc (length xs)) s → xs ≡ outer (length xs) s
+outer_next s x xs l h =
+    let z : suc (length s - suc (length xs)) ≡ length s - length xs = omega arith in
+    sym (drop_next (length s - suc (length xs)) s x xs (sym h)) ∙ ap (λ k. drop k s) z
+
+-- What is closed of a tree, with the lines before which it is ready.
+pub record ClosedSoFar (old now : Reading) (kept at : ℕ) : Type 0 where
+  pub enough : kept ≤ length now.tree.spine
+  pub fewer : length now.tree.spine ≤ length old.tree.spine
+  pub spine : now.tree.spine ≡ outer (length now.tree.spine) old.tree.spine
+  pub paths : (s : List TreeIndex) → path_in now.tree.nodes s ≡ path_in old.tree.nodes s
+  pub ready : (d : Document) (lines : List Place) → start_of (length d.text) lines ≡ at → NoMore old.tree kept lines → Ready d old lines → Ready d now lines
+
+pub closed_none : (old : Reading) (kept at : ℕ) → kept ≤ length old.tree.spine → ClosedSoFar old old kept at
+closed_none old kept at h = record { enough = h; fewer = (let l : length old.tree.spine ≡ length old.tree.spine = refl in omega arith); spine = sym (outer-all old.tree.spine); paths = λ s. refl; ready = λ d lines e none ready. ready }
+
+closed_more : (old now : Reading) (kept at : ℕ) (s : List TreeIndex) → IsForest now.tree → now.tree.spine ≡ s → kept < length s → ClosedSoFar old now kept at → ClosedSoFar old (popped at now) kept at × (length (popped at now).tree.spine < length s)
+closed_more old now kept at [] forest spine more c = absurd (omega arith)
+closed_more old now kept at (ix ∷ rest) forest spine more c =
+    let l : length now.tree.spine ≡ suc (length rest) = ap length spine in
+    let after_it : (popped at now).tree.spine ≡ rest = popped_spine at now ix rest spine in
+    let k : length (popped at now).tree.spine ≡ length rest = ap length after_it in
+    let fewer : length now.tree.spine ≤ length old.tree.spine = c.fewer in
+    let here : ix ∷ rest ≡ outer (suc (length rest)) old.tree.spine = sym spine ∙ c.spine ∙ ap (λ n. outer n old.tree.spine) l in
+    let left : rest ≡ outer (length rest) old.tree.spine = outer_next old.tree.spine ix rest (omega arith) here in (
+      record {
+        enough = omega arith;
+        fewer = omega arith;
+        spine = after_it ∙ left ∙ ap (λ n. outer n old.tree.spine) (sym k);
+        paths = λ s. popped_paths at now ix rest spine s ∙ c.paths s;
+        ready = λ d lines e none ready. ready_pop d now lines at ix rest forest spine e
+            (subst (λ p. Ends p Line lines) (sym (c.paths now.tree.spine ∙ ap (path_in old.tree.nodes) (spine ∙ here))) (none (suc (length rest)) (omega arith) (omega arith))) (c.ready d lines e none ready);
+      },
+      omega arith,
+    )
+
+-- one open node closed, of those that are to be
+pub closed_one : (old now new : Reading) (kept at : ℕ) → IsForest now.tree → new ≡ popped at now → kept < length now.tree.spine → ClosedSoFar old now kept at → ClosedSoFar old new kept at × (length new.tree.spine < length now.tree.spine)
+closed_one old now new kept at forest is more c =
+    subst (λ q. ClosedSoFar old q kept at × (length q.tree.spine < length now.tree.spine)) (sym is) (closed_more old now kept at now.tree.spine forest refl more c)
+
+-- an open node is there
+pub some_open : (s : List TreeIndex) → 0 < length s → IsSome (slice_get s 0)
+some_open [] h = absurd (omega arith)
+some_open (ix ∷ s) h = refl

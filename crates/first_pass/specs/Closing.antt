@@ -71,11 +71,6 @@ popped_at e r (ix ∷ rest) = popped_by r (closed_by r.tree e (ix ∷ rest)) ix 
 unfoldable pub popped : ℕ → Reading → Reading
 popped e r = popped_at e r r.tree.spine
 
--- the n innermost open nodes closed at an offset, one after the other
-abbrev pub popped_times : ℕ → ℕ → Reading → Reading
-popped_times zero e r = r
-popped_times (suc n) e r = popped_times n e (popped e r)
-
 -- an item that began with two blank lines is closed behind the line of its marker, and no item is empty
 abbrev pub item_finished_by : Reading → Option ℕ → Reading
 item_finished_by r None = r

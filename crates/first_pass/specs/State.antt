@@ -1,5 +1,5 @@
 -- What the tree of the pass stands for between two blocks.
-use Rattle.std.specs.Prelude.{◌≡◌, ℕ, ◌==◌, Bool, true, false, List, [], ◌∷◌, map, Option, Some, None, if◌then◌else◌}
+use Rattle.std.specs.Prelude.{◌≡◌, ℕ, ◌<◌, ◌≤◌, ◌==◌, Bool, true, false, List, [], ◌∷◌, length, map, Option, Some, None, if◌then◌else◌}
 use Rattle.std.specs.Option.{option_and_then}
 use Rattle.first_pass_items.specs.declared.item.Item.{Item}
 use Rattle.first_pass_items.specs.declared.item.ItemBody.{ItemBody}
@@ -9,10 +9,10 @@ use Rattle.first_pass_tree.specs.Forest.{Forest, body_at}
 use Rattle.first_pass_scan.specs.Places.{Place}
 use Rattle.first_pass_grammar.specs.declared.kind.Container.TheVariants.{BlockQuote, ListItem}
 use Rattle.first_pass_grammar.specs.Leaves.{Document}
-use Rattle.first_pass_grammar.specs.Skeleton.{From, Line, Blanks, next_is_blank}
+use Rattle.first_pass_grammar.specs.Skeleton.{From, Line, Blanks, Ends, next_is_blank}
 use Rattle.first_pass_grammar.specs.Completion.{Frame, InContainer, InList, Completes}
 use Rattle.first_pass.specs.Closing.{Reading, emptied}
-use Rattle.first_pass.specs.Path.{path_of}
+use Rattle.first_pass.specs.Path.{path_in, path_of, outer}
 
 -- a list that is tight so far, or isn't
 abbrev pub list_frame : ℕ → ℕ → Option Frame
@@ -66,3 +66,7 @@ ReadyWith d r lines (Some e) = ReadyEmpty d r e lines
 -- what the pass remembers begins a derivation of the text that goes on with these lines
 unfoldable pub Ready : Document → Reading → List Place → Type 0
 Ready d r lines = ReadyWith d r lines r.empty_item
+
+-- no more than so many of the open nodes go on with the first of these lines
+abbrev pub NoMore : Forest Item → ℕ → List Place → Type 0
+NoMore f kept lines = (m : ℕ) → kept < m → m ≤ length f.spine → Ends (path_in f.nodes (outer m f.spine)) Line lines

@@ -1,18 +1,19 @@
 //! The open containers, and how far a line goes on with them (CommonMark 5).
 
-ghost use Rattle.std.specs.Prelude.{◌≡◌, ℕ, ◌+◌, ◌<◌, ◌≤◌, ◌-◌, length, drop, Some, None, true, false, MatchOption, IfOk, IfSome, OnOk, IsUtf8, IsCharBoundary};
+ghost use Rattle.std.specs.Prelude.{◌≡◌, ℕ, ◌+◌, ◌<◌, ◌≤◌, List, length, drop, Some, None, true, false, MatchOption, IfOk, IfSome, OnOk, IsUtf8, IsCharBoundary};
 ghost use Rattle.first_pass_scan.specs.Rest.{after_columns};
-ghost use Rattle.first_pass_scan.specs.Places.{place_at, line_end, IsPlaceOf};
-ghost use Rattle.first_pass_grammar.specs.Leaves.{document};
+ghost use Rattle.first_pass_scan.specs.Places.{Place, place_at, line_end, start_of, IsPlaceOf};
+ghost use Rattle.first_pass_grammar.specs.Leaves.{Document, document};
 ghost use Rattle.first_pass_grammar.specs.declared.kind.Container.TheVariants.{BlockQuote, ListItem};
 ghost use Rattle.first_pass_grammar.specs.Containers.{prefix, after, front};
 ghost use Rattle.first_pass_grammar.specs.Kinds.{item_at};
+ghost use Rattle.first_pass_tree.specs.declared.tree_index.TreeIndex.{TreeIndex};
 ghost use Rattle.first_pass.specs.Path.{container_of, prefix_of, path_in, path_of, outer};
 ghost use Rattle.first_pass_scan.specs.Lines.{line_len};
 ghost use Rattle.first_pass_grammar.specs.Skeleton.{Inside};
 ghost use Rattle.first_pass_grammar.specs.Completion.{lines_from};
-ghost use Rattle.first_pass.specs.Closing.{remembered, popped_times};
-ghost use Rattle.first_pass.specs.State.{Ready, ReadyAt};
+ghost use Rattle.first_pass.specs.Closing.{remembered};
+ghost use Rattle.first_pass.specs.State.{NoMore, Ready, ReadyAt};
 ghost use Rattle.first_pass.specs.Opening.{IsOpenedAt, ReadyIn};
 
 use crate::indentation::scan_indentation;
@@ -94,9 +95,14 @@ impl<'a> FirstPass<'a> {
         ensures text { self.new.text.now ≡ self.old.text.now }
         ensures options { self.new.options ≡ self.old.options }
         ensures allocs { self.new.allocs ≡ self.old.allocs }
-        ensures reading { remembered self.new.tree self.new.begin_list_item self.new.last_line_blank ≡ popped_times (length self.old.tree.spine - kept) ix (remembered self.old.tree self.old.begin_list_item self.old.last_line_blank) }
+        ensures spine { self.new.tree.spine ≡ outer kept self.old.tree.spine }
+        ensures paths { (s : List TreeIndex) → path_in self.new.tree.nodes s ≡ path_in self.old.tree.nodes s }
+        ensures ready { (d : Document) (lines : List Place) → start_of (length d.text) lines ≡ ix → NoMore self.old.tree kept lines
+            → Ready d (remembered self.old.tree self.old.begin_list_item self.old.last_line_blank) lines
+            → Ready d (remembered self.new.tree self.new.begin_list_item self.new.last_line_blank) lines }
     {
         while kept < self.tree.spine_len() {
+            self.tree.is_forest();
             self.pop(ix);
         }
     }
@@ -184,6 +190,7 @@ impl<'a> FirstPass<'a> {
             ReadyAt (document self.old.text.now self.old.options) self.old.tree self.old.last_line_blank (Inside (place_at start_ix line_start.old)) (lines_from self.old.text.now (line_end (place_at start_ix line_start.old)))
             → ReadyIn (document self.old.text.now self.old.options) (remembered self.new.tree self.new.begin_list_item self.new.last_line_blank) (place_at start_ix line_start.new) (line_end (place_at start_ix line_start.old)) answer) }
     {
+        self.tree.is_forest();
         let before = start_ix + line_start.bytes_scanned();
         if let Some((byte, number, indent)) = scan_item(line_start) {
             self.open_item(before, byte, number, indent)?;

@@ -82,6 +82,8 @@ impl<'a> FirstPass<'a> {
         ensures text { OnOk result (self.new.text.now ≡ self.old.text.now) }
         ensures options { OnOk result (self.new.options ≡ self.old.options) }
         ensures allocs { OnOk result (self.new.allocs ≡ self.old.allocs) }
+        ensures empty_item { OnOk result (self.new.begin_list_item ≡ self.old.begin_list_item) }
+        ensures blank { OnOk result (self.new.last_line_blank ≡ self.old.last_line_blank) }
         ensures block { IfOk result (λ next. AddsHeading (document self.old.text.now self.old.options) start atx_level self.old.tree self.new.tree next) }
     {
         self.tree.append(Item {
@@ -106,6 +108,8 @@ impl<'a> FirstPass<'a> {
         ensures text { OnOk result (self.new.text.now ≡ self.old.text.now) }
         ensures options { OnOk result (self.new.options ≡ self.old.options) }
         ensures allocs { OnOk result (self.new.allocs ≡ self.old.allocs) }
+        ensures empty_item { OnOk result (self.new.begin_list_item ≡ self.old.begin_list_item) }
+        ensures blank { OnOk result (self.new.last_line_blank ≡ self.old.last_line_blank) }
         ensures line { IfOk result (λ next. AppendsHeading (document self.old.text.now self.old.options) start self.old.tree self.new.tree next) }
     {
         let (next, line_break) = self.parse_line(start, None, TableParseMode::Disabled)?;

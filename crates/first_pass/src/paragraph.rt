@@ -63,6 +63,8 @@ impl<'a> FirstPass<'a> {
         ensures text { OnOk result (self.new.text.now ≡ self.old.text.now) }
         ensures options { OnOk result (self.new.options ≡ self.old.options) }
         ensures allocs { OnOk result (self.new.allocs ≡ self.old.allocs) }
+        ensures empty_item { OnOk result (self.new.begin_list_item ≡ self.old.begin_list_item) }
+        ensures blank { OnOk result (self.new.last_line_blank ≡ self.old.last_line_blank) }
         ensures block { IfOk result (λ next. AddsParagraph (document self.old.text.now self.old.options) start_ix tasklist_marker self.old.tree self.new.tree next) }
     {
         self.tree.is_forest();
@@ -86,6 +88,8 @@ impl<'a> FirstPass<'a> {
         ensures text { OnOk result (self.new.text.now ≡ self.old.text.now) }
         ensures options { OnOk result (self.new.options ≡ self.old.options) }
         ensures allocs { OnOk result (self.new.allocs ≡ self.old.allocs) }
+        ensures empty_item { OnOk result (self.new.begin_list_item ≡ self.old.begin_list_item) }
+        ensures blank { OnOk result (self.new.last_line_blank ≡ self.old.last_line_blank) }
         ensures lines { IfOk result (λ next. AppendsParagraph (document self.old.text.now self.old.options) start self.old.tree self.new.tree next) }
     {
         self.tree.is_forest();

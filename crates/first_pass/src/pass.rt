@@ -136,6 +136,7 @@ impl<'a> FirstPass<'a> {
             ReadyAt (document self.old.text.now self.old.options) self.old.tree self.old.last_line_blank (Inside (place_at start_ix line_start.entry)) (lines_from self.old.text.now (line_end (place_at start_ix line_start.entry)))
             → Ready (document self.old.text.now self.old.options) (remembered self.new.tree self.new.begin_list_item self.new.last_line_blank) (lines_from self.old.text.now next)) }
     {
+        self.tree.is_forest();
         let mut line_start = line_start;
         let kind = kind_at(&mut line_start);
         let at = start_ix + line_start.bytes_scanned();
@@ -173,6 +174,8 @@ impl<'a> FirstPass<'a> {
         ensures text { OnOk result (self.new.text.now ≡ self.old.text.now) }
         ensures options { OnOk result (self.new.options ≡ self.old.options) }
         ensures allocs { OnOk result (self.new.allocs ≡ self.old.allocs) }
+        ensures empty_item { OnOk result (self.new.begin_list_item ≡ self.old.begin_list_item) }
+        ensures blank { OnOk result (self.new.last_line_blank ≡ self.old.last_line_blank) }
         ensures line { IfOk result (λ answer. AppendsLine
             (record { options = self.old.options; text = text_upto self.old.text.now end; start = start }) self.old.tree self.new.tree answer) }
         ensures ends { IfOk result (λ answer. EndsLine

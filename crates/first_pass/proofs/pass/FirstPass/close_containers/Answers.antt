@@ -1,17 +1,32 @@
-use Rattle.std.proofs.Common.{◌∙◌, arith}
-use Rattle.first_pass.proofs.StateLemmas.{one_closed}
+use Rattle.std.proofs.Common.{refl, sym, ap, ◌∙◌, arith}
+use Rattle.first_pass.specs.Path.{outer}
+use Rattle.first_pass.specs.Closing.{remembered}
+use Rattle.first_pass.proofs.StateLemmas.{closed_none, closed_one}
 use Rattle.first_pass.proofs.pass.FirstPass.close_containers.Goals as goal
+
+pub loop-self-init : goal.loop-self-init
+loop-self-init c = record {
+  same_text = refl;
+  same_options = refl;
+  same_allocs = refl;
+  closed = closed_none (remembered c.args.self.now.tree c.args.self.now.begin_list_item c.args.self.now.last_line_blank) c.args.kept c.args.ix c.requires;
+}
 
 pub loop-self-preserved : goal.loop-self-preserved
 loop-self-preserved c =
     let i = c.loop-self.invariant in
     let n = c.spine_len.ensures in
     let more = c.loop-self-test.true in
-    let one = one_closed c.loop-self.self.tree c.pop.new.self.tree c.args.kept c.args.ix c.pop.ensures.tree (omega arith) in
+    let one = closed_one _ _ _ c.args.kept c.args.ix c.is_forest.ensures c.pop.ensures.reading (omega arith) i.closed in
     record {
       same_text = c.pop.ensures.text ∙ i.same_text;
       same_options = c.pop.ensures.options ∙ i.same_options;
       same_allocs = c.pop.ensures.allocs ∙ i.same_allocs;
-      enough = one.1;
-      closes = one.2 ∙ i.closes;
+      closed = one.0;
     }
+
+pub loop-self-smaller : goal.loop-self-smaller
+loop-self-smaller c =
+    let n = c.spine_len.ensures in
+    let more = c.loop-self-test.true in
+    (closed_one _ _ _ c.args.kept c.args.ix c.is_forest.ensures c.pop.ensures.reading (omega arith) c.loop-self.invariant.closed).1

@@ -1,5 +1,6 @@
-use Rattle.std.proofs.Common.{◌≡◌, ◌≤◌, ◌-◌, length}
-use Rattle.first_pass.specs.State.{closed_times}
+use Rattle.std.proofs.Common.{◌≡◌, length}
+use Rattle.first_pass.specs.Closing.{remembered}
+use Rattle.first_pass.proofs.StateLemmas.{ClosedSoFar}
 use Rattle.first_pass.proofs.pass.FirstPass.close_containers.Given as goal
 
 -- the others are still to be closed
@@ -8,8 +9,7 @@ invariant-loop-self l = record {
   same_text : l.self.text.now ≡ l.initial.self.text.now;
   same_options : l.self.options ≡ l.initial.self.options;
   same_allocs : l.self.allocs ≡ l.initial.self.allocs;
-  enough : l.kept ≤ length l.self.tree.spine;
-  closes : closed_times (length l.self.tree.spine - l.kept) l.ix l.self.tree ≡ closed_times (length l.initial.self.tree.spine - l.kept) l.ix l.initial.self.tree;
+  closed : ClosedSoFar (remembered l.initial.self.tree l.initial.self.begin_list_item l.initial.self.last_line_blank) (remembered l.self.tree l.self.begin_list_item l.self.last_line_blank) l.kept l.ix;
 }
 
 abbrev pub decreases-loop-self : goal.decreases-loop-self

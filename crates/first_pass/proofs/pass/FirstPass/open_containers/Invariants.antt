@@ -1,20 +1,23 @@
-use Rattle.std.proofs.Common.{◌≡◌, List, length, Some}
-use Rattle.first_pass_scan.specs.Places.{Place, place_at, line_end, IsPlaceOf}
+use Rattle.std.proofs.Common.{◌≡◌, length, None}
+use Rattle.first_pass_scan.specs.Places.{place_at, line_end, IsPlaceOf}
 use Rattle.first_pass_grammar.specs.Leaves.{document}
+use Rattle.first_pass_grammar.specs.Skeleton.{Inside}
+use Rattle.first_pass_grammar.specs.Completion.{lines_from}
 use Rattle.first_pass.specs.State.{ReadyAt}
 use Rattle.first_pass.proofs.pass.FirstPass.open_containers.Given as goal
 
 -- the containers are open that begin before this place
-abbrev pub invariant-loop-quote : goal.invariant-loop-quote
-invariant-loop-quote l = record {
+abbrev pub invariant-loop-next : goal.invariant-loop-next
+invariant-loop-next l = record {
   same_text : l.self.text.now ≡ l.initial.self.text.now;
   same_options : l.self.options ≡ l.initial.self.options;
   same_allocs : l.self.allocs ≡ l.initial.self.allocs;
   place : IsPlaceOf l.initial.self.text.now (place_at l.start_ix l.line_start);
   same_end : line_end (place_at l.start_ix l.line_start) ≡ line_end (place_at l.start_ix l.fn.line_start);
-  ready : (lines : List Place) → ReadyAt (document l.initial.self.text.now l.initial.self.options) l.initial.self.tree (Some (place_at l.start_ix l.fn.line_start)) lines
-      → ReadyAt (document l.initial.self.text.now l.initial.self.options) l.self.tree (Some (place_at l.start_ix l.line_start)) lines;
+  no_empty : l.self.begin_list_item ≡ None;
+  ready : ReadyAt (document l.initial.self.text.now l.initial.self.options) l.initial.self.tree l.initial.self.last_line_blank (Inside (place_at l.start_ix l.fn.line_start)) (lines_from l.initial.self.text.now (line_end (place_at l.start_ix l.fn.line_start)))
+      → ReadyAt (document l.initial.self.text.now l.initial.self.options) l.self.tree l.self.last_line_blank (Inside (place_at l.start_ix l.line_start)) (lines_from l.initial.self.text.now (line_end (place_at l.start_ix l.fn.line_start)));
 }
 
-abbrev pub decreases-loop-quote : goal.decreases-loop-quote
-decreases-loop-quote l = length l.line_start.left
+abbrev pub decreases-loop-next : goal.decreases-loop-next
+decreases-loop-next l = length l.line_start.left

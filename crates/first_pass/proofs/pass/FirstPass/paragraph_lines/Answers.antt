@@ -9,6 +9,8 @@ lines-init c = record {
   same_text = refl;
   same_options = refl;
   same_allocs = refl;
+  same_item = refl;
+  same_blank = refl;
   read = so_far_start (document c.args.self.now.text.now c.args.self.now.options) c.args.start c.args.self.now.tree c.requires.boundary;
 }
 
@@ -36,6 +38,8 @@ lines-preserved c =
       same_text = c.in_ok-next.ensures.text ∙ i.same_text;
       same_options = c.in_ok-next.ensures.options ∙ i.same_options;
       same_allocs = c.in_ok-next.ensures.allocs ∙ i.same_allocs;
+      same_item = c.in_ok-next.ensures.empty_item ∙ i.same_item;
+      same_blank = c.in_ok-next.ensures.blank ∙ i.same_blank;
       read = (so_far_next _ _ _ _ _ c.args.start c.lines.ix c.in_ok-next.next c.in-Some.at _ _ _ c.append_item.new.tree c.in_ok-next.line_break _ _ i.same_text i.same_options c.in_ok-next.ensures.text refl (open_are_in c.args.self.now.tree.nodes c.args.self.now.tree.spine c.is_forest.ensures.opened) (subst IsUtf8 (c.in_ok-next.ensures.text ∙ i.same_text) c.next_paragraph_text.ensures.utf8)
           i.read c.requires.apart c.in_ok-next.ensures.line c.in_ok-next.ensures.ends c.in_ok-at.ensures.value c.in-Some.is c.in_ok-at.ensures.place c.in_ok-append_item-in-Some.ensures).0;
     }

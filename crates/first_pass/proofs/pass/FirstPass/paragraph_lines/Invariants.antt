@@ -9,6 +9,8 @@ invariant-lines l = record {
   same_text : l.self.text.now ≡ l.initial.self.text.now;
   same_options : l.self.options ≡ l.initial.self.options;
   same_allocs : l.self.allocs ≡ l.initial.self.allocs;
+  same_item : l.self.begin_list_item ≡ l.initial.self.begin_list_item;
+  same_blank : l.self.last_line_blank ≡ l.initial.self.last_line_blank;
   read : ParagraphSoFar (document l.initial.self.text.now l.initial.self.options) l.start l.initial.self.tree l.self.tree l.ix;
 }
 

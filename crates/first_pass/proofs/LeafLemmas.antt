@@ -1,0 +1,141 @@
+-- A leaf block read at a place where no container begins.
+use Rattle.std.proofs.Common.{◌≡◌, ℕ, zero, suc, ◌+◌, ◌<◌, ◌≤◌, nat_lt, Bool, true, false, List, [], ◌∷◌, ◌++◌, length, map, drop, slice_get, Option, Some, None, is_some, IsUtf8, refl, sym, ap, subst, ◌∙◌, arith, if◌then◌else◌, length-append}
+use Rattle.std.specs.Option.{option_map}
+use Rattle.first_pass_items.specs.declared.item.Item.{Item}
+use Rattle.first_pass_items.specs.declared.item.ItemBody.{ItemBody}
+use Rattle.first_pass_items.specs.declared.item.ItemBody.TheVariants.{List as ListBody}
+use Rattle.first_pass_items.specs.declared.item.HeadingLevel.{HeadingLevel}
+use Rattle.first_pass_tree.specs.declared.tree_index.TreeIndex.{TreeIndex}
+use Rattle.first_pass_tree.specs.Forest.{Forest, IsForest, added, at_depth}
+use Rattle.first_pass_scan.specs.Lines.{blank_len, atx_level, level_number, line_len}
+use Rattle.first_pass_scan.specs.Rest.{Rest, indent}
+use Rattle.first_pass_scan.specs.Places.{Place, offset, place_at, line_end, start_of, IsPlaceOf}
+use Rattle.first_pass_scan.proofs.PlaceFacts.{start_of-lines, columns_line_end}
+use Rattle.first_pass_grammar.specs.declared.kind.Container.{Container}
+use Rattle.first_pass_grammar.specs.declared.kind.Container.TheVariants.{BlockQuote}
+use Rattle.first_pass_grammar.specs.declared.kind.Kind.{Kind}
+use Rattle.first_pass_grammar.specs.declared.kind.Kind.TheVariants.{Blank, AtxHeading, Paragraph}
+use Rattle.first_pass_grammar.specs.Containers.{at_rest, prefix}
+use Rattle.first_pass_grammar.specs.Kinds.{unindented, is_blank_rest, quote_inside, item_at, heading_or, kind_of}
+use Rattle.first_pass_grammar.specs.Leaves.{Document, document, IsParagraph, IsHeading, heading_text_at, heading_block, paragraph_block}
+use Rattle.first_pass_grammar.specs.Skeleton.{Leaf, BlankLine, Block, Line, Inside, Opening, OpensLeaf, OpensNode, OpensAs, OpensFrom, Opens}
+use Rattle.first_pass_grammar.specs.Derivation.{leaf_items}
+use Rattle.first_pass_grammar.specs.Completion.{lines_from, Frame, containers_of, AreBelow, Completes}
+use Rattle.first_pass_grammar.proofs.Completions.{OpensBlock, completes-block}
+use Rattle.first_pass.specs.Appends.{line_end_at, AddsParagraph, AddsHeading}
+use Rattle.first_pass.specs.Closing.{Reading, remembered, top_body, list_finished}
+use Rattle.first_pass.specs.Path.{path_of}
+use Rattle.first_pass.specs.State.{AreOpen, ReadyAt, Ready}
+use Rattle.first_pass.proofs.OpenLemmas.{open_path, open_below, frame-append}
+use Rattle.first_pass.proofs.StateLemmas.{ready_plain}
+use Rattle.first_pass.proofs.FinishLemmas.{EndsListAt, Finished, ready_finished, path_finished}
+use Rattle.first_pass.proofs.OpenerLemmas.{depth_of}
+
+-- The line of a text ends where its line ends.
+pub line_end_of : (text : List ℕ) (p : Place) → IsPlaceOf text (unindented p) → line_end_at text (offset (unindented p)) ≡ line_end p
+line_end_of text p i =
+    let e = columns_line_end (indent p.rest) p in
+    let f = ap line_len i.left in
+    omega arith
+
+-- where no container begins, what the kind of the place says
+no_container : (d : Document) (path : List Container) (p : Place) (lines : List Place) (k : Kind) (o : Opening) → item_at p.rest ≡ None → prefix (BlockQuote None) p.rest ≡ None → kind_of p.rest ≡ k → OpensAs d path p lines k o → Opens d path p lines o
+unfolding OpensFrom
+no_container d path p lines k o no_item none kind opens =
+    subst (λ i. OpensFrom d path p lines i (quote_inside p) o) (sym no_item)
+    (subst (λ (q : Option Rest). OpensFrom d path p lines None (option_map (at_rest p) q) o) (sym none) (subst (λ k. OpensAs d path p lines k o) (sym kind) opens))
+
+kind_by : (t u : Bool) (o : Option HeadingLevel) → (if t then Blank else (if u then heading_or o Paragraph else Paragraph)) ≡ Blank → t ≡ true
+kind_by true u o h = refl
+kind_by false true (Some level) h = cc
+kind_by false true None h = cc
+kind_by false false o h = cc
+
+-- a place of this kind is blank
+pub kind_blank_rest : (r : Rest) → kind_of r ≡ Blank → is_blank_rest r ≡ true
+unfolding kind_of
+kind_blank_rest r h = kind_by (is_blank_rest r) _ _ h
+
+-- a block ends any list at the place that it says
+block_away : (b : Option ItemBody) (at : ℕ) (items : List (ℕ × Item)) (left : List Place) → EndsListAt at b (OpensLeaf (Block at items) Line left)
+block_away None at items left = tt
+block_away (Some (ListBody flags list number)) at items left = refl
+block_away (Some b) at items left = tt
+
+-- a block is added once a new block has ended what it ends
+ready_added : (d : Document) (r : Reading) (new : Forest Item) (p : Place) (lines left : List Place) (at : ℕ) (items : List (ℕ × Item)) → IsForest r.tree → Opens d (path_of r.tree) p lines (OpensLeaf (Block at items) Line left)
+    → new ≡ added (list_finished at r).tree items → r.empty_item ≡ None → ReadyAt d r.tree r.blank (Inside p) lines → Ready d (remembered new (list_finished at r).empty_item (list_finished at r).blank) left
+ready_added d r new p lines left at items forest opens new_is none ready =
+    let opening : Opening = OpensLeaf (Block at items) Line left in
+    let done = ready_finished d r p lines at opening forest opens tt (block_away (top_body r.tree) at items left) none ready in
+    let f : Forest Item = (list_finished at r).tree in
+    let frames : List Frame = done.ready.0.frames in
+    let os : List ℕ = map (λ (i : TreeIndex). i.0) f.spine in
+    let opens' : Opens d (containers_of frames) p lines opening = subst (λ z. Opens d z p lines opening) (sym done.path ∙ open_path f.nodes f.spine frames done.ready.0.are_open) opens in
+    let k = completes-block d frames f.nodes os p lines left at items done.ready.1 opens' done.ready.0.completes in
+    let q : ReadyAt d (added f items) false Line left = record {
+      frames = frames;
+      are_open = open_below f.nodes (f.nodes ++ at_depth (length f.spine + 1) items) (length f.nodes) f.spine frames (λ i h. frame-append f.nodes (at_depth (length f.spine + 1) items) i h) done.ready.0.completes.below done.ready.0.are_open;
+      completes = subst (λ z. Completes d false frames (f.nodes ++ at_depth z items) os Line left) (depth_of f.spine) k;
+    } in
+    ready_plain d (remembered new (list_finished at r).empty_item (list_finished at r).blank) left done.none
+    (subst (λ t. ReadyAt d new t Line left) (sym done.blank) (subst (λ z. ReadyAt d z false Line left) (sym new_is) q))
+
+-- behind a heading
+pub ready_heading : (d : Document) (r : Reading) (new : Forest Item) (p : Place) (at next : ℕ) (level : HeadingLevel) → IsForest r.tree → item_at p.rest ≡ None → prefix (BlockQuote None) p.rest ≡ None → kind_of p.rest ≡ AtxHeading level
+    → at ≡ offset (unindented p) → IsPlaceOf d.text (unindented p) → AddsHeading d at level (list_finished p.line r).tree new next → r.empty_item ≡ None
+    → ReadyAt d r.tree r.blank (Inside p) (lines_from d.text (line_end p)) → Ready d (remembered new (list_finished p.line r).empty_item (list_finished p.line r).blank) (lines_from d.text next)
+unfolding OpensAs
+ready_heading d r new p at next level forest no_item no_quote kind at_is place h none ready =
+    let lines : List Place = lines_from d.text (line_end p) in
+    let block : List (ℕ × Item) = heading_block at next level h.chain in
+    let o : Opening = OpensLeaf (Block p.line block) Line (lines_from d.text next) in
+    let next_is : next ≡ line_end p = h.end_is ∙ ap (line_end_at d.text) at_is ∙ line_end_of d.text p place in
+    let heading : OpensAs d (path_of r.tree) p lines (AtxHeading level) o = (
+      h.chain,
+      next,
+      subst (λ k. IsHeading d (heading_text_at d.text k (level_number level)) h.chain next) at_is h.line,
+      ap (λ k. OpensLeaf (Block p.line (heading_block k next level h.chain)) Line (lines_from d.text next)) at_is
+          ∙ ap (λ n. OpensLeaf (Block p.line (heading_block (offset (unindented p)) next level h.chain)) Line (lines_from d.text n)) next_is,
+    ) in
+    ready_added d r new p lines (lines_from d.text next) p.line block forest (no_container d (path_of r.tree) p lines (AtxHeading level) o no_item no_quote kind heading) h.tree_is none ready
+
+-- behind a paragraph
+pub ready_paragraph : (d : Document) (r : Reading) (new : Forest Item) (p : Place) (at next : ℕ) → IsForest r.tree → item_at p.rest ≡ None → prefix (BlockQuote None) p.rest ≡ None → kind_of p.rest ≡ Paragraph
+    → at ≡ offset (unindented p) → IsPlaceOf d.text (unindented p) → AddsParagraph d at None (list_finished at r).tree new next → r.empty_item ≡ None
+    → ReadyAt d r.tree r.blank (Inside p) (lines_from d.text (line_end p)) → Ready d (remembered new (list_finished at r).empty_item (list_finished at r).blank) (lines_from d.text next)
+unfolding OpensAs
+ready_paragraph d r new p at next forest no_item no_quote kind at_is place a none ready =
+    let path : path_of (list_finished at r).tree ≡ path_of r.tree = path_finished at r none in
+    let lines : List Place = lines_from d.text (line_end p) in
+    let block : List (ℕ × Item) = paragraph_block at next a.chain in
+    let o : Opening = OpensLeaf (Block at block) Line (lines_from d.text next) in
+    let ends : start_of (length d.text) (lines_from d.text next) ≡ next = start_of-lines d.text next a.boundary.0 in
+    let here : line_end_at d.text at ≡ line_end p = ap (line_end_at d.text) at_is ∙ line_end_of d.text p place in
+    let text : IsParagraph d (path_of r.tree) at [] (lines_from d.text (line_end_at d.text at)) a.chain (lines_from d.text next) = subst (λ z. IsParagraph d z at [] (lines_from d.text (line_end_at d.text at)) a.chain (lines_from d.text next)) path a.lines in
+    let whole : IsParagraph d (path_of r.tree) (offset (unindented p)) [] lines a.chain (lines_from d.text next) =
+    subst (λ k. IsParagraph d (path_of r.tree) k [] lines a.chain (lines_from d.text next)) at_is (subst (λ n. IsParagraph d (path_of r.tree) at [] (lines_from d.text n) a.chain (lines_from d.text next)) here text) in
+    let paragraph : OpensAs d (path_of r.tree) p lines Paragraph o = (
+      a.chain,
+      lines_from d.text next,
+      whole,
+      ap (λ k. OpensLeaf (Block k (paragraph_block k next a.chain)) Line (lines_from d.text next)) at_is
+          ∙ ap (λ n. OpensLeaf (Block (offset (unindented p)) (paragraph_block (offset (unindented p)) n a.chain)) Line (lines_from d.text next)) (sym ends),
+    ) in
+    ready_added d r new p lines (lines_from d.text next) at block forest (no_container d (path_of r.tree) p lines Paragraph o no_item no_quote kind paragraph) a.tree_is none ready
+
+-- a heading's number signs stand behind its indentation
+heading_level : (o : Option HeadingLevel) (level : HeadingLevel) → heading_or o Paragraph ≡ AtxHeading level → o ≡ Some level
+heading_level (Some l) level h = cc
+heading_level None level h = cc
+
+level_by : (t u : Bool) (o : Option HeadingLevel) (level : HeadingLevel) → (if t then Blank else (if u then heading_or o Paragraph else Paragraph)) ≡ AtxHeading level → o ≡ Some level
+level_by true u o level h = cc
+level_by false true o level h = heading_level o level h
+level_by false false o level h = cc
+
+pub kind_level : (text : List ℕ) (p : Place) (at : ℕ) (level : HeadingLevel) → kind_of p.rest ≡ AtxHeading level → at ≡ offset (unindented p)
+    → IsPlaceOf text (unindented p) → atx_level (drop at text) ≡ Some level
+unfolding kind_of
+kind_level text p at level kind at_is place =
+    ap (λ k. atx_level (drop k text)) at_is ∙ ap atx_level (sym place.left) ∙ level_by (is_some (blank_len p.rest.left)) (nat_lt (indent p.rest) 4) (atx_level (unindented p).rest.left) level kind

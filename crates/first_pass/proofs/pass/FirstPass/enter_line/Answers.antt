@@ -1,0 +1,46 @@
+use Rattle.std.proofs.Common.{◌+◌, drop, is_some, sym, ap, subst, ◌∙◌}
+use Rattle.first_pass_scan.specs.Lines.{blank_len, line_len}
+use Rattle.first_pass_scan.specs.Rest.{Rest}
+use Rattle.first_pass_scan.specs.Places.{line_rest, place_at}
+use Rattle.first_pass_grammar.specs.Leaves.{document}
+use Rattle.first_pass_grammar.specs.Skeleton.{Inside}
+use Rattle.first_pass_grammar.specs.Completion.{lines_from}
+use Rattle.first_pass.specs.Closing.{Reading, remembered}
+use Rattle.first_pass.specs.State.{Ready, ReadyAt}
+use Rattle.first_pass.proofs.LineLemmas.{IsAtLine, at_line, blank_line_read, line_entered, finished_none, line_kept}
+use Rattle.first_pass.proofs.pass.FirstPass.enter_line.Goals as goal
+
+pub returns-then-is_some-clause-ready : goal.returns-then-is_some-clause-ready
+returns-then-is_some-clause-ready c =
+    let self = c.args.self.now in
+    let d = document self.text.now self.options in
+    let line = c.new-line_start.ensures ∙ ap line_rest (c.rest_of.ensures.value ∙ ap (drop c.args.start_ix) c.as_bytes.ensures.value) in
+    let closed : Reading = remembered c.close_containers.new.self.tree c.close_containers.new.self.begin_list_item c.close_containers.new.self.last_line_blank in
+    let at = at_line d (remembered self.tree self.begin_list_item self.last_line_blank) closed c.args.start_ix c.scan_containers-kept.result c.new-line_start.result c.scan_containers-kept.new.line_start
+    line c.requires.within c.close_containers.ensures.spine c.close_containers.ensures.paths c.close_containers.ensures.ready c.scan_containers-kept.ensures.taken c.scan_containers-kept.ensures.stops in
+    let blank = ap (λ bs. is_some (blank_len bs)) (sym c.left.ensures) ∙ ap is_some (sym c.scan_blank_line.ensures.value) ∙ sym c.is_some.ensures ∙ c.if-is_some.true in
+    λ ready. subst (λ q. Ready d q (lines_from self.text.now (c.args.start_ix + line_len (drop c.args.start_ix self.text.now)))) (sym c.read_blank_line.ensures.reading) (blank_line_read d _ closed c.args.start_ix _ at blank ready)
+
+pub returns-clause-ready : goal.returns-clause-ready
+returns-clause-ready c =
+    let self = c.args.self.now in
+    let d = document self.text.now self.options in
+    let line = c.new-line_start.ensures ∙ ap line_rest (c.rest_of.ensures.value ∙ ap (drop c.args.start_ix) c.as_bytes.ensures.value) in
+    let closed : Reading = remembered c.close_containers.new.self.tree c.close_containers.new.self.begin_list_item c.close_containers.new.self.last_line_blank in
+    let at = at_line d (remembered self.tree self.begin_list_item self.last_line_blank) closed c.args.start_ix c.scan_containers-kept.result c.new-line_start.result c.scan_containers-kept.new.line_start
+    line c.requires.within c.close_containers.ensures.spine c.close_containers.ensures.paths c.close_containers.ensures.ready c.scan_containers-kept.ensures.taken c.scan_containers-kept.ensures.stops in
+    let blank = ap (λ bs. is_some (blank_len bs)) (sym c.left.ensures) ∙ ap is_some (sym c.scan_blank_line.ensures.value) ∙ sym c.is_some.ensures ∙ c.if-is_some.false in
+    λ ready. subst (λ (q : Reading). ReadyAt d q.tree q.blank (Inside (place_at c.args.start_ix c.scan_containers-kept.new.line_start)) (lines_from self.text.now (c.args.start_ix + line_len (drop c.args.start_ix self.text.now))))
+        (sym c.finish_empty_list_item.ensures.reading) (line_entered d _ closed c.args.start_ix _ at blank ready)
+
+pub returns-clause-place : goal.returns-clause-place
+returns-clause-place c =
+    (line_kept c.args.self.now.text.now _ _ c.args.start_ix c.scan_containers-kept.result c.args.self.now.tree _ c.scan_containers-kept.new.line_start c.as_bytes.ensures.utf8 c.as_bytes.ensures.value c.rest_of.ensures.value c.new-line_start.ensures c.requires.boundary c.scan_containers-kept.ensures.taken).0
+
+pub returns-clause-same_end : goal.returns-clause-same_end
+returns-clause-same_end c =
+    (line_kept c.args.self.now.text.now _ _ c.args.start_ix c.scan_containers-kept.result c.args.self.now.tree _ c.scan_containers-kept.new.line_start c.as_bytes.ensures.utf8 c.as_bytes.ensures.value c.rest_of.ensures.value c.new-line_start.ensures c.requires.boundary c.scan_containers-kept.ensures.taken).1
+
+pub returns-clause-no_empty : goal.returns-clause-no_empty
+returns-clause-no_empty c =
+    ap (λ (q : Reading). q.empty_item) c.finish_empty_list_item.ensures.reading ∙ finished_none (remembered c.close_containers.new.self.tree c.close_containers.new.self.begin_list_item c.close_containers.new.self.last_line_blank)
