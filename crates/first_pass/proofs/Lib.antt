@@ -11,3 +11,4 @@ pub mod PathLemmas
 pub mod PlaceLemmas
 pub mod PopLemmas
 pub mod StateLemmas
+pub mod TightLemmas

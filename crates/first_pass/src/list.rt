@@ -1,7 +1,8 @@
 //! Lists and their items: how they go on, become loose and are closed (CommonMark 5.2, 5.3).
 
-ghost use Rattle.std.specs.Prelude.{◌≡◌, ◌<◌, length, None, IsSome, slice_get, OnOk};
-ghost use Rattle.first_pass.specs.Closing.{tight_items, loosened_at, remembered, popped, item_finished, list_finished, list_continued, begun, blank_read};
+ghost use Rattle.std.specs.Prelude.{◌≡◌, ◌<◌, length, None, IsSome, slice_get, slice_index, OnOk};
+ghost use Rattle.first_pass.specs.Closing.{with_tight_node, tight_items, loosened_at, remembered, popped, item_finished, list_finished, list_continued, begun, blank_read};
+ghost use Rattle.first_pass_tree.specs.Forest.{depths};
 ghost use Rattle.first_pass_items.specs.declared.item.ItemBody.TheVariants.{BlockQuote as BlockQuoteBody, ListItem as ListItemBody};
 
 use bitflags::Flags;
@@ -11,17 +12,39 @@ use first_pass_tree::forest::Tree;
 use first_pass_tree::tree_index::TreeIndex;
 use std::alloc::AllocError;
 
+/// How deep the node at a place stands.
+fn depth_at(tree: &Tree<Item>, at: usize) -> usize
+    requires { at < length tree.now.nodes }
+    ensures { result ≡ slice_index (depths tree.now.nodes) at }
+{
+    tree.nodes()[at].0
+}
+
+/// Makes a paragraph tight that stands directly in an item of a list of depth `list_depth`; another node
+/// stays (CommonMark 5.3).
+fn tighten(tree: &mut Tree<Item>, list_depth: usize, ix: TreeIndex)
+    requires within { ix.0 < length tree.old.nodes }
+    requires deeper { list_depth < slice_index (depths tree.old.nodes) ix.0 }
+    ensures { tree.new ≡ with_tight_node tree.old list_depth ix }
+{
+    if depth_at(tree, ix.0) - list_depth != 2 {
+        return;
+    }
+    if let ItemBody::Paragraph = tree[ix].body {
+        tree.set_body(ix, ItemBody::TightParagraph);
+    }
+}
+
 /// Makes the paragraphs tight that stand directly in the items of the list `list_ix` (CommonMark 5.3).
 pub fn surgerize_tight_list(tree: &mut Tree<Item>, list_ix: TreeIndex)
     requires { list_ix.0 < length tree.old.nodes }
     ensures { tree.new ≡ tight_items tree.old list_ix }
 {
-    let depth = tree.nodes()[list_ix.0].0;
+    let count = tree.node_count();
+    let list_depth = depth_at(tree, list_ix.0);
     let mut at = list_ix.0 + 1;
-    while at < tree.node_count() && depth < tree.nodes()[at].0 {
-        if tree.nodes()[at].0 == depth + 2 && matches!(tree[TreeIndex(at)].body, ItemBody::Paragraph) {
-            tree.set_body(TreeIndex(at), ItemBody::TightParagraph);
-        }
+    while at < count && list_depth < depth_at(tree, at) {
+        tighten(tree, list_depth, TreeIndex(at));
         at += 1;
     }
 }
