@@ -1,7 +1,7 @@
 //! Lists and their items: how they go on, become loose and are closed (CommonMark 5.2, 5.3).
 
 ghost use Rattle.std.specs.Prelude.{◌≡◌, ◌<◌, length, None, IsSome, slice_get, slice_index, OnOk};
-ghost use Rattle.first_pass.specs.Closing.{with_tight_node, tight_items, loosened_at, remembered, popped, item_finished, list_finished, list_continued, begun, blank_read};
+ghost use Rattle.first_pass.specs.Closing.{with_tight_node, tight_items, loosened_at, top_body, is_list_of, remembered, popped, item_finished, list_left, gap_noted, list_finished, list_kept, list_continued, begun, blank_read};
 ghost use Rattle.first_pass_tree.specs.Forest.{depths};
 ghost use Rattle.first_pass_items.specs.declared.item.ItemBody.TheVariants.{BlockQuote as BlockQuoteBody, ListItem as ListItemBody};
 
@@ -113,12 +113,34 @@ impl<'a> FirstPass<'a> {
         ensures reading { remembered self.new.tree self.new.begin_list_item self.new.last_line_blank ≡ list_finished ix (remembered self.old.tree self.old.begin_list_item self.old.last_line_blank) }
     {
         self.finish_empty_list_item();
+        self.leave_list(ix);
+        self.note_gap();
+    }
+
+    // Closes the innermost open node, if it is a list, at the offset `ix`.
+    #[tactic(auto, using(crate::proofs::TightLemmas::top_within))]
+    fn leave_list(&mut self, ix: usize)
+        ensures text { self.new.text.now ≡ self.old.text.now }
+        ensures options { self.new.options ≡ self.old.options }
+        ensures allocs { self.new.allocs ≡ self.old.allocs }
+        ensures reading { remembered self.new.tree self.new.begin_list_item self.new.last_line_blank ≡ list_left ix (remembered self.old.tree self.old.begin_list_item self.old.last_line_blank) }
+    {
         self.tree.is_forest();
         if let Some(list_ix) = self.tree.peek_up() {
             if matches!(self.tree[list_ix].body, ItemBody::List(_, _, _)) {
                 self.pop(ix);
             }
         }
+    }
+
+    // Where a blank line stands before a block, makes the list loose in whose item the block stands.
+    #[tactic(auto, using(crate::proofs::TightLemmas::second_within))]
+    fn note_gap(&mut self)
+        ensures text { self.new.text.now ≡ self.old.text.now }
+        ensures options { self.new.options ≡ self.old.options }
+        ensures allocs { self.new.allocs ≡ self.old.allocs }
+        ensures reading { remembered self.new.tree self.new.begin_list_item self.new.last_line_blank ≡ gap_noted (remembered self.old.tree self.old.begin_list_item self.old.last_line_blank) }
+    {
         if self.last_line_blank {
             self.tree.is_forest();
             if let Some(list_ix) = self.tree.peek_grandparent() {
@@ -164,18 +186,45 @@ impl<'a> FirstPass<'a> {
         ensures reading { OnOk result (remembered self.new.tree self.new.begin_list_item self.new.last_line_blank ≡ list_continued start ch index (remembered self.old.tree self.old.begin_list_item self.old.last_line_blank)) }
     {
         self.finish_empty_list_item();
-        self.tree.is_forest();
-        if let Some(list_ix) = self.tree.peek_up() {
-            if matches!(self.tree[list_ix].body, ItemBody::List(_, byte, _) if byte == ch) {
-                if self.last_line_blank {
-                    loosen(&mut self.tree, list_ix);
-                    self.last_line_blank = false;
-                }
-                return Ok(());
-            }
+        if self.is_in_list_of(ch) {
+            self.keep_list();
+            return Ok(());
         }
         self.finish_list(start);
-        self.open_node(start, ItemBody::List(ListFlags::IS_TIGHT, ch, index))
+        self.open_node(start, ItemBody::List(ListFlags::IS_TIGHT, ch, index))?;
+        Ok(())
+    }
+
+    // Whether the innermost open node is a list with the byte `ch`.
+    #[tactic(auto, using(crate::proofs::TightLemmas::top_within))]
+    fn is_in_list_of(&self, ch: u8) -> bool
+        ensures { result ≡ is_list_of ch (top_body self.now.tree) }
+    {
+        let Some(ix) = self.tree.peek_up() else {
+            return false;
+        };
+        self.tree.is_forest();
+        if let ItemBody::List(_, byte, _) = self.tree[ix].body {
+            return byte == ch;
+        }
+        false
+    }
+
+    // Goes on with the innermost open node, a list: a blank line before makes it loose.
+    #[tactic(auto, using(crate::proofs::TightLemmas::top_within))]
+    fn keep_list(&mut self)
+        ensures text { self.new.text.now ≡ self.old.text.now }
+        ensures options { self.new.options ≡ self.old.options }
+        ensures allocs { self.new.allocs ≡ self.old.allocs }
+        ensures reading { remembered self.new.tree self.new.begin_list_item self.new.last_line_blank ≡ list_kept (remembered self.old.tree self.old.begin_list_item self.old.last_line_blank) }
+    {
+        if self.last_line_blank {
+            self.tree.is_forest();
+            if let Some(list_ix) = self.tree.peek_up() {
+                loosen(&mut self.tree, list_ix);
+            }
+            self.last_line_blank = false;
+        }
     }
 
     // Opens an item that starts at the offset `start`, in the list that goes on or in a new one.
