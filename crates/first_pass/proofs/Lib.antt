@@ -12,3 +12,4 @@ pub mod PlaceLemmas
 pub mod PopLemmas
 pub mod StateLemmas
 pub mod TightLemmas
+pub mod WithinLemmas

@@ -1,22 +1,14 @@
 -- The paragraphs of a list made tight, one node after the other.
-use Rattle.std.proofs.Common.{◌≡◌, ℕ, zero, suc, ◌+◌, ◌<◌, ◌≤◌, ◌-◌, ◌==◌, nat_lt, Bool, true, false, List, [], ◌∷◌, length, slice_index, slice_index_or, slice_get, Option, Some, None, refl, sym, ap, subst, ◌∙◌, arith, if◌then◌else◌}
-use Rattle.std.proofs.lemmas.List.{length-map}
+use Rattle.std.proofs.Common.{◌≡◌, ℕ, zero, suc, ◌+◌, ◌<◌, ◌≤◌, ◌-◌, ◌==◌, nat_lt, Bool, true, false, List, [], ◌∷◌, length, slice_index, Option, Some, refl, sym, ap, ◌∙◌, arith}
 use Rattle.std.proofs.lemmas.Bool.Decides.{nat_tests}
 use Rattle.first_pass_items.specs.declared.item.Item.{Item}
 use Rattle.first_pass_items.specs.declared.item.ItemBody.{ItemBody}
-use Rattle.first_pass_items.specs.declared.item.ItemBody.TheVariants.{Root, Paragraph, TightParagraph}
+use Rattle.first_pass_items.specs.declared.item.ItemBody.TheVariants.{Paragraph}
 use Rattle.first_pass_tree.specs.declared.tree_index.TreeIndex.{TreeIndex}
-use Rattle.first_pass_tree.specs.Forest.{Forest, IsForest, IsOpenPath, IsLastAt, depths, modify, body_at}
+use Rattle.first_pass_tree.specs.Forest.{Forest, depths, modify, body_at}
 use Rattle.first_pass_grammar.specs.Derivation.{node_of, tight_body, tightened}
-use Rattle.first_pass.specs.Appends.{closed_by}
 use Rattle.first_pass.specs.Closing.{tight_run, tight_at, tight_node}
 use Rattle.first_pass.proofs.OpenLemmas.{not_changed}
-
--- the depth that is read
-pub depth_read : (ns : List (ℕ × Item)) (i : ℕ) (d : ℕ × Item) → d.0 ≡ 0 → (slice_index_or ns i d).0 ≡ slice_index (depths ns) i
-depth_read [] i d h = h
-depth_read (n ∷ ns) zero d h = refl
-depth_read (n ∷ ns) (suc i) d h = depth_read ns i d h
 
 pub tight_node_length : (depth i : ℕ) (ns : List (ℕ × Item)) → length (tight_node depth i ns) ≡ length ns
 unfolding tight_node
@@ -66,35 +58,6 @@ node_tight depth i [] b c two is t = refl
 node_tight depth zero (n ∷ ns) b c two is t = (let e : n.1.body ≡ b = cc in ap (λ m. m ∷ ns) (tightened_two n (depth + 2) b c two e t))
 node_tight depth (suc i) (n ∷ ns) b c two is t = ap (λ ms. n ∷ ms) (node_tight depth i ns b c two is t)
 
--- an open node is one of the nodes
-top_by : (ds : List ℕ) (spine : List TreeIndex) (ix : TreeIndex) → IsOpenPath ds spine → slice_get spine 0 ≡ Some ix → ix.0 < length ds
-top_by ds [] ix p h = cc
-top_by ds (i ∷ spine) ix p h = (let e : i ≡ ix = cc in subst (λ z. z.0 < length ds) e p.0.within)
-
-second_by : (ds : List ℕ) (spine : List TreeIndex) (ix : TreeIndex) → IsOpenPath ds spine → slice_get spine 1 ≡ Some ix → ix.0 < length ds
-second_by ds [] ix p h = cc
-second_by ds (i ∷ spine) ix p h = top_by ds spine ix p.1 h
-
-pub top_within : (f : Forest Item) (ix : TreeIndex) → IsForest f → slice_get f.spine 0 ≡ Some ix → ix.0 < length f.nodes
-top_within f ix forest h = subst (λ n. ix.0 < n) (length-map f.nodes (λ n. n.0)) (top_by (depths f.nodes) f.spine ix forest.opened h)
-
-pub second_within : (f : Forest Item) (ix : TreeIndex) → IsForest f → slice_get f.spine 1 ≡ Some ix → ix.0 < length f.nodes
-second_within f ix forest h = subst (λ n. ix.0 < n) (length-map f.nodes (λ n. n.0)) (second_by (depths f.nodes) f.spine ix forest.opened h)
-
-length-modify : (ns : List (ℕ × Item)) (i : ℕ) (g : Item → Item) → length (modify ns i g) ≡ length ns
-length-modify [] i g = refl
-length-modify (n ∷ ns) zero g = refl
-length-modify (n ∷ ns) (suc i) g = ap suc (length-modify ns i g)
-
-closed_length : (f : Forest Item) (e : ℕ) (spine : List TreeIndex) → length (closed_by f e spine).nodes ≡ length f.nodes
-closed_length f e [] = refl
-closed_length f e (ix ∷ rest) = length-modify f.nodes ix.0 _
-
--- and still is one when it is closed
-pub closed_within : (f g : Forest Item) (e : ℕ) (ix : TreeIndex) → IsForest f → slice_get f.spine 0 ≡ Some ix → g ≡ closed_by f e f.spine → ix.0 < length g.nodes
-closed_within f g e ix forest h is =
-    subst (λ n. ix.0 < n) (sym (ap (λ (t : Forest Item). length t.nodes) is ∙ closed_length f e f.spine)) (top_within f ix forest h)
-
 -- a forest that keeps all but its nodes
 pub with_nodes : (f g : Forest Item) (ns : List (ℕ × Item)) → g.nodes ≡ ns → g.spine ≡ f.spine → g.current ≡ f.current → g ≡ record f { nodes = ns }
 with_nodes f g ns a b d =
@@ -121,4 +84,3 @@ tight_same_body ns i b is = not_changed ns i _ b is (λ x e. ap (λ z. node_of x
 pub other_tight : (b : ItemBody) → (b ≡ Paragraph → ⊥) → tight_body b ≡ b
 other_tight Paragraph h = absurd (h refl)
 other_tight b h = refl
-

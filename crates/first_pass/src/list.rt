@@ -5,8 +5,8 @@ ghost use Rattle.first_pass.specs.Closing.{with_tight_node, tight_items, loosene
 ghost use Rattle.first_pass_tree.specs.Forest.{depths};
 ghost use Rattle.first_pass_items.specs.declared.item.ItemBody.TheVariants.{BlockQuote as BlockQuoteBody, ListItem as ListItemBody};
 
-use bitflags::Flags;
 use crate::pass::FirstPass;
+use bitflags::Flags;
 use first_pass_items::item::{Item, ItemBody, ListFlags};
 use first_pass_tree::forest::Tree;
 use first_pass_tree::tree_index::TreeIndex;
@@ -62,7 +62,7 @@ fn loosen(tree: &mut Tree<Item>, ix: TreeIndex)
 impl<'a> FirstPass<'a> {
     /// Closes the innermost open node, of which there has to be one, at the offset `ix`. The paragraphs of
     /// a list become tight, unless it is loose (CommonMark 5.3).
-    #[tactic(auto, unfolding(crate::specs::Closing::popped))]
+    #[tactic(auto, using(crate::proofs::WithinLemmas::closed_within), unfolding(crate::specs::Closing::popped))]
     pub fn pop(&mut self, ix: usize)
         requires { IsSome (slice_get self.old.tree.spine 0) }
         ensures text { self.new.text.now ≡ self.old.text.now }
@@ -83,7 +83,7 @@ impl<'a> FirstPass<'a> {
 
     /// Closes the innermost open node, if it is an item that began with two blank lines, behind the line of
     /// its marker (CommonMark 5.2). No item is empty then.
-    #[tactic(auto, unfolding(crate::specs::Closing::item_finished))]
+    #[tactic(auto, using(crate::proofs::WithinLemmas::top_within), unfolding(crate::specs::Closing::item_finished))]
     pub fn finish_empty_list_item(&mut self)
         ensures text { self.new.text.now ≡ self.old.text.now }
         ensures options { self.new.options ≡ self.old.options }
@@ -118,7 +118,7 @@ impl<'a> FirstPass<'a> {
     }
 
     // Closes the innermost open node, if it is a list, at the offset `ix`.
-    #[tactic(auto, using(crate::proofs::TightLemmas::top_within))]
+    #[tactic(auto, using(crate::proofs::WithinLemmas::top_within))]
     fn leave_list(&mut self, ix: usize)
         ensures text { self.new.text.now ≡ self.old.text.now }
         ensures options { self.new.options ≡ self.old.options }
@@ -134,7 +134,7 @@ impl<'a> FirstPass<'a> {
     }
 
     // Where a blank line stands before a block, makes the list loose in whose item the block stands.
-    #[tactic(auto, using(crate::proofs::TightLemmas::second_within))]
+    #[tactic(auto, using(crate::proofs::WithinLemmas::second_within))]
     fn note_gap(&mut self)
         ensures text { self.new.text.now ≡ self.old.text.now }
         ensures options { self.new.options ≡ self.old.options }
@@ -151,7 +151,7 @@ impl<'a> FirstPass<'a> {
     }
 
     // Reads a blank line: where an item was empty, it takes blank lines alone from then on.
-    #[tactic(auto, unfolding(crate::specs::Closing::blank_read))]
+    #[tactic(auto, using(crate::proofs::WithinLemmas::top_within), unfolding(crate::specs::Closing::blank_read))]
     pub(crate) fn read_blank_line(&mut self)
         ensures text { self.new.text.now ≡ self.old.text.now }
         ensures options { self.new.options ≡ self.old.options }
@@ -174,12 +174,7 @@ impl<'a> FirstPass<'a> {
     /// Goes on with the list that is innermost, where its byte is `ch`: it is loose if a blank line stands
     /// before. Else a list with that byte and the number `index` is opened at the offset `start`.
     #[tactic(auto, unfolding(crate::specs::Closing::list_continued))]
-    pub fn continue_list(
-        &mut self,
-        start: usize,
-        ch: u8,
-        index: u64,
-    ) -> Result<(), AllocError>
+    pub fn continue_list(&mut self, start: usize, ch: u8, index: u64) -> Result<(), AllocError>
         ensures text { OnOk result (self.new.text.now ≡ self.old.text.now) }
         ensures options { OnOk result (self.new.options ≡ self.old.options) }
         ensures allocs { OnOk result (self.new.allocs ≡ self.old.allocs) }
@@ -196,7 +191,7 @@ impl<'a> FirstPass<'a> {
     }
 
     // Whether the innermost open node is a list with the byte `ch`.
-    #[tactic(auto, using(crate::proofs::TightLemmas::top_within))]
+    #[tactic(auto, using(crate::proofs::WithinLemmas::top_within))]
     fn is_in_list_of(&self, ch: u8) -> bool
         ensures { result ≡ is_list_of ch (top_body self.now.tree) }
     {
@@ -211,7 +206,7 @@ impl<'a> FirstPass<'a> {
     }
 
     // Goes on with the innermost open node, a list: a blank line before makes it loose.
-    #[tactic(auto, using(crate::proofs::TightLemmas::top_within))]
+    #[tactic(auto, using(crate::proofs::WithinLemmas::top_within))]
     fn keep_list(&mut self)
         ensures text { self.new.text.now ≡ self.old.text.now }
         ensures options { self.new.options ≡ self.old.options }
