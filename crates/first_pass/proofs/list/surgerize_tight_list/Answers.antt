@@ -1,4 +1,4 @@
-use Rattle.std.proofs.Common.{◌≡◌, ℕ, ◌+◌, ◌<◌, ◌≤◌, length, slice_index, sym, ap, subst, ◌∙◌, arith}
+use Rattle.std.proofs.Common.{ℕ, ◌+◌, ◌<◌, ◌≤◌, length, slice_index, sym, ap, subst, ◌∙◌, arith}
 use Rattle.first_pass_tree.specs.Forest.{Forest, depths}
 use Rattle.first_pass_items.specs.declared.item.Item.{Item}
 use Rattle.first_pass.specs.Closing.{tight_at}

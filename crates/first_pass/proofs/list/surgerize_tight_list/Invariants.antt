@@ -1,5 +1,4 @@
-use Rattle.std.proofs.Common.{◌≡◌, ◌≤◌, ◌-◌, ◌+◌, length, slice_index}
-use Rattle.first_pass_tree.specs.Forest.{depths}
+use Rattle.std.proofs.Common.{◌≡◌, ◌≤◌, ◌-◌, ◌+◌, length}
 use Rattle.first_pass.specs.Closing.{tight_at}
 use Rattle.first_pass.proofs.list.surgerize_tight_list.Given as goal
 

@@ -1,8 +1,7 @@
-use Rattle.std.proofs.Common.{◌≡◌, List, Some, refl, sym, ap, ◌∙◌, arith, slice_index}
-use Rattle.first_pass_items.specs.declared.item.Item.{Item}
+use Rattle.std.proofs.Common.{Some, refl, sym, ap, ◌∙◌, slice_index}
 use Rattle.first_pass_items.specs.declared.item.ItemBody.TheVariants.{Paragraph, TightParagraph}
-use Rattle.first_pass_tree.specs.Forest.{Forest, depths}
-use Rattle.first_pass.proofs.OpenLemmas.{body_of, not_changed}
+use Rattle.first_pass_tree.specs.Forest.{depths}
+use Rattle.first_pass.proofs.OpenLemmas.{body_of}
 use Rattle.first_pass.proofs.TightLemmas.{node_stays, node_tight, two_deeper, not_two_deeper, other_tight, with_nodes, tight_same_body}
 use Rattle.first_pass.proofs.list.tighten.Goals as goal
 
