@@ -1,7 +1,7 @@
 //! Lists and their items: how they go on, become loose and are closed (CommonMark 5.2, 5.3).
 
 ghost use Rattle.std.specs.Prelude.{◌≡◌, ◌<◌, length, None, IsSome, slice_get, slice_index, OnOk};
-ghost use Rattle.first_pass.specs.Closing.{with_tight_node, tight_items, loosened_at, top_body, is_list_of, remembered, popped, item_finished, list_left, gap_noted, list_finished, list_kept, list_continued, begun, blank_read};
+ghost use Rattle.first_pass.specs.Closing.{with_tight_node, tight_items, loosened_at, top_body, is_item, is_list_of, remembered, popped, item_finished, list_left, gap_noted, list_finished, list_kept, list_continued, begun, blank_read};
 ghost use Rattle.first_pass_tree.specs.Forest.{depths};
 ghost use Rattle.first_pass_items.specs.declared.item.ItemBody.TheVariants.{BlockQuote as BlockQuoteBody, ListItem as ListItemBody};
 
@@ -83,24 +83,31 @@ impl<'a> FirstPass<'a> {
 
     /// Closes the innermost open node, if it is an item that began with two blank lines, behind the line of
     /// its marker (CommonMark 5.2). No item is empty then.
-    #[tactic(auto, using(crate::proofs::WithinLemmas::top_within), unfolding(crate::specs::Closing::item_finished))]
+    #[tactic(auto, using(crate::proofs::WithinLemmas::item_is_open), unfolding(crate::specs::Closing::item_finished))]
     pub fn finish_empty_list_item(&mut self)
         ensures text { self.new.text.now ≡ self.old.text.now }
         ensures options { self.new.options ≡ self.old.options }
         ensures allocs { self.new.allocs ≡ self.old.allocs }
         ensures reading { remembered self.new.tree self.new.begin_list_item self.new.last_line_blank ≡ item_finished (remembered self.old.tree self.old.begin_list_item self.old.last_line_blank) }
     {
-        self.tree.is_forest();
         if let Some(marker_end) = self.begin_list_item {
-            if self.last_line_blank {
-                if let Some(ix) = self.tree.peek_up() {
-                    if matches!(self.tree[ix].body, ItemBody::ListItem(_)) {
-                        self.pop(marker_end);
-                    }
-                }
+            if self.last_line_blank && self.is_in_item() {
+                self.pop(marker_end);
             }
         }
         self.begin_list_item = None;
+    }
+
+    // Whether the innermost open node is an item.
+    #[tactic(auto, using(crate::proofs::WithinLemmas::top_within))]
+    fn is_in_item(&self) -> bool
+        ensures { result ≡ is_item (top_body self.now.tree) }
+    {
+        let Some(ix) = self.tree.peek_up() else {
+            return false;
+        };
+        self.tree.is_forest();
+        matches!(self.tree[ix].body, ItemBody::ListItem(_))
     }
 
     /// Closes what a new block ends: an empty item, and the list that is then innermost, at the offset
