@@ -13,3 +13,5 @@ pub mod PathLemmas
 pub mod PlaceLemmas
 pub mod PopLemmas
 pub mod StateLemmas
+pub mod TightLemmas
+pub mod WithinLemmas

@@ -30,6 +30,15 @@ tight_at depth zero ns = tight_run depth ns
 tight_at depth (suc i) [] = []
 tight_at depth (suc i) (n ∷ ns) = n ∷ tight_at depth i ns
 
+-- the node at a place below one of this depth: a paragraph two deeper is tight
+unfoldable pub tight_node : ℕ → ℕ → List (ℕ × Item) → List (ℕ × Item)
+tight_node depth i [] = []
+tight_node depth zero (n ∷ ns) = tightened (depth + 2) n ∷ ns
+tight_node depth (suc i) (n ∷ ns) = n ∷ tight_node depth i ns
+
+abbrev pub with_tight_node : Forest Item → ℕ → TreeIndex → Forest Item
+with_tight_node f depth ix = record f { nodes = tight_node depth ix.0 f.nodes }
+
 -- the tree with the paragraphs tight that stand directly in the items of a list (CommonMark 5.3)
 abbrev pub tight_items : Forest Item → TreeIndex → Forest Item
 tight_items f ix = record f { nodes = tight_at (slice_index (depths f.nodes) ix.0) (ix.0 + 1) f.nodes }

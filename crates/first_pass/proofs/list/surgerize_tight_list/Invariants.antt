@@ -1,5 +1,4 @@
-use Rattle.std.proofs.Common.{◌≡◌, ◌≤◌, ◌-◌, ◌+◌, length, slice_index}
-use Rattle.first_pass_tree.specs.Forest.{depths}
+use Rattle.std.proofs.Common.{◌≡◌, ◌≤◌, ◌-◌, ◌+◌, length}
 use Rattle.first_pass.specs.Closing.{tight_at}
 use Rattle.first_pass.proofs.list.surgerize_tight_list.Given as goal
 
@@ -8,9 +7,10 @@ abbrev pub invariant-loop-at : goal.invariant-loop-at
 invariant-loop-at l = record {
   same_spine : l.tree.spine ≡ l.initial.tree.spine;
   same_current : l.tree.current ≡ l.initial.tree.current;
-  within : l.at ≤ length l.tree.nodes;
-  tight : tight_at l.depth l.at l.tree.nodes ≡ tight_at l.depth (l.fn.list_ix.0 + 1) l.initial.tree.nodes;
+  same_count : length l.tree.nodes ≡ l.count;
+  within : l.at ≤ l.count;
+  tight : tight_at l.list_depth l.at l.tree.nodes ≡ tight_at l.list_depth (l.fn.list_ix.0 + 1) l.initial.tree.nodes;
 }
 
 abbrev pub decreases-loop-at : goal.decreases-loop-at
-decreases-loop-at l = length l.tree.nodes - l.at
+decreases-loop-at l = l.count - l.at
