@@ -1,10 +1,11 @@
-use Rattle.std.proofs.Common.{◌≡◌, ◌+◌, ◌≤◌, length, IsCharBoundary, None, sym, ap, subst, ◌∙◌, arith}
+use Rattle.std.proofs.Common.{◌≡◌, ◌+◌, ◌≤◌, length, drop, IsCharBoundary, None, sym, ap, subst, ◌∙◌, arith}
+use Rattle.first_pass_scan.specs.Lines.{atx_level}
 use Rattle.first_pass_scan.specs.Places.{place_at, offset, line_end}
 use Rattle.first_pass_grammar.specs.Kinds.{unindented}
 use Rattle.first_pass_grammar.specs.Leaves.{document}
 use Rattle.first_pass_grammar.specs.Completion.{lines_from}
 use Rattle.first_pass.specs.Appends.{line_end_at, AddsHeading, AddsParagraph}
-use Rattle.first_pass.specs.Closing.{Reading, remembered, list_finished}
+use Rattle.first_pass.specs.Closing.{Reading, remembered, list_finished, blank_read}
 use Rattle.first_pass.specs.State.{Ready}
 use Rattle.first_pass.proofs.PlaceLemmas.{all_keep, at_read, place_end}
 use Rattle.first_pass.proofs.EnterLemmas.{ready_blank}
@@ -46,7 +47,7 @@ returns-in-Blank-clause-ready c =
     let d = document self.text.now self.options in
     let p = place_at c.args.start_ix c.args.line_start in
     λ ready. subst (λ q. Ready d q (lines_from self.text.now c.next_line.result)) (sym c.read_blank_line.ensures.reading)
-    (subst (λ n. Ready d _ (lines_from self.text.now n)) (sym (blank_end c))
+    (subst (λ n. Ready d (blank_read (remembered self.tree self.begin_list_item self.last_line_blank)) (lines_from self.text.now n)) (sym (blank_end c))
     (ready_blank d (remembered self.tree self.begin_list_item self.last_line_blank) p (lines_from self.text.now (line_end p)) (kind_blank_rest c.args.line_start (sym c.kind_at-kind.ensures.kind ∙ c.in-Blank.is)) c.requires.no_empty ready))
 
 pub parse_atx_heading-requires-clause-within : goal.parse_atx_heading-requires-clause-within
@@ -60,5 +61,87 @@ pub parse_atx_heading-requires-clause-heading : goal.parse_atx_heading-requires-
 parse_atx_heading-requires-clause-heading c =
     let i = all_keep c.args.self.now.text.now c.args.start_ix c.args.line_start c.requires.utf8 c.requires.place in
     let e = at_read c.args.start_ix c.bytes_scanned.result c.args.line_start c.kind_at-kind.new.line_start c.bytes_scanned.ensures c.kind_at-kind.ensures.rest in
-    ap (λ t. _) c.finish_list.ensures.text
+    ap (λ t. atx_level (drop (c.args.start_ix + c.bytes_scanned.result) t)) c.finish_list.ensures.text
     ∙ kind_level c.args.self.now.text.now (place_at c.args.start_ix c.args.line_start) (c.args.start_ix + c.bytes_scanned.result) c.in-AtxHeading.level (sym c.kind_at-kind.ensures.kind ∙ c.in-AtxHeading.is) e i
+
+-- what the pass remembers with the heading
+heading_rem : (c : goal.After-drop-line_start-in-AtxHeading) → remembered c.finish_list.new.self.tree c.finish_list.new.self.begin_list_item c.finish_list.new.self.last_line_blank ≡ list_finished c.args.start_ix (remembered c.args.self.now.tree c.args.self.now.begin_list_item c.args.self.now.last_line_blank)
+heading_rem c = c.finish_list.ensures.reading
+
+-- a heading ends where its line ends
+heading_end : (c : goal.After-drop-line_start-in-AtxHeading) → c.in_ok-next-in-AtxHeading.next ≡ line_end (place_at c.args.start_ix c.args.line_start)
+heading_end c =
+    let text = c.args.self.now.text.now in
+    let i = all_keep text c.args.start_ix c.args.line_start c.requires.utf8 c.requires.place in
+    let e = at_read c.args.start_ix c.bytes_scanned.result c.args.line_start c.kind_at-kind.new.line_start c.bytes_scanned.ensures c.kind_at-kind.ensures.rest in
+    c.in_ok-next-in-AtxHeading.ensures.block.end_is ∙ ap (λ t. line_end_at t (c.args.start_ix + c.bytes_scanned.result)) c.finish_list.ensures.text ∙ ap (line_end_at text) e ∙ line_end_of text (place_at c.args.start_ix c.args.line_start) i
+
+pub returns-in-AtxHeading-clause-later : goal.returns-in-AtxHeading-clause-later
+returns-in-AtxHeading-clause-later c = let e = heading_end c in omega arith
+
+pub returns-in-AtxHeading-clause-boundary : goal.returns-in-AtxHeading-clause-boundary
+returns-in-AtxHeading-clause-boundary c =
+    let text = c.args.self.now.text.now in
+    subst (IsCharBoundary text) (sym (heading_end c)) (place_end text (place_at c.args.start_ix c.args.line_start) c.requires.utf8 c.requires.place)
+
+pub returns-in-AtxHeading-clause-ready : goal.returns-in-AtxHeading-clause-ready
+returns-in-AtxHeading-clause-ready c =
+    let self = c.args.self.now in
+    let d = document self.text.now self.options in
+    let p = place_at c.args.start_ix c.args.line_start in
+    let old : Reading = remembered self.tree self.begin_list_item self.last_line_blank in
+    let q : Reading = list_finished c.args.start_ix old in
+    let i = all_keep self.text.now c.args.start_ix c.args.line_start c.requires.utf8 c.requires.place in
+    let e = at_read c.args.start_ix c.bytes_scanned.result c.args.line_start c.kind_at-kind.new.line_start c.bytes_scanned.ensures c.kind_at-kind.ensures.rest in
+    let same : document c.finish_list.new.self.text.now c.finish_list.new.self.options ≡ d = ap (λ t. document t c.finish_list.new.self.options) c.finish_list.ensures.text ∙ ap (document self.text.now) c.finish_list.ensures.options in
+    let block : AddsHeading d (c.args.start_ix + c.bytes_scanned.result) c.in-AtxHeading.level q.tree c.parse_atx_heading.new.self.tree c.in_ok-next-in-AtxHeading.next =
+    subst (λ (r : Reading). AddsHeading d (c.args.start_ix + c.bytes_scanned.result) c.in-AtxHeading.level r.tree c.parse_atx_heading.new.self.tree c.in_ok-next-in-AtxHeading.next) (heading_rem c)
+    (subst (λ z. AddsHeading z (c.args.start_ix + c.bytes_scanned.result) c.in-AtxHeading.level c.finish_list.new.self.tree c.parse_atx_heading.new.self.tree c.in_ok-next-in-AtxHeading.next) same c.in_ok-next-in-AtxHeading.ensures.block) in
+    let item = c.in_ok-next-in-AtxHeading.ensures.empty_item ∙ ap (λ (r : Reading). r.empty_item) (heading_rem c) in
+    let blank = c.in_ok-next-in-AtxHeading.ensures.blank ∙ ap (λ (r : Reading). r.blank) (heading_rem c) in
+    λ ready. subst (λ o. Ready d (remembered c.parse_atx_heading.new.self.tree o c.parse_atx_heading.new.self.last_line_blank) (lines_from self.text.now c.in_ok-next-in-AtxHeading.next)) (sym item)
+    (subst (λ b. Ready d (remembered c.parse_atx_heading.new.self.tree q.empty_item b) (lines_from self.text.now c.in_ok-next-in-AtxHeading.next)) (sym blank)
+    (ready_heading d old c.parse_atx_heading.new.self.tree p (c.args.start_ix + c.bytes_scanned.result) c.in_ok-next-in-AtxHeading.next c.in-AtxHeading.level c.is_forest.ensures c.requires.no_item c.requires.no_quote
+    (sym c.kind_at-kind.ensures.kind ∙ c.in-AtxHeading.is) e i block c.requires.no_empty ready))
+
+pub parse_paragraph-requires-clause-boundary : goal.parse_paragraph-requires-clause-boundary
+parse_paragraph-requires-clause-boundary c =
+    let text = c.args.self.now.text.now in
+    let i = all_keep text c.args.start_ix c.args.line_start c.requires.utf8 c.requires.place in
+    let e = at_read c.args.start_ix c.bytes_scanned.result c.args.line_start c.kind_at-kind.new.line_start c.bytes_scanned.ensures c.kind_at-kind.ensures.rest in
+    subst (λ t. IsCharBoundary t (c.args.start_ix + c.bytes_scanned.result)) (sym c.finish_list-in-Paragraph.ensures.text) (subst (IsCharBoundary text) (sym e) i.boundary)
+
+pub returns-clause-later : goal.returns-clause-later
+returns-clause-later c =
+    let text = c.args.self.now.text.now in
+    let i = all_keep text c.args.start_ix c.args.line_start c.requires.utf8 c.requires.place in
+    let e = at_read c.args.start_ix c.bytes_scanned.result c.args.line_start c.kind_at-kind.new.line_start c.bytes_scanned.ensures c.kind_at-kind.ensures.rest in
+    let f = ap (λ t. line_end_at t (c.args.start_ix + c.bytes_scanned.result)) c.finish_list-in-Paragraph.ensures.text ∙ ap (line_end_at text) e ∙ line_end_of text (place_at c.args.start_ix c.args.line_start) i in
+    let later = c.in_ok-next-in-Paragraph.ensures.block.later in
+    omega arith
+
+pub returns-clause-boundary : goal.returns-clause-boundary
+returns-clause-boundary c = subst (λ t. IsCharBoundary t c.in_ok-next-in-Paragraph.next) c.finish_list-in-Paragraph.ensures.text c.in_ok-next-in-Paragraph.ensures.block.boundary
+
+pub returns-clause-ready : goal.returns-clause-ready
+returns-clause-ready c =
+    let self = c.args.self.now in
+    let d = document self.text.now self.options in
+    let p = place_at c.args.start_ix c.args.line_start in
+    let at = c.args.start_ix + c.bytes_scanned.result in
+    let old : Reading = remembered self.tree self.begin_list_item self.last_line_blank in
+    let q : Reading = list_finished at old in
+    let i = all_keep self.text.now c.args.start_ix c.args.line_start c.requires.utf8 c.requires.place in
+    let e = at_read c.args.start_ix c.bytes_scanned.result c.args.line_start c.kind_at-kind.new.line_start c.bytes_scanned.ensures c.kind_at-kind.ensures.rest in
+    let f = c.finish_list-in-Paragraph.new.self in
+    let rem : remembered f.tree f.begin_list_item f.last_line_blank ≡ q = c.finish_list-in-Paragraph.ensures.reading in
+    let same : document f.text.now f.options ≡ d = ap (λ t. document t f.options) c.finish_list-in-Paragraph.ensures.text ∙ ap (document self.text.now) c.finish_list-in-Paragraph.ensures.options in
+    let new = c.parse_paragraph.new.self in
+    let next = c.in_ok-next-in-Paragraph.next in
+    let block : AddsParagraph d at None q.tree new.tree next =
+    subst (λ (r : Reading). AddsParagraph d at None r.tree new.tree next) rem (subst (λ z. AddsParagraph z at None f.tree new.tree next) same c.in_ok-next-in-Paragraph.ensures.block) in
+    let item = c.in_ok-next-in-Paragraph.ensures.empty_item ∙ ap (λ (r : Reading). r.empty_item) rem in
+    let blank = c.in_ok-next-in-Paragraph.ensures.blank ∙ ap (λ (r : Reading). r.blank) rem in
+    λ ready. subst (λ o. Ready d (remembered new.tree o new.last_line_blank) (lines_from self.text.now next)) (sym item)
+    (subst (λ b. Ready d (remembered new.tree q.empty_item b) (lines_from self.text.now next)) (sym blank)
+    (ready_paragraph d old new.tree p at next c.is_forest.ensures c.requires.no_item c.requires.no_quote (sym c.kind_at-kind.ensures.kind ∙ c.in-Paragraph.is) e i block c.requires.no_empty ready))
