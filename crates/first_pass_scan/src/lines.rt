@@ -1,4 +1,4 @@
-//! Line ends, blank lines, and where an ATX heading begins.
+//! Classes of bytes, line ends, blank lines, and where an ATX heading begins.
 
 ghost use Rattle.std.specs.List.{prefix_len};
 ghost use Rattle.std.specs.Prelude.{◌≡◌, ◌<◌, ◌≤◌, length, true, IfSome};
