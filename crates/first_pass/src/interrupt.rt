@@ -2,7 +2,6 @@
 
 ghost use Rattle.std.specs.Prelude.{◌≡◌, min, drop, IfOk, OnOk, Some, None, if◌then◌else◌, IsUtf8, IsCharBoundary};
 ghost use Rattle.first_pass_scan.specs.Places.{line_rest, place_at, offset, IsPlaceOf};
-ghost use Rattle.first_pass_scan.specs.Lines.{begins};
 ghost use Rattle.first_pass_scan.specs.Rest.{indent};
 ghost use Rattle.first_pass_grammar.specs.Containers.{front};
 ghost use Rattle.first_pass_grammar.specs.Kinds.{interrupts, interrupts_with, unindented};
@@ -13,17 +12,10 @@ use crate::indentation::scan_indentation;
 use first_pass_items::item::Item;
 use first_pass_items::option_set::Options;
 use first_pass_scan::line_start::LineStart;
-use first_pass_scan::lines::{scan_atx_heading, scan_eol};
+use first_pass_scan::lines::{begins, scan_atx_heading, scan_eol};
 use first_pass_scan::places::rest_of;
 use first_pass_tree::forest::Tree;
 use std::alloc::{AllocError, Global};
-
-// Whether the first byte is `>`.
-fn begins_quote(bytes: &[u8]) -> bool
-    ensures { result ≡ begins 62 bytes.now }
-{
-    matches!(bytes.first(), Some(b'>'))
-}
 
 /// Whether `text`, what is left of a line behind its indentation of under four columns, interrupts a
 /// paragraph: its line ends, or an ATX heading or a block quote begins (CommonMark 4.8, 4.2, 5.1). Which
@@ -40,7 +32,7 @@ pub fn scan_paragraph_interrupt_no_table(
     ensures { IfOk result (λ yes. yes ≡ interrupts_with text.now) }
 {
     let bytes = text.as_bytes();
-    Ok(scan_eol(bytes).is_some() || scan_atx_heading(bytes).is_some() || begins_quote(bytes))
+    Ok(scan_eol(bytes).is_some() || scan_atx_heading(bytes).is_some() || begins(b'>', bytes))
 }
 
 // The columns of indentation, but 4 where there are more, behind what the line that begins at `start` takes
