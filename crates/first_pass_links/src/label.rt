@@ -7,7 +7,7 @@ ghost use Rattle.first_pass_items.specs.CowText.{text_of};
 ghost use Rattle.first_pass_scan.specs.Lines.{ends_line};
 ghost use Rattle.first_pass_links.specs.Texts.{Borrows};
 ghost use Rattle.first_pass_links.specs.Labels.{AnswersWith, AnswersPlaces, is_space, is_bracket, begins_character, label_at};
-ghost use Rattle.first_pass_links.specs.Units.{part, read_of, left_at, kept_unit, space_unit, dropped_unit, backslash_unit, IsUnit, Reads, Stops, IsRead, IsRun, EndsRun, IsBlankRest};
+ghost use Rattle.first_pass_links.specs.Units.{part, read_of, left_at, kept_unit, space_unit, dropped_unit, backslash_unit, IsUnit, Reads, IsRead, IsWhiteRun, EndsWhiteRun, IsBlankRest};
 
 use crate::entity::begins;
 use first_pass_items::cow_str::CowStr;
@@ -100,7 +100,7 @@ where
     requires no_bracket { is_bracket (slice_index bytes.now at) ≡ false }
     ensures some { IfOk result (λ answer. IfSome answer (λ unit. IsUnit bytes.now at unit)) }
     ensures reads { IfOk result (λ answer. IfSome answer (λ unit. (prefix : List ℕ → Option ℕ) → AnswersWith prefix (F.post linebreak_handler.now) → Reads prefix in_table bytes.now at unit)) }
-    ensures none { IfOk result (λ answer. answer ≡ None → (prefix : List ℕ → Option ℕ) → AnswersWith prefix (F.post linebreak_handler.now) → Stops prefix in_table bytes.now at) }
+    ensures none { IfOk result (λ answer. answer ≡ None → (prefix : List ℕ → Option ℕ) → AnswersWith prefix (F.post linebreak_handler.now) → IsBlankRest prefix bytes.now at) }
 {
     if is_space(bytes[at]) {
         return match scan_white_run(bytes, at, linebreak_handler)? {
@@ -128,9 +128,9 @@ where
     requires within { at < length bytes.now }
     requires text { IsUtf8 bytes.now }
     requires white { is_space (slice_index bytes.now at) ≡ true }
-    ensures some { IfOk result (λ answer. IfSome answer (λ run. EndsRun bytes.now at run.0 run.1)) }
+    ensures some { IfOk result (λ answer. IfSome answer (λ run. EndsWhiteRun bytes.now at run.0 run.1)) }
     ensures ends { IfOk result (λ answer. IfSome answer (λ run. is_space (slice_index bytes.now run.0) ≡ false)) }
-    ensures reads { IfOk result (λ answer. IfSome answer (λ run. (prefix : List ℕ → Option ℕ) → AnswersWith prefix (F.post linebreak_handler.now) → IsRun prefix bytes.now at run.0 run.1)) }
+    ensures reads { IfOk result (λ answer. IfSome answer (λ run. (prefix : List ℕ → Option ℕ) → AnswersWith prefix (F.post linebreak_handler.now) → IsWhiteRun prefix bytes.now at run.0 run.1)) }
     ensures none { IfOk result (λ answer. answer ≡ None → (prefix : List ℕ → Option ℕ) → AnswersWith prefix (F.post linebreak_handler.now) → IsBlankRest prefix bytes.now at) }
 {
     let mut next = at;

@@ -1,6 +1,6 @@
 use Rattle.std.proofs.Common.{◌∙◌, sym, subst}
 use Rattle.first_pass_links.specs.Units.{IsUnit, Reads}
-use Rattle.first_pass_links.proofs.Labels.{byte_reads, differs, run_reads, space_is_unit, backslash_is_unit, blank_stops}
+use Rattle.first_pass_links.proofs.Labels.{byte_reads, differs, run_reads, space_is_unit, backslash_is_unit}
 use Rattle.first_pass_links.proofs.label.scan_unit.Goals as goal
 
 pub returns-in-Some-clause-some : goal.returns-in-Some-clause-some
@@ -16,7 +16,7 @@ returns-in-Some-clause-reads g c =
 
 pub returns-in-None-clause-none : goal.returns-in-None-clause-none
 returns-in-None-clause-none g c =
-    λ e h a. blank_stops h c.args.in_table c.args.bytes.now c.args.at (c.in_ok-next.ensures.none c.in-None.is h a)
+    λ e h a. c.in_ok-next.ensures.none c.in-None.is h a
 
 pub returns-then-bytes-at-eq92-clause-some : goal.returns-then-bytes-at-eq92-clause-some
 returns-then-bytes-at-eq92-clause-some g c =
