@@ -5,7 +5,7 @@ use Rattle.std.specs.List.{list_any, count_by}
 use Rattle.std.specs.Borrow.{Bor}
 use Rattle.std.specs.Str.{IsCharBoundary}
 use Rattle.std.specs.declared.alloc.AllocError.{AllocError}
-use Rattle.first_pass_scan.specs.Lines.{begins, is_white, is_line_end, ends_line}
+use Rattle.first_pass_scan.specs.Lines.{begins, is_ascii_white, ends_line}
 use Rattle.first_pass_links.specs.Escapes.{read_in}
 use Rattle.first_pass_links.specs.Destinations.{unescaped_upto}
 
@@ -16,10 +16,6 @@ AnswersWith prefix post = (behind : Bor (List ℕ)) (answer : Option ℕ) → po
 -- a prefix that may be answered is a part of the bytes, and ends between characters (this project)
 abbrev pub AnswersPlaces : (Bor (List ℕ) → Result (Option ℕ) AllocError → Type 0) → Type 0
 AnswersPlaces post = (behind : Bor (List ℕ)) (n : ℕ) → post behind (Ok (Some n)) → IsUtf8 behind.now → IsCharBoundary behind.now n
-
--- ASCII white space, line ends too (this project)
-abbrev pub is_space : ℕ → Bool
-is_space b = is_white b || is_line_end b
 
 -- an opening or closing square bracket (CommonMark 4.7)
 abbrev pub is_bracket : ℕ → Bool
@@ -55,7 +51,7 @@ label_len bs = unescaped_upto is_bracket 0 bs
 unfoldable pub single_spaced : List ℕ → List ℕ
 single_spaced [] = []
 single_spaced (b ∷ bs) =
-    if is_space b then (if is_space (slice_index bs 0) then single_spaced bs else 32 ∷ single_spaced bs) else b ∷ single_spaced bs
+    if is_ascii_white b then (if is_ascii_white (slice_index bs 0) then single_spaced bs else 32 ∷ single_spaced bs) else b ∷ single_spaced bs
 
 -- a label as it is read: runs of white space are single spaces, and in a table backslashes before pipes are dropped (CommonMark 4.7, GFM 4.10)
 abbrev pub shown : Bool → List ℕ → List ℕ
@@ -63,7 +59,7 @@ shown in_table bs = single_spaced (read_in in_table bs)
 
 -- a label has at most 999 characters, and one of them is not white space (CommonMark 4.7)
 abbrev pub is_label : List ℕ → Bool
-is_label bs = nat_le (count_by begins_character bs) 999 && list_any (λ b. not (is_space b)) bs
+is_label bs = nat_le (count_by begins_character bs) 999 && list_any (λ b. not (is_ascii_white b)) bs
 
 -- the label behind a `[`: in the joined text what stands before the first bracket that is not escaped, where that is a `]`;
 -- the offset behind the `]`, and the label as it is read (CommonMark 4.7)

@@ -2,11 +2,11 @@
 use Rattle.std.specs.Prelude.{◌≡◌, ◌⊎◌, ℕ, ◌+◌, ◌-◌, ◌==◌, ◌<◌, ◌≤◌, ◌&&◌, not, Bool, true, false, List, [], ◌∷◌, ◌++◌, length, take, drop, slice_index, Option, if◌then◌else◌}
 use Rattle.std.specs.List.{list_any, list_all, count_by}
 use Rattle.std.specs.Str.{IsCharBoundary}
-use Rattle.first_pass_scan.specs.Lines.{begins}
+use Rattle.first_pass_scan.specs.Lines.{begins, is_ascii_white}
 use Rattle.first_pass_links.specs.Escapes.{begins_escape}
 use Rattle.first_pass_links.specs.Changes.{begins_pipe_escape}
 use Rattle.first_pass_links.specs.declared.label.Unit.{Unit}
-use Rattle.first_pass_links.specs.Labels.{is_space, begins_character, joined, bytes_of, label_len, shown}
+use Rattle.first_pass_links.specs.Labels.{begins_character, joined, bytes_of, label_len, shown}
 
 -- the bytes from one offset up to another (this project)
 abbrev pub part : List ℕ → ℕ → ℕ → List ℕ
@@ -45,7 +45,7 @@ left_at prefix text at = joined prefix at 0 (drop at text)
 -- each byte counts one, and white space other than a space two: less is read of a text that changes (this project)
 unfoldable pub weight : List ℕ → ℕ
 weight [] = 0
-weight (b ∷ bs) = (if is_space b && not (b == 32) then 2 else 1) + weight bs
+weight (b ∷ bs) = (if is_ascii_white b && not (b == 32) then 2 else 1) + weight bs
 
 -- a unit at an offset, and what it leaves out, if anything (this project)
 pub record IsUnit (text : List ℕ) (at : ℕ) (unit : Unit) : Type 0 where
@@ -64,7 +64,7 @@ pub record Reads (prefix : List ℕ → Option ℕ) (in_table : Bool) (text : Li
   pub run : List (ℕ × ℕ)
   pub joins : left_at prefix text at ≡ run ++ left_at prefix text unit.next
   pub count : count_by begins_character (bytes_of run) ≡ unit.characters
-  pub something : list_any (λ b. not (is_space b)) (bytes_of run) ≡ unit.solid
+  pub something : list_any (λ b. not (is_ascii_white b)) (bytes_of run) ≡ unit.solid
   pub passed : label_len (bytes_of run ++ bytes_of (left_at prefix text unit.next)) ≡ length run + label_len (bytes_of (left_at prefix text unit.next))
   pub reads : (n : ℕ) → shown in_table (bytes_of run ++ take n (bytes_of (left_at prefix text unit.next))) ≡ read_of text at unit ++ shown in_table (take n (bytes_of (left_at prefix text unit.next)))
 
@@ -79,12 +79,12 @@ pub record IsRead (text : List ℕ) (written : List ℕ) (from at : ℕ) : Type 
 pub record IsWhiteRun (prefix : List ℕ → Option ℕ) (text : List ℕ) (at next characters : ℕ) : Type 0 where
   pub run : List (ℕ × ℕ)
   pub joins : left_at prefix text at ≡ run ++ left_at prefix text next
-  pub white : list_all is_space (bytes_of run) ≡ true
+  pub white : list_all is_ascii_white (bytes_of run) ≡ true
   pub count : length run ≡ characters
 
 -- nothing but white space is left of the label (CommonMark 4.7)
 abbrev pub IsBlankRest : (List ℕ → Option ℕ) → List ℕ → ℕ → Type 0
-IsBlankRest prefix text at = list_all is_space (bytes_of (left_at prefix text at)) ≡ true
+IsBlankRest prefix text at = list_all is_ascii_white (bytes_of (left_at prefix text at)) ≡ true
 
 -- where a run ends: behind its first byte, and before a byte that is no white space (CommonMark 4.7)
 pub record EndsWhiteRun (text : List ℕ) (at next characters : ℕ) : Type 0 where
