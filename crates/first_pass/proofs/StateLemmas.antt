@@ -10,6 +10,7 @@ use Rattle.first_pass_items.specs.declared.option_set.Options.{Options}
 use Rattle.first_pass_tree.specs.declared.tree_index.TreeIndex.{TreeIndex}
 use Rattle.first_pass_tree.specs.Forest.{Forest, empty_forest, with_end_at, added, appended, pushed, modify}
 use Rattle.first_pass_scan.specs.Lines.{blank_len, atx_level, level_number, line_len}
+use Rattle.first_pass_scan.specs.LeafLines.{hrule_len}
 use Rattle.first_pass_scan.specs.Rest.{Rest, indent}
 use Rattle.first_pass_scan.specs.Places.{Place, offset, line_rest, line_place, place_at, line_end, start_of, IsPlaceOf}
 use Rattle.first_pass_scan.proofs.LineFacts.{lines_at-line, lines_at-end}
@@ -17,10 +18,10 @@ use Rattle.first_pass_scan.proofs.PlaceFacts.{line_is_place, start_of-lines, col
 use Rattle.first_pass_grammar.specs.declared.kind.Container.{Container}
 use Rattle.first_pass_grammar.specs.declared.kind.Container.TheVariants.{BlockQuote}
 use Rattle.first_pass_grammar.specs.declared.kind.Kind.{Kind}
-use Rattle.first_pass_grammar.specs.declared.kind.Kind.TheVariants.{Blank, AtxHeading, Paragraph}
+use Rattle.first_pass_grammar.specs.declared.kind.Kind.TheVariants.{Blank, ThematicBreak, AtxHeading, Paragraph}
 use Rattle.first_pass_grammar.specs.Containers.{at_rest, prefix, after}
-use Rattle.first_pass_grammar.specs.Kinds.{unindented, quote_start, heading_or, kind_of}
-use Rattle.first_pass_grammar.specs.Leaves.{Document, document, IsParagraph, IsHeading, heading_text_at, heading_block, paragraph_block}
+use Rattle.first_pass_grammar.specs.Kinds.{unindented, quote_start, heading_or, rule_or, kind_of}
+use Rattle.first_pass_grammar.specs.Leaves.{Document, document, IsParagraph, IsHeading, heading_text_at, rule_block, heading_block, paragraph_block}
 use Rattle.first_pass_grammar.specs.Skeleton.{Leaf, BlankLine, Block, Opening, OpensLeaf, OpensNode, OpensAs, OpensFrom, Opens, Ends}
 use Rattle.first_pass_grammar.specs.Derivation.{Derives, leaf_items, node_of}
 use Rattle.first_pass_grammar.specs.Completion.{lines_from, ended, Completes}
@@ -31,6 +32,7 @@ use Rattle.first_pass.specs.State.{Ready, ReadyAt, closed_times}
 use Rattle.first_pass.specs.TableEntries.{no_tables}
 use Rattle.first_pass.proofs.FrontLemmas.{outer-all, outer-none}
 use Rattle.first_pass.proofs.PlaceLemmas.{after_keeps, line_start_end}
+use Rattle.first_pass.proofs.RuleLemmas.{rule_line}
 use Rattle.first_pass.proofs.PathLemmas.{AreIn, get_front, get_last, path_in-append, path_of-opened}
 
 -- before the first block
@@ -203,6 +205,21 @@ line_end_of text p i =
     let f = ap line_len i.left in
     omega arith
 
+-- behind a thematic break
+pub ready_rule : (d : Document) (old new : Forest Item) (p : Place) (at next size : ℕ) → prefix (BlockQuote None) p.rest ≡ None → kind_of p.rest ≡ ThematicBreak size
+    → at ≡ offset (unindented p) → next ≡ line_end p → new ≡ added old (rule_block at size)
+    → ReadyAt d old (Some p) (lines_from d.text (line_end p)) → ReadyAt d new None (lines_from d.text next)
+unfolding OpensAs
+ready_rule d old new p at next size none kind at_is next_is new_is ready =
+    let lines : List Place = lines_from d.text (line_end p) in
+    let block : List (ℕ × Item) = rule_block at size in
+    let o : Opening = OpensLeaf (Block block) None (lines_from d.text next) in
+    let rule : OpensAs d (path_of old) p lines (ThematicBreak size) o =
+    ap (λ k. OpensLeaf (Block (rule_block k size)) None (lines_from d.text next)) at_is
+    ∙ ap (λ n. OpensLeaf (Block (rule_block (offset (unindented p)) size)) None (lines_from d.text n)) next_is in
+    let u = in_container old new block new_is in
+    ready_leaf d old new p lines (lines_from d.text next) (Block block) (no_container d (path_of old) p lines (ThematicBreak size) o none kind rule) u.0 u.1 ready
+
 -- behind a heading
 pub ready_heading : (d : Document) (old new : Forest Item) (p : Place) (at next : ℕ) (level : HeadingLevel) → prefix (BlockQuote None) p.rest ≡ None → kind_of p.rest ≡ AtxHeading level
     → at ≡ offset (unindented p) → IsPlaceOf d.text (unindented p) → AddsHeading d at level old new next
@@ -251,16 +268,46 @@ heading_level : (o : Option HeadingLevel) (level : HeadingLevel) → heading_or 
 heading_level (Some l) level h = cc
 heading_level None level h = cc
 
-level_by : (t u : Bool) (o : Option HeadingLevel) (level : HeadingLevel) → (if t then Blank else (if u then heading_or o Paragraph else Paragraph)) ≡ AtxHeading level → o ≡ Some level
-level_by true u o level h = cc
-level_by false true o level h = heading_level o level h
-level_by false false o level h = cc
+rule_level : (r : Option ℕ) (o : Option HeadingLevel) (level : HeadingLevel) → rule_or r (heading_or o Paragraph) ≡ AtxHeading level → o ≡ Some level
+rule_level (Some n) o level h = cc
+rule_level None o level h = heading_level o level h
+
+level_by : (t u : Bool) (r : Option ℕ) (o : Option HeadingLevel) (level : HeadingLevel) → (if t then Blank else (if u then rule_or r (heading_or o Paragraph) else Paragraph)) ≡ AtxHeading level
+    → o ≡ Some level
+level_by true u r o level h = cc
+level_by false true r o level h = rule_level r o level h
+level_by false false r o level h = cc
 
 pub kind_level : (text : List ℕ) (p : Place) (at : ℕ) (level : HeadingLevel) → kind_of p.rest ≡ AtxHeading level → at ≡ offset (unindented p)
     → IsPlaceOf text (unindented p) → atx_level (drop at text) ≡ Some level
 unfolding kind_of
 kind_level text p at level kind at_is place =
-    ap (λ k. atx_level (drop k text)) at_is ∙ ap atx_level (sym place.left) ∙ level_by (is_some (blank_len p.rest.left)) (nat_lt (indent p.rest) 4) (atx_level (unindented p).rest.left) level kind
+    ap (λ k. atx_level (drop k text)) at_is ∙ ap atx_level (sym place.left) ∙ level_by (is_some (blank_len p.rest.left)) (nat_lt (indent p.rest) 4) (hrule_len (unindented p).rest.left) (atx_level (unindented p).rest.left) level kind
+
+-- a thematic break stands behind its indentation
+no_rule : (o : Option HeadingLevel) (size : ℕ) → heading_or o Paragraph ≡ ThematicBreak size → ⊥
+no_rule (Some l) size h = cc
+no_rule None size h = cc
+
+rule_size : (r : Option ℕ) (o : Option HeadingLevel) (size : ℕ) → rule_or r (heading_or o Paragraph) ≡ ThematicBreak size → r ≡ Some size
+rule_size (Some n) o size h = cc
+rule_size None o size h = absurd (no_rule o size h)
+
+size_by : (t u : Bool) (r : Option ℕ) (o : Option HeadingLevel) (size : ℕ) → (if t then Blank else (if u then rule_or r (heading_or o Paragraph) else Paragraph)) ≡ ThematicBreak size → r ≡ Some size
+size_by true u r o size h = cc
+size_by false true r o size h = rule_size r o size h
+size_by false false r o size h = cc
+
+kind_size : (p : Place) (size : ℕ) → kind_of p.rest ≡ ThematicBreak size → hrule_len (unindented p).rest.left ≡ Some size
+unfolding kind_of
+kind_size p size kind = size_by (is_some (blank_len p.rest.left)) (nat_lt (indent p.rest) 4) (hrule_len (unindented p).rest.left) (atx_level (unindented p).rest.left) size kind
+
+-- it ends where its line ends
+pub rule_end : (p : Place) (at size : ℕ) → kind_of p.rest ≡ ThematicBreak size → at ≡ offset (unindented p) → at + size ≡ line_end p
+rule_end p at size kind at_is =
+    let n = rule_line (unindented p).rest.left size (kind_size p size kind) in
+    let e = columns_line_end (indent p.rest) p in
+    omega arith
 
 -- inside a block quote that begins here
 pub ready_quote : (d : Document) (g new : Forest Item) (x : Item) (ix : TreeIndex) (p : Place) (lines : List Place) (inside : Rest) → prefix (BlockQuote None) p.rest ≡ Some inside

@@ -127,6 +127,10 @@ impl<'a> FirstPass<'a> {
         let at = start_ix + line_start.bytes_scanned();
         match kind {
             Kind::Blank => Ok(next_line(self.text.as_bytes(), at)),
+            Kind::ThematicBreak(size) => {
+                let next = self.parse_hrule(size, at)?;
+                Ok(next)
+            }
             Kind::AtxHeading(level) => {
                 let next = self.parse_atx_heading(at, level)?;
                 Ok(next)
