@@ -79,7 +79,7 @@ pub record IsHeading (d : Document) (start : ℕ) (chain : List Item) (end_of_li
   pub line : IsLine (content_at d start) tokens (end_of_line, break)
   pub chain_is : chain ≡ heading_chain (kept_len (take (line_len (drop start d.text)) (drop start d.text))) start (close_break break (add_tokens [] tokens))
 
--- the item of a thematic break of so many bytes
+-- the item of a thematic break of so many bytes, its line end too (CommonMark 4.1)
 abbrev pub rule_block : ℕ → ℕ → List (ℕ × Item)
 rule_block start size = block_with start (start + size) Rule []
 
