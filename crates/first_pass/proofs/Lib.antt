@@ -4,4 +4,5 @@ pub mod HeadingLemmas
 pub mod ParagraphLemmas
 pub mod PathLemmas
 pub mod PlaceLemmas
+pub mod RuleLemmas
 pub mod StateLemmas

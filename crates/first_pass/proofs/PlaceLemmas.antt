@@ -1,5 +1,5 @@
 -- Facts on places behind a line's indentation.
-use Rattle.std.proofs.Common.{◌≡◌, inl, inr, ◌≤◌, ℕ, ◌+◌, ◌<◌, zero, suc, nat_lt, Bool, true, false, List, [], ◌∷◌, length, drop, MatchOption, Option, Some, None, IsUtf8, IsCharBoundary, if◌then◌else◌, refl, sym, ap, subst, ◌∙◌, arith}
+use Rattle.std.proofs.Common.{◌≡◌, inl, inr, ◌≤◌, ℕ, ◌+◌, ◌<◌, zero, suc, List, [], ◌∷◌, length, drop, MatchOption, Option, Some, None, IsUtf8, IsCharBoundary, refl, sym, ap, subst, ◌∙◌, arith}
 use Rattle.std.proofs.lemmas.Bool.{cases_lt}
 use Rattle.std.proofs.lemmas.Option.{none-some}
 use Rattle.std.specs.Option.{option_map, option_and_then}
@@ -12,7 +12,7 @@ use Rattle.first_pass_scan.proofs.PlaceFacts.{line_is_place, columns_keep, place
 use Rattle.first_pass_grammar.specs.declared.kind.Container.{Container}
 use Rattle.first_pass_grammar.specs.declared.kind.Container.TheVariants.{BlockQuote}
 use Rattle.first_pass_grammar.specs.Containers.{prefix, after, or_shorter, front}
-use Rattle.first_pass_grammar.specs.Kinds.{all_taken, unindented, quote_rest}
+use Rattle.first_pass_grammar.specs.Kinds.{all_taken, unindented}
 
 all_by : (k : ℕ) (r : Rest) (o : Option Rest) → next_column r ≡ o → ((s : Rest) → after_columns (indent (after_columns k s)) (after_columns k s) ≡ after_columns (indent s) s)
     → after_columns (indent (after_columns (suc k) r)) (after_columns (suc k) r) ≡ after_columns (indent r) r
@@ -36,20 +36,8 @@ quote_prefix text line r (Some t) s u q e i =
     let j = columns_keep text 1 (place_at line t) u (quote_keeps text line r t u q i) in
     (subst (λ z. IsPlaceOf text (place_at line z)) f j, ap (λ z. line_end (place_at line z)) (sym f) ∙ columns_line_end 1 (place_at line t) ∙ quote_line_end line r t q)
 
--- behind a block quote that begins here
-quote_here : (t : Bool) (text : List ℕ) (line : ℕ) (r s : Rest) → IsUtf8 text → (if t then option_map (after_columns 1) (past_quote (all_taken r)) else None) ≡ Some s → IsPlaceOf text (place_at line r)
-    → IsPlaceOf text (place_at line s) × (line_end (place_at line s) ≡ line_end (place_at line r))
-quote_here true text line r s u e i =
-    let f = quote_prefix text line (all_taken r) (past_quote (all_taken r)) s u refl e (all_keep text line r u i) in
-    (f.0, f.1 ∙ columns_line_end (indent r) (place_at line r))
-quote_here false text line r s u e i = absurd (none-some s e)
-
-pub inside_quote : (text : List ℕ) (line : ℕ) (r s : Rest) → IsUtf8 text → quote_rest r ≡ Some s → IsPlaceOf text (place_at line r) → IsPlaceOf text (place_at line s) × (line_end (place_at line s) ≡ line_end (place_at line r))
-unfolding quote_rest
-inside_quote text line r s u e i = quote_here (nat_lt (indent r) 4) text line r s u e i
-
 -- behind a prefix
-prefix_keeps : (text : List ℕ) (line : ℕ) (c : Container) (r s : Rest) → IsUtf8 text → prefix c r ≡ Some s → IsPlaceOf text (place_at line r)
+pub prefix_keeps : (text : List ℕ) (line : ℕ) (c : Container) (r s : Rest) → IsUtf8 text → prefix c r ≡ Some s → IsPlaceOf text (place_at line r)
     → IsPlaceOf text (place_at line s) × (line_end (place_at line s) ≡ line_end (place_at line r))
 unfolding prefix
 prefix_keeps text line (BlockQuote kind) r s u e i =
@@ -108,17 +96,13 @@ quote_less r s (Some t) q e =
     let b = quote_shorter r t q in
     omega arith
 
-inside_less : (t : Bool) (r s : Rest) → (if t then option_map (after_columns 1) (past_quote (all_taken r)) else None) ≡ Some s → length s.left < length r.left
-inside_less true r s e =
-    let a = quote_less (all_taken r) s (past_quote (all_taken r)) refl e in
-    let b = columns_shorter (indent r) r in
+-- A prefix takes a byte.
+pub prefix_shorter : (c : Container) (r s : Rest) → prefix c r ≡ Some s → length s.left < length r.left
+unfolding prefix
+prefix_shorter (BlockQuote kind) r s e =
+    let a = quote_less (after_columns 3 r) s (past_quote (after_columns 3 r)) refl e in
+    let b = columns_shorter 3 r in
     omega arith
-inside_less false r s e = absurd (none-some s e)
-
--- A block quote that begins here takes a byte.
-pub inside_shorter : (r s : Rest) → quote_rest r ≡ Some s → length s.left < length r.left
-unfolding quote_rest
-inside_shorter r s e = inside_less (nat_lt (indent r) 4) r s e
 
 -- what a marker that was taken says
 pub quote_taken : (o : Option Rest) (found : Option ℕ) (n at : ℕ) (old new : Rest) → found ≡ Some at → MatchOption o ((found ≡ None) × (new ≡ old)) (λ next. (found ≡ Some n) × (new ≡ next)) → (o ≡ Some new) × (at ≡ n)

@@ -10,6 +10,7 @@ use Rattle.first_pass_items.specs.declared.option_set.Options.{Options}
 use Rattle.first_pass_tree.specs.declared.tree_index.TreeIndex.{TreeIndex}
 use Rattle.first_pass_tree.specs.Forest.{Forest, empty_forest, with_end_at, added, appended, pushed, modify}
 use Rattle.first_pass_scan.specs.Lines.{blank_len, atx_level, level_number, line_len}
+use Rattle.first_pass_scan.specs.LeafLines.{hrule_len}
 use Rattle.first_pass_scan.specs.Rest.{Rest, indent}
 use Rattle.first_pass_scan.specs.Places.{Place, offset, line_rest, line_place, place_at, line_end, start_of, IsPlaceOf}
 use Rattle.first_pass_scan.proofs.LineFacts.{lines_at-line, lines_at-end}
@@ -17,10 +18,10 @@ use Rattle.first_pass_scan.proofs.PlaceFacts.{line_is_place, start_of-lines, col
 use Rattle.first_pass_grammar.specs.declared.kind.Container.{Container}
 use Rattle.first_pass_grammar.specs.declared.kind.Container.TheVariants.{BlockQuote}
 use Rattle.first_pass_grammar.specs.declared.kind.Kind.{Kind}
-use Rattle.first_pass_grammar.specs.declared.kind.Kind.TheVariants.{Blank, AtxHeading, Paragraph}
-use Rattle.first_pass_grammar.specs.Containers.{at_rest, after}
-use Rattle.first_pass_grammar.specs.Kinds.{unindented, quote_rest, heading_or, kind_of}
-use Rattle.first_pass_grammar.specs.Leaves.{Document, document, IsParagraph, IsHeading, heading_text_at, heading_block, paragraph_block}
+use Rattle.first_pass_grammar.specs.declared.kind.Kind.TheVariants.{Blank, ThematicBreak, AtxHeading, Paragraph}
+use Rattle.first_pass_grammar.specs.Containers.{at_rest, prefix, after}
+use Rattle.first_pass_grammar.specs.Kinds.{unindented, quote_start, heading_or, rule_or, kind_of}
+use Rattle.first_pass_grammar.specs.Leaves.{Document, document, IsParagraph, IsHeading, heading_text_at, rule_block, heading_block, paragraph_block}
 use Rattle.first_pass_grammar.specs.Skeleton.{Leaf, BlankLine, Block, Opening, OpensLeaf, OpensNode, OpensAs, OpensFrom, Opens, Ends}
 use Rattle.first_pass_grammar.specs.Derivation.{Derives, leaf_items, node_of}
 use Rattle.first_pass_grammar.specs.Completion.{lines_from, ended, Completes}
@@ -31,6 +32,7 @@ use Rattle.first_pass.specs.State.{Ready, ReadyAt, closed_times}
 use Rattle.first_pass.specs.TableEntries.{no_tables}
 use Rattle.first_pass.proofs.FrontLemmas.{outer-all, outer-none}
 use Rattle.first_pass.proofs.PlaceLemmas.{after_keeps, line_start_end}
+use Rattle.first_pass.proofs.RuleLemmas.{rule_line}
 use Rattle.first_pass.proofs.PathLemmas.{AreIn, get_front, get_last, path_in-append, path_of-opened}
 
 -- before the first block
@@ -177,13 +179,13 @@ ready_leaf d old new p lines left leaf opens nodes_are spine_is ready =
     let b = built new.nodes new.spine nodes_are spine_is in
     record { containers = b.0; completes = b.1 }
 
-no_container : (d : Document) (path : List Container) (p : Place) (lines : List Place) (k : Kind) (o : Opening) → quote_rest p.rest ≡ None → kind_of p.rest ≡ k → OpensAs d path p lines k o → Opens d path p lines o
+no_container : (d : Document) (path : List Container) (p : Place) (lines : List Place) (k : Kind) (o : Opening) → prefix (BlockQuote None) p.rest ≡ None → kind_of p.rest ≡ k → OpensAs d path p lines k o → Opens d path p lines o
 unfolding OpensFrom
 no_container d path p lines k o none kind opens =
     subst (λ (q : Option Rest). OpensFrom d path p lines (option_map (at_rest p) q) o) (sym none) (subst (λ k. OpensAs d path p lines k o) (sym kind) opens)
 
 -- behind a blank line
-pub ready_blank : (d : Document) (tree : Forest Item) (p : Place) (next : ℕ) → quote_rest p.rest ≡ None → kind_of p.rest ≡ Blank → next ≡ line_end p
+pub ready_blank : (d : Document) (tree : Forest Item) (p : Place) (next : ℕ) → prefix (BlockQuote None) p.rest ≡ None → kind_of p.rest ≡ Blank → next ≡ line_end p
     → ReadyAt d tree (Some p) (lines_from d.text (line_end p)) → ReadyAt d tree None (lines_from d.text next)
 unfolding OpensAs
 ready_blank d tree p next none kind next_is ready =
@@ -203,8 +205,23 @@ line_end_of text p i =
     let f = ap line_len i.left in
     omega arith
 
+-- behind a thematic break
+pub ready_rule : (d : Document) (old new : Forest Item) (p : Place) (at next size : ℕ) → prefix (BlockQuote None) p.rest ≡ None → kind_of p.rest ≡ ThematicBreak size
+    → at ≡ offset (unindented p) → next ≡ line_end p → new ≡ added old (rule_block at size)
+    → ReadyAt d old (Some p) (lines_from d.text (line_end p)) → ReadyAt d new None (lines_from d.text next)
+unfolding OpensAs
+ready_rule d old new p at next size none kind at_is next_is new_is ready =
+    let lines : List Place = lines_from d.text (line_end p) in
+    let block : List (ℕ × Item) = rule_block at size in
+    let o : Opening = OpensLeaf (Block block) None (lines_from d.text next) in
+    let rule : OpensAs d (path_of old) p lines (ThematicBreak size) o =
+    ap (λ k. OpensLeaf (Block (rule_block k size)) None (lines_from d.text next)) at_is
+    ∙ ap (λ n. OpensLeaf (Block (rule_block (offset (unindented p)) size)) None (lines_from d.text n)) next_is in
+    let u = in_container old new block new_is in
+    ready_leaf d old new p lines (lines_from d.text next) (Block block) (no_container d (path_of old) p lines (ThematicBreak size) o none kind rule) u.0 u.1 ready
+
 -- behind a heading
-pub ready_heading : (d : Document) (old new : Forest Item) (p : Place) (at next : ℕ) (level : HeadingLevel) → quote_rest p.rest ≡ None → kind_of p.rest ≡ AtxHeading level
+pub ready_heading : (d : Document) (old new : Forest Item) (p : Place) (at next : ℕ) (level : HeadingLevel) → prefix (BlockQuote None) p.rest ≡ None → kind_of p.rest ≡ AtxHeading level
     → at ≡ offset (unindented p) → IsPlaceOf d.text (unindented p) → AddsHeading d at level old new next
     → ReadyAt d old (Some p) (lines_from d.text (line_end p)) → ReadyAt d new None (lines_from d.text next)
 unfolding OpensAs
@@ -224,7 +241,7 @@ ready_heading d old new p at next level none kind at_is place h ready =
     ready_leaf d old new p lines (lines_from d.text next) (Block block) (no_container d (path_of old) p lines (AtxHeading level) o none kind heading) u.0 u.1 ready
 
 -- behind a paragraph
-pub ready_paragraph : (d : Document) (old new : Forest Item) (p : Place) (at next : ℕ) → quote_rest p.rest ≡ None → kind_of p.rest ≡ Paragraph
+pub ready_paragraph : (d : Document) (old new : Forest Item) (p : Place) (at next : ℕ) → prefix (BlockQuote None) p.rest ≡ None → kind_of p.rest ≡ Paragraph
     → at ≡ offset (unindented p) → IsPlaceOf d.text (unindented p) → AddsParagraph d at None old new next
     → ReadyAt d old (Some p) (lines_from d.text (line_end p)) → ReadyAt d new None (lines_from d.text next)
 unfolding OpensAs
@@ -251,29 +268,59 @@ heading_level : (o : Option HeadingLevel) (level : HeadingLevel) → heading_or 
 heading_level (Some l) level h = cc
 heading_level None level h = cc
 
-level_by : (t u : Bool) (o : Option HeadingLevel) (level : HeadingLevel) → (if t then Blank else (if u then heading_or o Paragraph else Paragraph)) ≡ AtxHeading level → o ≡ Some level
-level_by true u o level h = cc
-level_by false true o level h = heading_level o level h
-level_by false false o level h = cc
+rule_level : (r : Option ℕ) (o : Option HeadingLevel) (level : HeadingLevel) → rule_or r (heading_or o Paragraph) ≡ AtxHeading level → o ≡ Some level
+rule_level (Some n) o level h = cc
+rule_level None o level h = heading_level o level h
+
+level_by : (t u : Bool) (r : Option ℕ) (o : Option HeadingLevel) (level : HeadingLevel) → (if t then Blank else (if u then rule_or r (heading_or o Paragraph) else Paragraph)) ≡ AtxHeading level
+    → o ≡ Some level
+level_by true u r o level h = cc
+level_by false true r o level h = rule_level r o level h
+level_by false false r o level h = cc
 
 pub kind_level : (text : List ℕ) (p : Place) (at : ℕ) (level : HeadingLevel) → kind_of p.rest ≡ AtxHeading level → at ≡ offset (unindented p)
     → IsPlaceOf text (unindented p) → atx_level (drop at text) ≡ Some level
 unfolding kind_of
 kind_level text p at level kind at_is place =
-    ap (λ k. atx_level (drop k text)) at_is ∙ ap atx_level (sym place.left) ∙ level_by (is_some (blank_len p.rest.left)) (nat_lt (indent p.rest) 4) (atx_level (unindented p).rest.left) level kind
+    ap (λ k. atx_level (drop k text)) at_is ∙ ap atx_level (sym place.left) ∙ level_by (is_some (blank_len p.rest.left)) (nat_lt (indent p.rest) 4) (hrule_len (unindented p).rest.left) (atx_level (unindented p).rest.left) level kind
+
+-- a thematic break stands behind its indentation
+no_rule : (o : Option HeadingLevel) (size : ℕ) → heading_or o Paragraph ≡ ThematicBreak size → ⊥
+no_rule (Some l) size h = cc
+no_rule None size h = cc
+
+rule_size : (r : Option ℕ) (o : Option HeadingLevel) (size : ℕ) → rule_or r (heading_or o Paragraph) ≡ ThematicBreak size → r ≡ Some size
+rule_size (Some n) o size h = cc
+rule_size None o size h = absurd (no_rule o size h)
+
+size_by : (t u : Bool) (r : Option ℕ) (o : Option HeadingLevel) (size : ℕ) → (if t then Blank else (if u then rule_or r (heading_or o Paragraph) else Paragraph)) ≡ ThematicBreak size → r ≡ Some size
+size_by true u r o size h = cc
+size_by false true r o size h = rule_size r o size h
+size_by false false r o size h = cc
+
+kind_size : (p : Place) (size : ℕ) → kind_of p.rest ≡ ThematicBreak size → hrule_len (unindented p).rest.left ≡ Some size
+unfolding kind_of
+kind_size p size kind = size_by (is_some (blank_len p.rest.left)) (nat_lt (indent p.rest) 4) (hrule_len (unindented p).rest.left) (atx_level (unindented p).rest.left) size kind
+
+-- it ends where its line ends
+pub rule_end : (p : Place) (at size : ℕ) → kind_of p.rest ≡ ThematicBreak size → at ≡ offset (unindented p) → at + size ≡ line_end p
+rule_end p at size kind at_is =
+    let n = rule_line (unindented p).rest.left size (kind_size p size kind) in
+    let e = columns_line_end (indent p.rest) p in
+    omega arith
 
 -- inside a block quote that begins here
-pub ready_quote : (d : Document) (g new : Forest Item) (x : Item) (ix : TreeIndex) (p : Place) (lines : List Place) (inside : Rest) → quote_rest p.rest ≡ Some inside
-    → x ≡ record { start = offset (unindented p); «end» = 0; body = BlockQuoteBody None } → ix.0 ≡ length g.nodes → new ≡ pushed (appended g x) ix
+pub ready_quote : (d : Document) (g new : Forest Item) (x : Item) (ix : TreeIndex) (p : Place) (lines : List Place) (inside : Rest) → prefix (BlockQuote None) p.rest ≡ Some inside
+    → x ≡ record { start = quote_start p; «end» = 0; body = BlockQuoteBody None } → ix.0 ≡ length g.nodes → new ≡ pushed (appended g x) ix
     → ReadyAt d g (Some p) lines → ReadyAt d new (Some (at_rest p inside)) lines
 unfolding OpensFrom
 ready_quote d g new x ix p lines inside quote x_is at new_is ready =
-    let y : Item = node_of (offset (unindented p)) 0 (BlockQuote None) in
+    let y : Item = node_of (quote_start p) 0 (BlockQuote None) in
     let os : List ℕ = map (λ (i : TreeIndex). i.0) g.spine in
     let open_in = containers_in g.nodes g.spine ready.containers in
-    let opens : Opens d (path_of g) p lines (OpensNode (BlockQuote None) (offset (unindented p)) (at_rest p inside)) =
-    subst (λ (q : Option Rest). OpensFrom d (path_of g) p lines (option_map (at_rest p) q) (OpensNode (BlockQuote None) (offset (unindented p)) (at_rest p inside))) (sym quote) refl in
-    let c = completes-node d (path_of g) g.nodes os p lines (BlockQuote None) (offset (unindented p)) 0 (at_rest p inside) opens ready.completes in
+    let opens : Opens d (path_of g) p lines (OpensNode (BlockQuote None) (quote_start p) (at_rest p inside)) =
+    subst (λ (q : Option Rest). OpensFrom d (path_of g) p lines (option_map (at_rest p) q) (OpensNode (BlockQuote None) (quote_start p) (at_rest p inside))) (sym quote) refl in
+    let c = completes-node d (path_of g) g.nodes os p lines (BlockQuote None) (quote_start p) 0 (at_rest p inside) opens ready.completes in
     let l : suc (length os) ≡ length g.spine + 1 = (let k = length-map g.spine (λ (i : TreeIndex). i.0) in omega arith) in
     let c' : Completes d (BlockQuote None ∷ path_of g) (g.nodes ++ (length g.spine + 1, y) ∷ []) (ix.0 ∷ os) (Some (at_rest p inside)) lines =
     subst (λ k. Completes d (BlockQuote None ∷ path_of g) (g.nodes ++ (length g.spine + 1, y) ∷ []) (k ∷ os) (Some (at_rest p inside)) lines) (sym at)

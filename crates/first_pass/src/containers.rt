@@ -1,36 +1,20 @@
 //! The open containers, and how far a line goes on with them (CommonMark 5).
 
 ghost use Rattle.std.specs.Prelude.{◌≡◌, ℕ, ◌<◌, ◌≤◌, ◌-◌, List, length, Some, None, true, false, MatchOption, OnOk, IsUtf8};
+ghost use Rattle.first_pass_scan.specs.Rest.{after_columns};
 ghost use Rattle.first_pass_scan.specs.Places.{Place, place_at, line_end, IsPlaceOf};
-ghost use Rattle.first_pass_grammar.specs.Kinds.{all_taken, quote_rest};
 ghost use Rattle.first_pass_grammar.specs.Leaves.{document};
 ghost use Rattle.first_pass_grammar.specs.declared.kind.Container.TheVariants.{BlockQuote};
 ghost use Rattle.first_pass_grammar.specs.Containers.{prefix, after, front};
 ghost use Rattle.first_pass.specs.Path.{container_of, prefix_of, path_in, path_of, outer};
 ghost use Rattle.first_pass.specs.State.{ReadyAt, closed_times};
 
-use crate::indentation::scan_indentation;
 use crate::pass::FirstPass;
 use first_pass_items::item::{Item, ItemBody};
 use first_pass_items::option_set::Options;
 use first_pass_scan::line_start::LineStart;
 use first_pass_tree::forest::Tree;
 use std::alloc::AllocError;
-
-// Takes the prefix of a block quote, and says whether it is there; takes nothing where it isn't.
-#[tactic(auto, unfolding(first_pass_grammar::specs::Containers::prefix))]
-fn takes_quote_prefix<'a>(line_start: &mut LineStart<'a>) -> bool
-    ensures { MatchOption (prefix (BlockQuote None) line_start.old)
-        ((result ≡ false) × (line_start.new ≡ line_start.old)) (λ next. (result ≡ true) × (line_start.new ≡ next)) }
-{
-    let mut next = line_start.copy();
-    next.scan_space_upto(3);
-    if !next.scan_blockquote_marker() {
-        return false;
-    }
-    *line_start = next;
-    true
-}
 
 // Takes the prefix by which the line goes on with a node, and says whether it does; takes nothing where it doesn't.
 #[tactic(auto, unfolding(first_pass_grammar::specs::Containers::prefix))]
@@ -39,7 +23,7 @@ fn takes_prefix<'a>(body: ItemBody, line_start: &mut LineStart<'a>) -> bool
         ((result ≡ false) × (line_start.new ≡ line_start.old)) (λ next. (result ≡ true) × (line_start.new ≡ next)) }
 {
     match body {
-        ItemBody::BlockQuote(_) => takes_quote_prefix(line_start),
+        ItemBody::BlockQuote(_) => scan_quote(line_start).is_some(),
         _ => true,
     }
 }
@@ -96,7 +80,7 @@ impl<'a> FirstPass<'a> {
         ensures allocs { OnOk result (self.new.allocs ≡ self.old.allocs) }
         ensures place { OnOk result (IsPlaceOf self.old.text.now (place_at start_ix line_start.new)) }
         ensures same_end { OnOk result (line_end (place_at start_ix line_start.new) ≡ line_end (place_at start_ix line_start.old)) }
-        ensures no_quote { OnOk result (quote_rest line_start.new ≡ None) }
+        ensures no_quote { OnOk result (prefix (BlockQuote None) line_start.new ≡ None) }
         ensures ready { OnOk result ((lines : List Place)
             → ReadyAt (document self.old.text.now self.old.options) self.old.tree (Some (place_at start_ix line_start.old)) lines
             → ReadyAt (document self.old.text.now self.old.options) self.new.tree (Some (place_at start_ix line_start.new)) lines) }
@@ -113,17 +97,15 @@ impl<'a> FirstPass<'a> {
     }
 }
 
-// Takes the block quote marker here and the columns before it, where one begins at under four columns, and
-// answers how many bytes of the line stand before it; takes nothing where none does.
-#[tactic(auto, unfolding(first_pass_grammar::specs::Kinds::quote_rest))]
+// Takes the prefix of a block quote, where it is there, and answers how many bytes of the line stand before
+// its marker; takes nothing where it isn't.
+#[tactic(auto, unfolding(first_pass_grammar::specs::Containers::prefix))]
 fn scan_quote<'a>(line_start: &mut LineStart<'a>) -> Option<usize>
-    ensures { MatchOption (quote_rest line_start.old) ((result ≡ None) × (line_start.new ≡ line_start.old))
-        (λ next. (result ≡ Some (all_taken line_start.old).taken) × (line_start.new ≡ next)) }
+    ensures { MatchOption (prefix (BlockQuote None) line_start.old) ((result ≡ None) × (line_start.new ≡ line_start.old))
+        (λ next. (result ≡ Some (after_columns 3 line_start.old).taken) × (line_start.new ≡ next)) }
 {
     let mut next = line_start.copy();
-    if scan_indentation(&mut next) >= 4 {
-        return None;
-    }
+    next.scan_space_upto(3);
     let before = next.bytes_scanned();
     if !next.scan_blockquote_marker() {
         return None;

@@ -11,6 +11,7 @@ use crate::containers::scan_containers;
 use crate::indentation::scan_indentation;
 use first_pass_items::item::Item;
 use first_pass_items::option_set::Options;
+use first_pass_scan::leaf_scan::scan_hrule;
 use first_pass_scan::line_start::LineStart;
 use first_pass_scan::lines::{begins, scan_atx_heading, scan_eol};
 use first_pass_scan::places::rest_of;
@@ -18,8 +19,8 @@ use first_pass_tree::forest::Tree;
 use std::alloc::{AllocError, Global};
 
 /// Whether `text`, what is left of a line behind its indentation of under four columns, interrupts a
-/// paragraph: its line ends, or an ATX heading or a block quote begins (CommonMark 4.8, 4.2, 5.1). Which
-/// containers the line goes on with, and the tree so far, make no difference yet.
+/// paragraph: its line ends, or a thematic break, an ATX heading or a block quote begins (CommonMark 4.8,
+/// 4.1, 4.2, 5.1). Which containers the line goes on with, and the tree so far, make no difference yet.
 pub fn scan_paragraph_interrupt_no_table(
     _alloc: Global,
     text: &str,
@@ -32,7 +33,12 @@ pub fn scan_paragraph_interrupt_no_table(
     ensures { IfOk result (λ yes. yes ≡ interrupts_with text.now) }
 {
     let bytes = text.as_bytes();
-    Ok(scan_eol(bytes).is_some() || scan_atx_heading(bytes).is_some() || begins(b'>', bytes))
+    Ok(
+        scan_eol(bytes).is_some()
+            || scan_hrule(bytes).is_some()
+            || scan_atx_heading(bytes).is_some()
+            || begins(b'>', bytes),
+    )
 }
 
 // The columns of indentation, but 4 where there are more, behind what the line that begins at `start` takes

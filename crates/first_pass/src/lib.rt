@@ -10,5 +10,6 @@ pub mod items;
 mod kinds;
 mod paragraph;
 pub mod pass;
+mod rule;
 
 pub use first_pass_below::{below, flank, walk};

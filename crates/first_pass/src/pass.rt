@@ -6,7 +6,8 @@ ghost use Rattle.first_pass_below.specs.Walk.{MarksSpecial};
 ghost use Rattle.first_pass_tokens.specs.LineTokens.{EndsLine};
 ghost use Rattle.first_pass_tokens.specs.TreeTokens.{AppendsLine};
 ghost use Rattle.first_pass_grammar.specs.Leaves.{document};
-ghost use Rattle.first_pass_grammar.specs.Kinds.{quote_rest};
+ghost use Rattle.first_pass_grammar.specs.declared.kind.Container.TheVariants.{BlockQuote};
+ghost use Rattle.first_pass_grammar.specs.Containers.{prefix};
 ghost use Rattle.first_pass_grammar.specs.Derivation.{Derives};
 ghost use Rattle.first_pass_grammar.specs.Completion.{lines_from};
 ghost use Rattle.first_pass.specs.Appends.{text_upto, closed_by};
@@ -111,7 +112,7 @@ impl<'a> FirstPass<'a> {
     ) -> Result<usize, AllocError>
         requires utf8 { IsUtf8 self.old.text.now }
         requires place { IsPlaceOf self.old.text.now (place_at start_ix line_start) }
-        requires no_quote { quote_rest line_start ≡ None }
+        requires no_quote { prefix (BlockQuote None) line_start ≡ None }
         ensures text { OnOk result (self.new.text.now ≡ self.old.text.now) }
         ensures options { OnOk result (self.new.options ≡ self.old.options) }
         ensures allocs { OnOk result (self.new.allocs ≡ self.old.allocs) }
@@ -126,6 +127,10 @@ impl<'a> FirstPass<'a> {
         let at = start_ix + line_start.bytes_scanned();
         match kind {
             Kind::Blank => Ok(next_line(self.text.as_bytes(), at)),
+            Kind::ThematicBreak(size) => {
+                let next = self.parse_hrule(size, at)?;
+                Ok(next)
+            }
             Kind::AtxHeading(level) => {
                 let next = self.parse_atx_heading(at, level)?;
                 Ok(next)

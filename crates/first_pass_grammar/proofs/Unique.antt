@@ -7,9 +7,9 @@ use Rattle.first_pass_tokens.specs.Chains.{add_tokens}
 use Rattle.first_pass_tokens.proofs.LineLemmas.{one_line}
 use Rattle.first_pass_grammar.specs.declared.kind.Container.{Container}
 use Rattle.first_pass_grammar.specs.declared.kind.Kind.{Kind}
-use Rattle.first_pass_grammar.specs.declared.kind.Kind.TheVariants.{Blank, AtxHeading, Paragraph}
-use Rattle.first_pass_grammar.specs.Containers.{at_rest, after, front}
-use Rattle.first_pass_grammar.specs.Kinds.{unindented, quote_inside, kind_of, interrupts}
+use Rattle.first_pass_grammar.specs.declared.kind.Kind.TheVariants.{Blank, ThematicBreak, AtxHeading, Paragraph}
+use Rattle.first_pass_grammar.specs.Containers.{at_rest, front}
+use Rattle.first_pass_grammar.specs.Kinds.{unindented, kind_of}
 use Rattle.first_pass_grammar.specs.Leaves.{Document, add_break, IsParagraph, IsHeading}
 use Rattle.first_pass_grammar.specs.Skeleton.{Leaf, Opening, OpensLeaf, OpensNode, OpensAs, OpensFrom, Opens, Skeleton, Nil, Then, Node, Begins, Ends, IsLeafHere, IsNodeHere, IsSequence}
 use Rattle.first_pass_grammar.specs.Derivation.{Tables, forest_of, tables_of, root_of, Derives}
@@ -53,6 +53,7 @@ one_heading d start c c' e e' h h' =
 opens_once : (d : Document) (path : List Container) (p : Place) (lines : List Place) (k : Kind) (o o' : Opening) → OpensAs d path p lines k o → OpensAs d path p lines k o' → o ≡ o'
 unfolding OpensAs
 opens_once d path p lines Blank o o' e e' = cc
+opens_once d path p lines (ThematicBreak size) o o' e e' = cc
 opens_once d path p lines (AtxHeading level) o o' (c, e, h, f) (c', e', h', f') =
     let s = one_heading d _ c c' e e' h h' in
     let x = s.0 in

@@ -3,11 +3,13 @@ use Rattle.std.specs.Prelude.{ℕ, List, Option, Some, None, Bool, nat_lt, is_so
 use Rattle.first_pass_items.specs.declared.item.HeadingLevel.{HeadingLevel}
 use Rattle.std.specs.Option.{option_map}
 use Rattle.first_pass_scan.specs.Lines.{at_line_end, begins, blank_len, atx_level}
-use Rattle.first_pass_scan.specs.Rest.{Rest, indent, after_columns, past_quote}
-use Rattle.first_pass_scan.specs.Places.{Place}
+use Rattle.first_pass_scan.specs.LeafLines.{hrule_len}
+use Rattle.first_pass_scan.specs.Rest.{Rest, indent, after_columns}
+use Rattle.first_pass_scan.specs.Places.{Place, offset, moved_columns}
+use Rattle.first_pass_grammar.specs.declared.kind.Container.TheVariants.{BlockQuote}
 use Rattle.first_pass_grammar.specs.declared.kind.Kind.{Kind}
-use Rattle.first_pass_grammar.specs.declared.kind.Kind.TheVariants.{Blank, AtxHeading, Paragraph}
-use Rattle.first_pass_grammar.specs.Containers.{at_rest}
+use Rattle.first_pass_grammar.specs.declared.kind.Kind.TheVariants.{Blank, ThematicBreak, AtxHeading, Paragraph}
+use Rattle.first_pass_grammar.specs.Containers.{at_rest, prefix}
 
 -- what is left behind all columns: from the first byte on that is no space or tab
 abbrev pub all_taken : Rest → Rest
@@ -21,22 +23,27 @@ abbrev pub heading_or : Option HeadingLevel → Kind → Kind
 heading_or (Some level) other = AtxHeading level
 heading_or None other = other
 
--- the first that fits: a blank line (CommonMark 4.9), an ATX heading at under four columns (4.2), a paragraph (4.8)
+abbrev pub rule_or : Option ℕ → Kind → Kind
+rule_or (Some size) other = ThematicBreak size
+rule_or None other = other
+
+-- the first that fits: a blank line (CommonMark 4.9), at under four columns a thematic break (4.1) or an ATX heading (4.2), a paragraph (4.8)
 unfoldable pub kind_of : Rest → Kind
 kind_of r =
     if is_some (blank_len r.left) then Blank
-    else (if nat_lt (indent r) 4 then heading_or (atx_level (all_taken r).left) Paragraph else Paragraph)
+    else (if nat_lt (indent r) 4 then rule_or (hrule_len (all_taken r).left) (heading_or (atx_level (all_taken r).left) Paragraph) else Paragraph)
 
--- the rest inside a block quote that begins here: at under four columns `>` with no column owed before it, and one column if there is one (CommonMark 5.1)
-unfoldable pub quote_rest : Rest → Option Rest
-quote_rest r = if nat_lt (indent r) 4 then option_map (after_columns 1) (past_quote (all_taken r)) else None
-
+-- the place inside a block quote that begins here: behind the prefix by which a line goes on with one (CommonMark 5.1)
 abbrev pub quote_inside : Place → Option Place
-quote_inside p = option_map (at_rest p) (quote_rest p.rest)
+quote_inside p = option_map (at_rest p) (prefix (BlockQuote None) p.rest)
 
--- What interrupts a paragraph at under four columns: the line's end, an ATX heading or a block quote (CommonMark 4.8, 4.2, 5.1).
+-- where that block quote begins: behind up to three columns (CommonMark 5.1)
+abbrev pub quote_start : Place → ℕ
+quote_start p = offset (moved_columns 3 p)
+
+-- What interrupts a paragraph at under four columns: the line's end, a thematic break, an ATX heading or a block quote (CommonMark 4.8, 4.1, 4.2, 5.1).
 abbrev pub interrupts_with : List ℕ → Bool
-interrupts_with bs = at_line_end bs || is_some (atx_level bs) || begins 62 bs
+interrupts_with bs = at_line_end bs || is_some (hrule_len bs) || is_some (atx_level bs) || begins 62 bs
 
 -- A line ends a paragraph before it where its text interrupts the paragraph; at four columns or more only where nothing but spaces and tabs is left.
 unfoldable pub interrupts : Rest → Bool

@@ -7,10 +7,10 @@ use Rattle.first_pass_scan.specs.Places.{Place, offset, start_of}
 use Rattle.first_pass_grammar.specs.declared.kind.Container.{Container}
 use Rattle.first_pass_grammar.specs.declared.kind.Container.TheVariants.{BlockQuote}
 use Rattle.first_pass_grammar.specs.declared.kind.Kind.{Kind}
-use Rattle.first_pass_grammar.specs.declared.kind.Kind.TheVariants.{Blank, AtxHeading, Paragraph}
+use Rattle.first_pass_grammar.specs.declared.kind.Kind.TheVariants.{Blank, ThematicBreak, AtxHeading, Paragraph}
 use Rattle.first_pass_grammar.specs.Containers.{at_rest, after}
-use Rattle.first_pass_grammar.specs.Kinds.{unindented, quote_inside, kind_of}
-use Rattle.first_pass_grammar.specs.Leaves.{Document, IsParagraph, IsHeading, heading_text_at, heading_block, paragraph_block}
+use Rattle.first_pass_grammar.specs.Kinds.{unindented, quote_inside, quote_start, kind_of}
+use Rattle.first_pass_grammar.specs.Leaves.{Document, IsParagraph, IsHeading, heading_text_at, rule_block, heading_block, paragraph_block}
 
 -- a blank line, or a block with no blocks in it: its items with their depths below it
 pub data Leaf : Type 0 where
@@ -26,6 +26,7 @@ pub data Opening : Type 0 where
 -- What a kind opens at a place that has these lines behind it, inside the containers of the path.
 unfoldable pub OpensAs : Document → List Container → Place → List Place → Kind → Opening → Type 0
 OpensAs d path p lines Blank opening = opening ≡ OpensLeaf BlankLine None lines
+OpensAs d path p lines (ThematicBreak size) opening = opening ≡ OpensLeaf (Block (rule_block (offset (unindented p)) size)) None lines
 OpensAs d path p lines (AtxHeading level) opening =
     (chain : List Item) × (end_of_line : ℕ) × IsHeading d (heading_text_at d.text (offset (unindented p)) (level_number level)) chain end_of_line
     × (opening ≡ OpensLeaf (Block (heading_block (offset (unindented p)) end_of_line level chain)) None lines)
@@ -35,7 +36,7 @@ OpensAs d path p lines Paragraph opening =
 
 -- What begins at a place: a block quote where one does, else what the kind of the place says.
 unfoldable pub OpensFrom : Document → List Container → Place → List Place → Option Place → Opening → Type 0
-OpensFrom d path p lines (Some inside) opening = opening ≡ OpensNode (BlockQuote None) (offset (unindented p)) inside
+OpensFrom d path p lines (Some inside) opening = opening ≡ OpensNode (BlockQuote None) (quote_start p) inside
 OpensFrom d path p lines None opening = OpensAs d path p lines (kind_of p.rest) opening
 
 abbrev pub Opens : Document → List Container → Place → List Place → Opening → Type 0

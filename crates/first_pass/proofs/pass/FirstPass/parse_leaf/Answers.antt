@@ -3,7 +3,7 @@ use Rattle.first_pass_scan.specs.Places.{place_at, line_end}
 use Rattle.first_pass_grammar.specs.Leaves.{document}
 use Rattle.first_pass.specs.Appends.{line_end_at}
 use Rattle.first_pass.proofs.PlaceLemmas.{all_keep, at_read, place_end}
-use Rattle.first_pass.proofs.StateLemmas.{ready_blank, ready_heading, ready_paragraph, kind_level, line_end_of}
+use Rattle.first_pass.proofs.StateLemmas.{ready_blank, ready_rule, ready_heading, ready_paragraph, kind_level, rule_end, line_end_of}
 use Rattle.first_pass.proofs.pass.FirstPass.parse_leaf.Goals as goal
 
 pub overflow_add-at : goal.overflow_add-at
@@ -39,6 +39,36 @@ pub returns-in-Blank-clause-ready : goal.returns-in-Blank-clause-ready
 returns-in-Blank-clause-ready c =
     ready_blank (document c.args.self.now.text.now c.args.self.now.options) c.args.self.now.tree (place_at c.args.start_ix c.args.line_start) c.next_line.result c.requires.no_quote
     (sym c.kind_at-kind.ensures.kind ∙ c.in-Blank.is) (blank_end c)
+
+pub parse_hrule-requires : goal.parse_hrule-requires
+parse_hrule-requires c =
+    let text = c.args.self.now.text.now in
+    let p = place_at c.args.start_ix c.args.line_start in
+    let e = at_read c.args.start_ix c.bytes_scanned.result c.args.line_start c.kind_at-kind.new.line_start c.bytes_scanned.ensures c.kind_at-kind.ensures.rest in
+    let end = rule_end p (c.args.start_ix + c.bytes_scanned.result) c.in-ThematicBreak.size (sym c.kind_at-kind.ensures.kind ∙ c.in-ThematicBreak.is) e in
+    let fits = (place_end text p c.requires.utf8 c.requires.place).0 in
+    omega arith
+
+-- a thematic break ends where its line ends
+break_end : (c : goal.After-drop-line_start-in-ThematicBreak) → c.in_ok-next-in-ThematicBreak.next ≡ line_end (place_at c.args.start_ix c.args.line_start)
+break_end c =
+    let e = at_read c.args.start_ix c.bytes_scanned.result c.args.line_start c.kind_at-kind.new.line_start c.bytes_scanned.ensures c.kind_at-kind.ensures.rest in
+    c.in_ok-next-in-ThematicBreak.ensures.behind
+    ∙ rule_end (place_at c.args.start_ix c.args.line_start) (c.args.start_ix + c.bytes_scanned.result) c.in-ThematicBreak.size (sym c.kind_at-kind.ensures.kind ∙ c.in-ThematicBreak.is) e
+
+pub returns-in-ThematicBreak-clause-later : goal.returns-in-ThematicBreak-clause-later
+returns-in-ThematicBreak-clause-later c = let e = break_end c in omega arith
+
+pub returns-in-ThematicBreak-clause-boundary : goal.returns-in-ThematicBreak-clause-boundary
+returns-in-ThematicBreak-clause-boundary c =
+    let text = c.args.self.now.text.now in
+    subst (IsCharBoundary text) (sym (break_end c)) (place_end text (place_at c.args.start_ix c.args.line_start) c.requires.utf8 c.requires.place)
+
+pub returns-in-ThematicBreak-clause-ready : goal.returns-in-ThematicBreak-clause-ready
+returns-in-ThematicBreak-clause-ready c =
+    let e = at_read c.args.start_ix c.bytes_scanned.result c.args.line_start c.kind_at-kind.new.line_start c.bytes_scanned.ensures c.kind_at-kind.ensures.rest in
+    ready_rule (document c.args.self.now.text.now c.args.self.now.options) c.args.self.now.tree c.parse_hrule.new.self.tree (place_at c.args.start_ix c.args.line_start) (c.args.start_ix + c.bytes_scanned.result)
+    c.in_ok-next-in-ThematicBreak.next c.in-ThematicBreak.size c.requires.no_quote (sym c.kind_at-kind.ensures.kind ∙ c.in-ThematicBreak.is) e (break_end c) c.in_ok-next-in-ThematicBreak.ensures.block
 
 pub parse_atx_heading-requires-clause-within : goal.parse_atx_heading-requires-clause-within
 parse_atx_heading-requires-clause-within c =
