@@ -81,7 +81,7 @@ prefix_by : (t : Bool) (p : ℕ → Bool) (b : ℕ) (bs : List ℕ) → p b ≡ 
 prefix_by true p b bs h f r = let k = f h in rw (h, k) (omega arith)
 prefix_by false p b bs h f r = rw h (omega arith)
 
-prefix_in : (p : ℕ → Bool) → ((b : ℕ) → p b ≡ true → is_content b ≡ true) → (bs : List ℕ) → prefix_len p bs ≤ prefix_len is_content bs
+pub prefix_in : (p : ℕ → Bool) → ((b : ℕ) → p b ≡ true → is_content b ≡ true) → (bs : List ℕ) → prefix_len p bs ≤ prefix_len is_content bs
 prefix_in p f [] = omega arith
 prefix_in p f (b ∷ bs) = prefix_by (p b) p b bs refl (f b) (prefix_in p f bs)
 

@@ -8,16 +8,17 @@ use Rattle.first_pass_items.specs.declared.item.HeadingLevel.{HeadingLevel}
 use Rattle.first_pass_tree.specs.declared.tree_index.TreeIndex.{TreeIndex}
 use Rattle.first_pass_tree.specs.Forest.{Forest, IsForest, added, at_depth}
 use Rattle.first_pass_scan.specs.Lines.{blank_len, atx_level, level_number, line_len}
+use Rattle.first_pass_scan.specs.LeafLines.{hrule_len}
 use Rattle.first_pass_scan.specs.Rest.{Rest, indent}
 use Rattle.first_pass_scan.specs.Places.{Place, offset, place_at, line_end, start_of, IsPlaceOf}
 use Rattle.first_pass_scan.proofs.PlaceFacts.{start_of-lines, columns_line_end}
 use Rattle.first_pass_grammar.specs.declared.kind.Container.{Container}
 use Rattle.first_pass_grammar.specs.declared.kind.Container.TheVariants.{BlockQuote}
 use Rattle.first_pass_grammar.specs.declared.kind.Kind.{Kind}
-use Rattle.first_pass_grammar.specs.declared.kind.Kind.TheVariants.{Blank, AtxHeading, Paragraph}
+use Rattle.first_pass_grammar.specs.declared.kind.Kind.TheVariants.{Blank, ThematicBreak, AtxHeading, Paragraph}
 use Rattle.first_pass_grammar.specs.Containers.{at_rest, prefix}
-use Rattle.first_pass_grammar.specs.Kinds.{unindented, is_blank_rest, quote_inside, item_at, heading_or, kind_of}
-use Rattle.first_pass_grammar.specs.Leaves.{Document, document, IsParagraph, IsHeading, heading_text_at, heading_block, paragraph_block}
+use Rattle.first_pass_grammar.specs.Kinds.{unindented, is_blank_rest, quote_inside, item_at, heading_or, rule_or, kind_of}
+use Rattle.first_pass_grammar.specs.Leaves.{Document, document, IsParagraph, IsHeading, heading_text_at, rule_block, heading_block, paragraph_block}
 use Rattle.first_pass_grammar.specs.Skeleton.{Leaf, BlankLine, Block, Line, Inside, Opening, OpensLeaf, OpensNode, OpensAs, OpensFrom, Opens}
 use Rattle.first_pass_grammar.specs.Derivation.{leaf_items}
 use Rattle.first_pass_grammar.specs.Completion.{lines_from, Frame, containers_of, AreBelow, Completes}
@@ -27,6 +28,7 @@ use Rattle.first_pass.specs.Closing.{Reading, remembered, top_body, list_finishe
 use Rattle.first_pass.specs.Path.{path_of}
 use Rattle.first_pass.specs.State.{AreOpen, ReadyAt, Ready}
 use Rattle.first_pass.proofs.OpenLemmas.{open_path, open_below, frame-append}
+use Rattle.first_pass.proofs.RuleLemmas.{rule_line}
 use Rattle.first_pass.proofs.StateLemmas.{ready_plain}
 use Rattle.first_pass.proofs.FinishLemmas.{EndsListAt, Finished, ready_finished, path_finished}
 use Rattle.first_pass.proofs.OpenerLemmas.{depth_of}
@@ -45,16 +47,17 @@ no_container d path p lines k o no_item none kind opens =
     subst (λ i. OpensFrom d path p lines i (quote_inside p) o) (sym no_item)
     (subst (λ (q : Option Rest). OpensFrom d path p lines None (option_map (at_rest p) q) o) (sym none) (subst (λ k. OpensAs d path p lines k o) (sym kind) opens))
 
-kind_by : (t u : Bool) (o : Option HeadingLevel) → (if t then Blank else (if u then heading_or o Paragraph else Paragraph)) ≡ Blank → t ≡ true
-kind_by true u o h = refl
-kind_by false true (Some level) h = cc
-kind_by false true None h = cc
-kind_by false false o h = cc
+kind_by : (t u : Bool) (r : Option ℕ) (o : Option HeadingLevel) → (if t then Blank else (if u then rule_or r (heading_or o Paragraph) else Paragraph)) ≡ Blank → t ≡ true
+kind_by true u r o h = refl
+kind_by false true (Some size) o h = cc
+kind_by false true None (Some level) h = cc
+kind_by false true None None h = cc
+kind_by false false r o h = cc
 
 -- a place of this kind is blank
 pub kind_blank_rest : (r : Rest) → kind_of r ≡ Blank → is_blank_rest r ≡ true
 unfolding kind_of
-kind_blank_rest r h = kind_by (is_blank_rest r) _ _ h
+kind_blank_rest r h = kind_by (is_blank_rest r) _ _ _ h
 
 -- a block ends any list at the place that it says
 block_away : (b : Option ItemBody) (at : ℕ) (items : List (ℕ × Item)) (left : List Place) → EndsListAt at b (OpensLeaf (Block at items) Line left)
@@ -129,13 +132,57 @@ heading_level : (o : Option HeadingLevel) (level : HeadingLevel) → heading_or 
 heading_level (Some l) level h = cc
 heading_level None level h = cc
 
-level_by : (t u : Bool) (o : Option HeadingLevel) (level : HeadingLevel) → (if t then Blank else (if u then heading_or o Paragraph else Paragraph)) ≡ AtxHeading level → o ≡ Some level
-level_by true u o level h = cc
-level_by false true o level h = heading_level o level h
-level_by false false o level h = cc
+rule_level : (r : Option ℕ) (o : Option HeadingLevel) (level : HeadingLevel) → rule_or r (heading_or o Paragraph) ≡ AtxHeading level → o ≡ Some level
+rule_level (Some n) o level h = cc
+rule_level None o level h = heading_level o level h
+
+level_by : (t u : Bool) (r : Option ℕ) (o : Option HeadingLevel) (level : HeadingLevel) → (if t then Blank else (if u then rule_or r (heading_or o Paragraph) else Paragraph)) ≡ AtxHeading level
+    → o ≡ Some level
+level_by true u r o level h = cc
+level_by false true r o level h = rule_level r o level h
+level_by false false r o level h = cc
 
 pub kind_level : (text : List ℕ) (p : Place) (at : ℕ) (level : HeadingLevel) → kind_of p.rest ≡ AtxHeading level → at ≡ offset (unindented p)
     → IsPlaceOf text (unindented p) → atx_level (drop at text) ≡ Some level
 unfolding kind_of
 kind_level text p at level kind at_is place =
-    ap (λ k. atx_level (drop k text)) at_is ∙ ap atx_level (sym place.left) ∙ level_by (is_some (blank_len p.rest.left)) (nat_lt (indent p.rest) 4) (atx_level (unindented p).rest.left) level kind
+    ap (λ k. atx_level (drop k text)) at_is ∙ ap atx_level (sym place.left) ∙ level_by (is_some (blank_len p.rest.left)) (nat_lt (indent p.rest) 4) (hrule_len (unindented p).rest.left) (atx_level (unindented p).rest.left) level kind
+
+-- a thematic break stands behind its indentation
+no_rule : (o : Option HeadingLevel) (size : ℕ) → heading_or o Paragraph ≡ ThematicBreak size → ⊥
+no_rule (Some l) size h = cc
+no_rule None size h = cc
+
+rule_size : (r : Option ℕ) (o : Option HeadingLevel) (size : ℕ) → rule_or r (heading_or o Paragraph) ≡ ThematicBreak size → r ≡ Some size
+rule_size (Some n) o size h = cc
+rule_size None o size h = absurd (no_rule o size h)
+
+size_by : (t u : Bool) (r : Option ℕ) (o : Option HeadingLevel) (size : ℕ) → (if t then Blank else (if u then rule_or r (heading_or o Paragraph) else Paragraph)) ≡ ThematicBreak size → r ≡ Some size
+size_by true u r o size h = cc
+size_by false true r o size h = rule_size r o size h
+size_by false false r o size h = cc
+
+kind_size : (p : Place) (size : ℕ) → kind_of p.rest ≡ ThematicBreak size → hrule_len (unindented p).rest.left ≡ Some size
+unfolding kind_of
+kind_size p size kind = size_by (is_some (blank_len p.rest.left)) (nat_lt (indent p.rest) 4) (hrule_len (unindented p).rest.left) (atx_level (unindented p).rest.left) size kind
+
+-- it ends where its line ends
+pub rule_end : (p : Place) (at size : ℕ) → kind_of p.rest ≡ ThematicBreak size → at ≡ offset (unindented p) → at + size ≡ line_end p
+rule_end p at size kind at_is =
+    let n = rule_line (unindented p).rest.left size (kind_size p size kind) in
+    let e = columns_line_end (indent p.rest) p in
+    omega arith
+
+-- behind a thematic break
+pub ready_rule : (d : Document) (r : Reading) (new : Forest Item) (p : Place) (at next size : ℕ) → IsForest r.tree → item_at p.rest ≡ None → prefix (BlockQuote None) p.rest ≡ None → kind_of p.rest ≡ ThematicBreak size
+    → at ≡ offset (unindented p) → next ≡ line_end p → new ≡ added (list_finished p.line r).tree (rule_block at size) → r.empty_item ≡ None
+    → ReadyAt d r.tree r.blank (Inside p) (lines_from d.text (line_end p)) → Ready d (remembered new (list_finished p.line r).empty_item (list_finished p.line r).blank) (lines_from d.text next)
+unfolding OpensAs
+ready_rule d r new p at next size forest no_item no_quote kind at_is next_is new_is none ready =
+    let lines : List Place = lines_from d.text (line_end p) in
+    let block : List (ℕ × Item) = rule_block at size in
+    let o : Opening = OpensLeaf (Block p.line block) Line (lines_from d.text next) in
+    let rule : OpensAs d (path_of r.tree) p lines (ThematicBreak size) o =
+    ap (λ k. OpensLeaf (Block p.line (rule_block k size)) Line (lines_from d.text next)) at_is
+    ∙ ap (λ n. OpensLeaf (Block p.line (rule_block (offset (unindented p)) size)) Line (lines_from d.text n)) next_is in
+    ready_added d r new p lines (lines_from d.text next) p.line block forest (no_container d (path_of r.tree) p lines (ThematicBreak size) o no_item no_quote kind rule) new_is none ready

@@ -12,6 +12,7 @@ pub mod ParagraphLemmas
 pub mod PathLemmas
 pub mod PlaceLemmas
 pub mod PopLemmas
+pub mod RuleLemmas
 pub mod StateLemmas
 pub mod TightLemmas
 pub mod WithinLemmas

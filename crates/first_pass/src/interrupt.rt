@@ -2,7 +2,6 @@
 
 ghost use Rattle.std.specs.Prelude.{◌≡◌, min, drop, is_some, IfOk, OnOk, Some, None, if◌then◌else◌, IsUtf8, IsCharBoundary};
 ghost use Rattle.first_pass_scan.specs.Places.{line_rest, place_at, offset, IsPlaceOf};
-ghost use Rattle.first_pass_scan.specs.Lines.{begins};
 ghost use Rattle.first_pass_scan.specs.Rest.{indent};
 ghost use Rattle.first_pass_scan.specs.Markers.{is_bullet, listitem};
 ghost use Rattle.first_pass_grammar.specs.Containers.{after, front};
@@ -13,18 +12,12 @@ use crate::containers::scan_containers;
 use crate::indentation::scan_indentation;
 use first_pass_items::item::Item;
 use first_pass_items::option_set::Options;
+use first_pass_scan::leaf_scan::scan_hrule;
 use first_pass_scan::line_start::{LineStart, scan_listitem};
-use first_pass_scan::lines::{scan_atx_heading, scan_blank_line, scan_eol};
+use first_pass_scan::lines::{begins, scan_atx_heading, scan_blank_line, scan_eol};
 use first_pass_scan::places::rest_of;
 use first_pass_tree::forest::Tree;
 use std::alloc::{AllocError, Global};
-
-// Whether the first byte is `>`.
-fn begins_quote(bytes: &[u8]) -> bool
-    ensures { result ≡ begins 62 bytes.now }
-{
-    matches!(bytes.first(), Some(b'>'))
-}
 
 // Whether a list item interrupts a paragraph at the beginning of `bytes`, in a line that goes on with all
 // containers or not.
@@ -47,9 +40,9 @@ fn is_bullet(byte: u8) -> bool
 }
 
 /// Whether `text`, what is left of a line behind its indentation of under four columns, interrupts a
-/// paragraph: its line ends, or an ATX heading, a block quote or a list item begins. An item interrupts where
+/// paragraph: its line ends, or a thematic break, an ATX heading, a block quote or a list item begins. An item interrupts where
 /// the line doesn't go on with all containers; else only a bullet or the number 1 does, and only with a rest
-/// that isn't blank (CommonMark 4.8, 4.2, 5.1, 5.2). The tree so far makes no difference yet.
+/// that isn't blank (CommonMark 4.8, 4.1, 4.2, 5.1, 5.2). The tree so far makes no difference yet.
 pub fn scan_paragraph_interrupt_no_table(
     _alloc: Global,
     text: &str,
@@ -63,8 +56,9 @@ pub fn scan_paragraph_interrupt_no_table(
 {
     let bytes = text.as_bytes();
     Ok(scan_eol(bytes).is_some()
+        || scan_hrule(bytes).is_some()
         || scan_atx_heading(bytes).is_some()
-        || begins_quote(bytes)
+        || begins(b'>', bytes)
         || interrupts_as_item(bytes, current_container))
 }
 

@@ -5,6 +5,7 @@ ghost use Rattle.first_pass_grammar.specs.Kinds.{kind_of, all_taken};
 
 use crate::indentation::scan_indentation;
 use first_pass_grammar::Kind;
+use first_pass_scan::leaf_scan::scan_hrule;
 use first_pass_scan::line_start::LineStart;
 use first_pass_scan::lines::{scan_atx_heading, scan_blank_line};
 
@@ -22,6 +23,9 @@ pub fn kind_at<'a>(line_start: &mut LineStart<'a>) -> Kind
     }
     if columns >= 4 {
         return Kind::Paragraph;
+    }
+    if let Some(size) = scan_hrule(line_start.left()) {
+        return Kind::ThematicBreak(size);
     }
     match scan_atx_heading(line_start.left()) {
         Some(level) => Kind::AtxHeading(level),

@@ -11,5 +11,6 @@ mod kinds;
 pub mod list;
 mod paragraph;
 pub mod pass;
+mod rule;
 
 pub use first_pass_below::{below, flank, walk};

@@ -145,6 +145,11 @@ impl<'a> FirstPass<'a> {
                 self.read_blank_line();
                 Ok(next_line(self.text.as_bytes(), at))
             }
+            Kind::ThematicBreak(size) => {
+                self.finish_list(start_ix);
+                let next = self.parse_hrule(size, at)?;
+                Ok(next)
+            }
             Kind::AtxHeading(level) => {
                 self.finish_list(start_ix);
                 let next = self.parse_atx_heading(at, level)?;

@@ -72,9 +72,17 @@ mod tests {
         })
     }
 
+    // The options that make `|`, `~`, `^`, `$` and braces special.
+    fn with_extensions() -> Options {
+        Options::ENABLE_TABLES
+            .union(Options::ENABLE_STRIKETHROUGH)
+            .union(Options::ENABLE_SUPERSCRIPT)
+            .union(Options::ENABLE_MATH)
+    }
+
     #[test]
     fn walk_calls_at_special_bytes(rt: HostRuntime) -> Result<(), Fail> {
-        let lut = special_bytes(&Options::from_bits_truncate(9246));
+        let lut = special_bytes(&with_extensions());
         let mut calls = Vec::new(rt.alloc());
         for (text, skip, places) in [
             ("abcdef0123456789", 0, &[][..]),
@@ -93,7 +101,7 @@ mod tests {
 
     #[test]
     fn walk_calls_at_special_bytes_alone(rt: HostRuntime) -> Result<(), Fail> {
-        let lut = special_bytes(&Options::from_bits_truncate(9246));
+        let lut = special_bytes(&with_extensions());
         let special = b"\n\r*_~^|&\\[]<!`${}";
         let mut calls = Vec::new(rt.alloc());
         for byte in special.iter() {

@@ -8,7 +8,7 @@ use Rattle.first_pass_tokens.specs.Chains.{add_tokens}
 use Rattle.first_pass_tokens.proofs.LineLemmas.{one_line}
 use Rattle.first_pass_grammar.specs.declared.kind.Container.{Container}
 use Rattle.first_pass_grammar.specs.declared.kind.Kind.{Kind}
-use Rattle.first_pass_grammar.specs.declared.kind.Kind.TheVariants.{Blank, AtxHeading, Paragraph}
+use Rattle.first_pass_grammar.specs.declared.kind.Kind.TheVariants.{Blank, ThematicBreak, AtxHeading, Paragraph}
 use Rattle.first_pass_grammar.specs.Containers.{at_rest, after, front, taken}
 use Rattle.first_pass_grammar.specs.Kinds.{unindented, is_blank_rest, quote_inside, item_at, kind_of}
 use Rattle.first_pass_grammar.specs.Leaves.{Document, add_break, IsParagraph, IsHeading}
@@ -54,6 +54,7 @@ one_heading d start c c' e e' h h' =
 opens_once : (d : Document) (path : List Container) (p : Place) (lines : List Place) (k : Kind) (o o' : Opening) → OpensAs d path p lines k o → OpensAs d path p lines k o' → o ≡ o'
 unfolding OpensAs
 opens_once d path p lines Blank o o' e e' = cc
+opens_once d path p lines (ThematicBreak size) o o' e e' = cc
 opens_once d path p lines (AtxHeading level) o o' (c, e, h, f) (c', e', h', f') =
     let s = one_heading d _ c c' e e' h h' in
     let x = s.0 in

@@ -3,13 +3,14 @@ use Rattle.std.specs.Prelude.{ℕ, ◌==◌, ◌&&◌, ◌||◌, not, Bool, fals
 use Rattle.first_pass_items.specs.declared.item.HeadingLevel.{HeadingLevel}
 use Rattle.std.specs.Option.{option_map}
 use Rattle.first_pass_scan.specs.Lines.{at_line_end, begins, blank_len, atx_level}
+use Rattle.first_pass_scan.specs.LeafLines.{hrule_len}
 use Rattle.first_pass_scan.specs.Rest.{Rest, indent, after_columns}
 use Rattle.first_pass_scan.specs.Places.{Place, offset, moved_columns}
 use Rattle.first_pass_scan.specs.Markers.{is_bullet, listitem, item_of}
 use Rattle.first_pass_grammar.specs.declared.kind.Container.{Container}
 use Rattle.first_pass_grammar.specs.declared.kind.Container.TheVariants.{BlockQuote}
 use Rattle.first_pass_grammar.specs.declared.kind.Kind.{Kind}
-use Rattle.first_pass_grammar.specs.declared.kind.Kind.TheVariants.{Blank, AtxHeading, Paragraph}
+use Rattle.first_pass_grammar.specs.declared.kind.Kind.TheVariants.{Blank, ThematicBreak, AtxHeading, Paragraph}
 use Rattle.first_pass_grammar.specs.Containers.{at_rest, prefix, after, front}
 
 -- what is left behind all columns: from the first byte on that is no space or tab
@@ -28,11 +29,15 @@ abbrev pub heading_or : Option HeadingLevel → Kind → Kind
 heading_or (Some level) other = AtxHeading level
 heading_or None other = other
 
--- the first that fits: a blank line (CommonMark 4.9), an ATX heading at under four columns (4.2), a paragraph (4.8)
+abbrev pub rule_or : Option ℕ → Kind → Kind
+rule_or (Some size) other = ThematicBreak size
+rule_or None other = other
+
+-- the first that fits: a blank line (CommonMark 4.9), at under four columns a thematic break (4.1) or an ATX heading (4.2), a paragraph (4.8)
 unfoldable pub kind_of : Rest → Kind
 kind_of r =
     if is_blank_rest r then Blank
-    else (if nat_lt (indent r) 4 then heading_or (atx_level (all_taken r).left) Paragraph else Paragraph)
+    else (if nat_lt (indent r) 4 then rule_or (hrule_len (all_taken r).left) (heading_or (atx_level (all_taken r).left) Paragraph) else Paragraph)
 
 -- the place inside a block quote that begins here, where one does: what begins it is what goes on with it (CommonMark 5.1)
 abbrev pub quote_inside : Place → Option Place
@@ -52,10 +57,10 @@ abbrev pub item_interrupts : Bool → List ℕ → Option (ℕ × ℕ × ℕ × 
 item_interrupts whole bs None = false
 item_interrupts whole bs (Some m) = not whole || ((is_bullet m.1 || (m.2 == 1)) && not (is_some (blank_len (drop m.0 bs))))
 
--- What interrupts a paragraph at under four columns, in a line that goes on with all its containers or not: the line's end, an ATX heading, a
--- block quote or a list item (CommonMark 4.8, 4.2, 5.1, 5.2).
+-- What interrupts a paragraph at under four columns, in a line that goes on with all its containers or not: the line's end, a thematic
+-- break, an ATX heading, a block quote or a list item (CommonMark 4.8, 4.1, 4.2, 5.1, 5.2).
 abbrev pub interrupts_with : Bool → List ℕ → Bool
-interrupts_with whole bs = at_line_end bs || is_some (atx_level bs) || begins 62 bs || item_interrupts whole bs (listitem bs)
+interrupts_with whole bs = at_line_end bs || is_some (hrule_len bs) || is_some (atx_level bs) || begins 62 bs || item_interrupts whole bs (listitem bs)
 
 -- A line ends a paragraph before it where its text interrupts the paragraph; at four columns or more only where nothing but spaces and tabs is left.
 unfoldable pub interrupts : Bool → Rest → Bool

@@ -4,7 +4,7 @@ use Rattle.std.specs.List.{prefix_len, suffix_len}
 use Rattle.first_pass_items.specs.declared.option_set.Options.{Options}
 use Rattle.first_pass_items.specs.declared.item.Item.{Item}
 use Rattle.first_pass_items.specs.declared.item.ItemBody.{ItemBody}
-use Rattle.first_pass_items.specs.declared.item.ItemBody.TheVariants.{Heading as HeadingBody, Paragraph as ParagraphBody}
+use Rattle.first_pass_items.specs.declared.item.ItemBody.TheVariants.{Heading as HeadingBody, Paragraph as ParagraphBody, Rule}
 use Rattle.first_pass_items.specs.declared.item.HeadingLevel.{HeadingLevel}
 use Rattle.first_pass_tree.specs.Forest.{block_of}
 use Rattle.first_pass_scan.specs.Lines.{is_white, line_len}
@@ -78,6 +78,10 @@ pub record IsHeading (d : Document) (start : ℕ) (chain : List Item) (end_of_li
   pub break : Option Item
   pub line : IsLine (content_at d start) tokens (end_of_line, break)
   pub chain_is : chain ≡ heading_chain (kept_len (take (line_len (drop start d.text)) (drop start d.text))) start (close_break break (add_tokens [] tokens))
+
+-- the item of a thematic break of so many bytes, its line end too (CommonMark 4.1)
+abbrev pub rule_block : ℕ → ℕ → List (ℕ × Item)
+rule_block start size = block_with start (start + size) Rule []
 
 -- the items of an ATX heading and of a paragraph
 abbrev pub heading_block : ℕ → ℕ → HeadingLevel → List Item → List (ℕ × Item)

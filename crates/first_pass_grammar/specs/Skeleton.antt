@@ -8,10 +8,10 @@ use Rattle.first_pass_scan.specs.Places.{Place, offset, start_of}
 use Rattle.first_pass_grammar.specs.declared.kind.Container.{Container}
 use Rattle.first_pass_grammar.specs.declared.kind.Container.TheVariants.{BlockQuote, ListItem}
 use Rattle.first_pass_grammar.specs.declared.kind.Kind.{Kind}
-use Rattle.first_pass_grammar.specs.declared.kind.Kind.TheVariants.{Blank, AtxHeading, Paragraph}
+use Rattle.first_pass_grammar.specs.declared.kind.Kind.TheVariants.{Blank, ThematicBreak, AtxHeading, Paragraph}
 use Rattle.first_pass_grammar.specs.Containers.{at_rest, after, taken, next_goes_on}
 use Rattle.first_pass_grammar.specs.Kinds.{unindented, is_blank_rest, quote_inside, quote_start, item_at, kind_of}
-use Rattle.first_pass_grammar.specs.Leaves.{Document, IsParagraph, IsHeading, heading_text_at, heading_block, paragraph_block}
+use Rattle.first_pass_grammar.specs.Leaves.{Document, IsParagraph, IsHeading, heading_text_at, rule_block, heading_block, paragraph_block}
 
 -- a blank line; or a block with no blocks in it: where it ends a list before it, and its items with their depths below it
 pub data Leaf : Type 0 where
@@ -51,6 +51,7 @@ pub data Opening : Type 0 where
 -- byte, and at the start of another block's line (this project).
 unfoldable pub OpensAs : Document → List Container → Place → List Place → Kind → Opening → Type 0
 OpensAs d path p lines Blank opening = opening ≡ OpensLeaf BlankLine Line lines
+OpensAs d path p lines (ThematicBreak size) opening = opening ≡ OpensLeaf (Block p.line (rule_block (offset (unindented p)) size)) Line lines
 OpensAs d path p lines (AtxHeading level) opening =
     (chain : List Item) × (end_of_line : ℕ) × IsHeading d (heading_text_at d.text (offset (unindented p)) (level_number level)) chain end_of_line
     × (opening ≡ OpensLeaf (Block p.line (heading_block (offset (unindented p)) end_of_line level chain)) Line lines)

@@ -7,6 +7,8 @@ use first_pass_items::item::{BlockQuoteKind, HeadingLevel};
 pub enum Kind {
     /// A blank line (CommonMark 4.9).
     Blank,
+    /// A thematic break, with how many bytes it has, its line end too (CommonMark 4.1).
+    ThematicBreak(usize),
     /// An ATX heading (CommonMark 4.2).
     AtxHeading(HeadingLevel),
     /// A paragraph (CommonMark 4.8).

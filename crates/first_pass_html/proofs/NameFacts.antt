@@ -7,7 +7,7 @@ use Rattle.std.specs.List.{prefix_len}
 use Rattle.std.specs.Char.{to_ascii_lowercase, is_ascii_alphanumeric}
 use Rattle.std.proofs.lemmas.Bool.{and_from}
 use Rattle.std.proofs.lemmas.List.{take-append-drop}
-use Rattle.first_pass_scan.specs.Lines.{is_white, is_line_end, begins}
+use Rattle.first_pass_scan.specs.Lines.{is_ascii_white, begins}
 use Rattle.first_pass_html.specs.Starts.{ends_block_name, HasBlockName}
 use Rattle.first_pass_html.proofs.ListFacts.{prefix_all, front_of, rest_behind}
 use Rattle.std.proofs.lemmas.List.{length-map}
@@ -98,7 +98,7 @@ all_alphanumeric (b ∷ bs) h =
     and_from _ _ (lower_alphanumeric b both.0) (all_alphanumeric bs both.1)
 
 -- a name of a block is made of letters and digits, and what ends it is none
-ends_alphanumeric : (b : ℕ) (t : Bool) → is_white b || (is_line_end b || (b == 62 || (b == 47 && t))) ≡ true → is_ascii_alphanumeric b ≡ false
+ends_alphanumeric : (b : ℕ) (t : Bool) → (is_ascii_white b || b == 62) || (b == 47 && t) ≡ true → is_ascii_alphanumeric b ≡ false
 ends_alphanumeric b t h = grind (arith, nat_tests, h)
 
 no_more_name : (rest : List ℕ) → ends_block_name rest ≡ true → prefix_len is_ascii_alphanumeric rest ≡ 0

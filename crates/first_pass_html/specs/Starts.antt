@@ -3,7 +3,7 @@ use Rattle.std.specs.Prelude.{◌≡◌, ℕ, Bool, true, false, ◌==◌, ◌&&
 use Rattle.std.specs.List.{prefix_len}
 use Rattle.std.specs.Option.{is_some}
 use Rattle.std.specs.Char.{is_ascii_alphabetic}
-use Rattle.first_pass_scan.specs.Lines.{is_white, is_line_end, begins}
+use Rattle.first_pass_scan.specs.Lines.{is_ascii_white, begins}
 use Rattle.first_pass_html.specs.Names.{in_lower_case, IsBlockName}
 
 -- the bytes begin with a text (this project)
@@ -18,12 +18,12 @@ begins_letter (b ∷ bs) = is_ascii_alphabetic b
 -- behind the name of raw text: white space, `>` or the end of the line or the text (CommonMark 4.6, start condition 1)
 abbrev pub ends_raw_name : List ℕ → Bool
 ends_raw_name [] = true
-ends_raw_name (b ∷ bs) = is_white b || (is_line_end b || b == 62)
+ends_raw_name (b ∷ bs) = is_ascii_white b || b == 62
 
--- behind the name of a block: white space, `>`, `/>` or the end of the line or the text (CommonMark 4.6, start condition 6)
+-- behind the name of a block: what ends a name of raw text, or `/>` (CommonMark 4.6, start condition 6)
 abbrev pub ends_block_name : List ℕ → Bool
 ends_block_name [] = true
-ends_block_name (b ∷ bs) = is_white b || (is_line_end b || (b == 62 || (b == 47 && begins 62 bs)))
+ends_block_name (b ∷ bs) = ends_raw_name (b ∷ bs) || (b == 47 && begins 62 bs)
 
 -- the closing tag of a raw text, by its name in lower case (CommonMark 4.6, end condition 1, but for the opener's own name alone: this project)
 unfoldable pub raw_end_of : List ℕ → Option (List ℕ)

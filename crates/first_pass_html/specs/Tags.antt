@@ -1,14 +1,9 @@
 -- Open tags and closing tags that stand on one line, so that blanks are spaces and tabs.
 use Rattle.std.specs.Prelude.{◌≡◌, ◌≤◌, ℕ, ◌⊎◌, Bool, true, false, ◌==◌, ◌&&◌, ◌||◌, not, List, [], ◌∷◌, ◌++◌, length, drop, take}
 use Rattle.std.specs.List.{list_all, concat}
-use Rattle.std.specs.Option.{is_some}
 use Rattle.std.specs.Char.{is_ascii_alphabetic, is_ascii_alphanumeric}
-use Rattle.first_pass_scan.specs.Lines.{is_line_end, blank_len}
+use Rattle.first_pass_scan.specs.Lines.{is_line_end, is_blank, is_blank_line}
 use Rattle.first_pass_html.specs.Starts.{is_raw_name}
-
--- a space or a tab (CommonMark 2.1)
-abbrev pub is_blank : ℕ → Bool
-is_blank b = b == 32 || b == 9
 
 -- a byte of a tag name behind its first letter: a letter, a digit or a hyphen (CommonMark 6.6, tag name)
 abbrev pub is_tag_byte : ℕ → Bool
@@ -122,4 +117,4 @@ IsBlockTag bs = IsBlockOpenTag bs ⊎ IsClosingTag bs
 pub record BeginsTagLine (bs : List ℕ) (n : ℕ) : Type 0 where
   pub within : n ≤ length bs
   pub tag : IsBlockTag (take n bs)
-  pub blank : is_some (blank_len (drop n bs)) ≡ true
+  pub blank : is_blank_line (drop n bs) ≡ true

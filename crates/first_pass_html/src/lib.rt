@@ -74,44 +74,52 @@ mod tests {
     #[test]
     fn tags_of_kind_7(rt: HostRuntime) {
         for (text, len) in [
-            ("<a href=\"foo\">\n*bar*", Some(14)),
-            ("<Warning>", Some(9)),
-            ("<i class=\"foo\">\n", Some(15)),
-            ("</ins>", Some(6)),
-            ("<del>\r\n*foo*", Some(5)),
-            ("</foo >  \t\n", Some(7)),
+            ("<a href=\"foo\">\n*bar*", 14),
+            ("<Warning>", 9),
+            ("<i class=\"foo\">\n", 15),
+            ("</ins>", 6),
+            ("<del>\r\n*foo*", 5),
+            ("</foo >  \t\n", 7),
             (
                 "<a foo=\"bar\" bam = 'baz <em>'  _boolean zoop:33=zoop:33 />",
-                Some(58),
+                58,
             ),
-            ("<responsive-image src=\"foo.jpg\" />", Some(34)),
-            ("<a b= />", Some(8)),
-            ("<a b=c/>", Some(8)),
-            ("<pre2>", Some(6)),
-            ("</pre>", Some(6)),
-            ("<b\t>", Some(4)),
-            ("<del>*foo*</del>", None),
-            ("<a/><b2/>", None),
-            ("<33>", None),
-            ("<a h*#ref=\"hi\">", None),
-            ("<a href=\"hi'>", None),
-            ("<a href=hi'>", None),
-            ("< a>", None),
-            ("<foo bar=baz", None),
-            ("<a href='bar'title=title>", None),
-            ("</a href=\"foo\">", None),
-            ("<PRE/>", None),
-            ("<script>", None),
-            ("<a/ >", None),
-            ("<a b=>", None),
-            ("<a b=c=d>", None),
-            ("<a b=\"c\nd\">", None),
-            ("<a b", None),
-            ("<", None),
-            ("", None),
-            ("</ a>", None),
+            ("<responsive-image src=\"foo.jpg\" />", 34),
+            ("<a b= />", 8),
+            ("<a b=c/>", 8),
+            ("<pre2>", 6),
+            ("</pre>", 6),
+            ("<b\t>", 4),
         ] {
-            assert_eq!(rt; scan_html_type_7(text.as_bytes()), len, "{text:?}");
+            assert_eq!(rt; scan_html_type_7(text.as_bytes()), Some(len), "{text:?}");
+        }
+    }
+
+    #[test]
+    fn no_tags_of_kind_7(rt: HostRuntime) {
+        for text in [
+            "<del>*foo*</del>",
+            "<a/><b2/>",
+            "<33>",
+            "<a h*#ref=\"hi\">",
+            "<a href=\"hi'>",
+            "<a href=hi'>",
+            "< a>",
+            "<foo bar=baz",
+            "<a href='bar'title=title>",
+            "</a href=\"foo\">",
+            "<PRE/>",
+            "<script>",
+            "<a/ >",
+            "<a b=>",
+            "<a b=c=d>",
+            "<a b=\"c\nd\">",
+            "<a b",
+            "<",
+            "",
+            "</ a>",
+        ] {
+            assert_eq!(rt; scan_html_type_7(text.as_bytes()), None, "{text:?}");
         }
     }
 }

@@ -7,6 +7,7 @@ ghost use Rattle.first_pass_html.specs.Names.{in_lower_case};
 ghost use Rattle.first_pass_html.specs.Starts as starts;
 
 use crate::names::is_block_name;
+use first_pass_scan::lines::is_ascii_white;
 use first_pass_scan::places::rest_of;
 
 /// The text that ends the HTML block of the kinds 1 to 5 that `bytes`, which follow the `<`, begin:
@@ -103,8 +104,7 @@ fn ends_raw_name(bytes: &[u8]) -> bool
 {
     match bytes {
         [] => true,
-        [b'\t' | b'\n' | 0x0b | 0x0c | b'\r' | b' ' | b'>', ..] => true,
-        _ => false,
+        [byte, ..] => is_ascii_white(*byte) || *byte == b'>',
     }
 }
 
@@ -113,10 +113,8 @@ fn ends_block_name(bytes: &[u8]) -> bool
     ensures { result ≡ starts.ends_block_name bytes.now }
 {
     match bytes {
-        [] => true,
-        [b'\t' | b'\n' | 0x0b | 0x0c | b'\r' | b' ' | b'>', ..] => true,
         [b'/', b'>', ..] => true,
-        _ => false,
+        _ => ends_raw_name(bytes),
     }
 }
 

@@ -1,26 +1,15 @@
 //! Tags that begin HTML blocks of the seventh kind.
 
-ghost use Rattle.std.specs.Prelude.{◌≡◌, ◌<◌, ◌≤◌, ◌+◌, ℕ, length, IsTrue, IfSome, IfNone};
-ghost use Rattle.first_pass_scan.specs.Lines.{begins};
+ghost use Rattle.std.specs.Prelude.{◌≡◌, ◌<◌, ◌≤◌, ◌+◌, ℕ, length, IfSome, IfNone};
 ghost use Rattle.std.specs.List.{prefix_len};
 ghost use Rattle.first_pass_html.specs.Tags as tags;
 ghost use Rattle.first_pass_html.specs.TagLengths as lengths;
 ghost use Rattle.first_pass_html.specs.Fronts.{IsOnlyFront, HasNoFront, IsPastAttributes};
 
 use crate::starts::is_raw_name;
-use first_pass_scan::lines::scan_blank_line;
+use first_pass_scan::leaf_scan::scan_blanks;
+use first_pass_scan::lines::{begins, scan_blank_line};
 use first_pass_scan::places::rest_of;
-
-// How many spaces and tabs stand first.
-fn blanks_len(bytes: &[u8]) -> usize
-    ensures value { result ≡ prefix_len tags.is_blank bytes.now }
-    ensures within { result ≤ length bytes.now }
-{
-    bytes
-        .iter()
-        .take_while(|b| **b == b' ' || **b == b'\t')
-        .count()
-}
 
 // How many bytes of a tag name stand first, behind its first letter.
 fn tag_bytes_len(bytes: &[u8]) -> usize
@@ -131,7 +120,7 @@ fn scan_blanks_value(bytes: &[u8]) -> Option<usize>
     ensures value { result ≡ lengths.blanks_value_len bytes.now }
     ensures within { IfSome result (λ n. n ≤ length bytes.now) }
 {
-    let blanks = blanks_len(bytes);
+    let blanks = scan_blanks(bytes);
     match scan_value(rest_of(bytes, blanks)) {
         Some(len) => Some(blanks + len),
         None => None,
@@ -144,7 +133,7 @@ fn scan_specification(bytes: &[u8]) -> usize
     ensures value { result ≡ lengths.specification_len bytes.now }
     ensures within { result ≤ length bytes.now }
 {
-    let blanks = blanks_len(bytes);
+    let blanks = scan_blanks(bytes);
     match rest_of(bytes, blanks) {
         [b'=', ..] => match scan_blanks_value(rest_of(bytes, blanks + 1)) {
             Some(len) => blanks + 1 + len,
@@ -172,7 +161,7 @@ fn scan_attribute(bytes: &[u8]) -> Option<usize>
     ensures value { result ≡ lengths.attribute_len bytes.now }
     ensures within { IfSome result (λ n. (0 < n) × (n ≤ length bytes.now)) }
 {
-    let blanks = blanks_len(bytes);
+    let blanks = scan_blanks(bytes);
     if blanks == 0 {
         return None;
     }
@@ -200,7 +189,7 @@ fn scan_open_end(bytes: &[u8]) -> Option<usize>
     ensures value { result ≡ lengths.open_end_len bytes.now }
     ensures within { IfSome result (λ n. n ≤ length bytes.now) }
 {
-    let blanks = blanks_len(bytes);
+    let blanks = scan_blanks(bytes);
     match scan_close(rest_of(bytes, blanks)) {
         Some(len) => Some(blanks + len),
         None => None,
@@ -240,7 +229,7 @@ fn scan_closing_end(bytes: &[u8]) -> Option<usize>
     ensures value { result ≡ lengths.closing_end_len bytes.now }
     ensures within { IfSome result (λ n. n ≤ length bytes.now) }
 {
-    let blanks = blanks_len(bytes);
+    let blanks = scan_blanks(bytes);
     match rest_of(bytes, blanks) {
         [b'>', ..] => Some(blanks + 1),
         _ => None,
@@ -257,27 +246,16 @@ fn scan_closing_tag(bytes: &[u8]) -> Option<usize>
     Some(name + end)
 }
 
-// Whether the byte stands first.
-fn begins_with(byte: u8, bytes: &[u8]) -> bool
-    ensures value { result ≡ begins byte bytes.now }
-    ensures some { IsTrue result → 0 < length bytes.now }
-{
-    match bytes {
-        [] => false,
-        [first, ..] => *first == byte,
-    }
-}
-
 // How many bytes the tag has that stands first, if it begins HTML blocks.
 fn scan_tag(bytes: &[u8]) -> Option<usize>
     ensures found { IfSome result (IsOnlyFront tags.IsBlockTag bytes.now) }
     ensures none { IfNone result (HasNoFront tags.IsBlockTag bytes.now) }
 {
-    if !begins_with(b'<', bytes) {
+    if !begins(b'<', bytes) {
         return None;
     }
     let rest = rest_of(bytes, 1);
-    if begins_with(b'/', rest) {
+    if begins(b'/', rest) {
         let len = scan_closing_tag(rest_of(rest, 1))?;
         return Some(len + 2);
     }

@@ -11,7 +11,7 @@ pub longer-longer : (a b : ℕ) (o : Option ℕ) → longer a (longer b o) ≡ l
 longer-longer a b None = refl
 longer-longer a b (Some k) = let e : a + (b + k) ≡ a + b + k = omega arith in ap (λ n. Some n) e
 
-second : (b : ℕ) (bs : List ℕ) → begins_escape (b ∷ bs) ≡ true → 0 < length bs
+pub second : (b : ℕ) (bs : List ℕ) → begins_escape (b ∷ bs) ≡ true → 0 < length bs
 second b [] h = absurd (grind (arith, nat_tests, h))
 second b (p ∷ bs) h = omega arith
 
@@ -57,19 +57,19 @@ pub upto_ended : (stops : ℕ → Bool) (bs : List ℕ) (at : ℕ) → length bs
 upto_ended stops bs at l = ap (unescaped_upto stops 0) (drop_all at bs l) ∙ upto-nil stops
 
 -- runs
-run-nil : (deepest nesting : ℕ) → run_len deepest nesting 0 [] ≡ if_closed nesting
+pub run-nil : (deepest nesting : ℕ) → run_len deepest nesting 0 [] ≡ if_closed nesting
 unfolding run_len
 run-nil deepest nesting = refl
 
-run-end : (deepest nesting b : ℕ) (bs : List ℕ) → ends_run b ≡ true → run_len deepest nesting 0 (b ∷ bs) ≡ if_closed nesting
+pub run-end : (deepest nesting b : ℕ) (bs : List ℕ) → ends_run b ≡ true → run_len deepest nesting 0 (b ∷ bs) ≡ if_closed nesting
 unfolding run_len
 run-end deepest nesting b bs h = rw h
 
-run-escape : (deepest nesting b p : ℕ) (bs : List ℕ) → ends_run b ≡ false → begins_escape (b ∷ p ∷ bs) ≡ true → run_len deepest nesting 0 (b ∷ p ∷ bs) ≡ longer 1 (longer 1 (run_len deepest nesting 0 bs))
+pub run-escape : (deepest nesting b p : ℕ) (bs : List ℕ) → ends_run b ≡ false → begins_escape (b ∷ p ∷ bs) ≡ true → run_len deepest nesting 0 (b ∷ p ∷ bs) ≡ longer 1 (longer 1 (run_len deepest nesting 0 bs))
 unfolding run_len
 run-escape deepest nesting b p bs h h' = rw (h, h')
 
-run-unopened : (deepest nesting b : ℕ) (bs : List ℕ) → closes_none b nesting ≡ true → run_len deepest nesting 0 (b ∷ bs) ≡ Some 0
+pub run-unopened : (deepest nesting b : ℕ) (bs : List ℕ) → closes_none b nesting ≡ true → run_len deepest nesting 0 (b ∷ bs) ≡ Some 0
 unfolding run_len
 run-unopened deepest nesting b bs h =
     let p = and_parts _ _ h in
@@ -77,11 +77,11 @@ run-unopened deepest nesting b bs h =
     let k : begins_escape (b ∷ bs) ≡ false = rw (eqb-true b 41 p.0) in
     rw (e, k, h)
 
-run-deep : (deepest nesting b : ℕ) (bs : List ℕ) → ends_run b ≡ false → begins_escape (b ∷ bs) ≡ false → closes_none b nesting ≡ false → nat_lt deepest (nesting_behind b nesting) ≡ true → run_len deepest nesting 0 (b ∷ bs) ≡ None
+pub run-deep : (deepest nesting b : ℕ) (bs : List ℕ) → ends_run b ≡ false → begins_escape (b ∷ bs) ≡ false → closes_none b nesting ≡ false → nat_lt deepest (nesting_behind b nesting) ≡ true → run_len deepest nesting 0 (b ∷ bs) ≡ None
 unfolding run_len
 run-deep deepest nesting b bs h i j k = rw (h, i, j, k)
 
-run-byte : (deepest nesting b : ℕ) (bs : List ℕ) → ends_run b ≡ false → begins_escape (b ∷ bs) ≡ false → closes_none b nesting ≡ false → nat_lt deepest (nesting_behind b nesting) ≡ false → run_len deepest nesting 0 (b ∷ bs) ≡ longer 1 (run_len deepest (nesting_behind b nesting) 0 bs)
+pub run-byte : (deepest nesting b : ℕ) (bs : List ℕ) → ends_run b ≡ false → begins_escape (b ∷ bs) ≡ false → closes_none b nesting ≡ false → nat_lt deepest (nesting_behind b nesting) ≡ false → run_len deepest nesting 0 (b ∷ bs) ≡ longer 1 (run_len deepest (nesting_behind b nesting) 0 bs)
 unfolding run_len
 run-byte deepest nesting b bs h i j k = rw (h, i, j, k)
 

@@ -1,5 +1,5 @@
 -- The units of a label.
-use Rattle.std.proofs.Common.{◌≡◌, ◌⊎◌, inl, inr, ℕ, zero, suc, ◌+◌, ◌-◌, ◌<◌, ◌≤◌, ◌==◌, ◌&&◌, ◌||◌, not, nat_le, Bool, true, false, List, [], ◌∷◌, ◌++◌, length, map, take, drop, get_or, slice_index, Option, Some, None, refl, sym, ap, ◌∙◌, arith, append_assoc, length-append, length-drop, IsUtf8, if◌then◌else◌}
+use Rattle.std.proofs.Common.{◌≡◌, ◌⊎◌, inl, inr, ℕ, zero, suc, ◌+◌, ◌-◌, ◌<◌, ◌≤◌, ◌==◌, ◌&&◌, ◌||◌, not, nat_le, Bool, true, false, List, [], ◌∷◌, ◌++◌, length, take, drop, get_or, slice_index, Option, Some, None, refl, sym, ap, ◌∙◌, arith, append_assoc, length-append, length-drop, IsUtf8, if◌then◌else◌}
 use Rattle.std.specs.List.{list_any, list_all, count_by}
 use Rattle.std.specs.Char.{is_ascii_punctuation}
 use Rattle.std.specs.Str.{IsCharBoundary}
@@ -8,22 +8,15 @@ use Rattle.std.proofs.lemmas.Bool.Decides.{nat_tests}
 use Rattle.std.proofs.lemmas.Grind.{common_steps}
 use Rattle.std.proofs.lemmas.Str.{IsCharBoundary-after_ascii, IsCharBoundary-start}
 use Rattle.std.proofs.lemmas.List.{drop_more, drop-drop, drop_all, get_or-drop, get_or_past, length-take-le, map-append, length-map, append-nil}
-use Rattle.first_pass_scan.specs.Lines.{begins, is_line_end, ends_line}
+use Rattle.first_pass_scan.specs.Lines.{begins, is_line_end, ends_line, is_ascii_white}
 use Rattle.first_pass_links.specs.declared.label.Unit.{Unit}
 use Rattle.first_pass_links.specs.Escapes.{begins_escape, without_pipe_escapes}
 use Rattle.first_pass_links.specs.Changes.{begins_pipe_escape}
-use Rattle.first_pass_links.specs.Labels.{is_space, is_bracket, begins_character, joined, label_len, single_spaced, shown, Known, is_label, label_of}
-use Rattle.first_pass_links.specs.Units.{part, read_of, left_at, known_behind, kept_unit, space_unit, dropped_unit, backslash_unit, IsUnit, Reads, Stops, IsRun, IsBlankRest, EndsRun, weight}
+use Rattle.first_pass_links.specs.Labels.{is_bracket, begins_character, joined, bytes_of, offsets_of, label_len, single_spaced, shown, label_at}
+use Rattle.first_pass_links.specs.Units.{part, read_of, left_at, kept_unit, space_unit, dropped_unit, backslash_unit, IsUnit, Reads, IsWhiteRun, IsBlankRest, EndsWhiteRun, weight}
 use Rattle.first_pass_links.proofs.PipeEscapes.{cell-nil, cell-other, cell-kept, cell-dropped, pipe_behind}
 use Rattle.first_pass_links.proofs.Destinations.{upto-nil, upto-stop, upto-byte, upto-escape, first_byte}
 use Rattle.first_pass_links.proofs.Parts.{part-none, part-one, part-two, weight-length, weight-nil, weight-space, weight-other}
-
--- the bytes, and their offsets
-abbrev pub bytes_of : List (ℕ × ℕ) → List ℕ
-bytes_of cs = map (λ c. c.1) cs
-
-abbrev pub offsets_of : List (ℕ × ℕ) → List ℕ
-offsets_of cs = map (λ c. c.0) cs
 
 -- what is left of a label, byte by byte
 joined_behind : (h : List ℕ → Option ℕ) (at n : ℕ) (bs : List ℕ) → joined h at n bs ≡ joined h (at + n) 0 (drop n bs)
@@ -113,12 +106,42 @@ index_past [] ys n m e = let f : n ≡ m = omega arith in rw f
 index_past (x ∷ xs) ys n m e = let f : n ≡ suc (length xs + m) = omega arith in rw f (index_past xs ys (length xs + m) m refl)
 
 abbrev is_solid : ℕ → Bool
-is_solid b = not (is_space b)
+is_solid b = not (is_ascii_white b)
+
+-- what is known of a label before the bytes that are left: how many characters it has, whether one is not white space, and what is read of it
+pub record Known : Type 0 where
+  pub characters : ℕ
+  pub solid : Bool
+  pub bytes : List ℕ
+
+abbrev pub known_as : ℕ → Bool → List ℕ → Known
+known_as characters solid bytes = record { characters = characters; solid = solid; bytes = bytes }
+
+-- with what is known, these bytes are a label
+abbrev is_label_behind : Known → List ℕ → Bool
+is_label_behind known bs = nat_le (known.characters + count_by begins_character bs) 999 && (known.solid || list_any is_solid bs)
+
+-- the label that these bytes, each behind its offset, end
+pub label_behind : Bool → Known → List (ℕ × ℕ) → Option (ℕ × List ℕ)
+label_behind in_table known cs =
+    let bs = bytes_of cs in
+    let n = label_len bs in
+    if begins 93 (drop n bs) && is_label_behind known (take n bs)
+    then Some (slice_index (offsets_of cs) n + 1, known.bytes ++ shown in_table (take n bs))
+    else None
+
+-- before anything is read it is the label of the text
+pub nothing_known : (t : Bool) (h : List ℕ → Option ℕ) (text : List ℕ) → label_behind t (known_as 0 false []) (left_at h text 0) ≡ label_at h t text
+unfolding label_behind label_at
+nothing_known t h text =
+    let bs = bytes_of (joined h 0 0 text) in
+    let e : 0 + count_by begins_character (take (label_len bs) bs) ≡ count_by begins_character (take (label_len bs) bs) = omega arith in
+    rw e
 
 abbrev known_more : Known → List ℕ → List ℕ → Known
 known_more known bs w = record { characters = known.characters + count_by begins_character bs; solid = known.solid || list_any is_solid bs; bytes = known.bytes ++ w }
 
-is_label-append : (known : Known) (u s w : List ℕ) → is_label known (u ++ s) ≡ is_label (known_more known u w) s
+is_label-append : (known : Known) (u s w : List ℕ) → is_label_behind known (u ++ s) ≡ is_label_behind (known_more known u w) s
 is_label-append known u s w =
     let a : known.characters + count_by begins_character (u ++ s) ≡ known.characters + count_by begins_character u + count_by begins_character s = omega (arith, count_append begins_character u s) in
     let b : (known.solid || list_any is_solid (u ++ s)) ≡ ((known.solid || list_any is_solid u) || list_any is_solid s) =
@@ -132,8 +155,8 @@ found n bs = (n, bs)
 label_by : (t : Bool) (known : Known) (us cs : List (ℕ × ℕ)) (w : List ℕ) (n m : ℕ)
     → n ≡ length us + m
     → shown t (bytes_of us ++ take m (bytes_of cs)) ≡ w ++ shown t (take m (bytes_of cs))
-    → (if begins 93 (drop n (bytes_of (us ++ cs))) && is_label known (take n (bytes_of (us ++ cs))) then Some (found (slice_index (offsets_of (us ++ cs)) n + 1) (known.bytes ++ shown t (take n (bytes_of (us ++ cs))))) else None)
-    ≡ (if begins 93 (drop m (bytes_of cs)) && is_label (known_more known (bytes_of us) w) (take m (bytes_of cs)) then Some (found (slice_index (offsets_of cs) m + 1) ((known.bytes ++ w) ++ shown t (take m (bytes_of cs)))) else None)
+    → (if begins 93 (drop n (bytes_of (us ++ cs))) && is_label_behind known (take n (bytes_of (us ++ cs))) then Some (found (slice_index (offsets_of (us ++ cs)) n + 1) (known.bytes ++ shown t (take n (bytes_of (us ++ cs))))) else None)
+    ≡ (if begins 93 (drop m (bytes_of cs)) && is_label_behind (known_more known (bytes_of us) w) (take m (bytes_of cs)) then Some (found (slice_index (offsets_of cs) m + 1) ((known.bytes ++ w) ++ shown t (take m (bytes_of cs)))) else None)
 label_by t known us cs w n m e s =
     let bytes = map-append (λ (c : ℕ × ℕ). c.1) us cs in
     let offsets = map-append (λ (c : ℕ × ℕ). c.0) us cs in
@@ -142,7 +165,7 @@ label_by t known us cs w n m e s =
     let d : drop n (bytes_of (us ++ cs)) ≡ drop m (bytes_of cs) = ap (drop n) bytes ∙ drop_past (bytes_of us) (bytes_of cs) n m (omega arith) in
     let f : take n (bytes_of (us ++ cs)) ≡ bytes_of us ++ take m (bytes_of cs) = ap (take n) bytes ∙ take_past (bytes_of us) (bytes_of cs) n m (omega arith) in
     let i : slice_index (offsets_of (us ++ cs)) n ≡ slice_index (offsets_of cs) m = ap (λ xs. slice_index xs n) offsets ∙ index_past (offsets_of us) (offsets_of cs) n m (omega arith) in
-    let test : is_label known (take n (bytes_of (us ++ cs))) ≡ is_label (known_more known (bytes_of us) w) (take m (bytes_of cs)) = ap (is_label known) f ∙ is_label-append known (bytes_of us) (take m (bytes_of cs)) w in
+    let test : is_label_behind known (take n (bytes_of (us ++ cs))) ≡ is_label_behind (known_more known (bytes_of us) w) (take m (bytes_of cs)) = ap (is_label_behind known) f ∙ is_label-append known (bytes_of us) (take m (bytes_of cs)) w in
     let text : known.bytes ++ shown t (take n (bytes_of (us ++ cs))) ≡ (known.bytes ++ w) ++ shown t (take m (bytes_of cs)) =
     ap (λ xs. known.bytes ++ xs) (ap (shown t) f ∙ s) ∙ sym (append_assoc known.bytes w (shown t (take m (bytes_of cs))))
     in
@@ -151,31 +174,31 @@ label_by t known us cs w n m e s =
 pub label_unit : (t : Bool) (known : Known) (us cs : List (ℕ × ℕ)) (w : List ℕ)
     → label_len (bytes_of us ++ bytes_of cs) ≡ length us + label_len (bytes_of cs)
     → ((n : ℕ) → shown t (bytes_of us ++ take n (bytes_of cs)) ≡ w ++ shown t (take n (bytes_of cs)))
-    → label_of t known (us ++ cs) ≡ label_of t (known_more known (bytes_of us) w) cs
-unfolding label_of
+    → label_behind t known (us ++ cs) ≡ label_behind t (known_more known (bytes_of us) w) cs
+unfolding label_behind
 label_unit t known us cs w e s =
     label_by t known us cs w (label_len (bytes_of (us ++ cs))) (label_len (bytes_of cs)) (ap label_len (map-append (λ (c : ℕ × ℕ). c.1) us cs) ∙ e) (s (label_len (bytes_of cs)))
 
 -- one byte
-space_cases : (b : ℕ) → is_space b ≡ false → is_line_end b ≡ false
+space_cases : (b : ℕ) → is_ascii_white b ≡ false → is_line_end b ≡ false
 space_cases b h = grind (arith, nat_tests, h)
 
-solid_ends_none : (b : ℕ) (bs : List ℕ) → is_space b ≡ false → ends_line b bs ≡ false
+solid_ends_none : (b : ℕ) (bs : List ℕ) → is_ascii_white b ≡ false → ends_line b bs ≡ false
 solid_ends_none b bs h = grind (arith, nat_tests, h)
 
-single-solid : (b : ℕ) (bs : List ℕ) → is_space b ≡ false → single_spaced (b ∷ bs) ≡ b ∷ single_spaced bs
+single-solid : (b : ℕ) (bs : List ℕ) → is_ascii_white b ≡ false → single_spaced (b ∷ bs) ≡ b ∷ single_spaced bs
 unfolding single_spaced
 single-solid b bs h = rw h
 
-single-more : (b : ℕ) (bs : List ℕ) → is_space b ≡ true → is_space (slice_index bs 0) ≡ true → single_spaced (b ∷ bs) ≡ single_spaced bs
+single-more : (b : ℕ) (bs : List ℕ) → is_ascii_white b ≡ true → is_ascii_white (slice_index bs 0) ≡ true → single_spaced (b ∷ bs) ≡ single_spaced bs
 unfolding single_spaced
 single-more b bs h k = rw (h, k)
 
-single-last : (b : ℕ) (bs : List ℕ) → is_space b ≡ true → is_space (slice_index bs 0) ≡ false → single_spaced (b ∷ bs) ≡ 32 ∷ single_spaced bs
+single-last : (b : ℕ) (bs : List ℕ) → is_ascii_white b ≡ true → is_ascii_white (slice_index bs 0) ≡ false → single_spaced (b ∷ bs) ≡ 32 ∷ single_spaced bs
 unfolding single_spaced
 single-last b bs h k = rw (h, k)
 
-shown-solid : (t : Bool) (b : ℕ) (bs : List ℕ) → (b == 92) ≡ false → is_space b ≡ false → shown t (b ∷ bs) ≡ b ∷ shown t bs
+shown-solid : (t : Bool) (b : ℕ) (bs : List ℕ) → (b == 92) ≡ false → is_ascii_white b ≡ false → shown t (b ∷ bs) ≡ b ∷ shown t bs
 shown-solid true b bs h k = ap single_spaced (cell-other b bs h) ∙ single-solid b (without_pipe_escapes bs) k
 shown-solid false b bs h k = single-solid b bs k
 
@@ -186,7 +209,7 @@ shown-backslash false bs h = single-solid 92 bs refl
 shown-pipe : (bs : List ℕ) → shown true (92 ∷ 124 ∷ bs) ≡ 124 ∷ shown true bs
 shown-pipe bs = ap single_spaced (cell-dropped 92 (124 ∷ bs) refl refl) ∙ shown-solid true 124 bs refl refl
 
-shown-byte : (t : Bool) (p : ℕ) (bs : List ℕ) → is_space p ≡ false → (p == 92) && begins 124 bs ≡ false → shown t (p ∷ bs) ≡ p ∷ shown t bs
+shown-byte : (t : Bool) (p : ℕ) (bs : List ℕ) → is_ascii_white p ≡ false → (p == 92) && begins 124 bs ≡ false → shown t (p ∷ bs) ≡ p ∷ shown t bs
 shown-byte false p bs h k = single-solid p bs h
 shown-byte true p bs h k = elim (cases_Bool (p == 92)) [
   | inl e ↦ (let z : begins 124 bs ≡ false = rw e at k in ap single_spaced (cell-kept p bs z) ∙ single-solid p (without_pipe_escapes bs) h)
@@ -194,13 +217,13 @@ shown-byte true p bs h k = elim (cases_Bool (p == 92)) [
 ]
 
 -- runs of white space
-white_parts : (b : ℕ) (bs : List ℕ) → list_all is_space (b ∷ bs) ≡ true → (is_space b ≡ true) × (list_all is_space bs ≡ true)
+white_parts : (b : ℕ) (bs : List ℕ) → list_all is_ascii_white (b ∷ bs) ≡ true → (is_ascii_white b ≡ true) × (list_all is_ascii_white bs ≡ true)
 white_parts b bs h = and_parts _ _ h
 
-pub white_is_ascii : (b : ℕ) → is_space b ≡ true → (b < 128) × ((b == 92) ≡ false) × (is_bracket b ≡ false) × (begins_character b ≡ true) × (is_solid b ≡ false)
+pub white_is_ascii : (b : ℕ) → is_ascii_white b ≡ true → (b < 128) × ((b == 92) ≡ false) × (is_bracket b ≡ false) × (begins_character b ≡ true) × (is_solid b ≡ false)
 white_is_ascii b h = (grind (arith, nat_tests, h), grind (arith, nat_tests, h), grind (arith, nat_tests, h), grind (arith, nat_tests, h), rw h)
 
-upto-run : (u bs : List ℕ) → list_all is_space u ≡ true → label_len (u ++ bs) ≡ length u + label_len bs
+upto-run : (u bs : List ℕ) → list_all is_ascii_white u ≡ true → label_len (u ++ bs) ≡ length u + label_len bs
 upto-run [] bs h = omega arith
 upto-run (b ∷ u) bs h =
     let p = white_parts b u h in
@@ -210,22 +233,22 @@ upto-run (b ∷ u) bs h =
     let s = upto-byte is_bracket b (u ++ bs) e w.2 in
     omega arith
 
-cell-run : (u bs : List ℕ) → list_all is_space u ≡ true → without_pipe_escapes (u ++ bs) ≡ u ++ without_pipe_escapes bs
+cell-run : (u bs : List ℕ) → list_all is_ascii_white u ≡ true → without_pipe_escapes (u ++ bs) ≡ u ++ without_pipe_escapes bs
 cell-run [] bs h = refl
 cell-run (b ∷ u) bs h =
     let p = white_parts b u h in
     cell-other b (u ++ bs) (white_is_ascii b p.0).1 ∙ ap (λ xs. b ∷ xs) (cell-run u bs p.1)
 
-cell_first_by : (t : Bool) (b : ℕ) (bs : List ℕ) → (b == 92) ≡ t → (u : Bool) → begins 124 bs ≡ u → is_space b ≡ false → is_space (slice_index (without_pipe_escapes (b ∷ bs)) 0) ≡ false
-cell_first_by false b bs h u k e = ap (λ xs. is_space (slice_index xs 0)) (cell-other b bs h) ∙ e
-cell_first_by true b bs h true k e = ap (λ xs. is_space (slice_index xs 0)) (cell-dropped b bs h k ∙ pipe_behind bs k)
-cell_first_by true b bs h false k e = ap (λ xs. is_space (slice_index xs 0)) (cell-kept b bs k) ∙ e
+cell_first_by : (t : Bool) (b : ℕ) (bs : List ℕ) → (b == 92) ≡ t → (u : Bool) → begins 124 bs ≡ u → is_ascii_white b ≡ false → is_ascii_white (slice_index (without_pipe_escapes (b ∷ bs)) 0) ≡ false
+cell_first_by false b bs h u k e = ap (λ xs. is_ascii_white (slice_index xs 0)) (cell-other b bs h) ∙ e
+cell_first_by true b bs h true k e = ap (λ xs. is_ascii_white (slice_index xs 0)) (cell-dropped b bs h k ∙ pipe_behind bs k)
+cell_first_by true b bs h false k e = ap (λ xs. is_ascii_white (slice_index xs 0)) (cell-kept b bs k) ∙ e
 
-cell_first : (bs : List ℕ) → is_space (slice_index bs 0) ≡ false → is_space (slice_index (without_pipe_escapes bs) 0) ≡ false
-cell_first [] e = ap (λ xs. is_space (slice_index xs 0)) cell-nil
+cell_first : (bs : List ℕ) → is_ascii_white (slice_index bs 0) ≡ false → is_ascii_white (slice_index (without_pipe_escapes bs) 0) ≡ false
+cell_first [] e = ap (λ xs. is_ascii_white (slice_index xs 0)) cell-nil
 cell_first (b ∷ bs) e = cell_first_by _ b bs refl _ refl e
 
-single-run : (u bs : List ℕ) → list_all is_space u ≡ true → 0 < length u → is_space (slice_index bs 0) ≡ false → single_spaced (u ++ bs) ≡ 32 ∷ single_spaced bs
+single-run : (u bs : List ℕ) → list_all is_ascii_white u ≡ true → 0 < length u → is_ascii_white (slice_index bs 0) ≡ false → single_spaced (u ++ bs) ≡ 32 ∷ single_spaced bs
 single-run [] bs h l e = absurd (omega arith)
 single-run (b ∷ []) bs h l e = single-last b bs (white_parts b [] h).0 e
 single-run (b ∷ c ∷ u) bs h l e =
@@ -233,11 +256,11 @@ single-run (b ∷ c ∷ u) bs h l e =
     let q = white_parts c u p.1 in
     single-more b (c ∷ (u ++ bs)) p.0 q.0 ∙ single-run (c ∷ u) bs p.1 (omega arith) e
 
-shown-run : (t : Bool) (u bs : List ℕ) → list_all is_space u ≡ true → 0 < length u → is_space (slice_index bs 0) ≡ false → shown t (u ++ bs) ≡ 32 ∷ shown t bs
+shown-run : (t : Bool) (u bs : List ℕ) → list_all is_ascii_white u ≡ true → 0 < length u → is_ascii_white (slice_index bs 0) ≡ false → shown t (u ++ bs) ≡ 32 ∷ shown t bs
 shown-run true u bs h l e = ap single_spaced (cell-run u bs h) ∙ single-run u (without_pipe_escapes bs) h l (cell_first bs e)
 shown-run false u bs h l e = single-run u bs h l e
 
-run_counts : (u : List ℕ) → list_all is_space u ≡ true → (count_by begins_character u ≡ length u) × (list_any is_solid u ≡ false)
+run_counts : (u : List ℕ) → list_all is_ascii_white u ≡ true → (count_by begins_character u ≡ length u) × (list_any is_solid u ≡ false)
 run_counts [] h = (refl, refl)
 run_counts (b ∷ u) h =
     let p = white_parts b u h in
@@ -256,16 +279,25 @@ pub unit_reads : (h : List ℕ → Option ℕ) (t : Bool) (text : List ℕ) (at 
     → label_len (bytes_of us ++ bytes_of (left_at h text unit.next)) ≡ length us + label_len (bytes_of (left_at h text unit.next))
     → ((n : ℕ) → shown t (bytes_of us ++ take n (bytes_of (left_at h text unit.next))) ≡ read_of text at unit ++ shown t (take n (bytes_of (left_at h text unit.next))))
     → Reads h t text at unit
-unit_reads h t text at unit us joins count solid len shows =
-    λ known.
-    let k : known_more known (bytes_of us) (read_of text at unit) ≡ known_behind text at unit known = rw (count, solid) in
-    ap (label_of t known) joins ∙ label_unit t known us (left_at h text unit.next) (read_of text at unit) len shows ∙ ap (λ x. label_of t x (left_at h text unit.next)) k
+unit_reads h t text at unit us joins count something passed reads =
+    record { run = us; joins = joins; count = count; something = something; passed = passed; reads = reads }
+
+-- what is known behind a unit
+abbrev pub known_behind : List ℕ → ℕ → Unit → Known → Known
+known_behind text at unit known =
+    record { characters = known.characters + unit.characters; solid = known.solid || unit.solid; bytes = known.bytes ++ read_of text at unit }
+
+pub unit_known : (h : List ℕ → Option ℕ) (t : Bool) (text : List ℕ) (at : ℕ) (unit : Unit) (known : Known) → Reads h t text at unit
+    → label_behind t known (left_at h text at) ≡ label_behind t (known_behind text at unit known) (left_at h text unit.next)
+unit_known h t text at unit known r =
+    let k : known_more known (bytes_of r.run) (read_of text at unit) ≡ known_behind text at unit known = rw (r.count, r.something) in
+    ap (label_behind t known) r.joins ∙ label_unit t known r.run (left_at h text unit.next) (read_of text at unit) r.passed r.reads ∙ ap (λ x. label_behind t x (left_at h text unit.next)) k
 
 pub read-kept : (text : List ℕ) (at n c : ℕ) (s : Bool) → read_of text at (kept_unit n c s) ≡ part text at n
 read-kept text at n c s = ap (λ xs. part text at n ++ xs) (part-none text n) ∙ append-nil (part text at n)
 
 -- a byte that is neither white space, bracket nor backslash
-pub byte_reads : (h : List ℕ → Option ℕ) (t : Bool) (text : List ℕ) (at c : ℕ) → at < length text → is_space (get_or text at 0) ≡ false → is_bracket (get_or text at 0) ≡ false → (get_or text at 0 == 92) ≡ false → c ≡ (if begins_character (get_or text at 0) then 1 else 0) → Reads h t text at (kept_unit (at + 1) c true)
+pub byte_reads : (h : List ℕ → Option ℕ) (t : Bool) (text : List ℕ) (at c : ℕ) → at < length text → is_ascii_white (get_or text at 0) ≡ false → is_bracket (get_or text at 0) ≡ false → (get_or text at 0 == 92) ≡ false → c ≡ (if begins_character (get_or text at 0) then 1 else 0) → Reads h t text at (kept_unit (at + 1) c true)
 byte_reads h t text at c l white bracket plain e =
     let b = get_or text at 0 in
     let X = bytes_of (left_at h text (at + 1)) in
@@ -282,7 +314,7 @@ no_pipe b h = grind (arith, nat_tests, h)
 three : (n : ℕ) → 2 + (1 + n) ≡ 3 + n
 three n = omega arith
 
-pair_shown : (t : Bool) (b : ℕ) (bs : List ℕ) → is_space b ≡ false → (t ≡ true → (b == 124) ≡ false) → (t ≡ true → (b == 92) ≡ true → begins 124 bs ≡ false) → shown t (92 ∷ b ∷ bs) ≡ 92 ∷ b ∷ shown t bs
+pair_shown : (t : Bool) (b : ℕ) (bs : List ℕ) → is_ascii_white b ≡ false → (t ≡ true → (b == 124) ≡ false) → (t ≡ true → (b == 92) ≡ true → begins 124 bs ≡ false) → shown t (92 ∷ b ∷ bs) ≡ 92 ∷ b ∷ shown t bs
 pair_shown true b bs s f g =
     shown-backslash true (b ∷ bs) (f refl) ∙ ap (λ xs. 92 ∷ xs) (elim (cases_Bool (b == 92)) [
       | inl e ↦ (let z : (b == 92) && begins 124 bs ≡ false = rw e (g refl e) in shown-byte true b bs s z)
@@ -303,24 +335,24 @@ space_fields : (text : List ℕ) (at next characters : ℕ) (t : Bool) → (next
 space_fields text at next characters true h = rw h (refl, refl, refl)
 space_fields text at next characters false h = rw h (refl, refl, refl)
 
-run_reads_by : (x : Bool) (h : List ℕ → Option ℕ) (t : Bool) (text : List ℕ) (at next characters : ℕ) → (next == at + 1 && slice_index text at == 32) ≡ x → at < length text → IsRun h text at next characters → 0 < characters → is_space (slice_index text next) ≡ false → Reads h t text at (space_unit text at next characters)
+run_reads_by : (x : Bool) (h : List ℕ → Option ℕ) (t : Bool) (text : List ℕ) (at next characters : ℕ) → (next == at + 1 && slice_index text at == 32) ≡ x → at < length text → IsWhiteRun h text at next characters → 0 < characters → is_ascii_white (slice_index text next) ≡ false → Reads h t text at (space_unit text at next characters)
 run_reads_by x h t text at next characters kind l r some e =
     let f = space_fields text at next characters x kind in
     let X = bytes_of (left_at h text next) in
     let c = run_counts (bytes_of r.run) r.white in
     let len = length-map r.run (λ (c : ℕ × ℕ). c.1) in
     let count = r.count in
-    let first : is_space (slice_index (drop next text) 0) ≡ false =
-    ap is_space (get_or-drop next text 0 0 ∙ ap (λ n. get_or text n 0) (let z : next + 0 ≡ next = omega arith in z)) ∙ e
+    let first : is_ascii_white (slice_index (drop next text) 0) ≡ false =
+    ap is_ascii_white (get_or-drop next text 0 0 ∙ ap (λ n. get_or text n 0) (let z : next + 0 ≡ next = omega arith in z)) ∙ e
     in
-    let first' = first_fails is_space refl h text next first in
+    let first' = first_fails is_ascii_white refl h text next first in
     unit_reads h t text at (space_unit text at next characters) r.run
     (r.joins ∙ ap (λ n. r.run ++ left_at h text n) (sym f.0))
     (c.0 ∙ len ∙ count ∙ sym f.1)
     (c.1 ∙ sym f.2)
     (ap (λ n. label_len (bytes_of r.run ++ bytes_of (left_at h text n))) f.0 ∙ upto-run (bytes_of r.run) X r.white ∙ ap (λ n. n + label_len X) len ∙ ap (λ n. length r.run + label_len (bytes_of (left_at h text n))) (sym f.0))
     (λ n. ap (λ k. shown t (bytes_of r.run ++ take n (bytes_of (left_at h text k)))) f.0
-    ∙ shown-run t (bytes_of r.run) (take n X) r.white (omega arith) (taken_fails is_space refl n X first')
+    ∙ shown-run t (bytes_of r.run) (take n X) r.white (omega arith) (taken_fails is_ascii_white refl n X first')
     ∙ ap (λ xs. xs ++ shown t (take n X)) (sym (read-space text at next characters x kind l))
     ∙ ap (λ k. read_of text at (space_unit text at next characters) ++ shown t (take n (bytes_of (left_at h text k)))) (sym f.0))
 
@@ -338,13 +370,13 @@ lone_reads h t text at l e p =
     (λ n. shown-backslash t (take n X) (q n) ∙ ap (λ xs. xs ++ shown t (take n X)) (sym (read-kept text at (at + 1) 1 true ∙ part-one text at l ∙ ap (λ b. b ∷ []) e)))
 
 -- a backslash that escapes a byte
-pair_joins : (h : List ℕ → Option ℕ) (text : List ℕ) (at : ℕ) → at + 1 < length text → get_or text at 0 ≡ 92 → is_space (get_or text (at + 1) 0) ≡ false → left_at h text at ≡ (at, 92) ∷ (at + 1, get_or text (at + 1) 0) ∷ left_at h text (at + 2)
+pair_joins : (h : List ℕ → Option ℕ) (text : List ℕ) (at : ℕ) → at + 1 < length text → get_or text at 0 ≡ 92 → is_ascii_white (get_or text (at + 1) 0) ≡ false → left_at h text at ≡ (at, 92) ∷ (at + 1, get_or text (at + 1) 0) ∷ left_at h text (at + 2)
 pair_joins h text at l e s =
     let k : at + 1 + 1 ≡ at + 2 = omega arith in
     left-byte h text at (omega arith) (rw e) ∙ ap (λ b. (at, b) ∷ left_at h text (at + 1)) e
     ∙ ap (λ cs. (at, 92) ∷ cs) (left-byte h text (at + 1) l (solid_ends_none (get_or text (at + 1) 0) (drop (at + 1 + 1) text) s) ∙ ap (λ n. (at + 1, get_or text (at + 1) 0) ∷ left_at h text n) k)
 
-punctuation_facts : (p : ℕ) → is_ascii_punctuation p ≡ true → (is_space p ≡ false) × (begins_character p ≡ true) × (begins_escape (92 ∷ p ∷ []) ≡ true)
+punctuation_facts : (p : ℕ) → is_ascii_punctuation p ≡ true → (is_ascii_white p ≡ false) × (begins_character p ≡ true) × (begins_escape (92 ∷ p ∷ []) ≡ true)
 punctuation_facts p h = (grind (arith, nat_tests, h), grind (arith, nat_tests, h), h)
 
 pair_reads : (h : List ℕ → Option ℕ) (t : Bool) (text : List ℕ) (at : ℕ) → at + 1 < length text → get_or text at 0 ≡ 92 → is_ascii_punctuation (get_or text (at + 1) 0) ≡ true
@@ -397,7 +429,7 @@ pipe_escape_reads h text at l e p q =
     (λ n. pipe_escape_shown (take n X) ∙ ap (λ xs. xs ++ shown true (take n X)) (sym w))
 
 -- a run of white space
-pub run_reads : (h : List ℕ → Option ℕ) (t : Bool) (text : List ℕ) (at next characters : ℕ) → at < length text → IsRun h text at next characters → 0 < characters → is_space (slice_index text next) ≡ false → Reads h t text at (space_unit text at next characters)
+pub run_reads : (h : List ℕ → Option ℕ) (t : Bool) (text : List ℕ) (at next characters : ℕ) → at < length text → IsWhiteRun h text at next characters → 0 < characters → is_ascii_white (slice_index text next) ≡ false → Reads h t text at (space_unit text at next characters)
 run_reads h t text at next characters l r some e = run_reads_by _ h t text at next characters refl l r some e
 
 eqb-refl : (n : ℕ) → (n == n) ≡ true
@@ -469,7 +501,7 @@ dropped_is_unit text at n c p u l m w f e =
 length-part : (text : List ℕ) (a b : ℕ) → a ≤ b → b ≤ length text → length (part text a b) ≡ b - a
 length-part text a b h k = let d = length-drop a text in length-take-le (b - a) (drop a text) (omega arith)
 
-run_weight : (text : List ℕ) (at next : ℕ) → at < next → next ≤ length text → is_space (get_or text at 0) ≡ true → (next == at + 1 && slice_index text at == 32) ≡ false → (at + 1 < next) ⊎ (next ≤ at + 1) → 1 < weight (part text at next)
+run_weight : (text : List ℕ) (at next : ℕ) → at < next → next ≤ length text → is_ascii_white (get_or text at 0) ≡ true → (next == at + 1 && slice_index text at == 32) ≡ false → (at + 1 < next) ⊎ (next ≤ at + 1) → 1 < weight (part text at next)
 run_weight text at next l w s k (inl more) =
     let n = length-part text at next (omega arith) w in
     let m = weight-length (part text at next) in
@@ -481,7 +513,7 @@ run_weight text at next l w s k (inr one) =
     let f = ap weight (ap (part text at) e ∙ part-one text at (omega arith)) ∙ weight-other (get_or text at 0) s z in
     omega arith
 
-space_unit_by : (x : Bool) (text : List ℕ) (at next c : ℕ) → (next == at + 1 && slice_index text at == 32) ≡ x → EndsRun text at next c → is_space (get_or text at 0) ≡ true → IsUnit text at (space_unit text at next c)
+space_unit_by : (x : Bool) (text : List ℕ) (at next c : ℕ) → (next == at + 1 && slice_index text at == 32) ≡ x → EndsWhiteRun text at next c → is_ascii_white (get_or text at 0) ≡ true → IsUnit text at (space_unit text at next c)
 space_unit_by true text at next c k e s = rw k (kept_is_unit text at next c false e.later e.within e.few)
 space_unit_by false text at next c k e s =
     let later = e.later in
@@ -498,7 +530,7 @@ space_unit_by false text at next c k e s =
       same = λ z. absurd (omega arith);
     })
 
-pub space_is_unit : (text : List ℕ) (at next c : ℕ) → EndsRun text at next c → is_space (get_or text at 0) ≡ true → IsUnit text at (space_unit text at next c)
+pub space_is_unit : (text : List ℕ) (at next c : ℕ) → EndsWhiteRun text at next c → is_ascii_white (get_or text at 0) ≡ true → IsUnit text at (space_unit text at next c)
 space_is_unit text at next c e s = space_unit_by _ text at next c refl e s
 
 -- a backslash
@@ -549,8 +581,11 @@ pub backslash_is_unit : (t : Bool) (text : List ℕ) (at : ℕ) → at < length 
 backslash_is_unit t text at l e u = backslash_by t _ _ _ text at l e u refl refl refl
 
 -- where no label goes on
+abbrev Stops : (List ℕ → Option ℕ) → Bool → List ℕ → ℕ → Type 0
+Stops h t text at = (known : Known) → label_behind t known (left_at h text at) ≡ None
+
 pub blank_stops : (h : List ℕ → Option ℕ) (t : Bool) (text : List ℕ) (at : ℕ) → IsBlankRest h text at → Stops h t text at
-unfolding label_of
+unfolding label_behind
 blank_stops h t text at b =
     λ known.
     let X = bytes_of (left_at h text at) in
@@ -561,60 +596,60 @@ blank_stops h t text at b =
     rw d
 
 pub end_stops : (h : List ℕ → Option ℕ) (t : Bool) (text : List ℕ) (at : ℕ) → length text ≤ at → Stops h t text at
-end_stops h t text at l = blank_stops h t text at (ap (λ cs. list_all is_space (bytes_of cs)) (left-past h text at l))
+end_stops h t text at l = blank_stops h t text at (ap (λ cs. list_all is_ascii_white (bytes_of cs)) (left-past h text at l))
 
-bracket_left : (h : List ℕ → Option ℕ) (text : List ℕ) (at k : ℕ) → at < length text → get_or text at 0 ≡ k → is_space k ≡ false → left_at h text at ≡ (at, k) ∷ left_at h text (at + 1)
-bracket_left h text at k l e s = left-byte h text at l (solid_ends_none (get_or text at 0) (drop (at + 1) text) (ap is_space e ∙ s)) ∙ ap (λ b. (at, b) ∷ left_at h text (at + 1)) e
+bracket_left : (h : List ℕ → Option ℕ) (text : List ℕ) (at k : ℕ) → at < length text → get_or text at 0 ≡ k → is_ascii_white k ≡ false → left_at h text at ≡ (at, k) ∷ left_at h text (at + 1)
+bracket_left h text at k l e s = left-byte h text at l (solid_ends_none (get_or text at 0) (drop (at + 1) text) (ap is_ascii_white e ∙ s)) ∙ ap (λ b. (at, b) ∷ left_at h text (at + 1)) e
 
-open_by : (t : Bool) (known : Known) (at : ℕ) (cs : List (ℕ × ℕ)) → label_of t known ((at, 91) ∷ cs) ≡ None
-unfolding label_of
+open_by : (t : Bool) (known : Known) (at : ℕ) (cs : List (ℕ × ℕ)) → label_behind t known ((at, 91) ∷ cs) ≡ None
+unfolding label_behind
 open_by t known at cs = rw (upto-stop is_bracket 91 (bytes_of cs) refl refl)
 
 pub open_stops : (h : List ℕ → Option ℕ) (t : Bool) (text : List ℕ) (at : ℕ) → at < length text → get_or text at 0 ≡ 91 → Stops h t text at
-open_stops h t text at l e = λ known. ap (label_of t known) (bracket_left h text at 91 l e refl) ∙ open_by t known at (left_at h text (at + 1))
+open_stops h t text at l e = λ known. ap (label_behind t known) (bracket_left h text at 91 l e refl) ∙ open_by t known at (left_at h text (at + 1))
 
-close_by : (t : Bool) (known : Known) (at : ℕ) (cs : List (ℕ × ℕ)) → label_of t known ((at, 93) ∷ cs) ≡ (if is_label known [] then Some (found (at + 1) (known.bytes ++ shown t [])) else None)
-unfolding label_of
+close_by : (t : Bool) (known : Known) (at : ℕ) (cs : List (ℕ × ℕ)) → label_behind t known ((at, 93) ∷ cs) ≡ (if is_label_behind known [] then Some (found (at + 1) (known.bytes ++ shown t [])) else None)
+unfolding label_behind
 close_by t known at cs = rw (upto-stop is_bracket 93 (bytes_of cs) refl refl)
 
-pub closes : (h : List ℕ → Option ℕ) (t : Bool) (text : List ℕ) (at : ℕ) (known : Known) → at < length text → get_or text at 0 ≡ 93 → label_of t known (left_at h text at) ≡ (if is_label known [] then Some (found (at + 1) (known.bytes ++ shown t [])) else None)
-closes h t text at known l e = ap (label_of t known) (bracket_left h text at 93 l e refl) ∙ close_by t known at (left_at h text (at + 1))
+pub closes : (h : List ℕ → Option ℕ) (t : Bool) (text : List ℕ) (at : ℕ) (known : Known) → at < length text → get_or text at 0 ≡ 93 → label_behind t known (left_at h text at) ≡ (if is_label_behind known [] then Some (found (at + 1) (known.bytes ++ shown t [])) else None)
+closes h t text at known l e = ap (label_behind t known) (bracket_left h text at 93 l e refl) ∙ close_by t known at (left_at h text (at + 1))
 
 shown-nil : (t : Bool) → shown t [] ≡ []
 unfolding single_spaced without_pipe_escapes
 shown-nil true = refl
 shown-nil false = refl
 
-pub closed : (h : List ℕ → Option ℕ) (t : Bool) (text : List ℕ) (at : ℕ) (known : Known) → at < length text → get_or text at 0 ≡ 93 → known.characters ≤ 999 → known.solid ≡ true → label_of t known (left_at h text at) ≡ Some (at + 1, known.bytes)
+pub closed : (h : List ℕ → Option ℕ) (t : Bool) (text : List ℕ) (at : ℕ) (known : Known) → at < length text → get_or text at 0 ≡ 93 → known.characters ≤ 999 → known.solid ≡ true → label_behind t known (left_at h text at) ≡ Some (at + 1, known.bytes)
 closed h t text at known l e few solid =
     let k : known.characters + 0 ≡ known.characters = omega arith in
-    let i : is_label known [] ≡ true = rw (k, le-leb known.characters 999 few, solid) in
+    let i : is_label_behind known [] ≡ true = rw (k, le-leb known.characters 999 few, solid) in
     closes h t text at known l e ∙ rw i (ap (λ bs. Some (found (at + 1) (known.bytes ++ bs))) (shown-nil t) ∙ ap (λ bs. Some (found (at + 1) bs)) (append-nil known.bytes))
 
-pub blank_label : (h : List ℕ → Option ℕ) (t : Bool) (text : List ℕ) (at : ℕ) (known : Known) → at < length text → get_or text at 0 ≡ 93 → known.solid ≡ false → label_of t known (left_at h text at) ≡ None
+pub blank_label : (h : List ℕ → Option ℕ) (t : Bool) (text : List ℕ) (at : ℕ) (known : Known) → at < length text → get_or text at 0 ≡ 93 → known.solid ≡ false → label_behind t known (left_at h text at) ≡ None
 blank_label h t text at known l e solid =
-    let i : is_label known [] ≡ false = rw solid (and_false _) in
+    let i : is_label_behind known [] ≡ false = rw solid (and_false _) in
     closes h t text at known l e ∙ rw i
 
-long_by : (t : Bool) (known : Known) (cs : List (ℕ × ℕ)) → ((bs : List ℕ) → is_label known bs ≡ false) → label_of t known cs ≡ None
-unfolding label_of
+long_by : (t : Bool) (known : Known) (cs : List (ℕ × ℕ)) → ((bs : List ℕ) → is_label_behind known bs ≡ false) → label_behind t known cs ≡ None
+unfolding label_behind
 long_by t known cs f = rw (f (take (label_len (bytes_of cs)) (bytes_of cs))) (rw (and_false (begins 93 (drop (label_len (bytes_of cs)) (bytes_of cs)))))
 
-pub too_long : (t : Bool) (known : Known) (cs : List (ℕ × ℕ)) → 999 < known.characters → label_of t known cs ≡ None
+pub too_long : (t : Bool) (known : Known) (cs : List (ℕ × ℕ)) → 999 < known.characters → label_behind t known cs ≡ None
 too_long t known cs l = long_by t known cs (λ bs. rw (gt-leb (known.characters + count_by begins_character bs) 999 (omega arith)))
 
 pub differs : (a b : ℕ) → (a ≡ b → ⊥) → (a == b) ≡ false
 differs a b f = elim (cases_Bool (a == b)) [ inl e ↦ absurd (f (eqb-true a b e)) | inr e ↦ e ]
 
-all_more : (xs : List ℕ) (b : ℕ) → list_all is_space xs ≡ true → is_space b ≡ true → list_all is_space (xs ++ b ∷ []) ≡ true
+all_more : (xs : List ℕ) (b : ℕ) → list_all is_ascii_white xs ≡ true → is_ascii_white b ≡ true → list_all is_ascii_white (xs ++ b ∷ []) ≡ true
 all_more [] b h s = rw s
 all_more (x ∷ xs) b h s = let p = white_parts x xs h in rw p.0 (all_more xs b p.1 s)
 
 -- a run of white space, byte by byte
-pub run_none : (h : List ℕ → Option ℕ) (text : List ℕ) (at : ℕ) → IsRun h text at at 0
+pub run_none : (h : List ℕ → Option ℕ) (text : List ℕ) (at : ℕ) → IsWhiteRun h text at at 0
 run_none h text at = record { run = []; joins = refl; white = refl; count = refl }
 
-pub run_more : (h : List ℕ → Option ℕ) (text : List ℕ) (at next behind n : ℕ) → IsRun h text at next n → left_at h text next ≡ (next, get_or text next 0) ∷ left_at h text behind → is_space (get_or text next 0) ≡ true → IsRun h text at behind (n + 1)
+pub run_more : (h : List ℕ → Option ℕ) (text : List ℕ) (at next behind n : ℕ) → IsWhiteRun h text at next n → left_at h text next ≡ (next, get_or text next 0) ∷ left_at h text behind → is_ascii_white (get_or text next 0) ≡ true → IsWhiteRun h text at behind (n + 1)
 run_more h text at next behind n r e s =
     let one : List (ℕ × ℕ) = (next, get_or text next 0) ∷ [] in
     let l = length-append r.run one in
@@ -622,12 +657,12 @@ run_more h text at next behind n r e s =
     record {
       run = r.run ++ one;
       joins = r.joins ∙ ap (λ cs. r.run ++ cs) e ∙ sym (append_assoc r.run one (left_at h text behind));
-      white = ap (list_all is_space) (map-append (λ (x : ℕ × ℕ). x.1) r.run one) ∙ all_more (bytes_of r.run) (get_or text next 0) r.white s;
+      white = ap (list_all is_ascii_white) (map-append (λ (x : ℕ × ℕ). x.1) r.run one) ∙ all_more (bytes_of r.run) (get_or text next 0) r.white s;
       count = omega arith;
     }
 
-pub run_blank : (h : List ℕ → Option ℕ) (text : List ℕ) (at next n : ℕ) → IsRun h text at next n → left_at h text next ≡ [] → IsBlankRest h text at
-run_blank h text at next n r e = ap (λ cs. list_all is_space (bytes_of cs)) (r.joins ∙ ap (λ cs. r.run ++ cs) e ∙ append-nil r.run) ∙ r.white
+pub run_blank : (h : List ℕ → Option ℕ) (text : List ℕ) (at next n : ℕ) → IsWhiteRun h text at next n → left_at h text next ≡ [] → IsBlankRest h text at
+run_blank h text at next n r e = ap (λ cs. list_all is_ascii_white (bytes_of cs)) (r.joins ∙ ap (λ cs. r.run ++ cs) e ∙ append-nil r.run) ∙ r.white
 
 -- a place behind a place
 pub place_behind : (text : List ℕ) (a n : ℕ) → a ≤ length text → IsCharBoundary (drop a text) n → IsCharBoundary text (a + n)
@@ -636,9 +671,6 @@ place_behind text a n l b =
     let d = length-drop a text in
     let g = get_or-drop a text n 0 in
     (omega arith, λ h k. let z = b.1 (omega arith) (omega arith) in omega arith)
-
-abbrev pub known_as : ℕ → Bool → List ℕ → Known
-known_as characters solid bytes = record { characters = characters; solid = solid; bytes = bytes }
 
 pub closing_bracket : (b : ℕ) → is_bracket b ≡ true → (b ≡ 91 → ⊥) → b ≡ 93
 closing_bracket b h f = eqb-true b 93 (rw (differs b 91 f) at h)

@@ -3,5 +3,6 @@ pub mod EntityFacts
 pub mod PipeEscapes
 pub mod Escapes
 pub mod Destinations
+pub mod Runs
 pub mod Parts
 pub mod Labels

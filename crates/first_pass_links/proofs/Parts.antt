@@ -2,8 +2,8 @@
 use Rattle.std.proofs.Common.{◌≡◌, ◌⊎◌, inl, inr, ℕ, zero, suc, ◌+◌, ◌-◌, ◌<◌, ◌≤◌, ◌==◌, ◌&&◌, not, Bool, true, false, List, [], ◌∷◌, ◌++◌, length, take, drop, get_or, refl, sym, ap, ◌∙◌, arith, append_assoc, if◌then◌else◌}
 use Rattle.std.specs.Str.{IsCharBoundary}
 use Rattle.std.proofs.lemmas.List.{drop_more, drop-drop}
+use Rattle.first_pass_scan.specs.Lines.{is_ascii_white}
 use Rattle.first_pass_links.specs.declared.label.Unit.{Unit}
-use Rattle.first_pass_links.specs.Labels.{is_space}
 use Rattle.first_pass_links.specs.Units.{part, weight, read_of, IsUnit, IsRead}
 
 take_none : (n : ℕ) → let xs : List ℕ = [] in xs ≡ take n xs
@@ -43,7 +43,7 @@ take-part text a b h = let e : b ≡ a + (b - a) = omega arith in ap (λ n. take
 
 -- weights
 weigh : ℕ → ℕ
-weigh b = if is_space b && not (b == 32) then 2 else 1
+weigh b = if is_ascii_white b && not (b == 32) then 2 else 1
 
 weigh_some : (t : Bool) → 1 ≤ (if t then 2 else 1)
 weigh_some true = omega arith
@@ -59,7 +59,7 @@ unfolding weight
 weight-length [] = omega arith
 weight-length (x ∷ xs) =
     let i = weight-length xs in
-    let w = weigh_some (is_space x && not (x == 32)) in
+    let w = weigh_some (is_ascii_white x && not (x == 32)) in
     omega arith
 
 pub weight-nil : weight [] ≡ 0
@@ -70,7 +70,7 @@ pub weight-space : weight (32 ∷ []) ≡ 1
 unfolding weight
 weight-space = refl
 
-pub weight-other : (b : ℕ) → is_space b ≡ true → (b == 32) ≡ false → weight (b ∷ []) ≡ 2
+pub weight-other : (b : ℕ) → is_ascii_white b ≡ true → (b == 32) ≡ false → weight (b ∷ []) ≡ 2
 unfolding weight
 weight-other b h k = rw (h, k)
 

@@ -1,11 +1,11 @@
 -- Link labels (CommonMark 4.7, 6.3), of the bytes behind a `[`.
-use Rattle.std.specs.Prelude.{◌≡◌, ℕ, zero, suc, ◌+◌, ◌==◌, ◌&&◌, ◌||◌, not, Bool, false, List, [], ◌∷◌, ◌++◌, map, take, drop, slice_index, Option, Some, None, Ok, Result, IsUtf8, nat_lt, nat_le, if◌then◌else◌}
+use Rattle.std.specs.Prelude.{◌≡◌, ℕ, zero, suc, ◌+◌, ◌==◌, ◌&&◌, ◌||◌, not, Bool, List, [], ◌∷◌, map, take, drop, slice_index, Option, Some, None, Ok, Result, IsUtf8, nat_lt, nat_le, if◌then◌else◌}
 use Rattle.std.specs.Option.{option_map_or}
 use Rattle.std.specs.List.{list_any, count_by}
 use Rattle.std.specs.Borrow.{Bor}
 use Rattle.std.specs.Str.{IsCharBoundary}
 use Rattle.std.specs.declared.alloc.AllocError.{AllocError}
-use Rattle.first_pass_scan.specs.Lines.{begins, is_white, is_line_end, ends_line}
+use Rattle.first_pass_scan.specs.Lines.{begins, is_ascii_white, ends_line}
 use Rattle.first_pass_links.specs.Escapes.{read_in}
 use Rattle.first_pass_links.specs.Destinations.{unescaped_upto}
 
@@ -16,10 +16,6 @@ AnswersWith prefix post = (behind : Bor (List ℕ)) (answer : Option ℕ) → po
 -- a prefix that may be answered is a part of the bytes, and ends between characters (this project)
 abbrev pub AnswersPlaces : (Bor (List ℕ) → Result (Option ℕ) AllocError → Type 0) → Type 0
 AnswersPlaces post = (behind : Bor (List ℕ)) (n : ℕ) → post behind (Ok (Some n)) → IsUtf8 behind.now → IsCharBoundary behind.now n
-
--- ASCII white space, line ends too (this project)
-abbrev pub is_space : ℕ → Bool
-is_space b = is_white b || is_line_end b
 
 -- an opening or closing square bracket (CommonMark 4.7)
 abbrev pub is_bracket : ℕ → Bool
@@ -39,6 +35,14 @@ joined prefix at zero (b ∷ bs) =
     then option_map_or (λ n. (at, b) ∷ joined prefix (at + 1) n bs) (prefix bs) []
     else (at, b) ∷ joined prefix (at + 1) 0 bs
 
+-- bytes without their offsets (this project)
+abbrev pub bytes_of : List (ℕ × ℕ) → List ℕ
+bytes_of cs = map (λ c. c.1) cs
+
+-- the offsets of bytes (this project)
+abbrev pub offsets_of : List (ℕ × ℕ) → List ℕ
+offsets_of cs = map (λ c. c.0) cs
+
 -- how many bytes stand before the first bracket that is not escaped (CommonMark 4.7)
 abbrev pub label_len : List ℕ → ℕ
 label_len bs = unescaped_upto is_bracket 0 bs
@@ -47,31 +51,23 @@ label_len bs = unescaped_upto is_bracket 0 bs
 unfoldable pub single_spaced : List ℕ → List ℕ
 single_spaced [] = []
 single_spaced (b ∷ bs) =
-    if is_space b then (if is_space (slice_index bs 0) then single_spaced bs else 32 ∷ single_spaced bs) else b ∷ single_spaced bs
+    if is_ascii_white b then (if is_ascii_white (slice_index bs 0) then single_spaced bs else 32 ∷ single_spaced bs) else b ∷ single_spaced bs
 
 -- a label as it is read: runs of white space are single spaces, and in a table backslashes before pipes are dropped (CommonMark 4.7, GFM 4.10)
 abbrev pub shown : Bool → List ℕ → List ℕ
 shown in_table bs = single_spaced (read_in in_table bs)
 
--- what is known of a label before the bytes that are left: how many characters it has, whether one is not white space, and what is read of it (CommonMark 4.7)
-pub record Known : Type 0 where
-  pub characters : ℕ
-  pub solid : Bool
-  pub bytes : List ℕ
+-- a label has at most 999 characters, and one of them is not white space (CommonMark 4.7)
+abbrev pub is_label : List ℕ → Bool
+is_label bs = nat_le (count_by begins_character bs) 999 && list_any (λ b. not (is_ascii_white b)) bs
 
--- at most 999 characters, one of them not white space (CommonMark 4.7)
-abbrev pub is_label : Known → List ℕ → Bool
-is_label known bs = nat_le (known.characters + count_by begins_character bs) 999 && (known.solid || list_any (λ b. not (is_space b)) bs)
-
--- the label that these bytes, each behind its offset, end: the offset behind its `]`, and its text (CommonMark 4.7)
-unfoldable pub label_of : Bool → Known → List (ℕ × ℕ) → Option (ℕ × List ℕ)
-label_of in_table known cs =
-    let bs = map (λ c. c.1) cs in
-    let n = label_len bs in
-    if begins 93 (drop n bs) && is_label known (take n bs)
-    then Some (slice_index (map (λ c. c.0) cs) n + 1, known.bytes ++ shown in_table (take n bs))
+-- the label behind a `[`: in the joined text what stands before the first bracket that is not escaped, where that is a `]`;
+-- the offset behind the `]`, and the label as it is read (CommonMark 4.7)
+unfoldable pub label_at : (List ℕ → Option ℕ) → Bool → List ℕ → Option (ℕ × List ℕ)
+label_at prefix in_table text =
+    let whole = joined prefix 0 0 text in
+    let n = label_len (bytes_of whole) in
+    let label = take n (bytes_of whole) in
+    if begins 93 (drop n (bytes_of whole)) && is_label label
+    then Some (slice_index (offsets_of whole) n + 1, shown in_table label)
     else None
-
--- the label behind a `[`: how many bytes it has with its `]`, and its text (CommonMark 4.7)
-abbrev pub label_at : (List ℕ → Option ℕ) → Bool → List ℕ → Option (ℕ × List ℕ)
-label_at prefix in_table text = label_of in_table (record { characters = 0; solid = false; bytes = [] }) (joined prefix 0 0 text)

@@ -5,3 +5,4 @@ pub mod Changes
 pub mod Destinations
 pub mod Labels
 pub mod Units
+pub mod Runs

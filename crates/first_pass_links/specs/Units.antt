@@ -1,12 +1,12 @@
 -- The units that a label is read by. Contracts of private functions alone cite this.
-use Rattle.std.specs.Prelude.{◌≡◌, ◌⊎◌, ℕ, ◌+◌, ◌-◌, ◌==◌, ◌<◌, ◌≤◌, ◌&&◌, ◌||◌, not, Bool, true, false, List, [], ◌∷◌, ◌++◌, length, map, take, drop, slice_index, Option, None, if◌then◌else◌}
-use Rattle.std.specs.List.{list_all}
+use Rattle.std.specs.Prelude.{◌≡◌, ◌⊎◌, ℕ, ◌+◌, ◌-◌, ◌==◌, ◌<◌, ◌≤◌, ◌&&◌, not, Bool, true, false, List, [], ◌∷◌, ◌++◌, length, take, drop, slice_index, Option, if◌then◌else◌}
+use Rattle.std.specs.List.{list_any, list_all, count_by}
 use Rattle.std.specs.Str.{IsCharBoundary}
-use Rattle.first_pass_scan.specs.Lines.{begins}
+use Rattle.first_pass_scan.specs.Lines.{begins, is_ascii_white}
 use Rattle.first_pass_links.specs.Escapes.{begins_escape}
 use Rattle.first_pass_links.specs.Changes.{begins_pipe_escape}
 use Rattle.first_pass_links.specs.declared.label.Unit.{Unit}
-use Rattle.first_pass_links.specs.Labels.{is_space, joined, Known, label_of}
+use Rattle.first_pass_links.specs.Labels.{begins_character, joined, bytes_of, label_len, shown}
 
 -- the bytes from one offset up to another (this project)
 abbrev pub part : List ℕ → ℕ → ℕ → List ℕ
@@ -38,19 +38,14 @@ backslash_unit in_table at bs =
 abbrev pub read_of : List ℕ → ℕ → Unit → List ℕ
 read_of text at unit = part text at unit.kept ++ ((if unit.space then 32 ∷ [] else []) ++ part text unit.resumed unit.next)
 
--- what is known behind a unit (this project)
-abbrev pub known_behind : List ℕ → ℕ → Unit → Known → Known
-known_behind text at unit known =
-    record { characters = known.characters + unit.characters; solid = known.solid || unit.solid; bytes = known.bytes ++ read_of text at unit }
-
--- the bytes that are left of a label from an offset on (this project)
+-- the bytes that are left of a label from an offset on, each behind its offset (this project)
 abbrev pub left_at : (List ℕ → Option ℕ) → List ℕ → ℕ → List (ℕ × ℕ)
 left_at prefix text at = joined prefix at 0 (drop at text)
 
 -- each byte counts one, and white space other than a space two: less is read of a text that changes (this project)
 unfoldable pub weight : List ℕ → ℕ
 weight [] = 0
-weight (b ∷ bs) = (if is_space b && not (b == 32) then 2 else 1) + weight bs
+weight (b ∷ bs) = (if is_ascii_white b && not (b == 32) then 2 else 1) + weight bs
 
 -- a unit at an offset, and what it leaves out, if anything (this project)
 pub record IsUnit (text : List ℕ) (at : ℕ) (unit : Unit) : Type 0 where
@@ -63,14 +58,15 @@ pub record IsUnit (text : List ℕ) (at : ℕ) (unit : Unit) : Type 0 where
   pub change : (unit.kept ≡ unit.resumed) ⊎ ((slice_index text unit.kept < 128) × IsCharBoundary text unit.resumed × (weight (if unit.space then 32 ∷ [] else []) < weight (part text unit.kept unit.resumed)))
   pub same : unit.kept ≡ unit.resumed → unit.space ≡ false
 
--- a unit is read, and the label goes on behind it (CommonMark 4.7)
-abbrev pub Reads : (List ℕ → Option ℕ) → Bool → List ℕ → ℕ → Unit → Type 0
-Reads prefix in_table text at unit =
-    (known : Known) → label_of in_table known (left_at prefix text at) ≡ label_of in_table (known_behind text at unit known) (left_at prefix text unit.next)
-
--- no label goes on there (CommonMark 4.7)
-abbrev pub Stops : (List ℕ → Option ℕ) → Bool → List ℕ → ℕ → Type 0
-Stops prefix in_table text at = (known : Known) → label_of in_table known (left_at prefix text at) ≡ None
+-- a unit is read: its bytes are the next of the label, and have so many characters; no bracket ends the label among them,
+-- and what is read of them stands before what is read of any bytes that the label takes behind them (CommonMark 4.7)
+pub record Reads (prefix : List ℕ → Option ℕ) (in_table : Bool) (text : List ℕ) (at : ℕ) (unit : Unit) : Type 0 where
+  pub run : List (ℕ × ℕ)
+  pub joins : left_at prefix text at ≡ run ++ left_at prefix text unit.next
+  pub count : count_by begins_character (bytes_of run) ≡ unit.characters
+  pub something : list_any (λ b. not (is_ascii_white b)) (bytes_of run) ≡ unit.solid
+  pub passed : label_len (bytes_of run ++ bytes_of (left_at prefix text unit.next)) ≡ length run + label_len (bytes_of (left_at prefix text unit.next))
+  pub reads : (n : ℕ) → shown in_table (bytes_of run ++ take n (bytes_of (left_at prefix text unit.next))) ≡ read_of text at unit ++ shown in_table (take n (bytes_of (left_at prefix text unit.next)))
 
 -- the text up to an offset is read: what is written of it, and from where on its bytes are kept (this project)
 pub record IsRead (text : List ℕ) (written : List ℕ) (from at : ℕ) : Type 0 where
@@ -80,18 +76,18 @@ pub record IsRead (text : List ℕ) (written : List ℕ) (from at : ℕ) : Type 
   pub lighter : ((from ≡ 0) × (written ≡ [])) ⊎ (weight written < weight (take from text))
 
 -- a run of white space from one offset up to another, over line ends and prefixes, and how many characters it has (CommonMark 4.7)
-pub record IsRun (prefix : List ℕ → Option ℕ) (text : List ℕ) (at next characters : ℕ) : Type 0 where
+pub record IsWhiteRun (prefix : List ℕ → Option ℕ) (text : List ℕ) (at next characters : ℕ) : Type 0 where
   pub run : List (ℕ × ℕ)
   pub joins : left_at prefix text at ≡ run ++ left_at prefix text next
-  pub white : list_all is_space (map (λ c. c.1) run) ≡ true
+  pub white : list_all is_ascii_white (bytes_of run) ≡ true
   pub count : length run ≡ characters
 
 -- nothing but white space is left of the label (CommonMark 4.7)
 abbrev pub IsBlankRest : (List ℕ → Option ℕ) → List ℕ → ℕ → Type 0
-IsBlankRest prefix text at = list_all is_space (map (λ c. c.1) (left_at prefix text at)) ≡ true
+IsBlankRest prefix text at = list_all is_ascii_white (bytes_of (left_at prefix text at)) ≡ true
 
 -- where a run ends: behind its first byte, and before a byte that is no white space (CommonMark 4.7)
-pub record EndsRun (text : List ℕ) (at next characters : ℕ) : Type 0 where
+pub record EndsWhiteRun (text : List ℕ) (at next characters : ℕ) : Type 0 where
   pub later : at < next
   pub within : next ≤ length text
   pub boundary : IsCharBoundary text next

@@ -5,11 +5,11 @@ ghost use Rattle.std.specs.Prelude.{◌≡◌, ◌≤◌, ◌<◌, length, encod
 ghost use Rattle.std.specs.Char.{digit_value, is_ascii_digit, is_ascii_hexdigit, is_ascii_alphabetic};
 ghost use Rattle.std.specs.Str.Parse.{digits_value};
 ghost use Rattle.first_pass_items.specs.CowText.{text_of};
-ghost use Rattle.first_pass_scan.specs.Lines.{begins};
 ghost use Rattle.first_pass_links.specs.Entities.{referred, number_at, numeric_at, named_in_xml, named_sign, named_punctuation, named, name_at, entity_at};
 ghost use Rattle.first_pass_links.specs.Texts.{TakesNoMemory};
 
 use first_pass_items::cow_str::{CowStr, InlineStr};
+use first_pass_scan::lines::begins;
 
 /// The entity or numeric character reference that `bytes` begins with: how many bytes it has, its `&`
 /// and `;` too, and the text that it stands for, which takes no memory. `(0, None)` where there is none.
@@ -48,15 +48,6 @@ pub(crate) fn scan_reference(bytes: &[u8]) -> Option<(usize, char)>
             Some((len, character)) => Some((len + 1, character)),
             None => None,
         }
-    }
-}
-
-pub(crate) fn begins(byte: u8, bytes: &[u8]) -> bool
-    ensures { result ≡ begins byte bytes.now }
-{
-    match bytes {
-        [first, ..] => *first == byte,
-        [] => false,
     }
 }
 

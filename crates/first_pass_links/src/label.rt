@@ -4,13 +4,13 @@ ghost use Rattle.std.specs.Prelude.{◌≡◌, ◌+◌, ◌-◌, ◌<◌, ◌≤
 ghost use Rattle.std.specs.String.{string_bytes};
 ghost use Rattle.std.specs.Str.{IsCharBoundary};
 ghost use Rattle.first_pass_items.specs.CowText.{text_of};
-ghost use Rattle.first_pass_scan.specs.Lines.{ends_line};
+ghost use Rattle.first_pass_scan.specs.Lines.{ends_line, is_ascii_white};
 ghost use Rattle.first_pass_links.specs.Texts.{Borrows};
-ghost use Rattle.first_pass_links.specs.Labels.{AnswersWith, AnswersPlaces, is_space, is_bracket, begins_character, label_at};
-ghost use Rattle.first_pass_links.specs.Units.{part, read_of, left_at, kept_unit, space_unit, dropped_unit, backslash_unit, IsUnit, Reads, Stops, IsRead, IsRun, EndsRun, IsBlankRest};
+ghost use Rattle.first_pass_links.specs.Labels.{AnswersWith, AnswersPlaces, is_bracket, begins_character, label_at};
+ghost use Rattle.first_pass_links.specs.Units.{part, read_of, left_at, kept_unit, space_unit, dropped_unit, backslash_unit, IsUnit, Reads, IsRead, IsWhiteRun, EndsWhiteRun, IsBlankRest};
 
-use crate::entity::begins;
 use first_pass_items::cow_str::CowStr;
+use first_pass_scan::lines::{begins, is_ascii_white};
 use first_pass_scan::places::rest_of;
 use std::alloc::{AllocError, Global};
 
@@ -100,9 +100,9 @@ where
     requires no_bracket { is_bracket (slice_index bytes.now at) ≡ false }
     ensures some { IfOk result (λ answer. IfSome answer (λ unit. IsUnit bytes.now at unit)) }
     ensures reads { IfOk result (λ answer. IfSome answer (λ unit. (prefix : List ℕ → Option ℕ) → AnswersWith prefix (F.post linebreak_handler.now) → Reads prefix in_table bytes.now at unit)) }
-    ensures none { IfOk result (λ answer. answer ≡ None → (prefix : List ℕ → Option ℕ) → AnswersWith prefix (F.post linebreak_handler.now) → Stops prefix in_table bytes.now at) }
+    ensures none { IfOk result (λ answer. answer ≡ None → (prefix : List ℕ → Option ℕ) → AnswersWith prefix (F.post linebreak_handler.now) → IsBlankRest prefix bytes.now at) }
 {
-    if is_space(bytes[at]) {
+    if is_ascii_white(bytes[at]) {
         return match scan_white_run(bytes, at, linebreak_handler)? {
             Some((next, characters)) => Ok(Some(space_unit(bytes, at, next, characters))),
             None => Ok(None),
@@ -127,15 +127,15 @@ where
     requires places { AnswersPlaces (F.post linebreak_handler.now) }
     requires within { at < length bytes.now }
     requires text { IsUtf8 bytes.now }
-    requires white { is_space (slice_index bytes.now at) ≡ true }
-    ensures some { IfOk result (λ answer. IfSome answer (λ run. EndsRun bytes.now at run.0 run.1)) }
-    ensures ends { IfOk result (λ answer. IfSome answer (λ run. is_space (slice_index bytes.now run.0) ≡ false)) }
-    ensures reads { IfOk result (λ answer. IfSome answer (λ run. (prefix : List ℕ → Option ℕ) → AnswersWith prefix (F.post linebreak_handler.now) → IsRun prefix bytes.now at run.0 run.1)) }
+    requires white { is_ascii_white (slice_index bytes.now at) ≡ true }
+    ensures some { IfOk result (λ answer. IfSome answer (λ run. EndsWhiteRun bytes.now at run.0 run.1)) }
+    ensures ends { IfOk result (λ answer. IfSome answer (λ run. is_ascii_white (slice_index bytes.now run.0) ≡ false)) }
+    ensures reads { IfOk result (λ answer. IfSome answer (λ run. (prefix : List ℕ → Option ℕ) → AnswersWith prefix (F.post linebreak_handler.now) → IsWhiteRun prefix bytes.now at run.0 run.1)) }
     ensures none { IfOk result (λ answer. answer ≡ None → (prefix : List ℕ → Option ℕ) → AnswersWith prefix (F.post linebreak_handler.now) → IsBlankRest prefix bytes.now at) }
 {
     let mut next = at;
     let mut characters = 0;
-    while next < bytes.len() && is_space(bytes[next]) {
+    while next < bytes.len() && is_ascii_white(bytes[next]) {
         let Some(behind) = scan_space_byte(bytes, next, linebreak_handler)? else {
             return Ok(None);
         };
@@ -158,7 +158,7 @@ where
     requires places { AnswersPlaces (F.post linebreak_handler.now) }
     requires within { at < length bytes.now }
     requires text { IsUtf8 bytes.now }
-    requires white { is_space (slice_index bytes.now at) ≡ true }
+    requires white { is_ascii_white (slice_index bytes.now at) ≡ true }
     ensures some { IfOk result (λ answer. IfSome answer (λ next. (at < next) × IsCharBoundary bytes.now next)) }
     ensures reads { IfOk result (λ answer. IfSome answer (λ next. (prefix : List ℕ → Option ℕ) → AnswersWith prefix (F.post linebreak_handler.now)
         → left_at prefix bytes.now at ≡ (at, slice_index bytes.now at) ∷ left_at prefix bytes.now next)) }
@@ -282,12 +282,6 @@ fn finish<'t>(
     }
     written.push_str(&text[from..at])?;
     Ok(CowStr::Boxed(written.into_boxed_str()))
-}
-
-fn is_space(byte: u8) -> bool
-    ensures { result ≡ is_space byte }
-{
-    matches!(byte, b'\t' | 0x0b | 0x0c | b' ' | b'\n' | b'\r')
 }
 
 fn is_bracket(byte: u8) -> bool

@@ -5,5 +5,6 @@ pub mod destination;
 pub mod entity;
 pub mod escape;
 pub mod label;
+pub mod laws;
 #[cfg(test)]
 mod tests;

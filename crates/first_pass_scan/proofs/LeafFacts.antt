@@ -6,7 +6,8 @@ use Rattle.std.proofs.lemmas.Bool.Decides.{nat_tests}
 use Rattle.std.proofs.lemmas.List.{take_more, append-nil, length-take-le, drop_more, get_or-take, take-append-drop, take-take}
 use Rattle.first_pass_scan.specs.Rest.{columns_of}
 use Rattle.first_pass_scan.specs.Places.{Place, line_place, lines_at}
-use Rattle.first_pass_scan.specs.LeafLines.{is_blank, blank_columns, closes_metadata, any_line_closes, IsIndent, IsLongestIndent}
+use Rattle.first_pass_scan.specs.Lines.{is_blank}
+use Rattle.first_pass_scan.specs.LeafLines.{blank_columns, closes_metadata, any_line_closes, IsIndent, IsLongestIndent}
 
 -- a line closes, or one behind it does
 pub any_line-first : (c start : ℕ) (text : List ℕ) (more : List Place) (t : Bool) → lines_at start (drop start text) ≡ line_place start (drop start text) ∷ more → t ≡ closes_metadata c (drop start text) → any_line_closes c start (drop start text) ≡ (t || list_any (λ line. closes_metadata c line.rest.left) more)

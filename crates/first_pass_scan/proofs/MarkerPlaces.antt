@@ -2,7 +2,7 @@
 use Rattle.std.proofs.Common.{◌≡◌, inl, inr, ℕ, zero, suc, ◌+◌, ◌-◌, ◌<◌, ◌≤◌, nat_le, Bool, true, false, ◌==◌, ◌&&◌, ◌||◌, not, List, [], ◌∷◌, length, map, take, drop, get_or, slice_index, Option, Some, None, is_some, IsUtf8, refl, sym, ap, subst, ◌∙◌, arith, length-drop, get_or-drop, if◌then◌else◌}
 use Rattle.std.specs.Option.{option_map}
 use Rattle.std.specs.List.{prefix_len, list_all}
-use Rattle.std.specs.Char.{to_ascii_lowercase}
+use Rattle.std.specs.Char.{is_ascii_digit, to_ascii_lowercase}
 use Rattle.std.specs.Str.{str_eq_ignore_ascii_case}
 use Rattle.std.specs.Cmp.Lexicographic.{same_text}
 use Rattle.std.proofs.lemmas.List.{get_or_past, get_or-take, length-take-le}
@@ -12,11 +12,11 @@ use Rattle.std.proofs.lemmas.Bool.Decides.{nat_tests}
 use Rattle.std.proofs.lemmas.Option.{cond_some, none-some, same_Some}
 use Rattle.first_pass_items.specs.declared.item.BlockQuoteKind.{BlockQuoteKind}
 use Rattle.first_pass_items.specs.declared.item.BlockQuoteKind.TheVariants.{Note, Tip, Important, Warning, Caution}
-use Rattle.first_pass_scan.specs.Lines.{is_content, is_white, begins, blank_len, line_len, at_line_end}
+use Rattle.first_pass_scan.specs.Lines.{is_content, is_white, is_ascii_white, begins, blank_len, line_len, at_line_end}
 use Rattle.first_pass_scan.specs.Rest.{Rest, past_byte, past_bytes, past_quote, past_quote_byte, after_columns, indent}
 use Rattle.first_pass_scan.specs.Places.{place_at, line_rest, line_end, content_end, moved_bytes, IsPlaceOf}
 use Rattle.first_pass_scan.specs.LeafLines.{hrule_len}
-use Rattle.first_pass_scan.specs.Markers.{is_digit, is_bullet, number_from, bullet_marker, delimited, ordered_marker, list_marker, content_indent, behind_marker, behind_colon, item_by, item_of, definition_of, is_checked, is_ascii_white, task_box, task_of, tag_of, has_tag, tag_kind, tag_line_of, tag_line, past_tag}
+use Rattle.first_pass_scan.specs.Markers.{is_bullet, number_from, bullet_marker, delimited, ordered_marker, list_marker, content_indent, behind_marker, behind_colon, item_by, item_of, definition_of, is_checked, task_box, task_of, tag_of, has_tag, tag_kind, tag_line_of, tag_line, past_tag}
 use Rattle.first_pass_scan.proofs.PlaceFacts.{ascii_keeps, columns_keep, bytes_line_end, bytes_content_end, columns_line_end, columns_content_end}
 use Rattle.first_pass_scan.proofs.LineFacts.{line_len-blank}
 
@@ -109,17 +109,17 @@ bullet_front (b ∷ bs) m h =
     let small : b < 128 = grind (arith, nat_tests, p.0) in
     rw w (record { some = omega arith; within = rw content (omega arith); ascii = small })
 
-digit_content : (b : ℕ) → is_digit b ≡ true → is_content b ≡ true
+digit_content : (b : ℕ) → is_ascii_digit b ≡ true → is_content b ≡ true
 digit_content b h = grind (arith, nat_tests, h)
 
-each_content : (bs : List ℕ) (n k d : ℕ) → n ≡ prefix_len is_digit bs → get_or bs n 0 ≡ d → is_content d ≡ true → k < n + 1 → is_content (get_or bs k 0) ≡ true
+each_content : (bs : List ℕ) (n k d : ℕ) → n ≡ prefix_len is_ascii_digit bs → get_or bs n 0 ≡ d → is_content d ≡ true → k < n + 1 → is_content (get_or bs k 0) ≡ true
 each_content bs n k d e at c h =
     elim (cases_lt k n) as (λ _. is_content (get_or bs k 0) ≡ true) [
-      | inl less ↦ digit_content (get_or bs k 0) (prefix_len_passes is_digit bs k 0 (omega arith))
+      | inl less ↦ digit_content (get_or bs k 0) (prefix_len_passes is_ascii_digit bs k 0 (omega arith))
       | inr more ↦ let same : k ≡ n = omega arith in ap (λ j. is_content (get_or bs j 0)) same ∙ ap is_content at ∙ c
     ]
 
-delimited_front : (bs : List ℕ) (n number : ℕ) (rest : List ℕ) (m : ℕ × ℕ × ℕ) → rest ≡ drop n bs → n ≡ prefix_len is_digit bs → delimited n number rest ≡ Some m → IsFrontOf bs m.0
+delimited_front : (bs : List ℕ) (n number : ℕ) (rest : List ℕ) (m : ℕ × ℕ × ℕ) → rest ≡ drop n bs → n ≡ prefix_len is_ascii_digit bs → delimited n number rest ≡ Some m → IsFrontOf bs m.0
 delimited_front bs n number [] m e same h = absurd (none-some m h)
 delimited_front bs n number (d ∷ ds) m e same h =
     let p = cond_some ((d == 46) || (d == 41)) (n + 1, d, number) m h in
@@ -138,7 +138,7 @@ delimited_front bs n number (d ∷ ds) m e same h =
 
 ordered_front : (bs : List ℕ) (m : ℕ × ℕ × ℕ) → ordered_marker bs ≡ Some m → IsFrontOf bs m.0
 ordered_front bs m h =
-    let n : ℕ = prefix_len is_digit bs in
+    let n : ℕ = prefix_len is_ascii_digit bs in
     let p = when_some (nat_le 1 n && nat_le n 9) (delimited n (number_from 0 (take n bs)) (drop n bs)) m h in
     delimited_front bs n (number_from 0 (take n bs)) (drop n bs) m refl refl p.1
 

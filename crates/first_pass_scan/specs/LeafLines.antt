@@ -4,13 +4,9 @@ use Rattle.std.specs.Option.{option_map}
 use Rattle.std.specs.List.{prefix_len, take_while, list_any, list_all, starts_with}
 use Rattle.first_pass_items.specs.declared.item.HeadingLevel.{HeadingLevel}
 use Rattle.first_pass_items.specs.declared.item.HeadingLevel.TheVariants.{H1, H2}
-use Rattle.first_pass_scan.specs.Lines.{is_content, begins, eol_len, blank_len, line_len}
+use Rattle.first_pass_scan.specs.Lines.{is_content, is_blank, begins, eol_len, blank_len, is_blank_line, line_len, at_line_end}
 use Rattle.first_pass_scan.specs.Rest.{columns_of}
 use Rattle.first_pass_scan.specs.Places.{lines_at}
-
--- a space or a tab (CommonMark 2.1)
-abbrev pub is_blank : ℕ → Bool
-is_blank b = (b == 9) || (b == 32)
 
 -- how many of the byte c stand first (this project)
 abbrev pub run_len : ℕ → List ℕ → ℕ
@@ -61,10 +57,6 @@ code_fence bs =
     then (let n = run_len 96 bs in if nat_le 3 n && not (has_backquote (drop n bs)) then Some (n, 96) else None)
     else (if begins 126 bs then (let n = run_len 126 bs in if nat_le 3 n then Some (n, 126) else None) else None)
 
--- the line or the text ends here (CommonMark 2.1)
-abbrev pub ends_here : List ℕ → Bool
-ends_here bs = is_some (eol_len bs)
-
 -- how many bytes the closing fence of a block has, trailing spaces and tabs too and its line end not, where the block was opened by so many of the byte c: at least as many; the end of the text closes too (CommonMark 4.5)
 unfoldable pub closing_fence_len : ℕ → ℕ → List ℕ → Option ℕ
 closing_fence_len c count bs =
@@ -73,7 +65,7 @@ closing_fence_len c count bs =
     else (
     let n = run_len c bs in
     let m = n + prefix_len is_blank (drop n bs) in
-    if nat_le count n && ends_here (drop m bs) then Some m else None)
+    if nat_le count n && at_line_end (drop m bs) then Some m else None)
 
 -- three of the byte c stand first (this project)
 abbrev pub three_of : ℕ → List ℕ → Bool
@@ -86,8 +78,8 @@ closing_marks c bs = ((c == 45) && three_of 46 bs) || three_of c bs
 -- how many bytes a closing line of metadata has, trailing spaces too and its line end not, where the block was opened by three of the byte c: its marks, then spaces alone (this project)
 unfoldable pub closing_metadata_len : ℕ → List ℕ → Option ℕ
 closing_metadata_len c bs =
-    let n = 3 + prefix_len (λ b. b == 32) (drop 3 bs) in
-    if closing_marks c bs && ends_here (drop n bs) then Some n else None
+    let n = 3 + run_len 32 (drop 3 bs) in
+    if closing_marks c bs && at_line_end (drop n bs) then Some n else None
 
 -- the line that begins here closes metadata of the byte c (this project)
 abbrev pub closes_metadata : ℕ → List ℕ → Bool
@@ -96,10 +88,6 @@ closes_metadata c bs = is_some (closing_metadata_len c bs)
 -- some line of these bytes, which begin at an offset, closes metadata of the byte c (this project)
 abbrev pub any_line_closes : ℕ → ℕ → List ℕ → Bool
 any_line_closes c start bs = list_any (λ line. closes_metadata c line.rest.left) (lines_at start bs)
-
--- a blank line begins here (CommonMark 2.1, blank line)
-abbrev pub is_blank_line : List ℕ → Bool
-is_blank_line bs = is_some (blank_len bs)
 
 -- what stands behind the line that begins here (CommonMark 2.1, line)
 abbrev pub behind_line : List ℕ → List ℕ

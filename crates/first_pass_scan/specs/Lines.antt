@@ -1,5 +1,5 @@
--- Line ends, blank lines, and where an ATX heading begins, of the bytes from a place in the text on.
-use Rattle.std.specs.Prelude.{◌≡◌, ◌⊎◌, ℕ, ◌+◌, ◌==◌, ◌&&◌, ◌||◌, not, Bool, true, false, List, [], ◌∷◌, ◌++◌, length, drop, Option, Some, None, unwrap_or, if◌then◌else◌}
+-- Classes of bytes; line ends, blank lines, and where an ATX heading begins, of the bytes from a place in the text on.
+use Rattle.std.specs.Prelude.{◌≡◌, ◌⊎◌, ℕ, ◌+◌, ◌==◌, ◌&&◌, ◌||◌, not, Bool, true, false, List, [], ◌∷◌, ◌++◌, drop, Option, Some, None, is_some, unwrap_or, if◌then◌else◌}
 use Rattle.std.specs.Option.{option_map}
 use Rattle.std.specs.List.{prefix_len, list_all}
 use Rattle.first_pass_items.specs.declared.item.HeadingLevel.{HeadingLevel}
@@ -16,6 +16,14 @@ is_content b = not (is_line_end b)
 -- white space without line ends: tab, 0x0B, 0x0C and space (this project; CommonMark 2.1 and 2.2 have tab and space alone)
 abbrev pub is_white : ℕ → Bool
 is_white b = (b == 9) || (b == 11) || (b == 12) || (b == 32)
+
+-- a space or a tab (CommonMark 2.1)
+abbrev pub is_blank : ℕ → Bool
+is_blank b = (b == 9) || (b == 32)
+
+-- ASCII white space: with the line ends (this project)
+abbrev pub is_ascii_white : ℕ → Bool
+is_ascii_white b = is_white b || is_line_end b
 
 -- the bytes begin with the byte c (this project)
 abbrev pub begins : ℕ → List ℕ → Bool
@@ -35,13 +43,17 @@ eol_len (b ∷ bs) = if b == 10 then Some 1 else (if b == 13 then Some (if begin
 abbrev pub blank_len : List ℕ → Option ℕ
 blank_len bs = let n = prefix_len is_white bs in option_map (λ k. n + k) (eol_len (drop n bs))
 
+-- a blank line begins here (CommonMark 2.1, blank line)
+abbrev pub is_blank_line : List ℕ → Bool
+is_blank_line bs = is_some (blank_len bs)
+
 -- how many bytes a line has, its end too (CommonMark 2.1, line)
 unfoldable pub line_len : List ℕ → ℕ
 line_len bs = let n = prefix_len is_content bs in n + unwrap_or (eol_len (drop n bs)) 0
 
 -- the line or the text ends here (CommonMark 2.1)
 abbrev pub at_line_end : List ℕ → Bool
-at_line_end bs = (length bs == 0) || begins 10 bs || begins 13 bs
+at_line_end bs = is_some (eol_len bs)
 
 -- the end of a line before the bytes behind it: `\n`, `\r\n`, `\r` where no `\n` is behind it, or nothing at the end of the text (CommonMark 2.1)
 abbrev pub IsLineEnd : List ℕ → List ℕ → Type 0

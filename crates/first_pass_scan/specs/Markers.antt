@@ -2,17 +2,14 @@
 use Rattle.std.specs.Prelude.{ℕ, ◌+◌, ◌-◌, ◌*◌, ◌==◌, ◌&&◌, ◌||◌, not, Bool, nat_le, List, [], ◌∷◌, length, take, drop, Option, Some, None, is_some, slice_index, codes, if◌then◌else◌}
 use Rattle.std.specs.Option.{option_map}
 use Rattle.std.specs.List.{prefix_len}
+use Rattle.std.specs.Char.{is_ascii_digit}
 use Rattle.std.specs.Str.{str_eq_ignore_ascii_case}
 use Rattle.first_pass_items.specs.declared.item.BlockQuoteKind.{BlockQuoteKind}
 use Rattle.first_pass_items.specs.declared.item.BlockQuoteKind.TheVariants.{Note, Tip, Important, Warning, Caution}
-use Rattle.first_pass_scan.specs.Lines.{begins, blank_len, at_line_end, is_white, is_line_end}
+use Rattle.first_pass_scan.specs.Lines.{begins, blank_len, is_blank_line, at_line_end, is_white, is_ascii_white}
 use Rattle.first_pass_scan.specs.LeafLines.{hrule_len}
 use Rattle.first_pass_scan.specs.Places.{line_rest}
 use Rattle.first_pass_scan.specs.Rest.{Rest, after_columns, indent, past_bytes}
-
--- an ASCII digit (CommonMark 5.2)
-abbrev pub is_digit : ℕ → Bool
-is_digit b = nat_le 48 b && nat_le b 57
 
 -- the number that digits write behind those of the number n (CommonMark 5.2)
 abbrev pub number_from : ℕ → List ℕ → ℕ
@@ -36,7 +33,7 @@ delimited n number (b ∷ bs) = if (b == 46) || (b == 41) then Some (n + 1, b, n
 -- the marker of an ordered list here, its width, its last byte and its number: 1 to 9 digits, then a `.` or `)` (CommonMark 5.2)
 abbrev pub ordered_marker : List ℕ → Option (ℕ × ℕ × ℕ)
 ordered_marker bs =
-    let n = prefix_len is_digit bs in
+    let n = prefix_len is_ascii_digit bs in
     if nat_le 1 n && nat_le n 9 then delimited n (number_from 0 (take n bs)) (drop n bs) else None
 
 -- the list marker here, its width, its byte and its number (CommonMark 5.2)
@@ -46,7 +43,7 @@ list_marker bs = if is_some (bullet_marker bs) then bullet_marker bs else ordere
 -- the columns that a line needs to go on with an item whose content could begin n columns in, and what is left of its line: up to three columns more count, with four or more the content is indented code, and a blank rest adds nothing (CommonMark 5.2)
 unfoldable pub content_indent : ℕ → Rest → ℕ × Rest
 content_indent n r =
-    if is_some (blank_len r.left) then (n, r) else (if nat_le 4 (indent r) then (n, r) else (n + indent r, after_columns (indent r) r))
+    if is_blank_line r.left then (n, r) else (if nat_le 4 (indent r) then (n, r) else (n + indent r, after_columns (indent r) r))
 
 -- the same behind an item's marker that ends n columns in: a column or the end of the line must follow it (CommonMark 5.2)
 unfoldable pub behind_marker : ℕ → Rest → Option (ℕ × Rest)
@@ -80,11 +77,7 @@ behind_colon n r = if nat_le 1 (indent r) then content_indent (n + 1) (after_col
 unfoldable pub definition_of : ℕ → Rest → Option (ℕ × Rest)
 definition_of outer r = if (r.owed == 0) && begins 58 r.left then Some (behind_colon (outer + 1) (past_bytes 1 r)) else None
 
--- ASCII white space: with the line ends (this project)
-abbrev pub is_ascii_white : ℕ → Bool
-is_ascii_white b = is_white b || is_line_end b
-
--- the mark of a task, `x` or white space (GFM 5.3)
+-- the mark of a checked task, `x` or `X` (GFM 5.3)
 abbrev pub is_checked : ℕ → Bool
 is_checked b = (b == 120) || (b == 88)
 

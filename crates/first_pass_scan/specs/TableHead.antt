@@ -1,11 +1,11 @@
 -- The delimiter row of a table, and how many columns its header row has (GFM 4.10).
-use Rattle.std.specs.Prelude.{ℕ, ◌+◌, ◌-◌, ◌==◌, ◌&&◌, not, Bool, true, false, nat_le, List, [], ◌∷◌, length, map, take, drop, Option, Some, None, is_some, slice_index, if◌then◌else◌}
+use Rattle.std.specs.Prelude.{ℕ, ◌+◌, ◌-◌, ◌==◌, ◌&&◌, not, Bool, true, false, nat_le, List, [], ◌∷◌, length, map, take, drop, Option, Some, None, slice_index, if◌then◌else◌}
 use Rattle.std.specs.Option.{option_map, option_map_or}
 use Rattle.std.specs.List.{prefix_len, suffix_len, take_while, list_any, slice_split}
 use Rattle.first_pass_items.specs.declared.item.Alignment.{Alignment}
 use Rattle.first_pass_items.specs.declared.item.Alignment.TheVariants.{None as Unaligned, Left, Center, Right}
-use Rattle.first_pass_scan.specs.Lines.{is_content, is_white, begins, blank_len, line_len}
-use Rattle.first_pass_scan.specs.LeafLines.{is_blank, run_len}
+use Rattle.first_pass_scan.specs.Lines.{is_content, is_white, is_blank, begins, is_blank_line, line_len}
+use Rattle.first_pass_scan.specs.LeafLines.{run_len}
 use Rattle.first_pass_scan.specs.Rest.{columns_of}
 
 -- a pipe (GFM 4.10)
@@ -78,4 +78,4 @@ pipes_of bs = pipes_behind 0 bs
 -- how many columns a header row has whose last pipe stands at a place: its pipes, without one that begins it behind white space, and one more where that last one isn't the end of its line but for white space (GFM 4.10)
 abbrev pub header_columns : List ℕ → ℕ → ℕ
 header_columns bs last =
-    pipes_of (take (last + 1) bs) - (if begins 124 (drop (prefix_len is_white bs) bs) then 1 else 0) + (if is_some (blank_len (drop (last + 1) bs)) then 0 else 1)
+    pipes_of (take (last + 1) bs) - (if begins 124 (drop (prefix_len is_white bs) bs) then 1 else 0) + (if is_blank_line (drop (last + 1) bs) then 0 else 1)

@@ -3,9 +3,10 @@
 
 ghost use Rattle.std.specs.List.{prefix_len, list_any};
 ghost use Rattle.std.specs.Prelude.{◌≡◌, ◌≤◌, ◌==◌, true, length, IfSome};
-ghost use Rattle.first_pass_scan.specs.LeafLines.{is_blank, run_len, in_rule, hrule_len, HasNoRule, underline_len, setext_underline, has_backquote as holds_backquote, code_fence, closing_fence_len, closing_marks, closing_metadata_len, any_line_closes, opens_metadata as metadata_opens, metadata_byte, blank_columns, IsLongestIndent};
+ghost use Rattle.first_pass_scan.specs.Lines.{is_blank};
+ghost use Rattle.first_pass_scan.specs.LeafLines.{run_len, in_rule, hrule_len, HasNoRule, underline_len, setext_underline, has_backquote as holds_backquote, code_fence, closing_fence_len, closing_marks, closing_metadata_len, any_line_closes, opens_metadata as metadata_opens, metadata_byte, blank_columns, IsLongestIndent};
 
-use crate::lines::{content_len, scan_blank_line, scan_eol, scan_nextline};
+use crate::lines::{content_len, is_blank, scan_blank_line, scan_eol, scan_nextline};
 use crate::places::{next_line, rest_of};
 use first_pass_items::item::HeadingLevel;
 use memchr::memchr;
@@ -17,7 +18,7 @@ fn scan_rule_content(bytes: &[u8], byte: u8) -> usize
 {
     bytes
         .iter()
-        .take_while(|b| **b == byte || **b == b'\t' || **b == b' ')
+        .take_while(|b| **b == byte || is_blank(**b))
         .count()
 }
 
@@ -126,15 +127,12 @@ pub fn scan_code_fence(bytes: &[u8]) -> Option<(usize, u8)>
     }
 }
 
-// How many spaces and tabs stand first.
-pub(crate) fn scan_blanks(bytes: &[u8]) -> usize
+/// How many spaces and tabs `bytes` begins with. CommonMark 2.1.
+pub fn scan_blanks(bytes: &[u8]) -> usize
     ensures value { result ≡ prefix_len is_blank bytes.now }
     ensures within { result ≤ length bytes.now }
 {
-    bytes
-        .iter()
-        .take_while(|b| **b == b'\t' || **b == b' ')
-        .count()
+    bytes.iter().take_while(|b| is_blank(**b)).count()
 }
 
 /// How many bytes the closing code fence that `bytes` begins with has, with the spaces and tabs behind

@@ -12,13 +12,13 @@ pub mod table_scan;
 #[cfg(test)]
 mod tests {
     use crate::leaf_scan::{
-        calc_indent, scan_closing_code_fence, scan_closing_metadata_block, scan_code_fence,
-        scan_hrule, scan_metadata_block, scan_setext_heading,
+        calc_indent, scan_blanks, scan_closing_code_fence, scan_closing_metadata_block,
+        scan_code_fence, scan_hrule, scan_metadata_block, scan_setext_heading,
     };
     use crate::line_start::{LineStart, scan_listitem};
     use crate::lines::{
-        level_number, scan_atx_heading, scan_blank_line, scan_eol, scan_nextline,
-        scan_whitespace_no_nl,
+        begins, is_ascii_white, is_blank, is_line_end, is_white, level_number, scan_atx_heading,
+        scan_blank_line, scan_eol, scan_nextline, scan_whitespace_no_nl,
     };
     use crate::places::{next_line, rest_of};
     use crate::table_scan::{count_header_cols, scan_table_head};
@@ -41,7 +41,27 @@ mod tests {
             assert_eq!(rt; scan_blank_line(bytes), blank, "{text:?}");
             assert_eq!(rt; scan_nextline(bytes), line, "{text:?}");
         }
+    }
+
+    #[test]
+    fn first_bytes(rt: HostRuntime) {
         assert_eq!(rt; scan_whitespace_no_nl(b" \t\x0b\x0c\n"), 4);
+        assert_eq!(rt; scan_blanks(b"\t \x0b"), 2);
+        assert!(rt; begins(b'>', b"> a") && !begins(b'>', b" > a"));
+        for (byte, line_end, white, blank) in [
+            (b'\t', false, true, true),
+            (b'\n', true, false, false),
+            (0x0b, false, true, false),
+            (0x0c, false, true, false),
+            (b'\r', true, false, false),
+            (b' ', false, true, true),
+            (b'a', false, false, false),
+        ] {
+            assert!(rt; is_line_end(byte) == line_end, "{byte}");
+            assert!(rt; is_white(byte) == white, "{byte}");
+            assert!(rt; is_blank(byte) == blank, "{byte}");
+            assert!(rt; is_ascii_white(byte) == (white || line_end), "{byte}");
+        }
     }
 
     #[test]
@@ -101,7 +121,7 @@ mod tests {
     }
 
     #[test]
-    fn thematic_breaks_and_underlines(rt: HostRuntime) {
+    fn thematic_breaks(rt: HostRuntime) {
         for (text, end) in [
             ("***", Some(3)),
             ("---\n", Some(4)),
@@ -122,6 +142,10 @@ mod tests {
         ] {
             assert_eq!(rt; scan_hrule(text.as_bytes()), end, "{text:?}");
         }
+    }
+
+    #[test]
+    fn setext_heading_underlines(rt: HostRuntime) {
         for (text, underline) in [
             ("===", Some((3, HeadingLevel::H1))),
             ("=\na", Some((2, HeadingLevel::H1))),
@@ -137,7 +161,7 @@ mod tests {
     }
 
     #[test]
-    fn fences_and_metadata(rt: HostRuntime) {
+    fn code_fences(rt: HostRuntime) {
         for (text, fence) in [
             ("```\n<", Some((3, b'`'))),
             ("~~~~    ruby startline=3 $%@#$", Some((4, b'~'))),
@@ -160,6 +184,10 @@ mod tests {
             let read = scan_closing_code_fence(text.as_bytes(), byte, count);
             assert_eq!(rt; read, end, "{text:?}");
         }
+    }
+
+    #[test]
+    fn metadata(rt: HostRuntime) {
         for (text, yaml, pluses) in [
             ("---\na: b\n---\n", Some(b'-'), None),
             ("---\na: b\n...", Some(b'-'), None),
@@ -175,6 +203,10 @@ mod tests {
         }
         assert_eq!(rt; scan_closing_metadata_block(b"...  \n", b'-'), Some(5));
         assert_eq!(rt; scan_closing_metadata_block(b"---\t", b'-'), None);
+    }
+
+    #[test]
+    fn indents(rt: HostRuntime) {
         assert_eq!(rt; calc_indent(b" \t\t a", 9), (4, 9));
         assert_eq!(rt; calc_indent(b" \t\t a", 7), (2, 4));
     }
@@ -208,7 +240,7 @@ mod tests {
     }
 
     #[test]
-    fn other_markers(rt: HostRuntime) {
+    fn block_quote_tags(rt: HostRuntime) {
         for (text, kind, end) in [
             ("[!NOTE]\na", Some(BlockQuoteKind::Note), 8),
             ("[!tip] \t", Some(BlockQuoteKind::Tip), 8),
@@ -223,6 +255,10 @@ mod tests {
             assert!(rt; line.scan_blockquote_tag() == kind, "{text:?}");
             assert_eq!(rt; line.bytes_scanned(), end, "{text:?}");
         }
+    }
+
+    #[test]
+    fn task_list_markers(rt: HostRuntime) {
         for (text, checked, end) in [
             ("[ ] foo", Some(false), 3),
             ("[x] bar", Some(true), 3),
@@ -236,6 +272,10 @@ mod tests {
             assert_eq!(rt; line.scan_task_list_marker(), checked, "{text:?}");
             assert_eq!(rt; line.bytes_scanned(), end, "{text:?}");
         }
+    }
+
+    #[test]
+    fn definition_markers(rt: HostRuntime) {
         for (text, indent, end) in [
             (": a", Some(2), 2),
             (":a", Some(1), 1),
@@ -249,6 +289,10 @@ mod tests {
             assert_eq!(rt; read, indent, "{text:?}");
             assert_eq!(rt; line.bytes_scanned(), end, "{text:?}");
         }
+    }
+
+    #[test]
+    fn block_quote_markers(rt: HostRuntime) {
         for (text, quoted, end, owed) in [
             ("> a", true, 2, 0),
             (">\ta", true, 2, 2),

@@ -1,14 +1,14 @@
 //! What is left of a line, by columns.
 
 ghost use Rattle.std.specs.Prelude.{◌≡◌, ◌≤◌, ◌+◌, ◌<◌, ◌^◌, ◌==◌, min, nat_le, length, is_some, IfSome, MatchOption, if◌then◌else◌, true, false};
-ghost use Rattle.first_pass_scan.specs.Lines.{at_line_end, blank_len};
+ghost use Rattle.first_pass_scan.specs.Lines.{at_line_end, is_blank_line};
 ghost use Rattle.first_pass_scan.specs.LeafLines.{hrule_len};
 ghost use Rattle.first_pass_scan.specs.Rest.{next_column, after_columns, indent, past_bytes, past_quote};
 ghost use Rattle.first_pass_scan.specs.Places.{line_rest};
 ghost use Rattle.first_pass_scan.specs.Markers.{list_marker, content_indent as content_after, behind_marker, behind_colon, item_of, listitem, definition_of, task_box, task_of, past_tag};
 
 use crate::leaf_scan::{scan_hrule, scan_rule_free};
-use crate::lines::scan_blank_line;
+use crate::lines::{scan_blank_line, scan_eol};
 use crate::markers::{scan_list_marker, scan_tag_line, scan_task_box};
 use crate::places::rest_of;
 use first_pass_items::item::BlockQuoteKind;
@@ -95,10 +95,7 @@ impl<'a> LineStart<'a> {
     pub fn is_at_eol(&self) -> bool
         ensures { result ≡ at_line_end self.now.left }
     {
-        match self.bytes.get(self.at) {
-            None => true,
-            Some(b) => *b == b'\n' || *b == b'\r',
-        }
+        scan_eol(rest_of(self.bytes, self.at)).is_some()
     }
 
     /// Takes as many columns of spaces and tabs as there are, up to `n`, and says how many.
@@ -275,8 +272,8 @@ impl<'a> LineStart<'a> {
     }
 
     // Whether only white space is left of the line.
-    fn is_blank(&self) -> bool
-        ensures { result ≡ is_some (blank_len self.now.left) }
+    fn is_blank_line(&self) -> bool
+        ensures { result ≡ is_blank_line self.now.left }
     {
         scan_blank_line(rest_of(self.bytes, self.at)).is_some()
     }
@@ -288,7 +285,7 @@ impl<'a> LineStart<'a> {
         requires { width < 2 ^ 62 }
         ensures { let content = content_after width self.old in (result ≡ content.0) × (self.new ≡ content.1) }
     {
-        if self.is_blank() {
+        if self.is_blank_line() {
             return width;
         }
         let mut next = self.copy();

@@ -1,11 +1,50 @@
-//! Line ends, blank lines, and where an ATX heading begins.
+//! Classes of bytes, line ends, blank lines, and where an ATX heading begins.
 
 ghost use Rattle.std.specs.List.{prefix_len};
-ghost use Rattle.std.specs.Prelude.{◌≡◌, ◌≤◌, length, IfSome};
-ghost use Rattle.first_pass_scan.specs.Lines.{is_white, is_content, is_number_sign, eol_len, blank_len, line_len, level_number as number_of, level_of, atx_level};
+ghost use Rattle.std.specs.Prelude.{◌≡◌, ◌<◌, ◌≤◌, length, true, IfSome};
+ghost use Rattle.first_pass_scan.specs.Lines.{is_line_end, is_white, is_blank, is_ascii_white, begins, is_content, is_number_sign, eol_len, blank_len, line_len, level_number as number_of, level_of, atx_level};
 
 use first_pass_items::item::HeadingLevel;
 use memchr::memchr2;
+
+/// Whether the byte is `\n` or `\r`. CommonMark 2.1.
+pub fn is_line_end(byte: u8) -> bool
+    ensures { result ≡ is_line_end byte }
+{
+    byte == b'\n' || byte == b'\r'
+}
+
+/// Whether the byte is white space without line ends: tab, 0x0B, 0x0C or space.
+pub fn is_white(byte: u8) -> bool
+    ensures { result ≡ is_white byte }
+{
+    matches!(byte, b'\t' | 0x0b | 0x0c | b' ')
+}
+
+/// Whether the byte is a space or a tab. CommonMark 2.1.
+pub fn is_blank(byte: u8) -> bool
+    ensures { result ≡ is_blank byte }
+{
+    byte == b'\t' || byte == b' '
+}
+
+/// Whether the byte is ASCII white space: tab, 0x0B, 0x0C, space or a line end.
+pub fn is_ascii_white(byte: u8) -> bool
+    ensures { result ≡ is_ascii_white byte }
+{
+    is_white(byte) || is_line_end(byte)
+}
+
+/// Whether `byte` stands first in `bytes`.
+pub fn begins(byte: u8, bytes: &[u8]) -> bool
+    ensures value { result ≡ begins byte bytes.now }
+    ensures some { result ≡ true → 0 < length bytes.now }
+{
+    match bytes {
+        [] => false,
+        [first, ..] => *first == byte,
+    }
+}
 
 /// How many bytes the line end at the start of `bytes` has: `\n`, `\r\n` or `\r`, and 0 where `bytes`
 /// is empty. `None` where no line ends here. CommonMark 2.1.
@@ -28,10 +67,7 @@ pub fn scan_whitespace_no_nl(bytes: &[u8]) -> usize
     ensures value { result ≡ prefix_len is_white bytes.now }
     ensures within { result ≤ length bytes.now }
 {
-    bytes
-        .iter()
-        .take_while(|b| matches!(**b, b'\t' | 0x0b | 0x0c | b' '))
-        .count()
+    bytes.iter().take_while(|b| is_white(**b)).count()
 }
 
 /// How many bytes the blank line at the start of `bytes` has, its end too; at the end of the text it

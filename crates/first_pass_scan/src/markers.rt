@@ -2,22 +2,20 @@
 
 ghost use Rattle.std.specs.List.{prefix_len};
 ghost use Rattle.std.specs.Prelude.{◌≡◌, ◌≤◌, length, slice_index, EachIndex, IfSome, true};
+ghost use Rattle.std.specs.Char.{is_ascii_digit};
 ghost use Rattle.std.specs.Str.{str_eq_ignore_ascii_case};
-ghost use Rattle.first_pass_scan.specs.Markers.{is_digit, number_from, bullet_marker, ordered_marker, list_marker, task_box, is_ascii_white as ascii_white, tag_of as tag_bytes, has_tag as tag_stands, tag_kind, tag_line};
+ghost use Rattle.first_pass_scan.specs.Markers.{number_from, bullet_marker, ordered_marker, list_marker, task_box, tag_of as tag_bytes, has_tag as tag_stands, tag_kind, tag_line};
 
-use crate::lines::scan_blank_line;
+use crate::lines::{is_ascii_white, is_white, scan_blank_line};
 use crate::places::rest_of;
 use first_pass_items::item::BlockQuoteKind;
 
 // How many digits stand first.
 fn scan_digits(bytes: &[u8]) -> usize
-    ensures value { result ≡ prefix_len is_digit bytes.now }
+    ensures value { result ≡ prefix_len is_ascii_digit bytes.now }
     ensures within { result ≤ length bytes.now }
 {
-    bytes
-        .iter()
-        .take_while(|b| **b >= b'0' && **b <= b'9')
-        .count()
+    bytes.iter().take_while(|b| b.is_ascii_digit()).count()
 }
 
 // The number that at most nine digits write.
@@ -72,13 +70,6 @@ pub(crate) fn scan_list_marker(bytes: &[u8]) -> Option<(usize, u8, u64)>
     }
 }
 
-// Whether the byte is white space, of a line or its end.
-fn is_ascii_white(byte: u8) -> bool
-    ensures { result ≡ ascii_white byte }
-{
-    matches!(byte, b'\t' | b'\n' | 0x0b | 0x0c | b'\r' | b' ')
-}
-
 // The task list item marker that stands first: whether it is checked. White space follows its `]`.
 #[tactic(auto, unfolding(crate::specs::Markers::task_box))]
 pub(crate) fn scan_task_box(bytes: &[u8]) -> Option<bool>
@@ -87,9 +78,7 @@ pub(crate) fn scan_task_box(bytes: &[u8]) -> Option<bool>
 {
     match bytes {
         [b'[', b'x' | b'X', b']', after, ..] if is_ascii_white(*after) => Some(true),
-        [b'[', b'\t' | 0x0b | 0x0c | b' ', b']', after, ..] if is_ascii_white(*after) => {
-            Some(false)
-        }
+        [b'[', mark, b']', after, ..] if is_white(*mark) && is_ascii_white(*after) => Some(false),
         _ => None,
     }
 }

@@ -3,13 +3,14 @@
 ghost use Rattle.std.specs.List.{prefix_len, suffix_len, position_or_len};
 ghost use Rattle.std.specs.Prelude.{◌≡◌, ◌≤◌, ◌<◌, ◌+◌, ◌-◌, ◌==◌, true, slice_index, length, take, drop, IfOk, if◌then◌else◌};
 ghost use Rattle.std.specs.Option.{option_map};
-ghost use Rattle.first_pass_scan.specs.Lines.{begins, is_white};
-ghost use Rattle.first_pass_scan.specs.LeafLines.{is_blank};
+ghost use Rattle.first_pass_scan.specs.Lines.{begins, is_blank, is_white};
 ghost use Rattle.first_pass_scan.specs.TableHead.{is_pipe, ends as ends_with, stripped as stripped_bytes, without_first as past_first, without_last as before_last, is_hyphens as hyphens_alone, alignment_by, delimiter_cell, delimiter_cells, delimiter_row, table_head, pipes_of, header_columns};
 
 use crate::leaf_scan::{scan_blanks, scan_run};
 use crate::line_start::LineStart;
-use crate::lines::{content_len, scan_blank_line, scan_nextline, scan_whitespace_no_nl};
+use crate::lines::{
+    begins, content_len, is_blank, scan_blank_line, scan_nextline, scan_whitespace_no_nl,
+};
 use crate::places::rest_of;
 use first_pass_items::item::Alignment;
 use memchr::memchr;
@@ -20,11 +21,7 @@ fn scan_last_blanks(bytes: &[u8]) -> usize
     ensures value { result ≡ suffix_len is_blank bytes.now }
     ensures within { result ≤ length bytes.now }
 {
-    bytes
-        .iter()
-        .rev()
-        .take_while(|b| **b == b'\t' || **b == b' ')
-        .count()
+    bytes.iter().rev().take_while(|b| is_blank(**b)).count()
 }
 
 // Without the spaces and tabs at both ends.
@@ -170,9 +167,10 @@ fn without_first_pipe(row: &[u8], pipes: usize) -> usize
     requires { 1 ≤ pipes }
     ensures { result ≡ pipes - (if begins 124 (drop (prefix_len is_white row.now) row.now) then 1 else 0) }
 {
-    match rest_of(row, scan_whitespace_no_nl(row)) {
-        [b'|', ..] => pipes - 1,
-        _ => pipes,
+    if begins(b'|', rest_of(row, scan_whitespace_no_nl(row))) {
+        pipes - 1
+    } else {
+        pipes
     }
 }
 

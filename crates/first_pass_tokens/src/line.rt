@@ -1,7 +1,6 @@
 //! The tokens of a line, appended to the tree.
 
 ghost use Rattle.std.specs.Prelude.{◌≡◌, ◌==◌, ◌+◌, ◌<◌, ◌≤◌, ◌^◌, true, IsTrue, length, OnOk, IfOk};
-ghost use Rattle.first_pass_scan.specs.Lines.{is_line_end, is_white};
 ghost use Rattle.first_pass_below.specs.Walk.{MarksSpecial};
 ghost use Rattle.first_pass_tree.specs.Forest.{with_text};
 ghost use Rattle.first_pass_tokens.specs.Pieces.{Source, size};
@@ -13,6 +12,7 @@ use crate::pieces::{Piece, piece_len, special_piece};
 use first_pass_below::walk::next_special;
 use first_pass_items::item::{Item, ItemBody};
 use first_pass_items::option_set::Options;
+use first_pass_scan::lines::{is_line_end, is_white};
 use first_pass_tree::forest::Tree;
 use std::alloc::AllocError;
 
@@ -196,17 +196,4 @@ fn line_end_len(text: &[u8], content: Content, end: usize) -> usize
     } else {
         1
     }
-}
-
-fn is_line_end(byte: u8) -> bool
-    ensures { result ≡ is_line_end byte }
-{
-    byte == b'\n' || byte == b'\r'
-}
-
-// White space without line ends.
-fn is_white(byte: u8) -> bool
-    ensures { result ≡ is_white byte }
-{
-    matches!(byte, b'\t' | 0x0b | 0x0c | b' ')
 }

@@ -1,6 +1,7 @@
 use crate::forest::Tree;
 use crate::tree_index::TreeIndex;
 use first_pass_items::item::{AlignmentIndex, Item, ItemBody, ListFlags};
+use std::alloc::{AllocError, Global};
 use std::process::Abort;
 use std::test::Fail;
 
@@ -17,18 +18,13 @@ fn check(rt: &impl Abort, tree: &Tree<Item>, want: &[(usize, Item)], call: &str)
     assert!(rt; tree.node_count() == want.len(), "after {call}");
 }
 
-#[test]
-fn grows_and_is_read(rt: HostRuntime) -> Result<(), Fail> {
-    let mut tree = Tree::with_capacity(rt.alloc(), 4)?;
-    let root = (0, item(0, 0, ItemBody::Root));
-    check(&rt, &tree, &[root], "with_capacity");
-    assert!(rt; tree.root() == TreeIndex(0) && tree.cur() == None && tree.spine_len() == 0);
-    assert!(rt; tree.peek_up() == None && tree.pop() == None && tree.remove_node() == None);
-
-    let quote = tree.append(item(0, 9, ItemBody::BlockQuote(None)))?;
-    assert!(rt; tree.push()? == quote && tree.cur() == None);
-    let paragraph = tree.append(item(2, 9, ItemBody::Paragraph))?;
-    assert!(rt; tree.push()? == paragraph);
+// A quote with a paragraph of two texts: the paragraph is open, and the second text is current.
+fn quote(alloc: Global) -> Result<Tree<Item>, AllocError> {
+    let mut tree = Tree::with_capacity(alloc, 5)?;
+    tree.append(item(0, 9, ItemBody::BlockQuote(None)))?;
+    tree.push()?;
+    tree.append(item(2, 9, ItemBody::Paragraph))?;
+    tree.push()?;
     for (start, end, backslash_escaped) in [
         (2, 3, false),
         (3, 5, true),
@@ -37,44 +33,77 @@ fn grows_and_is_read(rt: HostRuntime) -> Result<(), Fail> {
     ] {
         tree.append_text(start, end, backslash_escaped)?;
     }
-    let quote_node = (1, item(0, 9, ItemBody::BlockQuote(None)));
-    let paragraph_node = (2, item(2, 9, ItemBody::Paragraph));
-    let first = (3, item(2, 5, text(false)));
-    let second = (3, item(6, 9, text(true)));
+    Ok(tree)
+}
+
+#[test]
+fn begins_with_the_root(rt: HostRuntime) -> Result<(), Fail> {
+    let mut tree = Tree::with_capacity(rt.alloc(), 4)?;
     check(
         &rt,
         &tree,
-        &[root, quote_node, paragraph_node, first, second],
-        "append_text",
+        &[(0, item(0, 0, ItemBody::Root))],
+        "with_capacity",
     );
-    tree.is_forest();
-    assert!(rt; tree.cur() == Some(TreeIndex(4)) && tree.peek_up() == Some(paragraph));
-    assert!(rt; tree.peek_grandparent() == Some(quote) && tree.spine_len() == 2);
-    assert!(rt; tree.walk_spine() == [quote, paragraph].as_slice());
-    assert!(rt; tree.pop() == Some(paragraph) && tree.cur() == Some(paragraph));
+    assert!(rt; tree.root() == TreeIndex(0) && tree.cur() == None && tree.spine_len() == 0);
+    assert!(rt; tree.peek_up() == None && tree.pop() == None && tree.remove_node() == None);
+    let block = tree.append(item(0, 9, ItemBody::Paragraph))?;
+    assert!(rt; tree.cur() == Some(block) && tree.node_count() == 2);
+    assert!(rt; tree.push()? == block && tree.cur() == None);
+    Ok(())
+}
 
-    assert!(rt; paragraph.0 < tree.node_count() && 4 < tree.node_count());
+#[test]
+fn grows_at_its_end(rt: HostRuntime) -> Result<(), Fail> {
+    let mut tree = quote(rt.alloc())?;
+    let nodes = [
+        (0, item(0, 0, ItemBody::Root)),
+        (1, item(0, 9, ItemBody::BlockQuote(None))),
+        (2, item(2, 9, ItemBody::Paragraph)),
+        (3, item(2, 5, text(false))),
+        (3, item(6, 9, text(true))),
+    ];
+    check(&rt, &tree, &nodes, "append_text");
+    tree.is_forest();
+    assert!(rt; tree.cur() == Some(TreeIndex(4)) && tree.peek_up() == Some(TreeIndex(2)));
+    assert!(rt; tree.peek_grandparent() == Some(TreeIndex(1)) && tree.spine_len() == 2);
+    assert!(rt; tree.walk_spine() == [TreeIndex(1), TreeIndex(2)].as_slice());
+    assert!(rt; tree.pop() == Some(TreeIndex(2)) && tree.cur() == Some(TreeIndex(2)));
+    Ok(())
+}
+
+#[test]
+fn is_read_at_places(rt: HostRuntime) -> Result<(), Fail> {
+    let tree = quote(rt.alloc())?;
+    let paragraph = TreeIndex(2);
+    assert!(rt; 4 < tree.node_count());
     assert!(rt; tree.first_child(paragraph) == Some(TreeIndex(3)));
     assert!(rt; tree.first_child(TreeIndex(3)) == None);
     assert!(rt; tree.next_sibling(TreeIndex(3)) == Some(TreeIndex(4)));
     assert!(rt; tree.next_sibling(TreeIndex(4)) == None && tree.next_sibling(paragraph) == None);
     assert!(rt; tree[paragraph] == item(2, 9, ItemBody::Paragraph));
-    tree.set_end(paragraph, 8);
-    assert!(rt; paragraph.0 < tree.node_count());
-    tree.set_body(paragraph, ItemBody::TightParagraph);
+    Ok(())
+}
+
+#[test]
+fn is_written_at_places(rt: HostRuntime) -> Result<(), Fail> {
+    let mut tree = quote(rt.alloc())?;
+    assert!(rt; 4 < tree.node_count());
+    tree.set_end(TreeIndex(2), 8);
+    assert!(rt; 4 < tree.node_count());
+    tree.set_body(TreeIndex(2), ItemBody::TightParagraph);
     assert!(rt; 4 < tree.node_count());
     tree[TreeIndex(4)].end = 8;
-    assert!(rt; 3 < tree.node_count());
+    assert!(rt; 4 < tree.node_count());
     tree.set_item(TreeIndex(3), item(2, 5, ItemBody::MaybeHtml));
-    let tight = (2, item(2, 8, ItemBody::TightParagraph));
-    let html = (3, item(2, 5, ItemBody::MaybeHtml));
-    let shorter = (3, item(6, 8, text(true)));
-    check(
-        &rt,
-        &tree,
-        &[root, quote_node, tight, html, shorter],
-        "writes",
-    );
+    let nodes = [
+        (0, item(0, 0, ItemBody::Root)),
+        (1, item(0, 9, ItemBody::BlockQuote(None))),
+        (2, item(2, 8, ItemBody::TightParagraph)),
+        (3, item(2, 5, ItemBody::MaybeHtml)),
+        (3, item(6, 8, text(true))),
+    ];
+    check(&rt, &tree, &nodes, "writes");
     Ok(())
 }
 
@@ -97,48 +126,68 @@ fn knows_tables(rt: HostRuntime) -> Result<(), Fail> {
     Ok(())
 }
 
-#[test]
-fn cuts_and_wraps(rt: HostRuntime) -> Result<(), Fail> {
-    let mut tree = Tree::with_capacity(rt.alloc(), 4)?;
-    let block = item(0, 9, ItemBody::Paragraph);
-    tree.append(block)?;
+// An open paragraph of three tokens, cut at the offset 6: a backslash is left of the last one.
+fn cut_paragraph(alloc: Global) -> Result<Tree<Item>, AllocError> {
+    let mut tree = Tree::with_capacity(alloc, 5)?;
+    tree.append(item(0, 9, ItemBody::Paragraph))?;
     tree.push()?;
     tree.append(item(0, 4, text(false)))?;
     tree.append(item(4, 5, ItemBody::MaybeHtml))?;
     tree.append(item(6, 9, text(true)))?;
     tree.truncate_siblings(6);
-    let root = (0, item(0, 0, ItemBody::Root));
-    let front = item(0, 4, text(false));
-    let html = item(4, 5, ItemBody::MaybeHtml);
-    let backslash = item(5, 6, text(false));
-    check(
-        &rt,
-        &tree,
-        &[root, (1, block), (2, front), (2, html), (2, backslash)],
-        "a cut",
-    );
-    assert!(rt; tree.cur() == Some(TreeIndex(4)));
+    Ok(tree)
+}
 
+#[test]
+fn cuts_tokens(rt: HostRuntime) -> Result<(), Fail> {
+    let tree = cut_paragraph(rt.alloc())?;
+    let nodes = [
+        (0, item(0, 0, ItemBody::Root)),
+        (1, item(0, 9, ItemBody::Paragraph)),
+        (2, item(0, 4, text(false))),
+        (2, item(4, 5, ItemBody::MaybeHtml)),
+        (2, item(5, 6, text(false))),
+    ];
+    check(&rt, &tree, &nodes, "truncate_siblings");
+    assert!(rt; tree.cur() == Some(TreeIndex(4)));
+    Ok(())
+}
+
+#[test]
+fn wraps_children(rt: HostRuntime) -> Result<(), Fail> {
+    let mut tree = cut_paragraph(rt.alloc())?;
     tree.pop();
     assert!(rt; tree.cur() == Some(TreeIndex(1)));
     let title = item(0, 9, ItemBody::DefinitionListTitle);
     assert!(rt; tree.create_node(title)? == TreeIndex(2));
-    let wrapped = [
-        root,
-        (1, block),
+    let nodes = [
+        (0, item(0, 0, ItemBody::Root)),
+        (1, item(0, 9, ItemBody::Paragraph)),
         (2, title),
-        (3, front),
-        (3, html),
-        (3, backslash),
+        (3, item(0, 4, text(false))),
+        (3, item(4, 5, ItemBody::MaybeHtml)),
+        (3, item(5, 6, text(false))),
     ];
-    check(&rt, &tree, &wrapped, "create_node");
-    assert!(rt; tree.push()? == TreeIndex(1));
-    tree.drop_children(TreeIndex(1));
-    check(&rt, &tree, &[root, (1, block)], "drop_children");
+    check(&rt, &tree, &nodes, "create_node");
+    assert!(rt; tree.cur() == Some(TreeIndex(1)));
+    Ok(())
+}
+
+#[test]
+fn drops_children(rt: HostRuntime) -> Result<(), Fail> {
+    let mut tree = Tree::with_capacity(rt.alloc(), 4)?;
+    let block = item(0, 9, ItemBody::Paragraph);
+    let nodes = [(0, item(0, 0, ItemBody::Root)), (1, block)];
+    tree.append(block)?;
+    let opened = tree.push()?;
+    tree.append(item(0, 4, text(false)))?;
+    tree.append(item(4, 9, ItemBody::MaybeHtml))?;
+    tree.drop_children(opened);
+    check(&rt, &tree, &nodes, "drop_children");
     assert!(rt; tree.cur() == None);
-    tree.append(front)?;
-    assert!(rt; tree.remove_node() == Some(TreeIndex(1)));
-    check(&rt, &tree, &[root, (1, block)], "remove_node");
+    tree.append(item(0, 4, text(false)))?;
+    assert!(rt; tree.remove_node() == Some(opened) && tree.cur() == Some(opened));
+    check(&rt, &tree, &nodes, "remove_node");
     Ok(())
 }
 

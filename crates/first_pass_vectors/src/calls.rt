@@ -35,3 +35,10 @@ fn parts_of_a_block(rt: HostRuntime) -> Result<(), Fail> {
     assert!(rt; line_break.is_some());
     Ok(())
 }
+
+#[test]
+fn a_thematic_break(rt: HostRuntime) -> Result<(), Fail> {
+    let mut pass = FirstPass::new(rt.alloc(), "***\n", Options::empty())?;
+    assert_eq!(rt; pass.parse_hrule(4, 0)?, 4);
+    Ok(())
+}

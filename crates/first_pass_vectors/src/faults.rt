@@ -25,8 +25,18 @@ fn source(rest: &[u8], step: usize, fails_at: usize) -> Source<'_> {
     }
 }
 
+// What a run without options writes for a text that is read so many bytes at a time.
+fn write(
+    alloc: Global,
+    text: &[u8],
+    step: usize,
+    sink: &mut Sink,
+) -> Result<Result<(), BlocksFault>, AllocError> {
+    run(alloc, &[], &mut source(text, step, 0), sink)
+}
+
 #[test]
-fn options_come_first(rt: HostRuntime) -> Result<(), Fail> {
+fn bad_options_come_first(rt: HostRuntime) -> Result<(), Fail> {
     let bad: &[&[&str]] = &[
         &[""],
         &["x"],
@@ -54,6 +64,11 @@ fn options_come_first(rt: HostRuntime) -> Result<(), Fail> {
         assert!(rt; answer == Err(BlocksFault::BadOptions), "{words:?}");
         assert!(rt; input.reads == 0 && sink.writes == 0, "{words:?}");
     }
+    Ok(())
+}
+
+#[test]
+fn good_options_are_read(rt: HostRuntime) -> Result<(), Fail> {
     let good: &[&[&str]] = &[
         &[],
         &["0"],
@@ -120,21 +135,11 @@ fn each_read_fails_in_turn(rt: HostRuntime) -> Result<(), Fail> {
 fn each_write_fails_in_turn(rt: HostRuntime) -> Result<(), Fail> {
     let text = long_text(rt.alloc())?;
     let mut whole = Sink::new(rt.alloc(), WHOLE, 0);
-    let answer = run(
-        rt.alloc(),
-        &[],
-        &mut source(text.as_slice(), WHOLE, 0),
-        &mut whole,
-    )?;
+    let answer = write(rt.alloc(), text.as_slice(), WHOLE, &mut whole)?;
     assert!(rt; answer == Ok(()) && 3 < whole.writes);
     for fails_at in 1..100 {
         let mut sink = Sink::new(rt.alloc(), WHOLE, fails_at);
-        let answer = run(
-            rt.alloc(),
-            &[],
-            &mut source(text.as_slice(), WHOLE, 0),
-            &mut sink,
-        )?;
+        let answer = write(rt.alloc(), text.as_slice(), WHOLE, &mut sink)?;
         if answer == Ok(()) {
             assert!(rt; whole.writes < fails_at && sink.bytes.as_slice() == whole.bytes.as_slice());
             break;
@@ -146,21 +151,26 @@ fn each_write_fails_in_turn(rt: HostRuntime) -> Result<(), Fail> {
             "write {fails_at}"
         );
     }
+    Ok(())
+}
+
+#[test]
+fn steps_make_no_difference(rt: HostRuntime) -> Result<(), Fail> {
+    let text = long_text(rt.alloc())?;
+    let mut whole = Sink::new(rt.alloc(), WHOLE, 0);
+    let answer = write(rt.alloc(), text.as_slice(), WHOLE, &mut whole)?;
+    assert!(rt; answer == Ok(()));
     let mut bytewise = Sink::new(rt.alloc(), 1, 0);
-    let answer = run(
-        rt.alloc(),
-        &[],
-        &mut source(text.as_slice(), 1, 0),
-        &mut bytewise,
-    )?;
+    let answer = write(rt.alloc(), text.as_slice(), 1, &mut bytewise)?;
     assert!(rt; answer == Ok(()) && bytewise.bytes.as_slice() == whole.bytes.as_slice());
+    Ok(())
+}
+
+#[test]
+fn a_writer_that_takes_nothing_fails(rt: HostRuntime) -> Result<(), Fail> {
+    let text = long_text(rt.alloc())?;
     let mut full = Sink::new(rt.alloc(), 0, 0);
-    let answer = run(
-        rt.alloc(),
-        &[],
-        &mut source(text.as_slice(), WHOLE, 0),
-        &mut full,
-    )?;
+    let answer = write(rt.alloc(), text.as_slice(), WHOLE, &mut full)?;
     assert!(rt; answer == Err(BlocksFault::WriteFailed) && full.writes == 1);
     Ok(())
 }

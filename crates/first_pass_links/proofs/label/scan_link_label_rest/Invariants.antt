@@ -1,7 +1,8 @@
 use Rattle.std.proofs.Common.{◌≡◌, ◌≤◌, ◌-◌, ◌++◌, ℕ, List, Option, length}
 use Rattle.std.specs.String.{string_bytes}
-use Rattle.first_pass_links.specs.Labels.{AnswersWith, label_of, label_at}
+use Rattle.first_pass_links.specs.Labels.{AnswersWith, label_at}
 use Rattle.first_pass_links.specs.Units.{part, left_at, IsRead}
+use Rattle.first_pass_links.proofs.Labels.{known_as, label_behind}
 use Rattle.first_pass_links.proofs.label.scan_link_label_rest.Given as goal
 
 -- what is known here, and what is left, make the label
@@ -10,7 +11,7 @@ invariant-loop-at g l = record {
   read : IsRead l.text (string_bytes l.written) l.from l.at;
   few : l.characters ≤ 999;
   label : (prefix : List ℕ → Option ℕ) → AnswersWith prefix (goal.F-post g l.linebreak_handler)
-      → label_of l.is_in_table (record { characters = l.characters; solid = l.solid; bytes = string_bytes l.written ++ part l.text l.from l.at }) (left_at prefix l.text l.at) ≡ label_at prefix l.is_in_table l.text;
+      → label_behind l.is_in_table (known_as l.characters l.solid (string_bytes l.written ++ part l.text l.from l.at)) (left_at prefix l.text l.at) ≡ label_at prefix l.is_in_table l.text;
 }
 
 abbrev pub decreases-loop-at : goal.decreases-loop-at

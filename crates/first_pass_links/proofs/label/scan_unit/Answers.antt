@@ -1,11 +1,11 @@
 use Rattle.std.proofs.Common.{◌∙◌, sym, subst}
 use Rattle.first_pass_links.specs.Units.{IsUnit, Reads}
-use Rattle.first_pass_links.proofs.Labels.{byte_reads, differs, run_reads, space_is_unit, backslash_is_unit, blank_stops}
+use Rattle.first_pass_links.proofs.Labels.{byte_reads, differs, run_reads, space_is_unit, backslash_is_unit}
 use Rattle.first_pass_links.proofs.label.scan_unit.Goals as goal
 
 pub returns-in-Some-clause-some : goal.returns-in-Some-clause-some
 returns-in-Some-clause-some g c =
-    subst (IsUnit c.args.bytes.now c.args.at) (sym c.space_unit.ensures) (space_is_unit c.args.bytes.now c.args.at c.in-Some.next c.in-Some.characters (rw c.in-Some.is at c.in_ok-next.ensures.some) (sym c.is_space.ensures ∙ c.if-is_space.true))
+    subst (IsUnit c.args.bytes.now c.args.at) (sym c.space_unit.ensures) (space_is_unit c.args.bytes.now c.args.at c.in-Some.next c.in-Some.characters (rw c.in-Some.is at c.in_ok-next.ensures.some) (sym c.is_ascii_white.ensures ∙ c.if-is_ascii_white.true))
 
 pub returns-in-Some-clause-reads : goal.returns-in-Some-clause-reads
 returns-in-Some-clause-reads g c =
@@ -16,7 +16,7 @@ returns-in-Some-clause-reads g c =
 
 pub returns-in-None-clause-none : goal.returns-in-None-clause-none
 returns-in-None-clause-none g c =
-    λ e h a. blank_stops h c.args.in_table c.args.bytes.now c.args.at (c.in_ok-next.ensures.none c.in-None.is h a)
+    λ e h a. c.in_ok-next.ensures.none c.in-None.is h a
 
 pub returns-then-bytes-at-eq92-clause-some : goal.returns-then-bytes-at-eq92-clause-some
 returns-then-bytes-at-eq92-clause-some g c =
@@ -29,4 +29,4 @@ returns-then-bytes-at-eq92-clause-reads g c =
 pub returns-clause-reads : goal.returns-clause-reads
 returns-clause-reads g c =
     λ h a. subst (Reads h c.args.in_table c.args.bytes.now c.args.at) (sym c.kept_unit.ensures)
-    (byte_reads h c.args.in_table c.args.bytes.now c.args.at _ c.requires.within (sym c.is_space.ensures ∙ c.if-is_space.false) c.requires.no_bracket (differs _ 92 c.if-bytes-at-eq92.false) c.begun_characters.ensures)
+    (byte_reads h c.args.in_table c.args.bytes.now c.args.at _ c.requires.within (sym c.is_ascii_white.ensures ∙ c.if-is_ascii_white.false) c.requires.no_bracket (differs _ 92 c.if-bytes-at-eq92.false) c.begun_characters.ensures)

@@ -19,5 +19,5 @@ loop-next-preserved g c =
       boundary = some.1;
       few = omega arith;
       started = λ z. absurd (omega arith);
-      run = λ h a. run_more h c.args.bytes.now c.args.at c.loop-next.next c.in-Some.behind c.loop-next.characters (c.loop-next.invariant.run h a) (reads h a) (sym c.is_space.ensures ∙ c.if-is_space.true);
+      run = λ h a. run_more h c.args.bytes.now c.args.at c.loop-next.next c.in-Some.behind c.loop-next.characters (c.loop-next.invariant.run h a) (reads h a) (sym c.is_ascii_white.ensures ∙ c.if-is_ascii_white.true);
     }

@@ -1,7 +1,7 @@
 use Rattle.std.proofs.Common.{◌≡◌, ◌≤◌, ◌-◌, ℕ, List, Option, length}
 use Rattle.std.specs.Str.{IsCharBoundary}
 use Rattle.first_pass_links.specs.Labels.{AnswersWith}
-use Rattle.first_pass_links.specs.Units.{IsRun}
+use Rattle.first_pass_links.specs.Units.{IsWhiteRun}
 use Rattle.first_pass_links.proofs.label.scan_white_run.Given as goal
 
 -- the bytes up to here are a run of white space
@@ -12,7 +12,7 @@ invariant-loop-next g l = record {
   boundary : IsCharBoundary l.bytes l.next;
   few : l.characters ≤ l.next - l.at;
   started : (l.characters ≡ 0) → (l.next ≡ l.at);
-  run : (prefix : List ℕ → Option ℕ) → AnswersWith prefix (goal.F-post g l.linebreak_handler) → IsRun prefix l.bytes l.at l.next l.characters;
+  run : (prefix : List ℕ → Option ℕ) → AnswersWith prefix (goal.F-post g l.linebreak_handler) → IsWhiteRun prefix l.bytes l.at l.next l.characters;
 }
 
 abbrev pub decreases-loop-next : goal.decreases-loop-next

@@ -2,14 +2,15 @@ use Rattle.std.proofs.Common.{◌≡◌, ◌+◌, ◌≤◌, length, drop, IsCha
 use Rattle.first_pass_scan.specs.Lines.{atx_level}
 use Rattle.first_pass_scan.specs.Places.{place_at, offset, line_end}
 use Rattle.first_pass_grammar.specs.Kinds.{unindented}
-use Rattle.first_pass_grammar.specs.Leaves.{document}
+use Rattle.first_pass_tree.specs.Forest.{added}
+use Rattle.first_pass_grammar.specs.Leaves.{document, rule_block}
 use Rattle.first_pass_grammar.specs.Completion.{lines_from}
 use Rattle.first_pass.specs.Appends.{line_end_at, AddsHeading, AddsParagraph}
 use Rattle.first_pass.specs.Closing.{Reading, remembered, list_finished, blank_read}
 use Rattle.first_pass.specs.State.{Ready}
 use Rattle.first_pass.proofs.PlaceLemmas.{all_keep, at_read, place_end}
 use Rattle.first_pass.proofs.EnterLemmas.{ready_blank}
-use Rattle.first_pass.proofs.LeafLemmas.{ready_heading, ready_paragraph, kind_level, kind_blank_rest, line_end_of}
+use Rattle.first_pass.proofs.LeafLemmas.{ready_rule, rule_end, ready_heading, ready_paragraph, kind_level, kind_blank_rest, line_end_of}
 use Rattle.first_pass.proofs.pass.FirstPass.parse_leaf.Goals as goal
 
 pub overflow_add-at : goal.overflow_add-at
@@ -49,6 +50,49 @@ returns-in-Blank-clause-ready c =
     λ ready. subst (λ q. Ready d q (lines_from self.text.now c.next_line.result)) (sym c.read_blank_line.ensures.reading)
     (subst (λ n. Ready d (blank_read (remembered self.tree self.begin_list_item self.last_line_blank)) (lines_from self.text.now n)) (sym (blank_end c))
     (ready_blank d (remembered self.tree self.begin_list_item self.last_line_blank) p (lines_from self.text.now (line_end p)) (kind_blank_rest c.args.line_start (sym c.kind_at-kind.ensures.kind ∙ c.in-Blank.is)) c.requires.no_empty ready))
+
+pub parse_hrule-requires : goal.parse_hrule-requires
+parse_hrule-requires c =
+    let p = place_at c.args.start_ix c.args.line_start in
+    let e = at_read c.args.start_ix c.bytes_scanned.result c.args.line_start c.kind_at-kind.new.line_start c.bytes_scanned.ensures c.kind_at-kind.ensures.rest in
+    let n = rule_end p (c.args.start_ix + c.bytes_scanned.result) c.in-ThematicBreak.size (sym c.kind_at-kind.ensures.kind ∙ c.in-ThematicBreak.is) e in
+    let b = place_end c.args.self.now.text.now p c.requires.utf8 c.requires.place in
+    let l = ap length c.finish_list.ensures.text in
+    omega (arith, b.0)
+
+-- a thematic break ends where its line ends
+break_end : (c : goal.After-drop-line_start-in-ThematicBreak) → c.in_ok-next-in-ThematicBreak.next ≡ line_end (place_at c.args.start_ix c.args.line_start)
+break_end c =
+    let e = at_read c.args.start_ix c.bytes_scanned.result c.args.line_start c.kind_at-kind.new.line_start c.bytes_scanned.ensures c.kind_at-kind.ensures.rest in
+    c.in_ok-next-in-ThematicBreak.ensures.behind
+    ∙ rule_end (place_at c.args.start_ix c.args.line_start) (c.args.start_ix + c.bytes_scanned.result) c.in-ThematicBreak.size (sym c.kind_at-kind.ensures.kind ∙ c.in-ThematicBreak.is) e
+
+pub returns-in-ThematicBreak-clause-later : goal.returns-in-ThematicBreak-clause-later
+returns-in-ThematicBreak-clause-later c = let e = break_end c in omega arith
+
+pub returns-in-ThematicBreak-clause-boundary : goal.returns-in-ThematicBreak-clause-boundary
+returns-in-ThematicBreak-clause-boundary c =
+    let text = c.args.self.now.text.now in
+    subst (IsCharBoundary text) (sym (break_end c)) (place_end text (place_at c.args.start_ix c.args.line_start) c.requires.utf8 c.requires.place)
+
+pub returns-in-ThematicBreak-clause-ready : goal.returns-in-ThematicBreak-clause-ready
+returns-in-ThematicBreak-clause-ready c =
+    let self = c.args.self.now in
+    let d = document self.text.now self.options in
+    let p = place_at c.args.start_ix c.args.line_start in
+    let at = c.args.start_ix + c.bytes_scanned.result in
+    let size = c.in-ThematicBreak.size in
+    let old : Reading = remembered self.tree self.begin_list_item self.last_line_blank in
+    let q : Reading = list_finished c.args.start_ix old in
+    let e = at_read c.args.start_ix c.bytes_scanned.result c.args.line_start c.kind_at-kind.new.line_start c.bytes_scanned.ensures c.kind_at-kind.ensures.rest in
+    let new = c.parse_hrule.new.self in
+    let next = c.in_ok-next-in-ThematicBreak.next in
+    let block : new.tree ≡ added q.tree (rule_block at size) = c.in_ok-next-in-ThematicBreak.ensures.block ∙ ap (λ (r : Reading). added r.tree (rule_block at size)) c.finish_list.ensures.reading in
+    let item = c.in_ok-next-in-ThematicBreak.ensures.empty_item ∙ ap (λ (r : Reading). r.empty_item) c.finish_list.ensures.reading in
+    let blank = c.in_ok-next-in-ThematicBreak.ensures.blank ∙ ap (λ (r : Reading). r.blank) c.finish_list.ensures.reading in
+    λ ready. subst (λ o. Ready d (remembered new.tree o new.last_line_blank) (lines_from self.text.now next)) (sym item)
+    (subst (λ b. Ready d (remembered new.tree q.empty_item b) (lines_from self.text.now next)) (sym blank)
+    (ready_rule d old new.tree p at next size c.is_forest.ensures c.requires.no_item c.requires.no_quote (sym c.kind_at-kind.ensures.kind ∙ c.in-ThematicBreak.is) e (break_end c) block c.requires.no_empty ready))
 
 pub parse_atx_heading-requires-clause-within : goal.parse_atx_heading-requires-clause-within
 parse_atx_heading-requires-clause-within c =

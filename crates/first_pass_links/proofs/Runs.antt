@@ -1,0 +1,223 @@
+-- Runs by the grammar, and their length as it is counted.
+use Rattle.std.proofs.Common.{◌≡◌, inl, inr, ℕ, zero, suc, ◌+◌, ◌-◌, ◌<◌, ◌≤◌, ◌==◌, Bool, true, false, List, [], ◌∷◌, ◌++◌, length, take, drop, Option, Some, None, refl, sym, ap, subst, ◌∙◌, arith, append_assoc, length-append, length-drop}
+use Rattle.std.specs.Char.{is_ascii_punctuation}
+use Rattle.std.proofs.lemmas.Bool.{cases_Bool, eqb-true, and_parts, le-ltb, lt-ltb}
+use Rattle.std.proofs.lemmas.Bool.Decides.{nat_tests}
+use Rattle.first_pass_links.specs.Escapes.{begins_escape}
+use Rattle.first_pass_links.specs.Destinations.{ends_run, closes_none, nesting_behind, run_len, longer, if_closed}
+use Rattle.first_pass_links.specs.Runs.{is_plain, IsRun, nothing, escape, plain, nested, ends_before, BeginsRun}
+use Rattle.first_pass_links.proofs.Destinations.{longer-longer, second, run-nil, run-end, run-escape, run-unopened, run-deep, run-byte}
+
+-- a run stands there: its length is counted
+longer-none : (o : Option ℕ) → longer 0 o ≡ o
+longer-none None = refl
+longer-none (Some k) = let e : 0 + k ≡ k = omega arith in ap (λ n. Some n) e
+
+plain_facts : (b nesting : ℕ) → is_plain b ≡ true → (ends_run b ≡ false) × (closes_none b nesting ≡ false) × (nesting_behind b nesting ≡ nesting)
+plain_facts b nesting h =
+    let x : (b == 40) ≡ false = grind (arith, nat_tests, h) in
+    let y : (b == 41) ≡ false = grind (arith, nat_tests, h) in
+    let z : ends_run b ≡ false = grind (arith, nat_tests, h) in
+    (z, rw y, rw (x, y))
+
+three_parts : (a b c : ℕ) (o : Option ℕ) → longer 1 (longer a (longer 1 (longer b o))) ≡ longer (suc (a + suc b)) o
+three_parts a b c None = refl
+three_parts a b c (Some k) = let e : 1 + (a + (1 + (b + k))) ≡ suc (a + suc b) + k = omega arith in ap (λ n. Some n) e
+
+two_parts : (a : ℕ) (o : Option ℕ) → longer 1 (longer a o) ≡ longer (suc a) o
+two_parts a o = longer-longer 1 a o ∙ (let e : 1 + a ≡ suc a = omega arith in ap (λ n. longer n o) e)
+
+counts : (deepest : ℕ) (d : ℕ) (run behind : List ℕ) → IsRun d run behind → (nesting : ℕ) → d + nesting ≡ deepest → run_len deepest nesting 0 (run ++ behind) ≡ longer (length run) (run_len deepest nesting 0 behind)
+counts deepest _ _ _ (nothing d behind) nesting e = sym (longer-none (run_len deepest nesting 0 behind))
+counts deepest _ _ _ (escape d b more behind p r) nesting e =
+    run-escape deepest nesting 92 b (more ++ behind) refl p ∙ ap (λ o. longer 1 (longer 1 o)) (counts deepest d more behind r nesting e)
+    ∙ ap (longer 1) (two_parts (length more) (run_len deepest nesting 0 behind)) ∙ two_parts (suc (length more)) (run_len deepest nesting 0 behind)
+counts deepest _ _ _ (plain d b more behind p alone r) nesting e =
+    let f = plain_facts b nesting p in
+    let shallow : nesting_behind b nesting ≤ deepest = let z = f.2 in omega arith in
+    run-byte deepest nesting b (more ++ behind) f.0 alone f.1 (le-ltb _ _ shallow)
+    ∙ ap (λ k. longer 1 (run_len deepest k 0 (more ++ behind))) f.2
+    ∙ ap (longer 1) (counts deepest d more behind r nesting e) ∙ two_parts (length more) (run_len deepest nesting 0 behind)
+counts deepest _ _ _ (nested d inside more behind r s) nesting e =
+    let shallow : nesting + 1 ≤ deepest = omega arith in
+    let back : nesting + 1 - 1 ≡ nesting = omega arith in
+    let open_none : (nesting + 1 == 0) ≡ false = grind (arith, nat_tests) in
+    let left = run_len deepest nesting 0 behind in
+    let l = length-append inside (41 ∷ more) in
+    ap (run_len deepest nesting 0) (ap (λ xs. 40 ∷ xs) (append_assoc inside (41 ∷ more) behind))
+    ∙ run-byte deepest nesting 40 (inside ++ 41 ∷ (more ++ behind)) refl refl refl (le-ltb _ _ shallow)
+    ∙ ap (longer 1) (counts deepest d inside (41 ∷ (more ++ behind)) r (nesting + 1) (omega arith)
+    ∙ ap (longer (length inside)) (run-byte deepest (nesting + 1) 41 (more ++ behind) refl refl (rw open_none) (le-ltb _ _ (let z : nesting + 1 - 1 ≤ deepest = omega arith in z))
+    ∙ ap (λ k. longer 1 (run_len deepest k 0 (more ++ behind))) back
+    ∙ ap (longer 1) (counts deepest (suc d) more behind s nesting e)))
+    ∙ three_parts (length inside) (length more) 0 left
+    ∙ ap (λ n. longer n left) (let z : suc (length inside + suc (length more)) ≡ suc (length (inside ++ 41 ∷ more)) = omega arith in z)
+
+ended : (deepest : ℕ) (bs : List ℕ) → ends_before bs ≡ true → run_len deepest 0 0 bs ≡ Some 0
+ended deepest [] h = run-nil deepest 0
+ended deepest (b ∷ bs) h = elim (cases_Bool (ends_run b)) [
+  | inl e ↦ run-end deepest 0 b bs e
+  | inr e ↦ (let z : (b == 41) ≡ true = rw e at h in run-unopened deepest 0 b bs (rw z refl))
+]
+
+take_drop : (n : ℕ) (bs : List ℕ) → n ≤ length bs → (take n bs ++ drop n bs ≡ bs) × (length (take n bs) ≡ n)
+take_drop zero bs l = (refl, refl)
+take_drop (suc n) [] l = absurd (omega arith)
+take_drop (suc n) (b ∷ bs) l =
+    let i = take_drop n bs (omega arith) in
+    (ap (λ xs. b ∷ xs) i.0, ap suc i.1)
+
+pub run_found : (deepest n : ℕ) (bs : List ℕ) → BeginsRun deepest bs n → run_len deepest 0 0 bs ≡ Some n
+run_found deepest n bs h =
+    let parts = take_drop n bs h.within in
+    let z : n + 0 ≡ n = omega arith in
+    ap (run_len deepest 0 0) (sym parts.0) ∙ counts deepest deepest (take n bs) (drop n bs) h.run 0 (omega arith)
+    ∙ ap (longer (length (take n bs))) (ended deepest (drop n bs) h.ends) ∙ ap (λ k. longer k (Some 0)) parts.1 ∙ ap (λ k. Some k) z
+
+-- a run with so many parentheses open before it, which it closes: a run before each `)`, and one behind the last
+abbrev Closes : ℕ → ℕ → List ℕ → List ℕ → Type 0
+Closes zero d run behind = IsRun d run behind
+Closes (suc k) d run behind = (inside : List ℕ) × (more : List ℕ) × (run ≡ inside ++ 41 ∷ more) × IsRun d inside (41 ∷ (more ++ behind)) × Closes k (suc d) more behind
+
+closes_escape : (k d b : ℕ) (run behind : List ℕ) → is_ascii_punctuation b ≡ true → Closes k d run behind → Closes k d (92 ∷ b ∷ run) behind
+closes_escape zero d b run behind p c = escape d b run behind p c
+closes_escape (suc k) d b run behind p c = (92 ∷ b ∷ c.0, c.1, ap (λ xs. 92 ∷ b ∷ xs) c.2, escape d b c.0 (41 ∷ (c.1 ++ behind)) p c.3, c.4)
+
+closes_plain : (k d b : ℕ) (run behind : List ℕ) → is_plain b ≡ true → begins_escape (b ∷ (run ++ behind)) ≡ false → Closes k d run behind → Closes k d (b ∷ run) behind
+closes_plain zero d b run behind p alone c = plain d b run behind p alone c
+closes_plain (suc k) d b run behind p alone c =
+    let e : begins_escape (b ∷ (c.0 ++ 41 ∷ (c.1 ++ behind))) ≡ false = ap (λ xs. begins_escape (b ∷ xs)) (sym (ap (λ xs. xs ++ behind) c.2 ∙ append_assoc c.0 (41 ∷ c.1) behind)) ∙ alone in
+    (b ∷ c.0, c.1, ap (λ xs. b ∷ xs) c.2, plain d b c.0 (41 ∷ (c.1 ++ behind)) p e c.3, c.4)
+
+closes_close : (k d : ℕ) (run behind : List ℕ) → Closes k (suc d) run behind → Closes (suc k) d (41 ∷ run) behind
+closes_close k d run behind c = ([], run, refl, nothing d (41 ∷ (run ++ behind)), c)
+
+closes_open : (k d : ℕ) (run behind : List ℕ) → Closes (suc k) d run behind → Closes k (suc d) (40 ∷ run) behind
+closes_open zero d run behind c = subst (λ xs. IsRun (suc d) (40 ∷ xs) behind) (sym c.2) (nested d c.0 c.1 behind c.3 c.4)
+closes_open (suc k) d run behind c =
+    let r = c.4 in
+    let e : 41 ∷ (c.1 ++ behind) ≡ 41 ∷ (r.0 ++ 41 ∷ (r.1 ++ behind)) = ap (λ xs. 41 ∷ xs) (ap (λ xs. xs ++ behind) r.2 ∙ append_assoc r.0 (41 ∷ r.1) behind) in (
+      40 ∷ (c.0 ++ 41 ∷ r.0),
+      r.1,
+      ap (λ xs. 40 ∷ xs) (c.2 ∙ ap (λ xs. c.0 ++ 41 ∷ xs) r.2 ∙ sym (append_assoc c.0 (41 ∷ r.0) (41 ∷ r.1))),
+      nested d c.0 r.0 (41 ∷ (r.1 ++ behind)) (subst (IsRun d c.0) e c.3) r.3,
+      r.4,
+    )
+
+-- the first n bytes close so many parentheses, and end there
+record Ends (k d : ℕ) (bs : List ℕ) (n : ℕ) : Type 0 where
+  run : List ℕ
+  behind : List ℕ
+  parts : bs ≡ run ++ behind
+  count : length run ≡ n
+  closes : Closes k d run behind
+  ends : ends_before behind ≡ true
+
+longer_some : (a n : ℕ) (o : Option ℕ) → longer a o ≡ Some n → (j : ℕ) × (o ≡ Some j) × (a + j ≡ n)
+longer_some a n None h = cc
+longer_some a n (Some j) h = (j, refl, cc)
+
+some_open : (k : ℕ) → (suc k == 0) ≡ false
+some_open k = grind (arith, nat_tests)
+
+unclosed : (k : ℕ) → if_closed (suc k) ≡ None
+unclosed k = rw (some_open k)
+
+none_open : (k d n : ℕ) (bs : List ℕ) → ends_before bs ≡ true → if_closed k ≡ Some n → Ends k d bs n
+none_open zero d n bs e h = let z : 0 ≡ n = cc in record { run = []; behind = bs; parts = refl; count = z; closes = nothing d bs; ends = e }
+none_open (suc k) d n bs e h = let f = unclosed k in cc
+
+ends_escape : (k d b n : ℕ) (bs : List ℕ) → is_ascii_punctuation b ≡ true → Ends k d bs n → Ends k d (92 ∷ b ∷ bs) (1 + (1 + n))
+ends_escape k d b n bs p e =
+    let l = e.count in
+    record { run = 92 ∷ b ∷ e.run; behind = e.behind; parts = ap (λ xs. 92 ∷ b ∷ xs) e.parts; count = omega arith; closes = closes_escape k d b e.run e.behind p e.closes; ends = e.ends }
+
+ends_plain : (k d b n : ℕ) (bs : List ℕ) → is_plain b ≡ true → begins_escape (b ∷ bs) ≡ false → Ends k d bs n → Ends k d (b ∷ bs) (1 + n)
+ends_plain k d b n bs p alone e =
+    let l = e.count in
+    record { run = b ∷ e.run; behind = e.behind; parts = ap (λ xs. b ∷ xs) e.parts; count = omega arith; closes = closes_plain k d b e.run e.behind p (ap (λ xs. begins_escape (b ∷ xs)) (sym e.parts) ∙ alone) e.closes; ends = e.ends }
+
+ends_close : (k d n : ℕ) (bs : List ℕ) → Ends k (suc d) bs n → Ends (suc k) d (41 ∷ bs) (1 + n)
+ends_close k d n bs e =
+    let l = e.count in
+    record { run = 41 ∷ e.run; behind = e.behind; parts = ap (λ xs. 41 ∷ xs) e.parts; count = omega arith; closes = closes_close k d e.run e.behind e.closes; ends = e.ends }
+
+ends_open : (k d n : ℕ) (bs : List ℕ) → Ends (suc k) d bs n → Ends k (suc d) (40 ∷ bs) (1 + n)
+ends_open k d n bs e =
+    let l = e.count in
+    record { run = 40 ∷ e.run; behind = e.behind; parts = ap (λ xs. 40 ∷ xs) e.parts; count = omega arith; closes = closes_open k d e.run e.behind e.closes; ends = e.ends }
+
+-- what is counted behind each byte
+abbrev Counted : ℕ → List ℕ → Type 0
+Counted deepest bs = (k d n : ℕ) → d + k ≡ deepest → run_len deepest k 0 bs ≡ Some n → Ends k d bs n
+
+counted_escape : (deepest : ℕ) (bs : List ℕ) → (begins_escape (92 ∷ bs) ≡ true) → Counted deepest (drop 1 bs) → Counted deepest (92 ∷ bs)
+counted_escape deepest [] p i = λ k d n e h. let z = second 92 [] p in absurd (omega arith)
+counted_escape deepest (b ∷ bs) p i =
+    λ k d n e h.
+    let x = longer_some 1 n (longer 1 (run_len deepest k 0 bs)) (sym (run-escape deepest k 92 b bs refl p) ∙ h) in
+    let y = longer_some 1 x.0 (run_len deepest k 0 bs) x.1 in
+    subst (Ends k d (92 ∷ b ∷ bs)) (ap (λ m. 1 + m) y.2 ∙ x.2) (ends_escape k d b y.0 bs p (i k d y.0 e y.1))
+
+counted_open : (deepest : ℕ) (bs : List ℕ) → Counted deepest bs → Counted deepest (40 ∷ bs)
+counted_open deepest bs i = λ k d n e h. open_by deepest bs i k d n e h
+  where
+    open_by : (deepest : ℕ) (bs : List ℕ) → Counted deepest bs → (k d n : ℕ) → d + k ≡ deepest → run_len deepest k 0 (40 ∷ bs) ≡ Some n → Ends k d (40 ∷ bs) n
+    open_by deepest bs i k zero n e h =
+        let z : run_len deepest k 0 (40 ∷ bs) ≡ None = run-deep deepest k 40 bs refl refl refl (lt-ltb _ _ (let z : deepest < k + 1 = omega arith in z)) in cc
+    open_by deepest bs i k (suc d) n e h =
+        let f : k + 1 ≡ suc k = omega arith in
+        let x = longer_some 1 n (run_len deepest (k + 1) 0 bs) (sym (run-byte deepest k 40 bs refl refl refl (le-ltb _ _ (let z : k + 1 ≤ deepest = omega arith in z))) ∙ h) in
+        subst (Ends k (suc d) (40 ∷ bs)) x.2 (ends_open k d x.0 bs (i (suc k) d x.0 (omega arith) (ap (λ m. run_len deepest m 0 bs) (sym f) ∙ x.1)))
+
+counted_close : (deepest : ℕ) (bs : List ℕ) → Counted deepest bs → (k d n : ℕ) → d + k ≡ deepest → run_len deepest k 0 (41 ∷ bs) ≡ Some n → Ends k d (41 ∷ bs) n
+counted_close deepest bs i zero d n e h =
+    let z : 0 ≡ n = let f = run-unopened deepest 0 41 bs refl in cc in
+    record { run = []; behind = 41 ∷ bs; parts = refl; count = z; closes = nothing d (41 ∷ bs); ends = refl }
+counted_close deepest bs i (suc k) d n e h =
+    let f : suc k - 1 ≡ k = omega arith in
+    let x = longer_some 1 n (run_len deepest (suc k - 1) 0 bs) (sym (run-byte deepest (suc k) 41 bs refl refl (some_open k) (le-ltb _ _ (let z : suc k - 1 ≤ deepest = omega arith in z))) ∙ h) in
+    subst (Ends (suc k) d (41 ∷ bs)) x.2 (ends_close k d x.0 bs (i k (suc d) x.0 (omega arith) (ap (λ m. run_len deepest m 0 bs) (sym f) ∙ x.1)))
+
+counted_plain : (deepest b : ℕ) (bs : List ℕ) → is_plain b ≡ true → begins_escape (b ∷ bs) ≡ false → Counted deepest bs → Counted deepest (b ∷ bs)
+counted_plain deepest b bs p alone i =
+    λ k d n e h.
+    let f = plain_facts b k p in
+    let z = f.2 in
+    let x = longer_some 1 n (run_len deepest (nesting_behind b k) 0 bs) (sym (run-byte deepest k b bs f.0 alone f.1 (le-ltb _ _ (let l : nesting_behind b k ≤ deepest = omega arith in l))) ∙ h) in
+    subst (Ends k d (b ∷ bs)) x.2 (ends_plain k d b x.0 bs p alone (i k d x.0 e (ap (λ m. run_len deepest m 0 bs) (sym f.2) ∙ x.1)))
+
+plain_from : (b : ℕ) → ends_run b ≡ false → (b == 40) ≡ false → (b == 41) ≡ false → is_plain b ≡ true
+plain_from b x y z = rw (x, y, z) refl
+
+counted_byte : (x y z w : Bool) (deepest b : ℕ) (bs : List ℕ) → ends_run b ≡ x → begins_escape (b ∷ bs) ≡ y → (b == 40) ≡ z → (b == 41) ≡ w → Counted deepest bs → Counted deepest (drop 1 bs) → Counted deepest (b ∷ bs)
+counted_byte true y z w deepest b bs hx hy hz hw i j = λ k d n e h. none_open k d n (b ∷ bs) (rw hx refl) (sym (run-end deepest k b bs hx) ∙ h)
+counted_byte false true z w deepest b bs hx hy hz hw i j =
+    let e = eqb-true b 92 (and_parts _ _ hy).0 in
+    subst (λ x. Counted deepest (x ∷ bs)) (sym e) (counted_escape deepest bs (ap (λ x. begins_escape (x ∷ bs)) (sym e) ∙ hy) j)
+counted_byte false false true w deepest b bs hx hy hz hw i j = subst (λ x. Counted deepest (x ∷ bs)) (sym (eqb-true b 40 hz)) (counted_open deepest bs i)
+counted_byte false false false true deepest b bs hx hy hz hw i j =
+    subst (λ x. Counted deepest (x ∷ bs)) (sym (eqb-true b 41 hw)) (counted_close deepest bs i)
+counted_byte false false false false deepest b bs hx hy hz hw i j = counted_plain deepest b bs (plain_from b hx hz hw) hy i
+
+counted_upto : (m deepest : ℕ) (bs : List ℕ) → length bs ≤ m → Counted deepest bs
+counted_upto m deepest [] l = λ k d n e h. none_open k d n [] refl (sym (run-nil deepest k) ∙ h)
+counted_upto zero deepest (b ∷ bs) l = absurd (omega arith)
+counted_upto (suc m) deepest (b ∷ bs) l =
+    let d = length-drop 1 bs in
+    counted_byte _ _ _ _ deepest b bs refl refl refl refl (counted_upto m deepest bs (omega arith)) (counted_upto m deepest (drop 1 bs) (omega arith))
+
+take_all : (xs ys : List ℕ) → (take (length xs) (xs ++ ys) ≡ xs) × (drop (length xs) (xs ++ ys) ≡ ys)
+take_all [] ys = (refl, refl)
+take_all (x ∷ xs) ys = let i = take_all xs ys in (ap (λ zs. x ∷ zs) i.0, i.1)
+
+pub run_counted : (deepest n : ℕ) (bs : List ℕ) → run_len deepest 0 0 bs ≡ Some n → BeginsRun deepest bs n
+run_counted deepest n bs h =
+    let z : deepest + 0 ≡ deepest = omega arith in
+    let e = counted_upto (length bs) deepest bs (omega arith) 0 deepest n z h in
+    let whole = ap length e.parts ∙ length-append e.run e.behind in
+    let count = e.count in
+    let parts = take_all e.run e.behind in
+    let t : take n bs ≡ e.run = ap (λ m. take m bs) (sym count) ∙ ap (take (length e.run)) e.parts ∙ parts.0 in
+    let d : drop n bs ≡ e.behind = ap (λ m. drop m bs) (sym count) ∙ ap (drop (length e.run)) e.parts ∙ parts.1 in
+    record { within = omega arith; run = rw (t, d) e.closes; ends = ap ends_before d ∙ e.ends }
