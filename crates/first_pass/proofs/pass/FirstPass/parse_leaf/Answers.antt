@@ -98,19 +98,19 @@ pub parse_atx_heading-requires-clause-within : goal.parse_atx_heading-requires-c
 parse_atx_heading-requires-clause-within c =
     let i = all_keep c.args.self.now.text.now c.args.start_ix c.args.line_start c.requires.utf8 c.requires.place in
     let e = at_read c.args.start_ix c.bytes_scanned.result c.args.line_start c.kind_at-kind.new.line_start c.bytes_scanned.ensures c.kind_at-kind.ensures.rest in
-    let l = ap length c.finish_list.ensures.text in
+    let l = ap length c.finish_list-in-AtxHeading.ensures.text in
     omega (arith, i.within)
 
 pub parse_atx_heading-requires-clause-heading : goal.parse_atx_heading-requires-clause-heading
 parse_atx_heading-requires-clause-heading c =
     let i = all_keep c.args.self.now.text.now c.args.start_ix c.args.line_start c.requires.utf8 c.requires.place in
     let e = at_read c.args.start_ix c.bytes_scanned.result c.args.line_start c.kind_at-kind.new.line_start c.bytes_scanned.ensures c.kind_at-kind.ensures.rest in
-    ap (λ t. atx_level (drop (c.args.start_ix + c.bytes_scanned.result) t)) c.finish_list.ensures.text
+    ap (λ t. atx_level (drop (c.args.start_ix + c.bytes_scanned.result) t)) c.finish_list-in-AtxHeading.ensures.text
     ∙ kind_level c.args.self.now.text.now (place_at c.args.start_ix c.args.line_start) (c.args.start_ix + c.bytes_scanned.result) c.in-AtxHeading.level (sym c.kind_at-kind.ensures.kind ∙ c.in-AtxHeading.is) e i
 
 -- what the pass remembers with the heading
-heading_rem : (c : goal.After-drop-line_start-in-AtxHeading) → remembered c.finish_list.new.self.tree c.finish_list.new.self.begin_list_item c.finish_list.new.self.last_line_blank ≡ list_finished c.args.start_ix (remembered c.args.self.now.tree c.args.self.now.begin_list_item c.args.self.now.last_line_blank)
-heading_rem c = c.finish_list.ensures.reading
+heading_rem : (c : goal.After-drop-line_start-in-AtxHeading) → remembered c.finish_list-in-AtxHeading.new.self.tree c.finish_list-in-AtxHeading.new.self.begin_list_item c.finish_list-in-AtxHeading.new.self.last_line_blank ≡ list_finished c.args.start_ix (remembered c.args.self.now.tree c.args.self.now.begin_list_item c.args.self.now.last_line_blank)
+heading_rem c = c.finish_list-in-AtxHeading.ensures.reading
 
 -- a heading ends where its line ends
 heading_end : (c : goal.After-drop-line_start-in-AtxHeading) → c.in_ok-next-in-AtxHeading.next ≡ line_end (place_at c.args.start_ix c.args.line_start)
@@ -118,7 +118,7 @@ heading_end c =
     let text = c.args.self.now.text.now in
     let i = all_keep text c.args.start_ix c.args.line_start c.requires.utf8 c.requires.place in
     let e = at_read c.args.start_ix c.bytes_scanned.result c.args.line_start c.kind_at-kind.new.line_start c.bytes_scanned.ensures c.kind_at-kind.ensures.rest in
-    c.in_ok-next-in-AtxHeading.ensures.block.end_is ∙ ap (λ t. line_end_at t (c.args.start_ix + c.bytes_scanned.result)) c.finish_list.ensures.text ∙ ap (line_end_at text) e ∙ line_end_of text (place_at c.args.start_ix c.args.line_start) i
+    c.in_ok-next-in-AtxHeading.ensures.block.end_is ∙ ap (λ t. line_end_at t (c.args.start_ix + c.bytes_scanned.result)) c.finish_list-in-AtxHeading.ensures.text ∙ ap (line_end_at text) e ∙ line_end_of text (place_at c.args.start_ix c.args.line_start) i
 
 pub returns-in-AtxHeading-clause-later : goal.returns-in-AtxHeading-clause-later
 returns-in-AtxHeading-clause-later c = let e = heading_end c in omega arith
@@ -137,10 +137,10 @@ returns-in-AtxHeading-clause-ready c =
     let q : Reading = list_finished c.args.start_ix old in
     let i = all_keep self.text.now c.args.start_ix c.args.line_start c.requires.utf8 c.requires.place in
     let e = at_read c.args.start_ix c.bytes_scanned.result c.args.line_start c.kind_at-kind.new.line_start c.bytes_scanned.ensures c.kind_at-kind.ensures.rest in
-    let same : document c.finish_list.new.self.text.now c.finish_list.new.self.options ≡ d = ap (λ t. document t c.finish_list.new.self.options) c.finish_list.ensures.text ∙ ap (document self.text.now) c.finish_list.ensures.options in
+    let same : document c.finish_list-in-AtxHeading.new.self.text.now c.finish_list-in-AtxHeading.new.self.options ≡ d = ap (λ t. document t c.finish_list-in-AtxHeading.new.self.options) c.finish_list-in-AtxHeading.ensures.text ∙ ap (document self.text.now) c.finish_list-in-AtxHeading.ensures.options in
     let block : AddsHeading d (c.args.start_ix + c.bytes_scanned.result) c.in-AtxHeading.level q.tree c.parse_atx_heading.new.self.tree c.in_ok-next-in-AtxHeading.next =
     subst (λ (r : Reading). AddsHeading d (c.args.start_ix + c.bytes_scanned.result) c.in-AtxHeading.level r.tree c.parse_atx_heading.new.self.tree c.in_ok-next-in-AtxHeading.next) (heading_rem c)
-    (subst (λ z. AddsHeading z (c.args.start_ix + c.bytes_scanned.result) c.in-AtxHeading.level c.finish_list.new.self.tree c.parse_atx_heading.new.self.tree c.in_ok-next-in-AtxHeading.next) same c.in_ok-next-in-AtxHeading.ensures.block) in
+    (subst (λ z. AddsHeading z (c.args.start_ix + c.bytes_scanned.result) c.in-AtxHeading.level c.finish_list-in-AtxHeading.new.self.tree c.parse_atx_heading.new.self.tree c.in_ok-next-in-AtxHeading.next) same c.in_ok-next-in-AtxHeading.ensures.block) in
     let item = c.in_ok-next-in-AtxHeading.ensures.empty_item ∙ ap (λ (r : Reading). r.empty_item) (heading_rem c) in
     let blank = c.in_ok-next-in-AtxHeading.ensures.blank ∙ ap (λ (r : Reading). r.blank) (heading_rem c) in
     λ ready. subst (λ o. Ready d (remembered c.parse_atx_heading.new.self.tree o c.parse_atx_heading.new.self.last_line_blank) (lines_from self.text.now c.in_ok-next-in-AtxHeading.next)) (sym item)
