@@ -257,6 +257,11 @@ const TEXTS: &[(&str, &str, &str)] = &[
     ),
     (
         "",
+        "    - a",
+        "Root 0..7\n  Paragraph 4..7\n    Text 4..7\n",
+    ),
+    (
+        "",
         "1) a\n\n1) b\n1. c",
         "Root 0..15\n  List(loose,),1) 0..11\n    ListItem(3) 0..6\n      Paragraph 3..5\n        Text 3..4\n    ListItem(3) 6..11\n      Paragraph 9..11\n        Text 9..10\n  List(tight,.,1) 11..15\n    ListItem(3) 11..15\n      TightParagraph 14..15\n        Text 14..15\n",
     ),
@@ -284,6 +289,21 @@ const TEXTS: &[(&str, &str, &str)] = &[
         "",
         "- a\n  +\n\n\n- b",
         "Root 0..13\n  List(loose,-,0) 0..13\n    ListItem(2) 0..10\n      Paragraph 2..8\n        Text 2..3\n        SoftBreak 3..4\n        Text 6..7\n    ListItem(2) 10..13\n      Paragraph 12..13\n        Text 12..13\n",
+    ),
+    (
+        "",
+        "a\n2. b",
+        "Root 0..6\n  Paragraph 0..6\n    Text 0..1\n    SoftBreak 1..2\n    Text 2..6\n",
+    ),
+    (
+        "",
+        "a\n0) b",
+        "Root 0..6\n  Paragraph 0..6\n    Text 0..1\n    SoftBreak 1..2\n    Text 2..6\n",
+    ),
+    (
+        "",
+        "- a\n  2. b\n  1. c",
+        "Root 0..17\n  List(tight,-,0) 0..17\n    ListItem(2) 0..17\n      TightParagraph 2..11\n        Text 2..3\n        SoftBreak 3..4\n        Text 6..10\n      List(tight,.,1) 13..17\n        ListItem(3) 13..17\n          TightParagraph 16..17\n            Text 16..17\n",
     ),
     (
         "",
