@@ -5,6 +5,7 @@ use first_pass_program::run::blocks_run;
 use std::alloc::{AllocError, Global};
 use std::io;
 use std::io::{ErrorKind, Read, Write};
+use std::test::Fail;
 
 /// A reader of bytes that gives at most `step` of them at a time, and fails at the read of that number.
 #[derive(Drop)]
@@ -77,4 +78,20 @@ pub fn run(
         list.push(String::from_str(alloc, word)?)?;
     }
     Ok(blocks_run(alloc, list.as_slice(), source, sink))
+}
+
+/// What a run without a fault writes for a text, under the option bits (none where they are empty).
+pub fn print(alloc: Global, bits: &str, text: &str) -> Result<String, Fail> {
+    let mut source = Source {
+        rest: text.as_bytes(),
+        step: usize::MAX,
+        fails_at: 0,
+        reads: 0,
+    };
+    let mut sink = Sink::new(alloc, usize::MAX, 0);
+    let words = [bits];
+    let given = usize::from(!bits.is_empty());
+    let answer = run(alloc, &words[..given], &mut source, &mut sink)?;
+    answer.ok().ok_or("no fault")?;
+    Ok(String::from_utf8_lossy(alloc, sink.bytes.as_slice())?)
 }

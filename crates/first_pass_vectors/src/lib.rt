@@ -4,8 +4,12 @@
 #[cfg(test)]
 mod calls;
 #[cfg(test)]
+mod deep;
+#[cfg(test)]
 mod fakes;
 #[cfg(test)]
 mod faults;
+#[cfg(test)]
+mod lists;
 #[cfg(test)]
 mod texts;

@@ -1,9 +1,7 @@
 //! Texts, options and what is printed for them.
 
-use crate::fakes::{Sink, Source, run};
+use crate::fakes::print;
 use std::test::Fail;
-
-const WHOLE: usize = usize::MAX;
 
 /// The option bits (none where it is empty), the text, and what is printed.
 const TEXTS: &[(&str, &str, &str)] = &[
@@ -213,18 +211,7 @@ const TEXTS: &[(&str, &str, &str)] = &[
 #[test]
 fn texts_are_printed(rt: HostRuntime) -> Result<(), Fail> {
     for (bits, text, want) in TEXTS {
-        let mut source = Source {
-            rest: text.as_bytes(),
-            step: WHOLE,
-            fails_at: 0,
-            reads: 0,
-        };
-        let mut sink = Sink::new(rt.alloc(), WHOLE, 0);
-        let words = [*bits];
-        let given = usize::from(!bits.is_empty());
-        let answer = run(rt.alloc(), &words[..given], &mut source, &mut sink)?;
-        assert!(rt; answer == Ok(()), "options {bits:?}, text {text:?}");
-        let printed = String::from_utf8_lossy(rt.alloc(), sink.bytes.as_slice())?;
+        let printed = print(rt.alloc(), bits, text)?;
         assert!(rt;
             printed.as_str() == *want,
             "options {bits:?}, text {text:?}: {printed}"
