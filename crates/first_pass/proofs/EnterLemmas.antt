@@ -1,34 +1,32 @@
 -- A line entered behind what it goes on with: a blank line read, or the place where blocks begin in it.
-use Rattle.std.proofs.Common.{◌≡◌, inl, inr, ℕ, zero, suc, ◌+◌, ◌-◌, ◌<◌, ◌≤◌, ◌==◌, nat_le, nat_lt, Bool, true, false, not, ◌||◌, ◌&&◌, List, [], ◌∷◌, ◌++◌, length, map, take, drop, slice_get, Option, Some, None, is_some, refl, sym, ap, subst, ◌∙◌, arith, if◌then◌else◌}
+use Rattle.std.proofs.Common.{◌≡◌, ℕ, zero, suc, ◌+◌, ◌<◌, ◌==◌, nat_lt, Bool, true, false, not, ◌||◌, ◌&&◌, List, [], ◌∷◌, length, map, drop, slice_get, Option, Some, None, is_some, refl, sym, ap, subst, ◌∙◌, arith, if◌then◌else◌}
 use Rattle.std.proofs.lemmas.Bool.Decides.{nat_tests}
-use Rattle.std.proofs.lemmas.Option.{none-some}
 use Rattle.std.specs.List.{prefix_len}
 use Rattle.std.specs.Option.{option_map, option_map_or, option_and_then}
 use Rattle.first_pass_items.specs.declared.item.Item.{Item}
 use Rattle.first_pass_items.specs.declared.item.ItemBody.{ItemBody}
 use Rattle.first_pass_items.specs.declared.item.ItemBody.TheVariants.{BlockQuote as BlockQuoteBody, List as ListBody, ListItem as ListItemBody}
 use Rattle.first_pass_tree.specs.declared.tree_index.TreeIndex.{TreeIndex}
-use Rattle.first_pass_tree.specs.Forest.{Forest, modify, with_body_at, body_at}
+use Rattle.first_pass_tree.specs.Forest.{Forest, with_body_at, body_at}
 use Rattle.first_pass_scan.specs.Lines.{is_white, eol_len, blank_len}
-use Rattle.first_pass_scan.specs.Rest.{Rest, column_of_byte, next_column, after_columns, indent, past_quote, past_quote_byte}
+use Rattle.first_pass_scan.specs.Rest.{Rest, column_of_byte, next_column, after_columns, indent, past_quote_byte}
 use Rattle.first_pass_scan.specs.LeafLines.{hrule_len}
 use Rattle.first_pass_scan.specs.Markers.{bullet_marker, ordered_marker, list_marker, item_by, item_of}
-use Rattle.first_pass_scan.specs.Places.{Place, start_of}
+use Rattle.first_pass_scan.specs.Places.{Place}
 use Rattle.first_pass_grammar.specs.declared.kind.Container.{Container}
 use Rattle.first_pass_grammar.specs.declared.kind.Container.TheVariants.{BlockQuote, ListItem}
 use Rattle.first_pass_grammar.specs.declared.kind.Kind.TheVariants.{Blank}
-use Rattle.first_pass_grammar.specs.Containers.{at_rest, has_columns, prefix, after, taken}
+use Rattle.first_pass_grammar.specs.Containers.{at_rest, has_columns, prefix, after}
 use Rattle.first_pass_grammar.specs.Kinds.{all_taken, is_blank_rest, quote_inside, item_at, kind_of}
 use Rattle.first_pass_grammar.specs.Leaves.{Document}
-use Rattle.first_pass_grammar.specs.Skeleton.{BlankLine, From, Line, Inside, Blanks, OpensLeaf, OpensAs, OpensFrom, Opens, is_blank_behind, next_is_blank, Begins, Ends, end_before}
+use Rattle.first_pass_grammar.specs.Skeleton.{BlankLine, From, Line, Inside, Blanks, OpensLeaf, OpensAs, OpensFrom, Opens, is_blank_behind, next_is_blank, end_before}
 use Rattle.first_pass_grammar.specs.Derivation.{node_of}
-use Rattle.first_pass_grammar.specs.Lists.{counts_with}
-use Rattle.first_pass_grammar.specs.Completion.{Frame, InContainer, InList, containers_of, is_quote, AreBelow, Completes}
+use Rattle.first_pass_grammar.specs.Completion.{Frame, InContainer, InList, containers_of, AreBelow, Completes}
 use Rattle.first_pass_grammar.proofs.Completions.{counts_in, completes-enter, completes-blank, completes-only_blank}
 use Rattle.first_pass.specs.Appends.{closed_by}
 use Rattle.first_pass.specs.Closing.{Reading, top_body, is_item, popped_by, popped, item_finished_by, item_finished, emptied, blank_read_by, blank_read}
 use Rattle.first_pass.specs.Path.{container_of, container_at, with_container, path_in, path_of}
-use Rattle.first_pass.specs.State.{list_frame, frame_of, frame_at, AreOpen, ReadyAt, ReadyBeforeLine, ReadyInItem, ReadyEmpty, ReadyWith, Ready}
+use Rattle.first_pass.specs.State.{frame_of, frame_at, AreOpen, ReadyAt, ReadyBeforeLine, ReadyInItem, ReadyEmpty, ReadyWith, Ready}
 use Rattle.first_pass.proofs.OpenLemmas.{open_path, body-changed, body-other, not_changed}
 use Rattle.first_pass.proofs.PopLemmas.{pop_container}
 use Rattle.first_pass.proofs.StateLemmas.{ready_plain, after_zero, popped_is, same_path, closed_containers}

@@ -1,25 +1,23 @@
 -- What a new block ends: the list that is innermost; and what it notes: a blank line before it.
-use Rattle.std.proofs.Common.{◌≡◌, ℕ, zero, suc, ◌+◌, ◌-◌, ◌<◌, ◌≤◌, ◌==◌, Bool, true, false, not, ◌||◌, ◌&&◌, List, [], ◌∷◌, ◌++◌, length, map, slice_get, Option, Some, None, refl, sym, ap, subst, ◌∙◌, arith, if◌then◌else◌, append_assoc}
-use Rattle.std.proofs.lemmas.List.{length-map}
-use Rattle.std.specs.Int.RustNames.{bit_and}
-use Rattle.std.specs.Option.{option_map, option_and_then}
+use Rattle.std.proofs.Common.{◌≡◌, ℕ, zero, suc, ◌<◌, ◌==◌, Bool, true, false, ◌||◌, List, [], ◌∷◌, map, slice_get, Option, Some, None, refl, sym, ap, subst, ◌∙◌, if◌then◌else◌}
+use Rattle.std.specs.Option.{option_and_then}
 use Rattle.first_pass_items.specs.declared.item.Item.{Item}
 use Rattle.first_pass_items.specs.declared.item.ItemBody.{ItemBody}
-use Rattle.first_pass_items.specs.declared.item.ItemBody.TheVariants.{BlockQuote as BlockQuoteBody, List as ListBody, ListItem as ListItemBody}
+use Rattle.first_pass_items.specs.declared.item.ItemBody.TheVariants.{List as ListBody}
 use Rattle.first_pass_items.specs.declared.item.ListFlags.{ListFlags}
 use Rattle.first_pass_tree.specs.declared.tree_index.TreeIndex.{TreeIndex}
 use Rattle.first_pass_tree.specs.Forest.{Forest, IsForest, modify, with_body_at, body_at}
 use Rattle.first_pass_scan.specs.Places.{Place}
 use Rattle.first_pass_grammar.specs.declared.kind.Container.{Container}
 use Rattle.first_pass_grammar.specs.Leaves.{Document}
-use Rattle.first_pass_grammar.specs.Skeleton.{From, Line, Inside, Opening, Opens}
+use Rattle.first_pass_grammar.specs.Skeleton.{Inside, Opening, Opens}
 use Rattle.first_pass_grammar.specs.Derivation.{node_of, list_flags}
-use Rattle.first_pass_grammar.specs.Completion.{flagged, reflagged, Frame, InContainer, InList, containers_of, loosened, loosened_in, AreBelow, IsPlain, Completes}
+use Rattle.first_pass_grammar.specs.Completion.{flagged, reflagged, Frame, InContainer, InList, loosened_in, IsPlain, Completes}
 use Rattle.first_pass_grammar.proofs.Completions.{OpensAway, OpensBlock, completes-note, completes-reflag}
 use Rattle.first_pass.specs.Appends.{closed_by}
 use Rattle.first_pass.specs.Closing.{Reading, loosened_by, loosened_at, top_body, is_list, popped_by, popped, item_finished_by, item_finished, list_left, gap_tree, gap_noted, list_finished}
-use Rattle.first_pass.specs.Path.{container_of, container_at, with_container, path_in, path_of}
-use Rattle.first_pass.specs.State.{list_frame, frame_of, frame_at, AreOpen, ReadyAt}
+use Rattle.first_pass.specs.Path.{container_of, with_container, path_in, path_of}
+use Rattle.first_pass.specs.State.{frame_of, frame_at, AreOpen, ReadyAt}
 use Rattle.first_pass.proofs.OpenLemmas.{open_path, open_below, body-other, body-later, body-changed, changed_alike}
 use Rattle.first_pass.proofs.ListLemmas.{open_flags}
 use Rattle.first_pass.proofs.PopLemmas.{list_popped, leave_list}

@@ -1,5 +1,5 @@
 -- A leaf block read at a place where no container begins.
-use Rattle.std.proofs.Common.{◌≡◌, ℕ, zero, suc, ◌+◌, ◌<◌, ◌≤◌, nat_lt, Bool, true, false, List, [], ◌∷◌, ◌++◌, length, map, drop, slice_get, Option, Some, None, is_some, IsUtf8, refl, sym, ap, subst, ◌∙◌, arith, if◌then◌else◌, length-append}
+use Rattle.std.proofs.Common.{◌≡◌, ℕ, ◌+◌, nat_lt, Bool, true, false, List, [], ◌++◌, length, map, drop, Option, Some, None, is_some, refl, sym, ap, subst, ◌∙◌, arith, if◌then◌else◌}
 use Rattle.std.specs.Option.{option_map}
 use Rattle.first_pass_items.specs.declared.item.Item.{Item}
 use Rattle.first_pass_items.specs.declared.item.ItemBody.{ItemBody}
@@ -10,7 +10,7 @@ use Rattle.first_pass_tree.specs.Forest.{Forest, IsForest, added, at_depth}
 use Rattle.first_pass_scan.specs.Lines.{blank_len, atx_level, level_number, line_len}
 use Rattle.first_pass_scan.specs.LeafLines.{hrule_len}
 use Rattle.first_pass_scan.specs.Rest.{Rest, indent}
-use Rattle.first_pass_scan.specs.Places.{Place, offset, place_at, line_end, start_of, IsPlaceOf}
+use Rattle.first_pass_scan.specs.Places.{Place, offset, line_end, start_of, IsPlaceOf}
 use Rattle.first_pass_scan.proofs.PlaceFacts.{start_of-lines, columns_line_end}
 use Rattle.first_pass_grammar.specs.declared.kind.Container.{Container}
 use Rattle.first_pass_grammar.specs.declared.kind.Container.TheVariants.{BlockQuote}
@@ -18,19 +18,18 @@ use Rattle.first_pass_grammar.specs.declared.kind.Kind.{Kind}
 use Rattle.first_pass_grammar.specs.declared.kind.Kind.TheVariants.{Blank, ThematicBreak, AtxHeading, Paragraph}
 use Rattle.first_pass_grammar.specs.Containers.{at_rest, prefix}
 use Rattle.first_pass_grammar.specs.Kinds.{unindented, is_blank_rest, quote_inside, item_at, heading_or, rule_or, kind_of}
-use Rattle.first_pass_grammar.specs.Leaves.{Document, document, IsParagraph, IsHeading, heading_text_at, rule_block, heading_block, paragraph_block}
-use Rattle.first_pass_grammar.specs.Skeleton.{Leaf, BlankLine, Block, Line, Inside, Opening, OpensLeaf, OpensNode, OpensAs, OpensFrom, Opens}
-use Rattle.first_pass_grammar.specs.Derivation.{leaf_items}
-use Rattle.first_pass_grammar.specs.Completion.{lines_from, Frame, containers_of, AreBelow, Completes}
-use Rattle.first_pass_grammar.proofs.Completions.{OpensBlock, completes-block}
+use Rattle.first_pass_grammar.specs.Leaves.{Document, IsParagraph, IsHeading, heading_text_at, rule_block, heading_block, paragraph_block}
+use Rattle.first_pass_grammar.specs.Skeleton.{Block, Line, Inside, Opening, OpensLeaf, OpensAs, OpensFrom, Opens}
+use Rattle.first_pass_grammar.specs.Completion.{lines_from, Frame, containers_of, Completes}
+use Rattle.first_pass_grammar.proofs.Completions.{completes-block}
 use Rattle.first_pass.specs.Appends.{line_end_at, AddsParagraph, AddsHeading}
 use Rattle.first_pass.specs.Closing.{Reading, remembered, top_body, list_finished}
 use Rattle.first_pass.specs.Path.{path_of}
-use Rattle.first_pass.specs.State.{AreOpen, ReadyAt, Ready}
+use Rattle.first_pass.specs.State.{ReadyAt, Ready}
 use Rattle.first_pass.proofs.OpenLemmas.{open_path, open_below, frame-append}
 use Rattle.first_pass.proofs.RuleLemmas.{rule_line}
 use Rattle.first_pass.proofs.StateLemmas.{ready_plain}
-use Rattle.first_pass.proofs.FinishLemmas.{EndsListAt, Finished, ready_finished, path_finished}
+use Rattle.first_pass.proofs.FinishLemmas.{EndsListAt, ready_finished, path_finished}
 use Rattle.first_pass.proofs.OpenerLemmas.{depth_of}
 
 -- The line of a text ends where its line ends.

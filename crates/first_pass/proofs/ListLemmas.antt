@@ -1,21 +1,17 @@
 -- A list closed in the tree, against what the grammar says of it.
-use Rattle.std.proofs.Common.{◌≡◌, ℕ, zero, suc, ◌+◌, ◌<◌, ◌≤◌, ◌==◌, nat_lt, Bool, true, false, not, List, [], ◌∷◌, ◌++◌, length, map, slice_index, get_or, Option, Some, None, refl, sym, ap, subst, ◌∙◌, arith, if◌then◌else◌}
-use Rattle.std.proofs.lemmas.List.{length-map}
+use Rattle.std.proofs.Common.{◌≡◌, ℕ, zero, suc, ◌+◌, ◌<◌, ◌==◌, nat_lt, Bool, true, false, not, List, [], ◌∷◌, length, map, slice_index, Some, None, refl, sym, ap, subst, ◌∙◌, arith, if◌then◌else◌}
 use Rattle.std.proofs.lemmas.Bool.Decides.{nat_tests}
-use Rattle.std.specs.Int.RustNames.{bit_and}
-use Rattle.std.specs.Option.{option_map, option_and_then}
 use Rattle.first_pass_items.specs.declared.item.Item.{Item}
-use Rattle.first_pass_items.specs.declared.item.ItemBody.{ItemBody}
 use Rattle.first_pass_items.specs.declared.item.ItemBody.TheVariants.{List as ListBody}
 use Rattle.first_pass_items.specs.declared.item.ListFlags.{ListFlags}
 use Rattle.first_pass_tree.specs.declared.tree_index.TreeIndex.{TreeIndex}
-use Rattle.first_pass_tree.specs.Forest.{Forest, IsForest, IsOpenPath, IsLastAt, depths, modify, map_from, body_at}
+use Rattle.first_pass_tree.specs.Forest.{Forest, IsForest, IsOpenPath, depths, modify, map_from, body_at}
 use Rattle.first_pass_grammar.specs.Derivation.{node_of, list_flags, tight_body, tightened}
-use Rattle.first_pass_grammar.specs.Completion.{flagged, list_closed, Frame, InContainer, InList}
+use Rattle.first_pass_grammar.specs.Completion.{flagged, list_closed, InList}
 use Rattle.first_pass.specs.Appends.{closed_by}
 use Rattle.first_pass.specs.Closing.{tight_run, tight_at, tight_items}
-use Rattle.first_pass.specs.State.{list_frame, frame_of, frame_at}
-use Rattle.first_pass.proofs.OpenLemmas.{changed_alike, body-kept}
+use Rattle.first_pass.specs.State.{frame_of}
+use Rattle.first_pass.proofs.OpenLemmas.{changed_alike}
 
 -- all are deeper than a depth
 abbrev AreDeeper : ℕ → List (ℕ × Item) → Type 0

@@ -1,6 +1,5 @@
 -- What the open nodes are, as the tree grows and nodes are closed.
-use Rattle.std.proofs.Common.{◌≡◌, ℕ, zero, suc, ◌+◌, ◌<◌, ◌≤◌, ◌==◌, Bool, true, false, List, [], ◌∷◌, ◌++◌, length, map, slice_get, Option, Some, None, refl, sym, ap, subst, ◌∙◌, arith, if◌then◌else◌, length-append}
-use Rattle.std.proofs.lemmas.List.{length-map}
+use Rattle.std.proofs.Common.{◌≡◌, ℕ, zero, suc, ◌<◌, ◌==◌, Bool, true, false, List, [], ◌∷◌, ◌++◌, length, map, slice_get, Option, Some, None, refl, sym, ap, ◌∙◌, arith, if◌then◌else◌}
 use Rattle.std.specs.Option.{option_map, option_and_then}
 use Rattle.first_pass_items.specs.declared.item.Item.{Item}
 use Rattle.first_pass_items.specs.declared.item.ItemBody.{ItemBody}
@@ -8,10 +7,10 @@ use Rattle.first_pass_items.specs.declared.item.ItemBody.TheVariants.{BlockQuote
 use Rattle.first_pass_tree.specs.declared.tree_index.TreeIndex.{TreeIndex}
 use Rattle.first_pass_tree.specs.Forest.{Forest, modify, map_from, body_at, item_at}
 use Rattle.first_pass_grammar.specs.declared.kind.Container.{Container}
-use Rattle.first_pass_grammar.specs.Derivation.{tight_body, tightened}
-use Rattle.first_pass_grammar.specs.Completion.{ended, flagged, reflagged, list_closed, Frame, InContainer, InList, containers_of, loosened, AreBelow}
-use Rattle.first_pass.specs.Path.{container_of, container_at, with_container, path_in}
-use Rattle.first_pass.specs.State.{list_frame, frame_of, frame_at, AreOpen}
+use Rattle.first_pass_grammar.specs.Derivation.{tightened}
+use Rattle.first_pass_grammar.specs.Completion.{ended, list_closed, Frame, InContainer, InList, containers_of, AreBelow}
+use Rattle.first_pass.specs.Path.{container_of, with_container, path_in}
+use Rattle.first_pass.specs.State.{frame_of, frame_at, AreOpen}
 use Rattle.first_pass.proofs.PathLemmas.{get_front}
 
 -- the container that a frame is, if it is one

@@ -1,5 +1,5 @@
 -- A container opened at a place in a line: a block quote, or a list item in its list.
-use Rattle.std.proofs.Common.{◌≡◌, ℕ, zero, suc, ◌+◌, ◌-◌, ◌<◌, ◌≤◌, ◌==◌, Bool, true, false, not, ◌||◌, ◌&&◌, List, [], ◌∷◌, ◌++◌, length, map, slice_get, Option, Some, None, is_some, refl, sym, ap, subst, ◌∙◌, arith, if◌then◌else◌, append_assoc, length-append}
+use Rattle.std.proofs.Common.{◌≡◌, ℕ, suc, ◌+◌, ◌==◌, Bool, true, false, ◌||◌, List, [], ◌∷◌, ◌++◌, length, map, slice_get, Option, Some, None, refl, sym, ap, subst, ◌∙◌, arith, if◌then◌else◌, append_assoc, length-append}
 use Rattle.std.proofs.lemmas.List.{length-map}
 use Rattle.std.proofs.lemmas.Bool.Decides.{nat_tests}
 use Rattle.std.specs.Option.{option_map, option_and_then}
@@ -9,26 +9,26 @@ use Rattle.first_pass_items.specs.declared.item.ItemBody.TheVariants.{BlockQuote
 use Rattle.first_pass_items.specs.declared.item.ListFlags.{ListFlags}
 use Rattle.first_pass_tree.specs.declared.tree_index.TreeIndex.{TreeIndex}
 use Rattle.first_pass_tree.proofs.Blocks.{modify-at}
-use Rattle.first_pass_tree.specs.Forest.{Forest, IsForest, modify, with_body_at, body_at, appended, pushed}
+use Rattle.first_pass_tree.specs.Forest.{Forest, IsForest, with_body_at, body_at, appended, pushed}
 use Rattle.first_pass_scan.specs.Rest.{Rest}
 use Rattle.first_pass_scan.specs.Places.{Place, offset, start_of}
 use Rattle.first_pass_grammar.specs.declared.kind.Container.{Container}
 use Rattle.first_pass_grammar.specs.declared.kind.Container.TheVariants.{BlockQuote, ListItem}
-use Rattle.first_pass_grammar.specs.Containers.{at_rest, prefix, after}
+use Rattle.first_pass_grammar.specs.Containers.{at_rest, prefix}
 use Rattle.first_pass_grammar.specs.Kinds.{is_blank_rest, quote_inside, quote_start, item_at}
 use Rattle.first_pass_grammar.specs.Leaves.{Document}
-use Rattle.first_pass_grammar.specs.Skeleton.{Head, QuoteMarker, ItemMarker, From, Line, Inside, Blanks, Opening, OpensLeaf, OpensNode, next_is_blank, item_head, item_opening, quote_head, OpensFrom, Opens}
+use Rattle.first_pass_grammar.specs.Skeleton.{From, Line, Inside, Blanks, Opening, OpensNode, next_is_blank, item_head, item_opening, quote_head, OpensFrom, Opens}
 use Rattle.first_pass_grammar.specs.Derivation.{node_of, list_flags}
-use Rattle.first_pass_grammar.specs.Completion.{Frame, InContainer, InList, containers_of, AreBelow, IsPlain, Completes}
-use Rattle.first_pass_grammar.proofs.Completions.{OpensAway, OpensBlock, completes-quote, completes-list, completes-item, completes-reflag_list}
+use Rattle.first_pass_grammar.specs.Completion.{Frame, InContainer, InList, containers_of, AreBelow, Completes}
+use Rattle.first_pass_grammar.proofs.Completions.{completes-quote, completes-list, completes-item, completes-reflag_list}
 use Rattle.first_pass.specs.Closing.{Reading, loosened_by, loosened_at, top_body, is_list_of, item_finished_by, item_finished, list_finished, loosened_top, list_kept, begun, list_continued, emptied}
-use Rattle.first_pass.specs.Path.{container_of, container_at, with_container, path_in, path_of}
-use Rattle.first_pass.specs.State.{list_frame, frame_of, frame_at, AreOpen, ReadyAt, ReadyBeforeLine, ReadyInItem, ReadyEmpty, ReadyWith, Ready}
+use Rattle.first_pass.specs.Path.{container_of, with_container, path_in, path_of}
+use Rattle.first_pass.specs.State.{frame_of, AreOpen, ReadyAt, ReadyBeforeLine, ReadyInItem, ReadyEmpty, Ready}
 use Rattle.first_pass.proofs.PathLemmas.{get_front}
 use Rattle.first_pass.proofs.EnterLemmas.{path_below}
-use Rattle.first_pass.proofs.OpenLemmas.{open_path, open_below, frame-append, get_end, body-other, body-changed}
+use Rattle.first_pass.proofs.OpenLemmas.{open_path, open_below, frame-append, get_end, body-other}
 use Rattle.first_pass.proofs.ListLemmas.{open_flags}
-use Rattle.first_pass.proofs.FinishLemmas.{ReadyPlain, EndsListAt, Finished, ready_finished, loose_is, loose_frame, loosened_spine, loosened_paths}
+use Rattle.first_pass.proofs.FinishLemmas.{EndsListAt, ready_finished, loose_is, loose_frame, loosened_spine}
 
 or_false : (a : Bool) → (a || false) ≡ a
 or_false true = refl
@@ -143,8 +143,7 @@ module _ (d : Document) (r : Reading) (p : Place) (lines : List Place) (byte num
       let named : g ≡ now = ap (loosened_by r.tree ix) body in
       let outer : AreOpen g.nodes rest frames =
       subst (λ (z : Forest Item). AreOpen z.nodes rest frames) (sym named)
-      (open_below r.tree.nodes now.nodes ix.0 rest frames (λ i h. ap (option_and_then frame_of) (body-other r.tree.nodes ix.0 i (λ x. record { start = x.start; «end» = x.«end»; body = ListBody (list_flags false) list n }) h)) k.below.1 o.1) in
-      (
+      (open_below r.tree.nodes now.nodes ix.0 rest frames (λ i h. ap (option_and_then frame_of) (body-other r.tree.nodes ix.0 i (λ x. record { start = x.start; «end» = x.«end»; body = ListBody (list_flags false) list n }) h)) k.below.1 o.1) in (
         (loose_frame r.tree ix flags list n b loose body o.0, outer),
         subst (λ z. Completes d true (InList b loose ∷ frames) z (ix.0 ∷ map (λ i. i.0) rest) (Inside p) lines) (sym nodes) (completes-reflag_list d true b loose true frames r.tree.nodes ix.0 (map (λ i. i.0) rest) (Inside p) lines k),
         loosened_spine r.tree ix (body_at r.tree.nodes ix.0) ∙ spine,
@@ -193,8 +192,7 @@ module _ (d : Document) (r : Reading) (p : Place) (lines : List Place) (byte num
       let kept = kept_by r.blank refl ix rest flags list n spine is in
       let equal : list ≡ byte = grind (arith, nat_tests, same) in
       let f : Forest Item = if r.blank then loosened_at r.tree ix else r.tree in
-      let done = item_by r.blank ix rest flags list n ready.frames spine is equal (subst (λ z. AreOpen r.tree.nodes z ready.frames) spine ready.are_open) (subst (λ z. Completes d r.blank ready.frames r.tree.nodes (map (λ (i : TreeIndex). i.0) z) (Inside p) lines) spine ready.completes) in
-      (
+      let done = item_by r.blank ix rest flags list n ready.frames spine is equal (subst (λ z. AreOpen r.tree.nodes z ready.frames) spine ready.are_open) (subst (λ z. Completes d r.blank ready.frames r.tree.nodes (map (λ (i : TreeIndex). i.0) z) (Inside p) lines) spine ready.completes) in (
         subst (λ (z : Forest Item). ReadyAt d (pushed (appended z (node_of (offset p) 0 (ListItemBody columns))) (record { 0 = length z.nodes })) false inside lines) (sym kept.0) done.0,
         subst (λ (z : Forest Item). path_of (pushed (appended z (node_of (offset p) 0 (ListItemBody columns))) (record { 0 = length z.nodes })) ≡ ListItem columns ∷ path_of r.tree) (sym kept.0) done.1,
         kept.1,

@@ -1,29 +1,25 @@
 -- One open node closed, over what the nodes can still become.
-use Rattle.std.proofs.Common.{◌≡◌, ℕ, zero, suc, ◌+◌, ◌-◌, ◌<◌, ◌≤◌, ◌==◌, nat_le, Bool, true, false, not, ◌||◌, List, [], ◌∷◌, ◌++◌, length, map, slice_get, Option, Some, None, is_some, refl, sym, ap, subst, ◌∙◌, arith, if◌then◌else◌}
+use Rattle.std.proofs.Common.{◌≡◌, ℕ, suc, ◌==◌, Bool, true, false, not, List, [], ◌∷◌, length, map, Some, None, refl, sym, ap, subst, ◌∙◌, if◌then◌else◌}
 use Rattle.std.proofs.lemmas.List.{length-map}
 use Rattle.std.specs.Int.RustNames.{bit_and}
-use Rattle.std.specs.Option.{option_map, option_and_then}
+use Rattle.std.specs.Option.{option_and_then}
 use Rattle.first_pass_items.specs.declared.item.Item.{Item}
-use Rattle.first_pass_items.specs.declared.item.ItemBody.{ItemBody}
-use Rattle.first_pass_items.specs.declared.item.ItemBody.TheVariants.{BlockQuote as BlockQuoteBody, List as ListBody, ListItem as ListItemBody}
+use Rattle.first_pass_items.specs.declared.item.ItemBody.TheVariants.{List as ListBody}
 use Rattle.first_pass_items.specs.declared.item.ListFlags.{ListFlags}
 use Rattle.first_pass_tree.specs.declared.tree_index.TreeIndex.{TreeIndex}
-use Rattle.first_pass_tree.specs.Forest.{Forest, IsForest, modify, map_from, body_at}
-use Rattle.first_pass_scan.specs.Rest.{Rest, indent, after_columns}
+use Rattle.first_pass_tree.specs.Forest.{Forest, IsForest, body_at}
 use Rattle.first_pass_scan.specs.Places.{Place, start_of}
 use Rattle.first_pass_grammar.specs.declared.kind.Container.{Container}
-use Rattle.first_pass_grammar.specs.declared.kind.Container.TheVariants.{BlockQuote, ListItem}
-use Rattle.first_pass_grammar.specs.Containers.{has_columns, prefix, after, goes_on, next_goes_on}
 use Rattle.first_pass_grammar.specs.Leaves.{Document}
-use Rattle.first_pass_grammar.specs.Skeleton.{From, Line, Inside, Blanks, next_is_blank, Ends, end_before, Opening, Opens}
-use Rattle.first_pass_grammar.specs.Derivation.{list_flags, tight_body, tightened}
-use Rattle.first_pass_grammar.specs.Completion.{ended, flagged, list_closed, Frame, InContainer, InList, containers_of, AreBelow, IsPlain, Completes}
+use Rattle.first_pass_grammar.specs.Skeleton.{From, Line, Inside, Ends, end_before, Opening, Opens}
+use Rattle.first_pass_grammar.specs.Derivation.{list_flags}
+use Rattle.first_pass_grammar.specs.Completion.{ended, list_closed, Frame, InContainer, InList, containers_of, AreBelow, IsPlain, Completes}
 use Rattle.first_pass_grammar.proofs.Completions.{OpensAway, completes-pop, completes-pop_list, completes-close}
 use Rattle.first_pass.specs.Appends.{closed_by}
-use Rattle.first_pass.specs.Closing.{Reading, tight_items, popped_by, popped_at, popped}
-use Rattle.first_pass.specs.Path.{container_of, container_at, with_container, path_in, path_of}
-use Rattle.first_pass.specs.State.{list_frame, frame_of, frame_at, AreOpen, ReadyAt, ReadyInItem, ReadyEmpty, ReadyWith, Ready}
-use Rattle.first_pass.proofs.OpenLemmas.{open_path, open_below, body-kept, frame-closed, frame-ended}
+use Rattle.first_pass.specs.Closing.{tight_items}
+use Rattle.first_pass.specs.Path.{path_in}
+use Rattle.first_pass.specs.State.{frame_of, frame_at, AreOpen, ReadyAt}
+use Rattle.first_pass.proofs.OpenLemmas.{open_path, open_below, frame-closed, frame-ended}
 use Rattle.first_pass.proofs.ListLemmas.{tight_closed, loose_closed, open_flags}
 
 -- a list closed, its depth from its open nodes

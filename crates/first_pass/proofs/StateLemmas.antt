@@ -1,32 +1,32 @@
 -- The tree between two blocks, over what its nodes can still become: open nodes closed before the next line.
-use Rattle.std.proofs.Common.{◌≡◌, ℕ, zero, suc, ◌+◌, ◌-◌, ◌<◌, ◌≤◌, ◌==◌, nat_le, nat_lt, Bool, true, false, not, ◌||◌, List, [], ◌∷◌, ◌++◌, length, map, slice_get, drop, Option, Some, None, IsSome, is_some, refl, sym, ap, subst, ◌∙◌, arith, if◌then◌else◌}
+use Rattle.std.proofs.Common.{◌≡◌, ℕ, zero, suc, ◌+◌, ◌-◌, ◌<◌, ◌≤◌, ◌==◌, nat_le, nat_lt, Bool, true, false, List, [], ◌∷◌, length, map, slice_get, drop, Option, Some, None, IsSome, is_some, refl, sym, ap, subst, ◌∙◌, arith, if◌then◌else◌}
 use Rattle.std.proofs.lemmas.Bool.Decides.{nat_tests}
 use Rattle.std.specs.Int.RustNames.{bit_and}
-use Rattle.std.specs.Option.{option_map, option_and_then}
+use Rattle.std.specs.Option.{option_and_then}
 use Rattle.first_pass_items.specs.declared.item.Item.{Item}
 use Rattle.first_pass_items.specs.declared.item.ItemBody.{ItemBody}
 use Rattle.first_pass_items.specs.declared.item.ItemBody.TheVariants.{Paragraph as ParagraphBody, BlockQuote as BlockQuoteBody, List as ListBody, ListItem as ListItemBody}
 use Rattle.first_pass_items.specs.declared.option_set.Options.{Options}
 use Rattle.first_pass_tree.specs.declared.tree_index.TreeIndex.{TreeIndex}
-use Rattle.first_pass_tree.specs.Forest.{Forest, IsForest, empty_forest, with_end_at, modify, map_from, body_at}
-use Rattle.first_pass_scan.specs.Rest.{Rest, indent, after_columns}
+use Rattle.first_pass_tree.specs.Forest.{Forest, IsForest, empty_forest, with_end_at, body_at}
+use Rattle.first_pass_scan.specs.Rest.{Rest, indent}
 use Rattle.first_pass_scan.specs.Places.{Place, start_of}
 use Rattle.first_pass_grammar.specs.declared.kind.Container.{Container}
 use Rattle.first_pass_grammar.specs.declared.kind.Container.TheVariants.{BlockQuote, ListItem}
 use Rattle.first_pass_grammar.specs.Containers.{prefix, after, next_goes_on}
 use Rattle.first_pass_grammar.specs.Leaves.{Document, document}
-use Rattle.first_pass_grammar.specs.Skeleton.{From, Line, Inside, Blanks, is_blank_behind, next_is_blank, Ends, end_before}
+use Rattle.first_pass_grammar.specs.Skeleton.{Line, Blanks, is_blank_behind, next_is_blank, Ends, end_before}
 use Rattle.first_pass_grammar.specs.Derivation.{Derives, tight_body, tightened}
-use Rattle.first_pass_grammar.specs.Completion.{lines_from, Frame, InContainer, InList, Completes}
+use Rattle.first_pass_grammar.specs.Completion.{lines_from, Frame, Completes}
 use Rattle.first_pass_grammar.proofs.Completions.{completes-first, completes-end}
 use Rattle.first_pass.specs.Appends.{closed_by}
-use Rattle.first_pass.specs.Closing.{Reading, remembered, tight_run, tight_at, tight_items, popped_by, popped_at, popped, emptied}
+use Rattle.first_pass.specs.Closing.{Reading, remembered, tight_run, tight_at, tight_items, popped_by, popped_at, popped}
 use Rattle.first_pass.specs.Path.{container_of, container_at, with_container, path_in, path_of, outer}
-use Rattle.first_pass.specs.State.{frame_of, frame_at, AreOpen, ReadyAt, ReadyBeforeLine, ReadyInItem, ReadyEmpty, ReadyWith, NoMore, Ready}
+use Rattle.first_pass.specs.State.{frame_of, frame_at, AreOpen, ReadyAt, ReadyBeforeLine, ReadyInItem, ReadyWith, NoMore, Ready}
 use Rattle.first_pass.specs.TableEntries.{no_tables}
 use Rattle.first_pass.proofs.FrontLemmas.{outer-all}
 use Rattle.first_pass.proofs.OpenLemmas.{body-kept}
-use Rattle.first_pass.proofs.PopLemmas.{pop_container, pop_list, list_popped}
+use Rattle.first_pass.proofs.PopLemmas.{pop_container, pop_list}
 
 -- before the first block
 pub ready_first : (text : List ℕ) (options : Options) (tree : Forest Item) (root : TreeIndex) → root.0 ≡ 0 → tree ≡ with_end_at empty_forest root (length text) → Ready (document text options) (remembered tree None false) (lines_from text 0)

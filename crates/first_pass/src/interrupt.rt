@@ -28,7 +28,8 @@ fn interrupts_as_item(bytes: &[u8], current_container: bool) -> bool
         None => false,
         Some((width, byte, number, _)) => {
             !current_container
-                || (is_bullet(byte) || number == 1) && scan_blank_line(rest_of(bytes, width)).is_none()
+                || (is_bullet(byte) || number == 1)
+                    && scan_blank_line(rest_of(bytes, width)).is_none()
         }
     }
 }
@@ -55,11 +56,13 @@ pub fn scan_paragraph_interrupt_no_table(
     ensures { IfOk result (λ yes. yes ≡ interrupts_with current_container text.now) }
 {
     let bytes = text.as_bytes();
-    Ok(scan_eol(bytes).is_some()
-        || scan_hrule(bytes).is_some()
-        || scan_atx_heading(bytes).is_some()
-        || begins(b'>', bytes)
-        || interrupts_as_item(bytes, current_container))
+    Ok(
+        scan_eol(bytes).is_some()
+            || scan_hrule(bytes).is_some()
+            || scan_atx_heading(bytes).is_some()
+            || begins(b'>', bytes)
+            || interrupts_as_item(bytes, current_container),
+    )
 }
 
 // Whether the line that begins at `start` goes on with all open containers; the columns of indentation, but

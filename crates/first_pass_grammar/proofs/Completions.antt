@@ -1,7 +1,6 @@
 -- Each step of reading a text, over what the nodes so far can still become.
-use Rattle.std.proofs.Common.{◌≡◌, ℕ, zero, suc, ◌+◌, ◌<◌, ◌≤◌, Bool, true, false, not, ◌||◌, ◌&&◌, ◌==◌, eqb, List, [], ◌∷◌, ◌++◌, length, map, Option, Some, None, refl, sym, ap, ◌∙◌, subst, arith, append_assoc, length-append, if◌then◌else◌}
+use Rattle.std.proofs.Common.{◌≡◌, ℕ, zero, suc, ◌+◌, ◌<◌, ◌≤◌, Bool, true, false, not, ◌||◌, ◌==◌, List, [], ◌∷◌, ◌++◌, length, map, Option, Some, None, refl, sym, ap, ◌∙◌, subst, arith, append_assoc, length-append, if◌then◌else◌}
 use Rattle.std.proofs.lemmas.List.{append-nil}
-use Rattle.std.specs.Option.{option_map}
 use Rattle.first_pass_items.specs.declared.item.Item.{Item}
 use Rattle.first_pass_items.specs.declared.item.ItemBody.{ItemBody}
 use Rattle.first_pass_items.specs.declared.item.ListFlags.{ListFlags}
@@ -12,10 +11,10 @@ use Rattle.first_pass_tree.proofs.Blocks.{modify-at}
 use Rattle.first_pass_scan.specs.Places.{Place, lines_at, start_of}
 use Rattle.first_pass_grammar.specs.declared.kind.Container.{Container}
 use Rattle.first_pass_grammar.specs.declared.kind.Container.TheVariants.{BlockQuote, ListItem}
-use Rattle.first_pass_grammar.specs.Containers.{at_rest, after, taken}
+use Rattle.first_pass_grammar.specs.Containers.{taken}
 use Rattle.first_pass_grammar.specs.Leaves.{Document}
-use Rattle.first_pass_grammar.specs.Skeleton.{Leaf, BlankLine, Block, Head, Opener, QuoteMarker, ItemMarker, opened, From, Line, Inside, Blanks, Opening, OpensLeaf, OpensNode, Opens, Skeleton, Nil, Then, Node, Begins, Ends, behind_first, end_before, IsLeafHere, IsNodeHere, IsSequence}
-use Rattle.first_pass_grammar.specs.Lists.{list_byte, joins, counts_with, run_behind, has_gap, list_end, is_loosened}
+use Rattle.first_pass_grammar.specs.Skeleton.{Leaf, BlankLine, Block, Head, Opener, QuoteMarker, ItemMarker, From, Line, Inside, Blanks, Opening, OpensLeaf, OpensNode, Opens, Skeleton, Nil, Then, Node, Begins, Ends, end_before, IsLeafHere, IsNodeHere, IsSequence}
+use Rattle.first_pass_grammar.specs.Lists.{joins, counts_with, run_behind, has_gap, list_end, is_loosened}
 use Rattle.first_pass_grammar.specs.Derivation.{Tables, Derives, forest_of, container_items, leaf_items, node_of, tables_of, root_of, list_flags, tight_body, tightened}
 use Rattle.first_pass_grammar.specs.Completion.{ended, flagged, reflagged, list_closed, Pending, NoList, OneList, byte_in, rendered, Frame, InContainer, InList, containers_of, is_quote, loosened, loosened_in, Finish, AreBelow, IsPlain, IsShaped, Completes}
 use Rattle.first_pass_grammar.proofs.Tightening.{eqb-same, modify-append, length-modify, list_closed-append, length-closed, list_closed-mid, closed_item}
@@ -546,12 +545,16 @@ unfolding Finish
 pop_list_step d [] byte loose run nodes o [] lines forest tables plain ends (s, seq, is, tables_are) =
     let n : ℕ = length d.text in
     let over = ends_at_once d s [] Line lines [] ends seq in
-    let last : start_of n lines ≡ n = ap (start_of n) (sym over.1) in
-    (s, seq, is
-    ∙ ap (λ z. rendered 1 n (list_closed nodes o 3 loose z) NoList run s) last
-    ∙ ap (λ z. rendered 1 n (list_closed nodes o 3 loose n) NoList run z) over.0
-    ∙ closed_at_end 1 n nodes o byte loose run
-    ∙ ap (λ z. rendered 1 n nodes (OneList o byte loose) run z) (sym over.0), tables_are)
+    let last : start_of n lines ≡ n = ap (start_of n) (sym over.1) in (
+      s,
+      seq,
+      is
+          ∙ ap (λ z. rendered 1 n (list_closed nodes o 3 loose z) NoList run s) last
+          ∙ ap (λ z. rendered 1 n (list_closed nodes o 3 loose n) NoList run z) over.0
+          ∙ closed_at_end 1 n nodes o byte loose run
+          ∙ ap (λ z. rendered 1 n nodes (OneList o byte loose) run z) (sym over.0),
+      tables_are,
+    )
 pop_list_step d [] byte loose run nodes o (x ∷ os) lines forest tables plain ends fin = fin
 pop_list_step d (InContainer c ∷ frames) byte loose run nodes o [] lines forest tables plain ends fin = fin
 pop_list_step d (InList b l ∷ frames) byte loose run nodes o os lines forest tables plain ends fin = absurd plain
@@ -659,9 +662,13 @@ reflag_outer d c frames byte loose run l nodes x o os from lines forest tables p
     let e : ℕ = end_before (length d.text) (containers_of frames) from mid in
     let items : List (ℕ × Item) = forest_of k e false None s in
     let run' : Bool = run_behind (is_quote c) None run s in
-    let loose' : Bool = loose || has_gap (is_quote c) None run s in
-    (s, mid, seq, reflag_list d frames byte loose' run' l (ended (nodes ++ items) x e) o os Line mid forest tables plain
-    (subst (λ z. Finish d (OneList o byte loose') run' frames z os Line mid forest tables) (ended-reflagged nodes items o x e l below) fin))
+    let loose' : Bool = loose || has_gap (is_quote c) None run s in (
+      s,
+      mid,
+      seq,
+      reflag_list d frames byte loose' run' l (ended (nodes ++ items) x e) o os Line mid forest tables plain
+          (subst (λ z. Finish d (OneList o byte loose') run' frames z os Line mid forest tables) (ended-reflagged nodes items o x e l below) fin),
+    )
 
 -- before the first line
 pub completes-first : (d : Document) → Completes d false [] (root_of (length d.text) ∷ []) [] Line (lines_at 0 d.text)

@@ -1,5 +1,5 @@
 -- The tree that the grammar derives from a text, and what the text defines.
-use Rattle.std.specs.Prelude.{◌≡◌, ℕ, suc, ◌==◌, ◌||◌, not, Bool, true, false, Option, Some, None, List, [], ◌∷◌, ◌++◌, length, map, if◌then◌else◌}
+use Rattle.std.specs.Prelude.{◌≡◌, ℕ, suc, ◌==◌, ◌||◌, not, Bool, false, Option, Some, None, List, [], ◌∷◌, ◌++◌, length, map, if◌then◌else◌}
 use Rattle.first_pass_items.specs.declared.item.Item.{Item}
 use Rattle.first_pass_items.specs.declared.item.ItemBody.{ItemBody}
 use Rattle.first_pass_items.specs.declared.item.ItemBody.TheVariants.{Root, Paragraph, TightParagraph, BlockQuote as BlockQuoteBody, List as ListBody, ListItem as ListItemBody}
@@ -7,7 +7,7 @@ use Rattle.first_pass_items.specs.declared.item.ListFlags.{ListFlags}
 use Rattle.first_pass_tree.specs.Forest.{at_depth}
 use Rattle.first_pass_scan.specs.Places.{lines_at}
 use Rattle.first_pass_grammar.specs.Leaves.{Document}
-use Rattle.first_pass_grammar.specs.Skeleton.{Leaf, BlankLine, Block, Opener, QuoteMarker, ItemMarker, Head, Line, Skeleton, Nil, Then, Node, IsSequence}
+use Rattle.first_pass_grammar.specs.Skeleton.{Leaf, BlankLine, Block, Opener, QuoteMarker, ItemMarker, Line, Skeleton, Nil, Then, Node, IsSequence}
 use Rattle.first_pass_grammar.specs.Lists.{list_end, is_loosened, has_gap, run_behind}
 
 abbrev pub node_of : ℕ → ℕ → ItemBody → Item

@@ -1,6 +1,6 @@
 -- Lists, read off the items that follow each other (CommonMark 5.3).
 use Rattle.std.specs.Prelude.{ℕ, ◌==◌, ◌&&◌, ◌||◌, not, Bool, true, false, Option, Some, None, if◌then◌else◌}
-use Rattle.first_pass_grammar.specs.Skeleton.{Leaf, BlankLine, Block, Opener, QuoteMarker, ItemMarker, Skeleton, Nil, Then, Node}
+use Rattle.first_pass_grammar.specs.Skeleton.{BlankLine, Block, Opener, QuoteMarker, ItemMarker, Skeleton, Nil, Then, Node}
 
 -- the byte of the list that an item begins or goes on with (CommonMark 5.3)
 abbrev pub list_byte : Opener → Option ℕ

@@ -1,9 +1,8 @@
-use Rattle.std.proofs.Common.{◌≡◌, ◌<◌, ◌≤◌, length, [], refl, sym, ap, ◌∙◌, subst}
+use Rattle.std.proofs.Common.{◌≡◌, [], refl, sym, ap, ◌∙◌, subst}
 use Rattle.std.proofs.lemmas.Str.{IsCharBoundary-start}
 use Rattle.first_pass_scan.proofs.LineFacts.{lines_at-end}
 use Rattle.first_pass_grammar.specs.Leaves.{document}
 use Rattle.first_pass_grammar.specs.Derivation.{Derives}
-use Rattle.first_pass_grammar.specs.Completion.{lines_from}
 use Rattle.first_pass.specs.Closing.{remembered}
 use Rattle.first_pass.specs.State.{Ready}
 use Rattle.first_pass.specs.TableEntries.{tables}

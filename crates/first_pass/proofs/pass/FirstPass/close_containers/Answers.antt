@@ -1,5 +1,4 @@
-use Rattle.std.proofs.Common.{refl, sym, ap, ◌∙◌, arith}
-use Rattle.first_pass.specs.Path.{outer}
+use Rattle.std.proofs.Common.{refl, ◌∙◌, arith}
 use Rattle.first_pass.specs.Closing.{remembered}
 use Rattle.first_pass.proofs.StateLemmas.{closed_none, closed_one}
 use Rattle.first_pass.proofs.pass.FirstPass.close_containers.Goals as goal

@@ -1,13 +1,12 @@
 use Rattle.std.proofs.Common.{◌+◌, drop, is_some, sym, ap, subst, ◌∙◌}
 use Rattle.first_pass_scan.specs.Lines.{blank_len, line_len}
-use Rattle.first_pass_scan.specs.Rest.{Rest}
 use Rattle.first_pass_scan.specs.Places.{line_rest, place_at}
 use Rattle.first_pass_grammar.specs.Leaves.{document}
 use Rattle.first_pass_grammar.specs.Skeleton.{Inside}
 use Rattle.first_pass_grammar.specs.Completion.{lines_from}
 use Rattle.first_pass.specs.Closing.{Reading, remembered}
 use Rattle.first_pass.specs.State.{Ready, ReadyAt}
-use Rattle.first_pass.proofs.LineLemmas.{IsAtLine, at_line, blank_line_read, line_entered, finished_none, line_kept}
+use Rattle.first_pass.proofs.LineLemmas.{at_line, blank_line_read, line_entered, finished_none, line_kept}
 use Rattle.first_pass.proofs.pass.FirstPass.enter_line.Goals as goal
 
 pub returns-then-is_some-clause-ready : goal.returns-then-is_some-clause-ready
@@ -31,7 +30,7 @@ returns-clause-ready c =
     line c.requires.within c.close_containers.ensures.spine c.close_containers.ensures.paths c.close_containers.ensures.ready c.scan_containers-kept.ensures.taken c.scan_containers-kept.ensures.stops in
     let blank = ap (λ bs. is_some (blank_len bs)) (sym c.left.ensures) ∙ ap is_some (sym c.scan_blank_line.ensures.value) ∙ sym c.is_some.ensures ∙ c.if-is_some.false in
     λ ready. subst (λ (q : Reading). ReadyAt d q.tree q.blank (Inside (place_at c.args.start_ix c.scan_containers-kept.new.line_start)) (lines_from self.text.now (c.args.start_ix + line_len (drop c.args.start_ix self.text.now))))
-        (sym c.finish_empty_list_item.ensures.reading) (line_entered d _ closed c.args.start_ix _ at blank ready)
+    (sym c.finish_empty_list_item.ensures.reading) (line_entered d _ closed c.args.start_ix _ at blank ready)
 
 pub returns-clause-place : goal.returns-clause-place
 returns-clause-place c =

@@ -1,8 +1,8 @@
-use Rattle.std.proofs.Common.{◌≡◌, ℕ, ◌+◌, ◌<◌, ◌≤◌, length, drop, Some, None, true, false, is_some, not, refl, sym, ap, subst, ◌∙◌, arith}
-use Rattle.first_pass_items.specs.declared.item.ItemBody.TheVariants.{BlockQuote as BlockQuoteBody, ListItem as ListItemBody}
+use Rattle.std.proofs.Common.{◌≡◌, ℕ, ◌+◌, length, drop, Some, None, true, false, is_some, not, sym, ap, subst, ◌∙◌, arith}
+use Rattle.first_pass_items.specs.declared.item.ItemBody.TheVariants.{BlockQuote as BlockQuoteBody}
 use Rattle.first_pass_scan.specs.Lines.{blank_len, line_len}
 use Rattle.first_pass_scan.specs.Rest.{Rest, after_columns}
-use Rattle.first_pass_scan.specs.Places.{Place, place_at, offset, line_end, start_of, IsPlaceOf}
+use Rattle.first_pass_scan.specs.Places.{place_at, offset, line_end, start_of}
 use Rattle.first_pass_scan.proofs.PlaceFacts.{start_of-lines}
 use Rattle.first_pass_grammar.specs.declared.kind.Container.TheVariants.{BlockQuote}
 use Rattle.first_pass_grammar.specs.Containers.{prefix}
@@ -12,7 +12,7 @@ use Rattle.first_pass_grammar.specs.Skeleton.{Inside}
 use Rattle.first_pass_grammar.specs.Completion.{lines_from}
 use Rattle.first_pass.specs.Closing.{Reading, remembered, begun, list_finished}
 use Rattle.first_pass.specs.State.{Ready, ReadyAt}
-use Rattle.first_pass.proofs.PlaceLemmas.{item_found, item_absent, item_keeps, item_shorter, quote_taken, quote_absent, prefix_keeps, quote_prefix_shorter, place_end, read_end}
+use Rattle.first_pass.proofs.PlaceLemmas.{item_found, item_absent, item_keeps, item_shorter, quote_taken, prefix_keeps, quote_prefix_shorter, place_end, read_end}
 use Rattle.first_pass.proofs.LineLemmas.{list_finished_none, list_continued_none}
 use Rattle.first_pass.proofs.OpenerLemmas.{item_opened, ready_item, ready_empty_item, ready_quote}
 use Rattle.first_pass.proofs.pass.FirstPass.open_container.Goals as goal

@@ -1,7 +1,6 @@
-use Rattle.std.proofs.Common.{◌≡◌, ◌+◌, ◌≤◌, length, drop, IsCharBoundary, None, sym, ap, subst, ◌∙◌, arith}
+use Rattle.std.proofs.Common.{◌≡◌, ◌+◌, length, drop, IsCharBoundary, None, sym, ap, subst, ◌∙◌, arith}
 use Rattle.first_pass_scan.specs.Lines.{atx_level}
-use Rattle.first_pass_scan.specs.Places.{place_at, offset, line_end}
-use Rattle.first_pass_grammar.specs.Kinds.{unindented}
+use Rattle.first_pass_scan.specs.Places.{place_at, line_end}
 use Rattle.first_pass_tree.specs.Forest.{added}
 use Rattle.first_pass_grammar.specs.Leaves.{document, rule_block}
 use Rattle.first_pass_grammar.specs.Completion.{lines_from}
