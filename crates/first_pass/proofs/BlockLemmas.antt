@@ -7,7 +7,8 @@ use Rattle.first_pass_tree.specs.declared.tree_index.TreeIndex.{TreeIndex}
 use Rattle.first_pass_tree.specs.Forest.{Forest, IsForest, IsOpenPath, depths, appended, pushed, popped, added, block_of, at_depth, modified, with_body_at}
 use Rattle.first_pass_tokens.specs.TreeTokens.{chained, leaves}
 use Rattle.first_pass_tokens.proofs.ChainLemmas.{chained-spine, chained-append, closed-chained, modified-modified}
-use Rattle.first_pass.specs.Appends.{with_child, closed_by, marker_items, IsJustPushed}
+use Rattle.first_pass_grammar.specs.Leaves.{marker_items}
+use Rattle.first_pass.specs.Appends.{with_child, closed_by, IsJustPushed}
 
 -- the node that was appended and opened
 pub opened_at : (g a : Forest Item) (x : Item) (ix : TreeIndex) → a ≡ appended g x → a.current ≡ Some ix → ix.0 ≡ length g.nodes

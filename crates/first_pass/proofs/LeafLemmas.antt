@@ -1,5 +1,5 @@
 -- A leaf block read at a place where no container begins.
-use Rattle.std.proofs.Common.{◌≡◌, ℕ, ◌+◌, nat_lt, Bool, true, false, List, [], ◌++◌, length, map, drop, Option, Some, None, is_some, refl, sym, ap, subst, ◌∙◌, arith, if◌then◌else◌}
+use Rattle.std.proofs.Common.{◌≡◌, ℕ, suc, ◌+◌, nat_lt, Bool, true, false, List, [], ◌++◌, length, map, drop, Option, Some, None, is_some, refl, sym, ap, subst, ◌∙◌, arith, if◌then◌else◌}
 use Rattle.std.specs.Option.{option_map}
 use Rattle.first_pass_items.specs.declared.item.Item.{Item}
 use Rattle.first_pass_items.specs.declared.item.ItemBody.{ItemBody}
@@ -18,14 +18,15 @@ use Rattle.first_pass_grammar.specs.declared.kind.Kind.{Kind}
 use Rattle.first_pass_grammar.specs.declared.kind.Kind.TheVariants.{Blank, ThematicBreak, AtxHeading, Paragraph}
 use Rattle.first_pass_grammar.specs.Containers.{at_rest, prefix}
 use Rattle.first_pass_grammar.specs.Kinds.{unindented, is_blank_rest, quote_inside, item_at, heading_or, rule_or, kind_of}
-use Rattle.first_pass_grammar.specs.Leaves.{Document, IsParagraph, IsHeading, heading_text_at, rule_block, heading_block, paragraph_block}
-use Rattle.first_pass_grammar.specs.Skeleton.{Block, Line, Inside, Opening, OpensLeaf, OpensAs, OpensFrom, Opens}
-use Rattle.first_pass_grammar.specs.Completion.{lines_from, Frame, containers_of, Completes}
-use Rattle.first_pass_grammar.proofs.Completions.{completes-block}
+use Rattle.first_pass_grammar.specs.Leaves.{Document, IsParagraph, IsHeading, heading_text_at, rule_block, heading_block, paragraph_block, marker_items}
+use Rattle.first_pass_grammar.specs.Skeleton.{Block, Line, Inside, Opening, OpensLeaf, OpensParagraph, OpensAs, OpensFrom, Opens}
+use Rattle.first_pass_grammar.specs.Completion.{lines_from, Frame, containers_of, AreBelow, Completes}
+use Rattle.first_pass_grammar.proofs.Completions.{completes-block, completes-text}
 use Rattle.first_pass.specs.Appends.{line_end_at, AddsParagraph, AddsHeading}
 use Rattle.first_pass.specs.Closing.{Reading, remembered, top_body, list_finished}
 use Rattle.first_pass.specs.Path.{path_of}
-use Rattle.first_pass.specs.State.{ReadyAt, Ready}
+use Rattle.first_pass.specs.State.{AreOpen, ReadyAt, Ready}
+use Rattle.first_pass.specs.Opening.{ReadyText}
 use Rattle.first_pass.proofs.OpenLemmas.{open_path, open_below, frame-append}
 use Rattle.first_pass.proofs.RuleLemmas.{rule_line}
 use Rattle.first_pass.proofs.StateLemmas.{ready_plain}
@@ -64,6 +65,17 @@ block_away None at items left = tt
 block_away (Some (ListBody flags list number)) at items left = refl
 block_away (Some b) at items left = tt
 
+-- the items of a block behind the nodes
+with_block : (d : Document) (f : Forest Item) (frames : List Frame) (items : List (ℕ × Item)) (left : List Place) → AreOpen f.nodes f.spine frames
+    → (let os : List ℕ = map (λ (i : TreeIndex). i.0) f.spine in AreBelow (length f.nodes) os → Completes d false frames (f.nodes ++ at_depth (suc (length os)) items) os Line left → ReadyAt d (added f items) false Line left)
+with_block d f frames items left o below k =
+    let os : List ℕ = map (λ (i : TreeIndex). i.0) f.spine in
+    record {
+      frames = frames;
+      are_open = open_below f.nodes (f.nodes ++ at_depth (length f.spine + 1) items) (length f.nodes) f.spine frames (λ i h. frame-append f.nodes (at_depth (length f.spine + 1) items) i h) below o;
+      completes = subst (λ z. Completes d false frames (f.nodes ++ at_depth z items) os Line left) (depth_of f.spine) k;
+    }
+
 -- a block is added once a new block has ended what it ends
 ready_added : (d : Document) (r : Reading) (new : Forest Item) (p : Place) (lines left : List Place) (at : ℕ) (items : List (ℕ × Item)) → IsForest r.tree → Opens d (path_of r.tree) p lines (OpensLeaf (Block at items) Line left)
     → new ≡ added (list_finished at r).tree items → r.empty_item ≡ None → ReadyAt d r.tree r.blank (Inside p) lines → Ready d (remembered new (list_finished at r).empty_item (list_finished at r).blank) left
@@ -75,11 +87,7 @@ ready_added d r new p lines left at items forest opens new_is none ready =
     let os : List ℕ = map (λ (i : TreeIndex). i.0) f.spine in
     let opens' : Opens d (containers_of frames) p lines opening = subst (λ z. Opens d z p lines opening) (sym done.path ∙ open_path f.nodes f.spine frames done.ready.0.are_open) opens in
     let k = completes-block d frames f.nodes os p lines left at items done.ready.1 opens' done.ready.0.completes in
-    let q : ReadyAt d (added f items) false Line left = record {
-      frames = frames;
-      are_open = open_below f.nodes (f.nodes ++ at_depth (length f.spine + 1) items) (length f.nodes) f.spine frames (λ i h. frame-append f.nodes (at_depth (length f.spine + 1) items) i h) done.ready.0.completes.below done.ready.0.are_open;
-      completes = subst (λ z. Completes d false frames (f.nodes ++ at_depth z items) os Line left) (depth_of f.spine) k;
-    } in
+    let q = with_block d f frames items left done.ready.0.are_open done.ready.0.completes.below k in
     ready_plain d (remembered new (list_finished at r).empty_item (list_finished at r).blank) left done.none
     (subst (λ t. ReadyAt d new t Line left) (sym done.blank) (subst (λ z. ReadyAt d z false Line left) (sym new_is) q))
 
@@ -102,29 +110,53 @@ ready_heading d r new p at next level forest no_item no_quote kind at_is place h
     ) in
     ready_added d r new p lines (lines_from d.text next) p.line block forest (no_container d (path_of r.tree) p lines (AtxHeading level) o no_item no_quote kind heading) h.tree_is none ready
 
+-- a paragraph that was added, behind a task list item marker or not, is what opens at its place
+opens_paragraph : (d : Document) (path : List Container) (old new : Forest Item) (p : Place) (at next : ℕ) (marker : Option Item) → path_of old ≡ path → at ≡ offset (unindented p) → IsPlaceOf d.text (unindented p) → (a : AddsParagraph d at marker old new next)
+    → OpensParagraph d path p (lines_from d.text (line_end p)) marker (OpensLeaf (Block at (paragraph_block at next (marker_items marker ++ a.chain))) Line (lines_from d.text next))
+unfolding OpensParagraph
+opens_paragraph d path old new p at next marker path_is at_is place a =
+    let lines : List Place = lines_from d.text (line_end p) in
+    let left : List Place = lines_from d.text next in
+    let chain : List Item = marker_items marker ++ a.chain in
+    let ends : start_of (length d.text) left ≡ next = start_of-lines d.text next a.boundary.0 in
+    let here : line_end_at d.text at ≡ line_end p = ap (line_end_at d.text) at_is ∙ line_end_of d.text p place in
+    let text : IsParagraph d path at [] (lines_from d.text (line_end_at d.text at)) a.chain left = subst (λ z. IsParagraph d z at [] (lines_from d.text (line_end_at d.text at)) a.chain left) path_is a.lines in
+    let whole : IsParagraph d path (offset (unindented p)) [] lines a.chain left =
+    subst (λ k. IsParagraph d path k [] lines a.chain left) at_is (subst (λ n. IsParagraph d path at [] (lines_from d.text n) a.chain left) here text) in (
+      a.chain,
+      left,
+      whole,
+      ap (λ k. OpensLeaf (Block k (paragraph_block k next chain)) Line left) at_is
+          ∙ ap (λ n. OpensLeaf (Block (offset (unindented p)) (paragraph_block (offset (unindented p)) n chain)) Line left) (sym ends),
+    )
+
 -- behind a paragraph
 pub ready_paragraph : (d : Document) (r : Reading) (new : Forest Item) (p : Place) (at next : ℕ) → IsForest r.tree → item_at p.rest ≡ None → prefix (BlockQuote None) p.rest ≡ None → kind_of p.rest ≡ Paragraph
     → at ≡ offset (unindented p) → IsPlaceOf d.text (unindented p) → AddsParagraph d at None (list_finished at r).tree new next → r.empty_item ≡ None
     → ReadyAt d r.tree r.blank (Inside p) (lines_from d.text (line_end p)) → Ready d (remembered new (list_finished at r).empty_item (list_finished at r).blank) (lines_from d.text next)
 unfolding OpensAs
 ready_paragraph d r new p at next forest no_item no_quote kind at_is place a none ready =
-    let path : path_of (list_finished at r).tree ≡ path_of r.tree = path_finished at r none in
     let lines : List Place = lines_from d.text (line_end p) in
     let block : List (ℕ × Item) = paragraph_block at next a.chain in
     let o : Opening = OpensLeaf (Block at block) Line (lines_from d.text next) in
-    let ends : start_of (length d.text) (lines_from d.text next) ≡ next = start_of-lines d.text next a.boundary.0 in
-    let here : line_end_at d.text at ≡ line_end p = ap (line_end_at d.text) at_is ∙ line_end_of d.text p place in
-    let text : IsParagraph d (path_of r.tree) at [] (lines_from d.text (line_end_at d.text at)) a.chain (lines_from d.text next) = subst (λ z. IsParagraph d z at [] (lines_from d.text (line_end_at d.text at)) a.chain (lines_from d.text next)) path a.lines in
-    let whole : IsParagraph d (path_of r.tree) (offset (unindented p)) [] lines a.chain (lines_from d.text next) =
-    subst (λ k. IsParagraph d (path_of r.tree) k [] lines a.chain (lines_from d.text next)) at_is (subst (λ n. IsParagraph d (path_of r.tree) at [] (lines_from d.text n) a.chain (lines_from d.text next)) here text) in
-    let paragraph : OpensAs d (path_of r.tree) p lines Paragraph o = (
-      a.chain,
-      lines_from d.text next,
-      whole,
-      ap (λ k. OpensLeaf (Block k (paragraph_block k next a.chain)) Line (lines_from d.text next)) at_is
-          ∙ ap (λ n. OpensLeaf (Block (offset (unindented p)) (paragraph_block (offset (unindented p)) n a.chain)) Line (lines_from d.text next)) (sym ends),
-    ) in
+    let paragraph : OpensAs d (path_of r.tree) p lines Paragraph o = opens_paragraph d (path_of r.tree) (list_finished at r).tree new p at next None (path_finished at r none) at_is place a in
     ready_added d r new p lines (lines_from d.text next) at block forest (no_container d (path_of r.tree) p lines Paragraph o no_item no_quote kind paragraph) a.tree_is none ready
+
+-- behind the paragraph of a task list item
+pub ready_text : (d : Document) (r : Reading) (new : Forest Item) (p : Place) (at next : ℕ) (marker : Item) → at ≡ offset (unindented p) → IsPlaceOf d.text (unindented p) → AddsParagraph d at (Some marker) r.tree new next → r.empty_item ≡ None
+    → ReadyText d r marker p (lines_from d.text (line_end p)) → Ready d (remembered new r.empty_item r.blank) (lines_from d.text next)
+ready_text d r new p at next marker at_is place a none text =
+    let ready = text.ready in
+    let f : Forest Item = r.tree in
+    let frames : List Frame = ready.frames in
+    let os : List ℕ = map (λ (i : TreeIndex). i.0) f.spine in
+    let lines : List Place = lines_from d.text (line_end p) in
+    let left : List Place = lines_from d.text next in
+    let block : List (ℕ × Item) = paragraph_block at next (marker_items (Some marker) ++ a.chain) in
+    let opens = opens_paragraph d (containers_of frames) f new p at next (Some marker) (open_path f.nodes f.spine frames ready.are_open) at_is place a in
+    let k = completes-text d frames f.nodes os marker p lines left at block text.plain opens ready.completes in
+    let q = with_block d f frames block left ready.are_open ready.completes.below k in
+    ready_plain d (remembered new r.empty_item r.blank) left none (subst (λ t. ReadyAt d new t Line left) (sym text.blank) (subst (λ z. ReadyAt d z false Line left) (sym a.tree_is) q))
 
 -- a heading's number signs stand behind its indentation
 heading_level : (o : Option HeadingLevel) (level : HeadingLevel) → heading_or o Paragraph ≡ AtxHeading level → o ≡ Some level

@@ -1,5 +1,5 @@
 -- A container opened at a place in a line: a block quote, or a list item in its list.
-use Rattle.std.proofs.Common.{◌≡◌, ℕ, suc, ◌+◌, ◌==◌, Bool, true, false, ◌||◌, List, [], ◌∷◌, ◌++◌, length, map, slice_get, Option, Some, None, refl, sym, ap, subst, ◌∙◌, arith, if◌then◌else◌, append_assoc, length-append}
+use Rattle.std.proofs.Common.{◌≡◌, ℕ, suc, ◌+◌, ◌<◌, ◌==◌, Bool, true, false, ◌||◌, List, [], ◌∷◌, ◌++◌, length, map, slice_get, Option, Some, None, refl, sym, ap, subst, ◌∙◌, arith, if◌then◌else◌, append_assoc, length-append}
 use Rattle.std.proofs.lemmas.List.{length-map}
 use Rattle.std.proofs.lemmas.Bool.Decides.{nat_tests}
 use Rattle.std.specs.Option.{option_map, option_and_then}
@@ -9,7 +9,7 @@ use Rattle.first_pass_items.specs.declared.item.ItemBody.TheVariants.{BlockQuote
 use Rattle.first_pass_items.specs.declared.item.ListFlags.{ListFlags}
 use Rattle.first_pass_tree.specs.declared.tree_index.TreeIndex.{TreeIndex}
 use Rattle.first_pass_tree.proofs.Blocks.{modify-at}
-use Rattle.first_pass_tree.specs.Forest.{Forest, IsForest, with_body_at, body_at, appended, pushed}
+use Rattle.first_pass_tree.specs.Forest.{Forest, IsForest, is_text, modify, with_body_at, body_at, appended, pushed}
 use Rattle.first_pass_scan.specs.Rest.{Rest}
 use Rattle.first_pass_scan.specs.Places.{Place, offset, start_of}
 use Rattle.first_pass_grammar.specs.declared.kind.Container.{Container}
@@ -17,12 +17,16 @@ use Rattle.first_pass_grammar.specs.declared.kind.Container.TheVariants.{BlockQu
 use Rattle.first_pass_grammar.specs.Containers.{at_rest, prefix}
 use Rattle.first_pass_grammar.specs.Kinds.{is_blank_rest, quote_inside, quote_start, item_at}
 use Rattle.first_pass_grammar.specs.Leaves.{Document}
-use Rattle.first_pass_grammar.specs.Skeleton.{From, Line, Inside, Blanks, Opening, OpensNode, next_is_blank, item_head, item_opening, quote_head, OpensFrom, Opens}
+use Rattle.first_pass_grammar.specs.Skeleton.{From, Line, Inside, Blanks, Opening, OpensNode, next_is_blank, item_head, task_behind, behind_task, task_alone, item_opening, quote_head, OpensFrom, Opens}
 use Rattle.first_pass_grammar.specs.Derivation.{node_of, list_flags}
-use Rattle.first_pass_grammar.specs.Completion.{Frame, InContainer, InList, containers_of, AreBelow, Completes}
-use Rattle.first_pass_grammar.proofs.Completions.{completes-quote, completes-list, completes-item, completes-reflag_list}
+use Rattle.first_pass_grammar.specs.Completion.{lines_from, Frame, InContainer, InList, containers_of, AreBelow, IsPlain, Completes}
+use Rattle.first_pass_grammar.proofs.Tightening.{modify-append, length-modify}
+use Rattle.first_pass_grammar.proofs.Completions.{AreBelow-more, completes-mark, completes-quote, completes-list, completes-item, completes-reflag_list}
+use Rattle.first_pass.specs.Appends.{with_child}
 use Rattle.first_pass.specs.Closing.{Reading, loosened_by, loosened_at, top_body, is_list_of, item_finished_by, item_finished, list_finished, loosened_top, list_kept, begun, list_continued, emptied}
 use Rattle.first_pass.specs.Path.{container_of, with_container, path_in, path_of}
+use Rattle.first_pass.specs.declared.containers.Opened.TheVariants.{Container as OneContainer}
+use Rattle.first_pass.specs.Opening.{IsOpenedAt, ReadyIn}
 use Rattle.first_pass.specs.State.{frame_of, AreOpen, ReadyAt, ReadyBeforeLine, ReadyInItem, ReadyEmpty, Ready}
 use Rattle.first_pass.proofs.PathLemmas.{get_front}
 use Rattle.first_pass.proofs.EnterLemmas.{path_below}
@@ -213,24 +217,38 @@ module _ (d : Document) (r : Reading) (p : Place) (lines : List Place) (byte num
       subst (λ q. ItemIsOpen (begun (offset p) (ListItemBody columns) (if is_list_of byte (top_body q.tree) then list_kept q else begun (offset p) (ListBody (list_flags true) byte number) (list_finished (offset p) q)))) (sym same)
       (item_is_open_by (is_list_of byte (top_body r.tree)) refl)
 
-opens_item : (d : Document) (path : List Container) (p : Place) (lines : List Place) (item : (ℕ × ℕ × ℕ) × Rest) → item_at p.rest ≡ Some item → Opens d path p lines (item_opening d path p lines item.0.0 item.0.1 item.0.2 item.1)
+opens_item : (d : Document) (path : List Container) (p : Place) (lines : List Place) (item : (ℕ × ℕ × ℕ) × Rest) → item_at p.rest ≡ Some item → Opens d path p lines (item_opening d path p lines item.0.0 item.0.1 item.0.2 (task_behind d.options p.line item.1))
 unfolding OpensFrom
-opens_item d path p lines item is = subst (λ o. OpensFrom d path p lines o (quote_inside p) (item_opening d path p lines item.0.0 item.0.1 item.0.2 item.1)) (sym is) refl
+opens_item d path p lines item is = subst (λ o. OpensFrom d path p lines o (quote_inside p) (item_opening d path p lines item.0.0 item.0.1 item.0.2 (task_behind d.options p.line item.1))) (sym is) refl
 
--- what the marker opens
-inside_by : (d : Document) (path : List Container) (p : Place) (lines : List Place) (item : (ℕ × ℕ × ℕ) × Rest) → is_blank_rest item.1 ≡ false
-    → item_opening d path p lines item.0.0 item.0.1 item.0.2 item.1 ≡ OpensNode (item_head p item.0.0 item.0.1 item.0.2) (Inside (at_rest p item.1)) lines
-inside_by d path p lines item h = rw h refl
+-- what the markers open
+inside_by : (d : Document) (path : List Container) (p : Place) (lines : List Place) (byte number columns : ℕ) (marker : Option Item) (rest : Rest) → is_blank_rest rest ≡ false
+    → item_opening d path p lines byte number columns (marker, rest) ≡ OpensNode (item_head p byte number columns) (behind_task marker (at_rest p rest)) lines
+inside_by d path p lines byte number columns marker rest h = rw h refl
 
--- an item with something behind its marker
-pub ready_item : (d : Document) (r : Reading) (p : Place) (lines : List Place) (item : (ℕ × ℕ × ℕ) × Rest) → IsForest r.tree → item_at p.rest ≡ Some item → is_blank_rest item.1 ≡ false → r.empty_item ≡ None → ReadyAt d r.tree r.blank (Inside p) lines
-    → (let q : Reading = item_opened (offset p) item.0.0 item.0.1 item.0.2 r in ReadyAt d q.tree q.blank (Inside (at_rest p item.1)) lines × (q.empty_item ≡ None))
-ready_item d r p lines item forest is some none ready =
-    let inside : Opening = OpensNode (item_head p item.0.0 item.0.1 item.0.2) (Inside (at_rest p item.1)) lines in
-    let opens : Opens d (path_of r.tree) p lines inside = subst (Opens d (path_of r.tree) p lines) (inside_by d (path_of r.tree) p lines item some) (opens_item d (path_of r.tree) p lines item is) in
-    let done = item_is_open d r p lines item.0.0 item.0.1 item.0.2 (Inside (at_rest p item.1)) forest opens none ready in
+item_body : (g : Forest Item) (start columns : ℕ) → body_at (g.nodes ++ (length g.spine + 1, node_of start 0 (ListItemBody columns)) ∷ []) (length g.nodes) ≡ Some (ListItemBody columns)
+item_body g start columns = get_end g.nodes (length g.spine + 1, node_of start 0 (ListItemBody columns)) [] (length g.nodes) refl
+
+-- an item that is innermost is no list
+in_item_plain : (nodes : List (ℕ × Item)) (ix : TreeIndex) (rest : List TreeIndex) (frames : List Frame) (columns : ℕ) → body_at nodes ix.0 ≡ Some (ListItemBody columns) → AreOpen nodes (ix ∷ rest) frames → IsPlain frames
+in_item_plain nodes ix rest [] columns body o = absurd o
+in_item_plain nodes ix rest (InContainer c ∷ frames) columns body o = tt
+in_item_plain nodes ix rest (InList byte loose ∷ frames) columns body o =
+    let e : Some (InContainer (ListItem columns)) ≡ Some (InList byte loose) = sym (ap (option_and_then frame_of) body) ∙ o.0 in cc
+
+-- an item with something behind its markers
+pub ready_item : (d : Document) (r : Reading) (p : Place) (lines : List Place) (item : (ℕ × ℕ × ℕ) × Rest) (marker : Option Item) (rest : Rest) → IsForest r.tree → item_at p.rest ≡ Some item → task_behind d.options p.line item.1 ≡ (marker, rest)
+    → is_blank_rest rest ≡ false → r.empty_item ≡ None → ReadyAt d r.tree r.blank (Inside p) lines
+    → (let q : Reading = item_opened (offset p) item.0.0 item.0.1 item.0.2 r in (q.blank ≡ false) × (now : ReadyAt d q.tree false (behind_task marker (at_rest p rest)) lines) × IsPlain now.frames)
+ready_item d r p lines item marker rest forest is task some none ready =
+    let from : From = behind_task marker (at_rest p rest) in
+    let inside : Opening = OpensNode (item_head p item.0.0 item.0.1 item.0.2) from lines in
+    let opens : Opens d (path_of r.tree) p lines inside =
+    subst (Opens d (path_of r.tree) p lines) (ap (item_opening d (path_of r.tree) p lines item.0.0 item.0.1 item.0.2) task ∙ inside_by d (path_of r.tree) p lines item.0.0 item.0.1 item.0.2 marker rest some) (opens_item d (path_of r.tree) p lines item is) in
+    let done = item_is_open d r p lines item.0.0 item.0.1 item.0.2 from forest opens none ready in
+    let g : Forest Item = (list_continued (offset p) item.0.0 item.0.1 r).tree in
     let q : Reading = item_opened (offset p) item.0.0 item.0.1 item.0.2 r in
-    (subst (λ t. ReadyAt d q.tree t (Inside (at_rest p item.1)) lines) (sym done.2) done.0, done.3)
+    (done.2, done.0, in_item_plain q.tree.nodes (record { 0 = length g.nodes }) g.spine done.0.frames item.0.2 (item_body g (offset p) item.0.2) done.0.are_open)
 
 emptied_opened : (g : Forest Item) (start columns : ℕ)
     → (let f : Forest Item = pushed (appended g (node_of start 0 (ListItemBody columns))) (record { 0 = length g.nodes }) in emptied f f.spine)
@@ -239,16 +257,13 @@ emptied_opened g start columns =
     ap (λ ns. record (pushed (appended g (node_of start 0 (ListItemBody columns))) (record { 0 = length g.nodes })) { nodes = ns })
     (modify-at g.nodes [] (length g.spine + 1, node_of start 0 (ListItemBody columns)) (length g.nodes) (λ x. record { start = x.start; «end» = x.«end»; body = ListItemBody 0 }) refl)
 
-empty_opening : (d : Document) (path : List Container) (p : Place) (lines : List Place) (item : (ℕ × ℕ × ℕ) × Rest) (e : ℕ) → is_blank_rest item.1 ≡ true → next_is_blank (ListItem item.0.2 ∷ path) lines ≡ true → start_of (length d.text) lines ≡ e
-    → item_opening d path p lines item.0.0 item.0.1 item.0.2 item.1 ≡ OpensNode (item_head p item.0.0 item.0.1 0) (Blanks e) lines
-empty_opening d path p lines item e h n e_is = rw (h, n) (ap (λ k. OpensNode (item_head p item.0.0 item.0.1 0) (Blanks k) lines) e_is)
+empty_opening : (d : Document) (path : List Container) (p : Place) (lines : List Place) (byte number columns : ℕ) (marker : Option Item) (rest : Rest) (e : ℕ) → is_blank_rest rest ≡ true → next_is_blank (ListItem columns ∷ path) lines ≡ true → start_of (length d.text) lines ≡ e
+    → item_opening d path p lines byte number columns (marker, rest) ≡ OpensNode (item_head p byte number 0) (task_alone marker (at_rest p rest) (Blanks e)) lines
+empty_opening d path p lines byte number columns marker rest e h n e_is = rw (h, n) (ap (λ k. OpensNode (item_head p byte number 0) (task_alone marker (at_rest p rest) (Blanks k)) lines) e_is)
 
-line_opening : (d : Document) (path : List Container) (p : Place) (lines : List Place) (item : (ℕ × ℕ × ℕ) × Rest) → is_blank_rest item.1 ≡ true → next_is_blank (ListItem item.0.2 ∷ path) lines ≡ false
-    → item_opening d path p lines item.0.0 item.0.1 item.0.2 item.1 ≡ OpensNode (item_head p item.0.0 item.0.1 item.0.2) Line lines
-line_opening d path p lines item h n = rw (h, n) refl
-
-item_body : (g : Forest Item) (start columns : ℕ) → body_at (g.nodes ++ (length g.spine + 1, node_of start 0 (ListItemBody columns)) ∷ []) (length g.nodes) ≡ Some (ListItemBody columns)
-item_body g start columns = get_end g.nodes (length g.spine + 1, node_of start 0 (ListItemBody columns)) [] (length g.nodes) refl
+line_opening : (d : Document) (path : List Container) (p : Place) (lines : List Place) (byte number columns : ℕ) (marker : Option Item) (rest : Rest) → is_blank_rest rest ≡ true → next_is_blank (ListItem columns ∷ path) lines ≡ false
+    → item_opening d path p lines byte number columns (marker, rest) ≡ OpensNode (item_head p byte number columns) (task_alone marker (at_rest p rest) Line) lines
+line_opening d path p lines byte number columns marker rest h n = rw (h, n) refl
 
 in_item : (d : Document) (f : Forest Item) (e columns : ℕ) (lines : List Place) (t blank : Bool) → blank ≡ false → next_is_blank (path_of f) lines ≡ t → ReadyBeforeLine d f e lines t → ReadyInItem d f e columns lines blank
 in_item d f e columns lines t true none is ready = cc
@@ -265,45 +280,111 @@ opened_path g start m n path below is =
     let same : (k : ℕ) → path_in (f k).nodes g.spine ≡ path_in g.nodes g.spine = λ k. path_below g.nodes (f k).nodes (length g.nodes) g.spine (λ i h. ap (option_map (λ (n : ℕ × Item). n.1.body)) (get_front g.nodes _ i h)) below.1 in
     top n ∙ ap (λ z. ListItem n ∷ z) (same n ∙ sym (same m) ∙ outer)
 
-empty_by : (d : Document) (r : Reading) (p : Place) (lines : List Place) (item : (ℕ × ℕ × ℕ) × Rest) (e : ℕ) (t : Bool) → next_is_blank (ListItem item.0.2 ∷ path_of r.tree) lines ≡ t → IsForest r.tree → item_at p.rest ≡ Some item
-    → is_blank_rest item.1 ≡ true → start_of (length d.text) lines ≡ e → r.empty_item ≡ None → ReadyAt d r.tree r.blank (Inside p) lines
-    → (let q : Reading = item_opened (offset p) item.0.0 item.0.1 item.0.2 r in ReadyEmpty d (record q { empty_item = Some e }) e lines)
-empty_by d r p lines item e true next forest is blank e_is none ready =
-    let byte : ℕ = item.0.0 in let number : ℕ = item.0.1 in let columns : ℕ = item.0.2 in
-    let g : Forest Item = (list_continued (offset p) byte number r).tree in
-    let q : Reading = item_opened (offset p) byte number columns r in
-    let opens : Opens d (path_of r.tree) p lines (OpensNode (item_head p byte number 0) (Blanks e) lines) =
-    subst (Opens d (path_of r.tree) p lines) (empty_opening d (path_of r.tree) p lines item e blank next e_is) (opens_item d (path_of r.tree) p lines item is) in
-    let done = item_is_open d r p lines byte number 0 (Blanks e) forest opens none ready in
-    let there : ReadyAt d (emptied q.tree q.tree.spine) false (Blanks e) lines = subst (λ f. ReadyAt d f false (Blanks e) lines) (sym (emptied_opened g (offset p) columns)) done.0 in
-    let path : path_of q.tree ≡ ListItem columns ∷ path_of r.tree = opened_path g (offset p) 0 columns (path_of r.tree) done.0.completes.below done.1 in
+-- a task list item marker with nothing behind it, in the item that is innermost
+ready_marked : (d : Document) (f : Forest Item) (marker : Option Item) (p : Place) (from : From) (lines : List Place) (ix : TreeIndex) (rest : List TreeIndex) (columns : ℕ) → f.spine ≡ ix ∷ rest → body_at f.nodes ix.0 ≡ Some (ListItemBody columns)
+    → ReadyAt d f false (task_alone marker p from) lines → ReadyAt d (with_child f marker) false from lines
+ready_marked d f None p from lines ix rest columns spine body ready = ready
+ready_marked d f (Some x) p from lines ix rest columns spine body ready =
+    let plain = in_item_plain f.nodes ix rest ready.frames columns body (subst (λ s. AreOpen f.nodes s ready.frames) spine ready.are_open) in
+    let os : List ℕ = map (λ (i : TreeIndex). i.0) f.spine in
+    let k = completes-mark d ready.frames f.nodes os x p from lines plain ready.completes in
     record {
-      place = record { 0 = length g.nodes };
-      outer = g.spine;
-      columns = columns;
-      spine = refl;
-      item = item_body g (offset p) columns;
-      ready = in_item d q.tree e columns lines true q.blank done.2 (ap (λ z. next_is_blank z lines) path ∙ next) there;
-    }
-empty_by d r p lines item e false next forest is blank e_is none ready =
-    let byte : ℕ = item.0.0 in let number : ℕ = item.0.1 in let columns : ℕ = item.0.2 in
-    let g : Forest Item = (list_continued (offset p) byte number r).tree in
-    let q : Reading = item_opened (offset p) byte number columns r in
-    let opens : Opens d (path_of r.tree) p lines (OpensNode (item_head p byte number columns) Line lines) =
-    subst (Opens d (path_of r.tree) p lines) (line_opening d (path_of r.tree) p lines item blank next) (opens_item d (path_of r.tree) p lines item is) in
-    let done = item_is_open d r p lines byte number columns Line forest opens none ready in
-    record {
-      place = record { 0 = length g.nodes };
-      outer = g.spine;
-      columns = columns;
-      spine = refl;
-      item = item_body g (offset p) columns;
-      ready = in_item d q.tree e columns lines false q.blank done.2 (ap (λ z. next_is_blank z lines) done.1 ∙ next) done.0;
+      frames = ready.frames;
+      are_open = open_below f.nodes (f.nodes ++ (length f.spine + 1, x) ∷ []) (length f.nodes) f.spine ready.frames (λ i h. frame-append f.nodes ((length f.spine + 1, x) ∷ []) i h) ready.completes.below ready.are_open;
+      completes = subst (λ z. Completes d false ready.frames (f.nodes ++ (z, x) ∷ []) os from lines) (depth_of f.spine) k;
     }
 
--- an item with nothing behind its marker
-pub ready_empty_item : (d : Document) (r : Reading) (p : Place) (lines : List Place) (item : (ℕ × ℕ × ℕ) × Rest) (e : ℕ) → IsForest r.tree → item_at p.rest ≡ Some item → is_blank_rest item.1 ≡ true → start_of (length d.text) lines ≡ e → r.empty_item ≡ None
-    → ReadyAt d r.tree r.blank (Inside p) lines → (let q : Reading = item_opened (offset p) item.0.0 item.0.1 item.0.2 r in Ready d (record q { empty_item = Some e }) lines)
+emptied_marked : (f : Forest Item) (ix : TreeIndex) (marker : Option Item) → ix.0 < length f.nodes
+    → (let g : Forest Item = pushed f ix in with_child (emptied g g.spine) marker ≡ emptied (with_child g marker) (with_child g marker).spine)
+emptied_marked f ix None h = refl
+emptied_marked f ix (Some x) h =
+    let g : Forest Item = pushed f ix in
+    let change : Item → Item = λ y. record { start = y.start; «end» = y.«end»; body = ListItemBody 0 } in
+    ap (λ n. record (appended g x) { nodes = modify f.nodes ix.0 change ++ (length g.spine + 1, x) ∷ []; current = Some (record { 0 = n }) }) (length-modify f.nodes ix.0 change)
+    ∙ ap (λ ns. record (appended g x) { nodes = ns }) (sym (modify-append f.nodes ((length g.spine + 1, x) ∷ []) ix.0 change h))
+
+marked_spine : (f : Forest Item) (marker : Option Item) → (with_child f marker).spine ≡ f.spine
+marked_spine f None = refl
+marked_spine f (Some x) = refl
+
+marked_body : (f : Forest Item) (marker : Option Item) (i : ℕ) (b : ItemBody) → i < length f.nodes → body_at f.nodes i ≡ Some b → body_at (with_child f marker).nodes i ≡ Some b
+marked_body f None i b h is = is
+marked_body f (Some x) i b h is = ap (option_map (λ (n : ℕ × Item). n.1.body)) (get_front f.nodes ((length f.spine + 1, x) ∷ []) i h) ∙ is
+
+marked_path : (f : Forest Item) (marker : Option Item) → AreBelow (length f.nodes) (map (λ (i : TreeIndex). i.0) f.spine) → path_of (with_child f marker) ≡ path_of f
+marked_path f None below = refl
+marked_path f (Some x) below = path_below f.nodes (f.nodes ++ (length f.spine + 1, x) ∷ []) (length f.nodes) f.spine (λ i h. ap (option_map (λ (n : ℕ × Item). n.1.body)) (get_front f.nodes _ i h)) below
+
+-- what is remembered behind the markers of an empty item
+abbrev pub empty_item_read : Reading → Option Item → ℕ → Reading
+empty_item_read r marker e = record r { tree = with_child r.tree marker; empty_item = Some e }
+
+empty_by : (d : Document) (r : Reading) (p : Place) (lines : List Place) (item : (ℕ × ℕ × ℕ) × Rest) (marker : Option Item) (rest : Rest) (e : ℕ) (t : Bool) → next_is_blank (ListItem item.0.2 ∷ path_of r.tree) lines ≡ t → IsForest r.tree → item_at p.rest ≡ Some item
+    → task_behind d.options p.line item.1 ≡ (marker, rest) → is_blank_rest rest ≡ true → start_of (length d.text) lines ≡ e → r.empty_item ≡ None → ReadyAt d r.tree r.blank (Inside p) lines
+    → ReadyEmpty d (empty_item_read (item_opened (offset p) item.0.0 item.0.1 item.0.2 r) marker e) e lines
+empty_by d r p lines item marker rest e true next forest is task blank e_is none ready =
+    let byte : ℕ = item.0.0 in let number : ℕ = item.0.1 in let columns : ℕ = item.0.2 in
+    let g : Forest Item = (list_continued (offset p) byte number r).tree in
+    let q : Reading = item_opened (offset p) byte number columns r in
+    let place : TreeIndex = record { 0 = length g.nodes } in
+    let item_node : ℕ → Item = λ k. node_of (offset p) 0 (ListItemBody k) in
+    let from : From = task_alone marker (at_rest p rest) (Blanks e) in
+    let opens : Opens d (path_of r.tree) p lines (OpensNode (item_head p byte number 0) from lines) =
+    subst (Opens d (path_of r.tree) p lines) (ap (item_opening d (path_of r.tree) p lines byte number columns) task ∙ empty_opening d (path_of r.tree) p lines byte number columns marker rest e blank next e_is)
+    (opens_item d (path_of r.tree) p lines item is) in
+    let done = item_is_open d r p lines byte number 0 from forest opens none ready in
+    let more : length (appended g (item_node columns)).nodes ≡ length g.nodes + 1 = length-append g.nodes ((length g.spine + 1, item_node columns) ∷ []) in
+    let fewer : length (appended g (item_node 0)).nodes ≡ length g.nodes + 1 = length-append g.nodes ((length g.spine + 1, item_node 0) ∷ []) in
+    let within : place.0 < length (appended g (item_node columns)).nodes = omega arith in
+    let below : AreBelow (length q.tree.nodes) (map (λ (i : TreeIndex). i.0) q.tree.spine) = AreBelow-more _ _ (length g.nodes ∷ map (λ (i : TreeIndex). i.0) g.spine) (omega arith) done.0.completes.below in
+    let marked : ReadyAt d (with_child (pushed (appended g (item_node 0)) place) marker) false (Blanks e) lines =
+    ready_marked d (pushed (appended g (item_node 0)) place) marker (at_rest p rest) (Blanks e) lines place g.spine 0 refl (item_body g (offset p) 0) done.0 in
+    let same = ap (λ z. with_child z marker) (sym (emptied_opened g (offset p) columns)) ∙ emptied_marked (appended g (item_node columns)) place marker within in
+    let path : path_of (with_child q.tree marker) ≡ ListItem columns ∷ path_of r.tree =
+    marked_path q.tree marker below ∙ opened_path g (offset p) 0 columns (path_of r.tree) done.0.completes.below done.1 in
+    record {
+      place = place;
+      outer = g.spine;
+      columns = columns;
+      spine = marked_spine q.tree marker;
+      item = marked_body q.tree marker (length g.nodes) (ListItemBody columns) within (item_body g (offset p) columns);
+      ready = in_item d (with_child q.tree marker) e columns lines true q.blank done.2 (ap (λ z. next_is_blank z lines) path ∙ next) (subst (λ f. ReadyAt d f false (Blanks e) lines) same marked);
+    }
+empty_by d r p lines item marker rest e false next forest is task blank e_is none ready =
+    let byte : ℕ = item.0.0 in let number : ℕ = item.0.1 in let columns : ℕ = item.0.2 in
+    let g : Forest Item = (list_continued (offset p) byte number r).tree in
+    let q : Reading = item_opened (offset p) byte number columns r in
+    let place : TreeIndex = record { 0 = length g.nodes } in
+    let from : From = task_alone marker (at_rest p rest) Line in
+    let opens : Opens d (path_of r.tree) p lines (OpensNode (item_head p byte number columns) from lines) =
+    subst (Opens d (path_of r.tree) p lines) (ap (item_opening d (path_of r.tree) p lines byte number columns) task ∙ line_opening d (path_of r.tree) p lines byte number columns marker rest blank next)
+    (opens_item d (path_of r.tree) p lines item is) in
+    let done = item_is_open d r p lines byte number columns from forest opens none ready in
+    let more : length q.tree.nodes ≡ length g.nodes + 1 = length-append g.nodes ((length g.spine + 1, node_of (offset p) 0 (ListItemBody columns)) ∷ []) in
+    let marked : ReadyAt d (with_child q.tree marker) false Line lines = ready_marked d q.tree marker (at_rest p rest) Line lines place g.spine columns refl (item_body g (offset p) columns) done.0 in
+    let path : path_of (with_child q.tree marker) ≡ ListItem columns ∷ path_of r.tree = marked_path q.tree marker done.0.completes.below ∙ done.1 in
+    record {
+      place = place;
+      outer = g.spine;
+      columns = columns;
+      spine = marked_spine q.tree marker;
+      item = marked_body q.tree marker (length g.nodes) (ListItemBody columns) (omega arith) (item_body g (offset p) columns);
+      ready = in_item d (with_child q.tree marker) e columns lines false q.blank done.2 (ap (λ z. next_is_blank z lines) path ∙ next) marked;
+    }
+
+-- an item with nothing behind its markers
+pub ready_empty_item : (d : Document) (r : Reading) (p : Place) (lines : List Place) (item : (ℕ × ℕ × ℕ) × Rest) (marker : Option Item) (rest : Rest) (e : ℕ) → IsForest r.tree → item_at p.rest ≡ Some item → task_behind d.options p.line item.1 ≡ (marker, rest)
+    → is_blank_rest rest ≡ true → start_of (length d.text) lines ≡ e → r.empty_item ≡ None
+    → ReadyAt d r.tree r.blank (Inside p) lines → Ready d (empty_item_read (item_opened (offset p) item.0.0 item.0.1 item.0.2 r) marker e) lines
 unfolding Ready
-ready_empty_item d r p lines item e forest is blank e_is none ready =
-    empty_by d r p lines item e (next_is_blank (ListItem item.0.2 ∷ path_of r.tree) lines) refl forest is blank e_is none ready
+ready_empty_item d r p lines item marker rest e forest is task blank e_is none ready =
+    empty_by d r p lines item marker rest e (next_is_blank (ListItem item.0.2 ∷ path_of r.tree) lines) refl forest is task blank e_is none ready
+
+-- what is opened where more of the line is left
+pub opened_behind : (marker : Option Item) (empty : Option ℕ) (old new : Rest) (e : ℕ) → ((x : Item) → marker ≡ Some x → is_text x.body ≡ false) → length new.left < length old.left → empty ≡ None → IsOpenedAt (OneContainer marker) empty old new e
+opened_behind None empty old new e mark less none = (less, none)
+opened_behind (Some x) empty old new e mark less none = (mark x refl, none)
+
+pub ready_behind : (d : Document) (r : Reading) (p : Place) (e : ℕ) (marker : Option Item) → (r.blank ≡ false) × (now : ReadyAt d r.tree false (behind_task marker p) (lines_from d.text e)) × IsPlain now.frames → ReadyIn d r p e (OneContainer marker)
+ready_behind d r p e None (blank, ready, plain) = subst (λ t. ReadyAt d r.tree t (Inside p) (lines_from d.text e)) (sym blank) ready
+ready_behind d r p e (Some x) (blank, ready, plain) = record { blank = blank; ready = ready; plain = plain }

@@ -5,9 +5,14 @@ use Rattle.std.proofs.lemmas.List.Sums.{prefix_len-le-length}
 use Rattle.std.proofs.lemmas.Bool.{cases_lt}
 use Rattle.std.proofs.lemmas.Option.{cond_some, none-some}
 use Rattle.std.specs.Option.{option_map, option_and_then}
+use Rattle.first_pass_items.specs.declared.item.Item.{Item}
+use Rattle.first_pass_items.specs.declared.item.ItemBody.TheVariants.{TaskListMarker}
+use Rattle.first_pass_items.specs.declared.option_set.Options.{Options}
+use Rattle.first_pass_items.specs.OptionWords.{has}
+use Rattle.first_pass_tree.specs.Forest.{is_text}
 use Rattle.first_pass_scan.specs.Lines.{is_content, line_len}
-use Rattle.first_pass_scan.specs.Markers.{item_of}
-use Rattle.first_pass_scan.proofs.MarkerPlaces.{IsMarked, item-marked, marked-keeps, marked-line_end}
+use Rattle.first_pass_scan.specs.Markers.{item_of, task_of}
+use Rattle.first_pass_scan.proofs.MarkerPlaces.{IsMarked, item-marked, task-marked, marked-keeps, marked-line_end}
 use Rattle.first_pass_scan.specs.Rest.{Rest, next_column, after_columns, indent, past_bytes, past_quote}
 use Rattle.first_pass_scan.specs.Places.{Place, line_rest, place_at, offset, line_end, IsPlaceOf}
 use Rattle.first_pass_scan.proofs.LineFacts.{line_len-none}
@@ -17,6 +22,7 @@ use Rattle.first_pass_grammar.specs.declared.kind.Container.{Container}
 use Rattle.first_pass_grammar.specs.declared.kind.Container.TheVariants.{BlockQuote, ListItem}
 use Rattle.first_pass_grammar.specs.Containers.{has_columns, prefix, after, or_shorter, front}
 use Rattle.first_pass_grammar.specs.Kinds.{all_taken, unindented, item_at}
+use Rattle.first_pass_grammar.specs.Skeleton.{task_by, task_behind}
 
 all_by : (k : ℕ) (r : Rest) (o : Option Rest) → next_column r ≡ o → ((s : Rest) → after_columns (indent (after_columns k s)) (after_columns k s) ≡ after_columns (indent s) s)
     → after_columns (indent (after_columns (suc k) r)) (after_columns (suc k) r) ≡ after_columns (indent r) r
@@ -167,20 +173,70 @@ item_keeps text line r item u h i =
     let m = item_marked r item h in
     (marked-keeps text line (all_taken r) item.1 u m (all_keep text line r u i), marked-line_end line (all_taken r) item.1 m ∙ columns_line_end (indent r) (place_at line r))
 
-pub item_shorter : (r : Rest) (item : (ℕ × ℕ × ℕ) × Rest) → item_at r ≡ Some item → length item.1.left < length r.left
-item_shorter r item h =
-    let m = item_marked r item h in
-    let q : Rest = past_bytes m.width (all_taken r) in
-    let a = columns_shorter (indent r) r in
+marked_shorter : (r s : Rest) → IsMarked r s → length s.left < length r.left
+marked_shorter r s m =
+    let q : Rest = past_bytes m.width r in
     let b = columns_shorter m.first q in
     let c = columns_shorter m.further (after_columns m.first q) in
     let p = m.within in
-    let n = prefix_len-le-length is_content (all_taken r).left in
-    let w : m.width ≤ length (all_taken r).left = omega arith in
+    let n = prefix_len-le-length is_content r.left in
+    let w : m.width ≤ length r.left = omega arith in
     let some = m.some in
-    let l : length q.left ≡ length (all_taken r).left - m.width = length-drop m.width (all_taken r).left in
-    let e : length item.1.left ≡ length (after_columns m.further (after_columns m.first q)).left = ap (λ (z : Rest). length z.left) m.same in
+    let l : length q.left ≡ length r.left - m.width = length-drop m.width r.left in
+    let e : length s.left ≡ length (after_columns m.further (after_columns m.first q)).left = ap (λ (z : Rest). length z.left) m.same in
     omega arith
+
+pub item_shorter : (r : Rest) (item : (ℕ × ℕ × ℕ) × Rest) → item_at r ≡ Some item → length item.1.left < length r.left
+item_shorter r item h =
+    let s = marked_shorter (all_taken r) item.1 (item_marked r item h) in
+    let a = columns_shorter (indent r) r in
+    omega arith
+
+-- behind a task list item marker
+pub task_keeps : (text : List ℕ) (line : ℕ) (r : Rest) (task : Bool × Rest) → IsUtf8 text → task_of r ≡ Some task → IsPlaceOf text (place_at line r)
+    → IsPlaceOf text (place_at line task.1) × (line_end (place_at line task.1) ≡ line_end (place_at line r)) × (length task.1.left ≤ length r.left)
+task_keeps text line r task u h i =
+    let m = task-marked r task h in
+    let s = marked_shorter (after_columns 3 r) task.1 m in
+    let a = columns_shorter 3 r in
+    (marked-keeps text line (after_columns 3 r) task.1 u m (columns_keep text 3 (place_at line r) u i), marked-line_end line (after_columns 3 r) task.1 m ∙ columns_line_end 3 (place_at line r), omega arith)
+
+pub task_found : (o : Option (Bool × Rest)) (found : Option Bool) (checked : Bool) (old new : Rest) → found ≡ Some checked → MatchOption o ((found ≡ None) × (new ≡ old)) (λ task. (found ≡ Some task.0) × (new ≡ task.1)) → o ≡ Some (checked, new)
+task_found None found checked old new e h = (let z : None ≡ Some checked = sym h.0 ∙ e in cc)
+task_found (Some task) found checked old new e h = (let z : Some task.0 ≡ Some checked = sym h.0 ∙ e in let w : task.0 ≡ checked = cc in
+    ap (λ k. Some (k, task.1)) w ∙ ap (λ (q : Rest). Some (checked, q)) (sym h.1))
+
+-- behind the markers of an item, or behind the first where no other is there or the option is off
+behind_by : (text : List ℕ) (line : ℕ) (r : Rest) (o : Option (Bool × Rest)) → ((task : Bool × Rest) → o ≡ Some task → task_of r ≡ Some task) → IsUtf8 text → IsPlaceOf text (place_at line r)
+    → (let q : Rest = (task_by line r o).1 in IsPlaceOf text (place_at line q) × (line_end (place_at line q) ≡ line_end (place_at line r)) × (length q.left ≤ length r.left))
+behind_by text line r None h u i = (i, refl, omega arith)
+behind_by text line r (Some task) h u i = task_keeps text line r task u (h task refl) i
+
+option_on : (t : Bool) (o : Option (Bool × Rest)) (task : Bool × Rest) → (if t then o else None) ≡ Some task → o ≡ Some task
+option_on true o task h = h
+option_on false o task h = cc
+
+pub behind_keeps : (text : List ℕ) (options : Options) (line : ℕ) (r : Rest) → IsUtf8 text → IsPlaceOf text (place_at line r)
+    → (let q : Rest = (task_behind options line r).1 in IsPlaceOf text (place_at line q) × (line_end (place_at line q) ≡ line_end (place_at line r)) × (length q.left ≤ length r.left))
+behind_keeps text options line r u i = behind_by text line r (if has options 16 then task_of r else None) (λ task h. option_on (has options 16) (task_of r) task h) u i
+
+-- behind the markers of an item
+pub markers_keep : (text : List ℕ) (options : Options) (line : ℕ) (r : Rest) (item : (ℕ × ℕ × ℕ) × Rest) (new : Rest) → IsUtf8 text → item_at r ≡ Some item → new ≡ (task_behind options line item.1).1 → IsPlaceOf text (place_at line r)
+    → IsPlaceOf text (place_at line new) × (line_end (place_at line new) ≡ line_end (place_at line r)) × (length new.left < length r.left)
+markers_keep text options line r item new u is rest i =
+    let k = item_keeps text line r item u is i in
+    let b = behind_keeps text options line item.1 u k.0 in
+    let s = item_shorter r item is in
+    let e = ap (λ (q : Rest). length q.left) rest in
+    (subst (λ q. IsPlaceOf text (place_at line q)) (sym rest) b.0, ap (λ q. line_end (place_at line q)) rest ∙ b.1 ∙ k.1, let l = b.2 in omega arith)
+
+-- a task list item marker is no text
+mark_by : (line : ℕ) (r : Rest) (o : Option (Bool × Rest)) (x : Item) → (task_by line r o).0 ≡ Some x → is_text x.body ≡ false
+mark_by line r None x h = cc
+mark_by line r (Some task) x h = (let e : record { start = offset (place_at line r); «end» = offset (place_at line task.1); body = TaskListMarker task.0 } ≡ x = cc in sym (ap (λ (i : Item). is_text i.body) e))
+
+pub mark_is_no_text : (options : Options) (line : ℕ) (r : Rest) (x : Item) → (task_behind options line r).0 ≡ Some x → is_text x.body ≡ false
+mark_is_no_text options line r x h = mark_by line r (if has options 16 then task_of r else None) x h
 
 -- a line ends where the bytes from a place on say
 pub read_end : (text : List ℕ) (start : ℕ) (r : Rest) → IsPlaceOf text (place_at start r) → start + r.taken + line_len (drop (start + r.taken) text) ≡ line_end (place_at start r)

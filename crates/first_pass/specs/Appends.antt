@@ -7,7 +7,7 @@ use Rattle.first_pass_tree.specs.Forest.{Forest, appended, added, popped, with_e
 use Rattle.first_pass_scan.specs.Lines.{line_len, level_number}
 use Rattle.first_pass_tokens.specs.Chains.{is_backslash_break}
 use Rattle.first_pass_tokens.specs.TreeTokens.{chained}
-use Rattle.first_pass_grammar.specs.Leaves.{Document, IsParagraph, IsHeading, heading_text_at, heading_block, paragraph_block}
+use Rattle.first_pass_grammar.specs.Leaves.{Document, IsParagraph, IsHeading, heading_text_at, heading_block, paragraph_block, marker_items}
 use Rattle.first_pass_grammar.specs.Completion.{lines_from}
 use Rattle.first_pass.specs.Path.{path_of}
 
@@ -56,11 +56,6 @@ pub record AppendsHeading (d : Document) (start : ℕ) (old new : Forest Item) (
 abbrev pub closed_by : Forest Item → ℕ → List TreeIndex → Forest Item
 closed_by f e [] = f
 closed_by f e (ix ∷ rest) = with_end_at (popped f ix rest) ix e
-
--- a task list marker is the first child of its paragraph
-abbrev pub marker_items : Option Item → List Item
-marker_items None = []
-marker_items (Some x) = x ∷ []
 
 -- The paragraph whose text begins at an offset is a last child of the innermost open node, and leaves the lines from another on.
 pub record AddsParagraph (d : Document) (start : ℕ) (marker : Option Item) (old new : Forest Item) (next : ℕ) : Type 0 where

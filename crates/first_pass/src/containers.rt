@@ -10,14 +10,16 @@ ghost use Rattle.first_pass_grammar.specs.Kinds.{item_at};
 ghost use Rattle.first_pass_tree.specs.declared.tree_index.TreeIndex.{TreeIndex};
 ghost use Rattle.first_pass.specs.Path.{container_of, prefix_of, path_in, path_of, outer};
 ghost use Rattle.first_pass_scan.specs.Lines.{line_len};
-ghost use Rattle.first_pass_grammar.specs.Skeleton.{Inside};
+ghost use Rattle.first_pass_grammar.specs.Skeleton.{Inside, task_behind};
 ghost use Rattle.first_pass_grammar.specs.Completion.{lines_from};
 ghost use Rattle.first_pass.specs.Closing.{remembered};
 ghost use Rattle.first_pass.specs.State.{NoMore, Ready, ReadyAt};
-ghost use Rattle.first_pass.specs.Opening.{IsOpenedAt, ReadyIn};
+ghost use Rattle.first_pass.specs.Opening.{IsOpenedAt, ReadyIn, IsBehind, ReadyBehind};
 
 use crate::indentation::scan_indentation;
+use crate::paragraph::append_item;
 use crate::pass::FirstPass;
+use bitflags::Flags;
 use first_pass_items::item::{Item, ItemBody};
 use first_pass_items::option_set::Options;
 use first_pass_scan::line_start::LineStart;
@@ -79,13 +81,23 @@ pub fn scan_containers<'a>(
 }
 
 // What is opened at a place in a line.
-pub(crate) enum Opened {
+enum Opened {
     // No container begins there.
     Nothing,
-    // A container, and more of the line is left in it.
-    Container,
-    // An item with nothing behind its marker; the next line begins at the offset.
+    // A container, and more of the line is left in it, behind a task list item marker where it has one.
+    Container(Option<Item>),
+    // An item with nothing behind its markers; the next line begins at the offset.
     EmptyItem(usize),
+}
+
+// What is behind the containers that begin in a line.
+pub(crate) enum Behind {
+    // A leaf block.
+    Leaf,
+    // The paragraph of a task list item, with the item's marker.
+    TaskText(Item),
+    // Nothing, in an item; the next line begins at the offset.
+    NextLine(usize),
 }
 
 impl<'a> FirstPass<'a> {
@@ -137,13 +149,12 @@ impl<'a> FirstPass<'a> {
     }
 
     /// Opens the containers that begin at a place in the line whose reading began at `start_ix`, one
-    /// inside the other, and takes their markers (CommonMark 5). Where the last is an item with nothing
-    /// behind its marker, the answer is the offset at which the next line begins.
+    /// inside the other, takes their markers, and answers what is behind them (CommonMark 5).
     pub(crate) fn open_containers(
         &mut self,
         start_ix: usize,
         line_start: &mut LineStart<'a>,
-    ) -> Result<Option<usize>, AllocError>
+    ) -> Result<Behind, AllocError>
         requires utf8 { IsUtf8 self.old.text.now }
         requires place { IsPlaceOf self.old.text.now (place_at start_ix line_start.old) }
         requires no_empty { self.old.begin_list_item ≡ None }
@@ -152,20 +163,17 @@ impl<'a> FirstPass<'a> {
         ensures allocs { OnOk result (self.new.allocs ≡ self.old.allocs) }
         ensures place { OnOk result (IsPlaceOf self.old.text.now (place_at start_ix line_start.new)) }
         ensures same_end { OnOk result (line_end (place_at start_ix line_start.new) ≡ line_end (place_at start_ix line_start.old)) }
-        ensures opened { IfOk result (λ answer. MatchOption answer
-            ((item_at line_start.new ≡ None) × (prefix (BlockQuote None) line_start.new ≡ None) × (self.new.begin_list_item ≡ None))
-            (λ next. next ≡ line_end (place_at start_ix line_start.old))) }
+        ensures behind { IfOk result (λ answer. IsBehind answer self.new.begin_list_item line_start.new (line_end (place_at start_ix line_start.old))) }
         ensures ready { IfOk result (λ answer.
             ReadyAt (document self.old.text.now self.old.options) self.old.tree self.old.last_line_blank (Inside (place_at start_ix line_start.old)) (lines_from self.old.text.now (line_end (place_at start_ix line_start.old)))
-            → MatchOption answer
-            (ReadyAt (document self.old.text.now self.old.options) self.new.tree self.new.last_line_blank (Inside (place_at start_ix line_start.new)) (lines_from self.old.text.now (line_end (place_at start_ix line_start.old))))
-            (λ next. Ready (document self.old.text.now self.old.options) (remembered self.new.tree self.new.begin_list_item self.new.last_line_blank) (lines_from self.old.text.now next))) }
+            → ReadyBehind (document self.old.text.now self.old.options) (remembered self.new.tree self.new.begin_list_item self.new.last_line_blank) (place_at start_ix line_start.new) (line_end (place_at start_ix line_start.old)) answer) }
     {
         loop {
             match self.open_container(start_ix, line_start)? {
-                Opened::Nothing => return Ok(None),
-                Opened::Container => {}
-                Opened::EmptyItem(next) => return Ok(Some(next)),
+                Opened::Nothing => return Ok(Behind::Leaf),
+                Opened::Container(None) => {}
+                Opened::Container(Some(marker)) => return Ok(Behind::TaskText(marker)),
+                Opened::EmptyItem(next) => return Ok(Behind::NextLine(next)),
             }
         }
     }
@@ -194,18 +202,40 @@ impl<'a> FirstPass<'a> {
         let before = start_ix + line_start.bytes_scanned();
         if let Some((byte, number, indent)) = scan_item(line_start) {
             self.open_item(before, byte, number, indent)?;
+            let marker = self.scan_task(start_ix, line_start);
             if scan_blank_line(line_start.left()).is_none() {
-                return Ok(Opened::Container);
+                return Ok(Opened::Container(marker));
             }
+            append_item(&mut self.tree, marker)?;
             let next = next_line(self.text.as_bytes(), start_ix + line_start.bytes_scanned());
             self.begin_list_item = Some(next);
             return Ok(Opened::EmptyItem(next));
         }
         if let Some(quote) = scan_quote(line_start) {
             self.open_quote(start_ix, start_ix + quote)?;
-            return Ok(Opened::Container);
+            return Ok(Opened::Container(None));
         }
         Ok(Opened::Nothing)
+    }
+
+    // Takes the task list item marker behind an item's own, in the line whose reading began at `start_ix`,
+    // where one is there and the option is on, and answers it; else takes nothing.
+    fn scan_task(&self, start_ix: usize, line_start: &mut LineStart<'a>) -> Option<Item>
+        requires utf8 { IsUtf8 self.now.text.now }
+        requires place { IsPlaceOf self.now.text.now (place_at start_ix line_start.old) }
+        ensures marker { result ≡ (task_behind self.now.options start_ix line_start.old).0 }
+        ensures rest { line_start.new ≡ (task_behind self.now.options start_ix line_start.old).1 }
+    {
+        if !self.options.contains(Options::ENABLE_TASKLISTS) {
+            return None;
+        }
+        let start = start_ix + line_start.bytes_scanned();
+        let checked = line_start.scan_task_list_marker()?;
+        Some(Item {
+            start,
+            end: start_ix + line_start.bytes_scanned(),
+            body: ItemBody::TaskListMarker(checked),
+        })
     }
 }
 

@@ -14,7 +14,7 @@ use first_pass_tree::forest::Tree;
 use std::alloc::AllocError;
 
 // Appends an item, if there is one: the break between two lines, or the marker of a task list item.
-fn append_item(tree: &mut Tree<Item>, item: Option<Item>) -> Result<(), AllocError>
+pub(crate) fn append_item(tree: &mut Tree<Item>, item: Option<Item>) -> Result<(), AllocError>
     ensures { OnOk result (tree.new ≡ with_child tree.old item) }
 {
     match item {

@@ -1,6 +1,6 @@
 //! The block pass: the lines of a text, one block after the other.
 
-ghost use Rattle.std.specs.Prelude.{◌≡◌, ◌<◌, ◌≤◌, [], length, None, Some, IsSome, slice_get, IfOk, IfSome, OnOk, IsUtf8, IsCharBoundary};
+ghost use Rattle.std.specs.Prelude.{◌≡◌, ◌<◌, ◌≤◌, false, [], length, None, Some, IsSome, slice_get, IfOk, IfSome, OnOk, IsUtf8, IsCharBoundary};
 ghost use Rattle.first_pass_scan.specs.Places.{place_at, line_end, IsPlaceOf};
 ghost use Rattle.first_pass_below.specs.Walk.{MarksSpecial};
 ghost use Rattle.first_pass_tokens.specs.LineTokens.{EndsLine};
@@ -12,13 +12,16 @@ ghost use Rattle.first_pass_grammar.specs.Derivation.{Derives};
 ghost use Rattle.first_pass_grammar.specs.Completion.{lines_from};
 ghost use Rattle.first_pass.specs.Appends.{text_upto, closed_by};
 ghost use Rattle.first_pass_grammar.specs.Skeleton.{Inside, Line};
+ghost use Rattle.first_pass_tree.specs.Forest.{is_text};
 ghost use Rattle.first_pass_grammar.specs.Kinds.{item_at};
 ghost use Rattle.first_pass.specs.Closing.{remembered};
+ghost use Rattle.first_pass.specs.Opening.{ReadyText};
 ghost use Rattle.first_pass.specs.State.{Ready, ReadyAt};
 ghost use Rattle.first_pass.specs.TableEntries.{tables, no_tables};
 
-use crate::containers::scan_containers;
+use crate::containers::Behind;
 pub use crate::interrupt::scan_paragraph_interrupt_no_table;
+use crate::indentation::scan_indentation;
 use crate::items::Allocations;
 use crate::kinds::kind_at;
 use first_pass_below::flank::TableParseMode;
@@ -108,10 +111,43 @@ impl<'a> FirstPass<'a> {
         let Some(mut line_start) = self.enter_line(start_ix) else {
             return Ok(next_line(self.text.as_bytes(), start_ix));
         };
-        if let Some(next) = self.open_containers(start_ix, &mut line_start)? {
-            return Ok(next);
+        match self.open_containers(start_ix, &mut line_start)? {
+            Behind::Leaf => {
+                let next = self.parse_leaf(start_ix, line_start)?;
+                Ok(next)
+            }
+            Behind::TaskText(marker) => {
+                let next = self.parse_task_text(start_ix, line_start, marker)?;
+                Ok(next)
+            }
+            Behind::NextLine(next) => Ok(next),
         }
-        let next = self.parse_leaf(start_ix, line_start)?;
+    }
+
+    // Reads the paragraph behind the marker of a task list item, at a place in the line whose reading began
+    // at `start_ix`; answers as `parse_block`.
+    fn parse_task_text(
+        &mut self,
+        start_ix: usize,
+        line_start: LineStart<'a>,
+        marker: Item,
+    ) -> Result<usize, AllocError>
+        requires utf8 { IsUtf8 self.old.text.now }
+        requires place { IsPlaceOf self.old.text.now (place_at start_ix line_start) }
+        requires marker { is_text marker.body ≡ false }
+        requires no_empty { self.old.begin_list_item ≡ None }
+        ensures text { OnOk result (self.new.text.now ≡ self.old.text.now) }
+        ensures options { OnOk result (self.new.options ≡ self.old.options) }
+        ensures allocs { OnOk result (self.new.allocs ≡ self.old.allocs) }
+        ensures later { IfOk result (λ next. line_end (place_at start_ix line_start.entry) ≤ next) }
+        ensures boundary { IfOk result (λ next. IsCharBoundary self.old.text.now next) }
+        ensures ready { IfOk result (λ next. ReadyText (document self.old.text.now self.old.options) (remembered self.old.tree self.old.begin_list_item self.old.last_line_blank) marker (place_at start_ix line_start.entry) (lines_from self.old.text.now (line_end (place_at start_ix line_start.entry)))
+            → Ready (document self.old.text.now self.old.options) (remembered self.new.tree self.new.begin_list_item self.new.last_line_blank) (lines_from self.old.text.now next)) }
+    {
+        self.tree.is_forest();
+        let mut line_start = line_start;
+        scan_indentation(&mut line_start);
+        let next = self.parse_paragraph(start_ix + line_start.bytes_scanned(), Some(marker))?;
         Ok(next)
     }
 

@@ -13,7 +13,7 @@ use Rattle.first_pass_grammar.specs.declared.kind.Container.{Container}
 use Rattle.first_pass_grammar.specs.declared.kind.Container.TheVariants.{BlockQuote, ListItem}
 use Rattle.first_pass_grammar.specs.Containers.{taken}
 use Rattle.first_pass_grammar.specs.Leaves.{Document}
-use Rattle.first_pass_grammar.specs.Skeleton.{Leaf, BlankLine, Block, Head, Opener, QuoteMarker, ItemMarker, From, Line, Inside, Blanks, Opening, OpensLeaf, OpensNode, Opens, Skeleton, Nil, Then, Node, Begins, Ends, end_before, IsLeafHere, IsNodeHere, IsSequence}
+use Rattle.first_pass_grammar.specs.Skeleton.{Leaf, BlankLine, Block, Head, Opener, QuoteMarker, ItemMarker, From, Line, Inside, Blanks, TextAt, MarkAt, Opening, OpensLeaf, OpensNode, OpensParagraph, Opens, OpensAt, Skeleton, Nil, Then, Node, Begins, Ends, behind_first, end_before, IsLeafHere, IsNodeHere, IsSequence}
 use Rattle.first_pass_grammar.specs.Lists.{joins, counts_with, run_behind, has_gap, list_end, is_loosened}
 use Rattle.first_pass_grammar.specs.Derivation.{Tables, Derives, forest_of, container_items, leaf_items, node_of, tables_of, root_of, list_flags, tight_body, tightened}
 use Rattle.first_pass_grammar.specs.Completion.{ended, flagged, reflagged, list_closed, Pending, NoList, OneList, byte_in, rendered, Frame, InContainer, InList, containers_of, is_quote, loosened, loosened_in, Finish, AreBelow, IsPlain, IsShaped, Completes}
@@ -149,20 +149,20 @@ node_here : (d : Document) (path : List Container) (p : Place) (lines : List Pla
 node_here d path p lines head inside left opens = record { place = p; behind = lines; begins = (refl, refl); opens = opens }
 
 -- a block with no blocks in it, before which no gap is to be noted
-block_step : (d : Document) (frames : List Frame) (nodes : List (ℕ × Item)) (os : List ℕ) (p : Place) (lines left : List Place) (closes : ℕ) (items forest : List (ℕ × Item)) (tables : Tables)
-    → IsPlain frames → Opens d (containers_of frames) p lines (OpensLeaf (Block closes items) Line left)
-    → Finish d NoList false frames (nodes ++ leaf_items (suc (length os)) false (Block closes items)) os Line left forest tables → Finish d NoList false frames nodes os (Inside p) lines forest tables
+block_step : (d : Document) (frames : List Frame) (nodes : List (ℕ × Item)) (os : List ℕ) (from : From) (lines left : List Place) (closes : ℕ) (items forest : List (ℕ × Item)) (tables : Tables)
+    → IsPlain frames → EndsAlike (length d.text) from (behind_first from Line) → IsLeafHere d (containers_of frames) from lines (Block closes items) Line left
+    → Finish d NoList false frames (nodes ++ leaf_items (suc (length os)) false (Block closes items)) os (behind_first from Line) left forest tables → Finish d NoList false frames nodes os from lines forest tables
 unfolding IsSequence forest_of run_behind has_gap rendered
-block_step d frames nodes os p lines left closes items forest tables plain opens fin =
+block_step d frames nodes os from lines left closes items forest tables plain alike first fin =
     let added : List (ℕ × Item) = leaf_items (suc (length os)) false (Block closes items) in
-    extend d frames NoList NoList false false false nodes (nodes ++ added) os (Inside p) Line lines left forest tables (λ s. Then (Block closes items) s) plain (λ path mid. refl)
+    extend d frames NoList NoList false false false nodes (nodes ++ added) os from (behind_first from Line) lines left forest tables (λ s. Then (Block closes items) s) plain alike
     (λ s mid seq. record {
-      seq = (Line, left, leaf_here d (containers_of frames) p lines (Block closes items) Line left opens, seq);
+      seq = (Line, left, first, seq);
       items = λ last. sym (append_assoc nodes added (forest_of (suc (length os)) last false None s));
       runs = refl;
       gaps = refl;
     })
-    (subst (λ z. Finish d NoList false z (nodes ++ added) os Line left forest tables) (sym (loosened_in-false frames)) fin)
+    (subst (λ z. Finish d NoList false z (nodes ++ added) os (behind_first from Line) left forest tables) (sym (loosened_in-false frames)) fin)
 
 -- a blank line, where a list may go on
 blank_step : (d : Document) (frames : List Frame) (list : Pending) (run : Bool) (nodes : List (ℕ × Item)) (os : List ℕ) (p : Place) (lines left : List Place) (forest : List (ℕ × Item)) (tables : Tables)
@@ -688,15 +688,37 @@ completes-enter d run frames nodes os line q lines is c = record {
   whole = λ forest tables fin. c.whole forest tables (enter_step d frames NoList run nodes os line q lines forest tables is fin);
 }
 
--- behind a block with no blocks in it
+-- behind a block with no blocks in it, wherever it begins
+completes-leaf : (d : Document) (frames : List Frame) (nodes : List (ℕ × Item)) (os : List ℕ) (from : From) (lines left : List Place) (closes : ℕ) (items : List (ℕ × Item))
+    → IsPlain frames → EndsAlike (length d.text) from (behind_first from Line) → IsLeafHere d (containers_of frames) from lines (Block closes items) Line left
+    → Completes d false frames nodes os from lines → Completes d false frames (nodes ++ leaf_items (suc (length os)) false (Block closes items)) os (behind_first from Line) left
+completes-leaf d frames nodes os from lines left closes items plain alike first c = record {
+  below = AreBelow-more _ _ os (let k = length-append nodes (leaf_items (suc (length os)) false (Block closes items)) in omega arith) c.below;
+  shape = c.shape;
+  whole = λ forest tables fin. c.whole forest tables (block_step d frames nodes os from lines left closes items forest tables plain alike first fin);
+}
+
+-- behind a block with no blocks in it, which begins inside a line
 pub completes-block : (d : Document) (frames : List Frame) (nodes : List (ℕ × Item)) (os : List ℕ) (p : Place) (lines left : List Place) (closes : ℕ) (items : List (ℕ × Item))
     → IsPlain frames → Opens d (containers_of frames) p lines (OpensLeaf (Block closes items) Line left)
     → Completes d false frames nodes os (Inside p) lines → Completes d false frames (nodes ++ leaf_items (suc (length os)) false (Block closes items)) os Line left
-completes-block d frames nodes os p lines left closes items plain opens c = record {
-  below = AreBelow-more _ _ os (let k = length-append nodes (leaf_items (suc (length os)) false (Block closes items)) in omega arith) c.below;
-  shape = c.shape;
-  whole = λ forest tables fin. c.whole forest tables (block_step d frames nodes os p lines left closes items forest tables plain opens fin);
-}
+completes-block d frames nodes os p lines left closes items plain opens c =
+    completes-leaf d frames nodes os (Inside p) lines left closes items plain (λ path mid. refl) (leaf_here d (containers_of frames) p lines (Block closes items) Line left opens) c
+
+-- behind the paragraph of a task list item marker
+pub completes-text : (d : Document) (frames : List Frame) (nodes : List (ℕ × Item)) (os : List ℕ) (marker : Item) (p : Place) (lines left : List Place) (closes : ℕ) (items : List (ℕ × Item))
+    → IsPlain frames → OpensParagraph d (containers_of frames) p lines (Some marker) (OpensLeaf (Block closes items) Line left)
+    → Completes d false frames nodes os (TextAt marker p) lines → Completes d false frames (nodes ++ leaf_items (suc (length os)) false (Block closes items)) os Line left
+completes-text d frames nodes os marker p lines left closes items plain opens c =
+    completes-leaf d frames nodes os (TextAt marker p) lines left closes items plain (λ path mid. refl) (record { place = p; behind = lines; begins = (refl, refl); opens = opens }) c
+
+-- behind a task list item marker with nothing behind it on its line
+pub completes-mark : (d : Document) (frames : List Frame) (nodes : List (ℕ × Item)) (os : List ℕ) (marker : Item) (p : Place) (from : From) (lines : List Place)
+    → IsPlain frames → Completes d false frames nodes os (MarkAt marker p from) lines → Completes d false frames (nodes ++ (suc (length os), marker) ∷ []) os from lines
+completes-mark d frames nodes os marker p from lines plain c =
+    let deep : suc (length os) + 0 ≡ suc (length os) = omega arith in
+    subst (λ depth. Completes d false frames (nodes ++ (depth, marker) ∷ []) os from lines) deep
+    (completes-leaf d frames nodes os (MarkAt marker p from) lines lines p.line ((0, marker) ∷ []) plain (λ path mid. refl) (record { place = p; behind = lines; begins = (refl, refl); opens = refl }) c)
 
 -- whether a run of blank lines counts with one more, inside what is open
 abbrev pub counts_in : List Frame → Bool → Bool

@@ -12,7 +12,7 @@ use Rattle.first_pass_grammar.specs.declared.kind.Kind.TheVariants.{Blank, Thema
 use Rattle.first_pass_grammar.specs.Containers.{at_rest, after, front}
 use Rattle.first_pass_grammar.specs.Kinds.{unindented, is_blank_rest, quote_inside, item_at, kind_of}
 use Rattle.first_pass_grammar.specs.Leaves.{Document, add_break, IsParagraph, IsHeading}
-use Rattle.first_pass_grammar.specs.Skeleton.{Leaf, Head, opened, From, Line, Inside, Blanks, Opening, OpensLeaf, OpensNode, OpensAs, is_blank_behind, OpensFrom, Opens, Skeleton, Nil, Then, Node, Begins, Ends, behind_first, end_before, IsLeafHere, IsNodeHere, IsSequence}
+use Rattle.first_pass_grammar.specs.Skeleton.{Leaf, Head, opened, From, Line, Inside, Blanks, TextAt, MarkAt, Opening, OpensLeaf, OpensNode, OpensParagraph, OpensAs, is_blank_behind, OpensFrom, Opens, OpensAt, Skeleton, Nil, Then, Node, Begins, Ends, behind_first, end_before, IsLeafHere, IsNodeHere, IsSequence}
 use Rattle.first_pass_grammar.specs.Derivation.{Tables, forest_of, tables_of, root_of, Derives}
 
 -- a paragraph has one chain and leaves one list of lines
@@ -50,6 +50,14 @@ one_heading d start c c' e e' h h' =
     let w = h'.chain_is in
     (cc, ends)
 
+one_paragraph_opening : (d : Document) (path : List Container) (p : Place) (lines : List Place) (marker : Option Item) (o o' : Opening) → OpensParagraph d path p lines marker o → OpensParagraph d path p lines marker o' → o ≡ o'
+unfolding OpensParagraph
+one_paragraph_opening d path p lines marker o o' (c, l, h, f) (c', l', h', f') =
+    let s = one_paragraph d path _ [] lines c c' l l' h h' in
+    let x = s.0 in
+    let y = s.1 in
+    cc
+
 -- a place has one opening
 opens_once : (d : Document) (path : List Container) (p : Place) (lines : List Place) (k : Kind) (o o' : Opening) → OpensAs d path p lines k o → OpensAs d path p lines k o' → o ≡ o'
 unfolding OpensAs
@@ -60,11 +68,7 @@ opens_once d path p lines (AtxHeading level) o o' (c, e, h, f) (c', e', h', f') 
     let x = s.0 in
     let y = s.1 in
     cc
-opens_once d path p lines Paragraph o o' (c, l, h, f) (c', l', h', f') =
-    let s = one_paragraph d path _ [] lines c c' l l' h h' in
-    let x = s.0 in
-    let y = s.1 in
-    cc
+opens_once d path p lines Paragraph o o' e e' = one_paragraph_opening d path p lines None o o' e e'
 
 opens_from : (d : Document) (path : List Container) (p : Place) (lines : List Place) (i : Option ((ℕ × ℕ × ℕ) × Rest)) (q : Option Place) (o o' : Opening) → OpensFrom d path p lines i q o → OpensFrom d path p lines i q o' → o ≡ o'
 unfolding OpensFrom
@@ -76,9 +80,18 @@ opens_from d path p lines None None o o' e e' = opens_once d path p lines (kind_
 pub one_opening : (d : Document) (path : List Container) (p : Place) (lines : List Place) (o o' : Opening) → Opens d path p lines o → Opens d path p lines o' → o ≡ o'
 one_opening d path p lines o o' e e' = opens_from d path p lines (item_at p.rest) (quote_inside p) o o' e e'
 
+opens_at : (d : Document) (path : List Container) (from : From) (p : Place) (lines : List Place) (o o' : Opening) → OpensAt d path from p lines o → OpensAt d path from p lines o' → o ≡ o'
+opens_at d path Line p lines o o' e e' = one_opening d path p lines o o' e e'
+opens_at d path (Inside q) p lines o o' e e' = one_opening d path p lines o o' e e'
+opens_at d path (Blanks x) p lines o o' e e' = one_opening d path p lines o o' e e'
+opens_at d path (TextAt marker q) p lines o o' e e' = one_paragraph_opening d path p lines (Some marker) o o' e e'
+opens_at d path (MarkAt marker q from) p lines o o' e e' = e ∙ sym e'
+
 -- a block begins at one place
 begins_once : (path : List Container) (from : From) (lines : List Place) (p q : Place) (a b : List Place) → Begins path from lines p a → Begins path from lines q b → (p ≡ q) × (a ≡ b)
 begins_once path (Inside x) lines p q a b (e, f) (g, h) = (cc, cc)
+begins_once path (TextAt m x) lines p q a b (e, f) (g, h) = (cc, cc)
+begins_once path (MarkAt m x y) lines p q a b (e, f) (g, h) = (cc, cc)
 begins_once path Line [] p q a b e f = absurd e
 begins_once path Line (line ∷ lines) p q a b (t, f) (u, h) = let s : Some p ≡ Some q = sym t ∙ u in (cc, cc)
 begins_once path (Blanks e) [] p q a b m f = absurd m
@@ -91,6 +104,8 @@ blank_taken line q (Some r) t b = let e : at_rest line r ≡ q = cc in ap (λ z.
 -- where a sequence ends no block begins
 pub ends_not_begins : (path : List Container) (from : From) (lines : List Place) (p : Place) (a : List Place) → Ends path from lines → Begins path from lines p a → ⊥
 ends_not_begins path (Inside x) lines p a e b = e
+ends_not_begins path (TextAt m x) lines p a e b = e
+ends_not_begins path (MarkAt m x y) lines p a e b = e
 ends_not_begins path Line [] p a e b = b
 ends_not_begins path Line (line ∷ lines) p a e (t, h) = let n : None ≡ Some p = sym (ap (option_map (at_rest line)) e) ∙ t in cc
 ends_not_begins path (Blanks x) [] p a e b = b
@@ -101,21 +116,21 @@ leaf_once : (d : Document) (path : List Container) (from : From) (lines : List P
     → IsLeafHere d path from lines leaf there left → IsLeafHere d path from lines leaf' there' left' → OpensLeaf leaf there left ≡ OpensLeaf leaf' there' left'
 leaf_once d path from lines leaf leaf' there there' left left' f g =
     let w = begins_once path from lines f.place g.place f.behind g.behind f.begins g.begins in
-    one_opening d path g.place g.behind _ _ (subst (λ z. Opens d path g.place z (OpensLeaf leaf there left)) w.1 (subst (λ z. Opens d path z f.behind (OpensLeaf leaf there left)) w.0 f.opens)) g.opens
+    opens_at d path from g.place g.behind _ _ (subst (λ z. OpensAt d path from g.place z (OpensLeaf leaf there left)) w.1 (subst (λ z. OpensAt d path from z f.behind (OpensLeaf leaf there left)) w.0 f.opens)) g.opens
 
 leaf_not_node : (d : Document) (path : List Container) (from : From) (lines : List Place) (leaf : Leaf) (there : From) (left : List Place) (head : Head) (inside : From) (behind : List Place)
     → IsLeafHere d path from lines leaf there left → IsNodeHere d path from lines head inside behind → ⊥
 leaf_not_node d path from lines leaf there left head inside behind f g =
     let w = begins_once path from lines f.place g.place f.behind g.behind f.begins g.begins in
     let o : OpensLeaf leaf there left ≡ OpensNode head inside behind =
-    one_opening d path g.place g.behind _ _ (subst (λ z. Opens d path g.place z (OpensLeaf leaf there left)) w.1 (subst (λ z. Opens d path z f.behind (OpensLeaf leaf there left)) w.0 f.opens)) g.opens in
+    opens_at d path from g.place g.behind _ _ (subst (λ z. OpensAt d path from g.place z (OpensLeaf leaf there left)) w.1 (subst (λ z. OpensAt d path from z f.behind (OpensLeaf leaf there left)) w.0 f.opens)) g.opens in
     cc
 
 node_once : (d : Document) (path : List Container) (from : From) (lines : List Place) (head head' : Head) (inside inside' : From) (behind behind' : List Place)
     → IsNodeHere d path from lines head inside behind → IsNodeHere d path from lines head' inside' behind' → OpensNode head inside behind ≡ OpensNode head' inside' behind'
 node_once d path from lines head head' inside inside' behind behind' f g =
     let w = begins_once path from lines f.place g.place f.behind g.behind f.begins g.begins in
-    one_opening d path g.place g.behind _ _ (subst (λ z. Opens d path g.place z (OpensNode head inside behind)) w.1 (subst (λ z. Opens d path z f.behind (OpensNode head inside behind)) w.0 f.opens)) g.opens
+    opens_at d path from g.place g.behind _ _ (subst (λ z. OpensAt d path from g.place z (OpensNode head inside behind)) w.1 (subst (λ z. OpensAt d path from z f.behind (OpensNode head inside behind)) w.0 f.opens)) g.opens
 
 node_ends : (d : Document) (path : List Container) (from : From) (lines : List Place) (head : Head) (inside : From) (behind : List Place)
     → Ends path from lines → IsNodeHere d path from lines head inside behind → ⊥

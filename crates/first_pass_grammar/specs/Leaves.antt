@@ -89,3 +89,8 @@ heading_block start «end» level chain = block_with start «end» (HeadingBody 
 
 abbrev pub paragraph_block : ℕ → ℕ → List Item → List (ℕ × Item)
 paragraph_block start «end» chain = block_with start «end» ParagraphBody chain
+
+-- a task list item marker is the first child of its paragraph (GFM 5.3)
+abbrev pub marker_items : Option Item → List Item
+marker_items None = []
+marker_items (Some x) = x ∷ []

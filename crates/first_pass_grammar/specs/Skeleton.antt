@@ -1,17 +1,21 @@
 -- Sequences of blocks, and the blocks in them (CommonMark 3.1).
-use Rattle.std.specs.Prelude.{◌≡◌, ℕ, Bool, true, false, Option, Some, None, List, [], ◌∷◌, length, if◌then◌else◌}
+use Rattle.std.specs.Prelude.{◌≡◌, ℕ, Bool, true, false, Option, Some, None, List, [], ◌∷◌, ◌++◌, length, if◌then◌else◌}
 use Rattle.first_pass_items.specs.declared.item.Item.{Item}
 use Rattle.first_pass_items.specs.declared.item.BlockQuoteKind.{BlockQuoteKind}
+use Rattle.first_pass_items.specs.declared.item.ItemBody.TheVariants.{TaskListMarker}
+use Rattle.first_pass_items.specs.declared.option_set.Options.{Options}
+use Rattle.first_pass_items.specs.OptionWords.{has}
 use Rattle.first_pass_scan.specs.Lines.{level_number}
+use Rattle.first_pass_scan.specs.Markers.{task_of}
 use Rattle.first_pass_scan.specs.Rest.{Rest}
-use Rattle.first_pass_scan.specs.Places.{Place, offset, start_of}
+use Rattle.first_pass_scan.specs.Places.{Place, place_at, offset, start_of}
 use Rattle.first_pass_grammar.specs.declared.kind.Container.{Container}
 use Rattle.first_pass_grammar.specs.declared.kind.Container.TheVariants.{BlockQuote, ListItem}
 use Rattle.first_pass_grammar.specs.declared.kind.Kind.{Kind}
 use Rattle.first_pass_grammar.specs.declared.kind.Kind.TheVariants.{Blank, ThematicBreak, AtxHeading, Paragraph}
 use Rattle.first_pass_grammar.specs.Containers.{at_rest, after, taken, next_goes_on}
 use Rattle.first_pass_grammar.specs.Kinds.{unindented, is_blank_rest, quote_inside, quote_start, item_at, kind_of}
-use Rattle.first_pass_grammar.specs.Leaves.{Document, IsParagraph, IsHeading, heading_text_at, rule_block, heading_block, paragraph_block}
+use Rattle.first_pass_grammar.specs.Leaves.{Document, IsParagraph, IsHeading, heading_text_at, rule_block, heading_block, paragraph_block, marker_items}
 
 -- a blank line; or a block with no blocks in it: where it ends a list before it, and its items with their depths below it
 pub data Leaf : Type 0 where
@@ -34,12 +38,15 @@ abbrev pub opened : Opener → Container
 opened (QuoteMarker kind) = BlockQuote kind
 opened (ItemMarker byte number indent) = ListItem indent
 
--- Where blocks go on: at the next line; at a place inside a line; or, in an item that takes blank lines alone, at the next line as long as it is
--- blank, with the offset behind the line of the item's marker.
+-- Where blocks go on: at the next line; at a place inside a line; in an item that takes blank lines alone, at the next line as long as it is
+-- blank, with the offset behind the line of the item's marker; behind a task list item marker, at the place where its text begins; or at such a
+-- marker with nothing behind it on its line, with where blocks go on then (GFM 5.3).
 pub data From : Type 0 where
   Line : From
   Inside : Place → From
   Blanks : ℕ → From
+  TextAt : Item → Place → From
+  MarkAt : Item → Place → From → From
 
 -- What begins at a place: a leaf, with where the blocks behind it go on and the lines that it leaves; or a container, with where the blocks in
 -- it go on and the lines behind.
@@ -47,17 +54,21 @@ pub data Opening : Type 0 where
   OpensLeaf : Leaf → From → List Place → Opening
   OpensNode : Head → From → List Place → Opening
 
--- What a kind opens at a place that has these lines behind it, inside the containers of the path. A list before it ends at a paragraph's first
--- byte, and at the start of another block's line (this project).
+-- The paragraph whose text begins at a place, behind a task list item marker or not. A list before it ends at its first byte (this project).
+unfoldable pub OpensParagraph : Document → List Container → Place → List Place → Option Item → Opening → Type 0
+OpensParagraph d path p lines marker opening =
+    (chain : List Item) × (left : List Place) × IsParagraph d path (offset (unindented p)) [] lines chain left
+    × (opening ≡ OpensLeaf (Block (offset (unindented p)) (paragraph_block (offset (unindented p)) (start_of (length d.text) left) (marker_items marker ++ chain))) Line left)
+
+-- What a kind opens at a place that has these lines behind it, inside the containers of the path. A list before another block than a
+-- paragraph ends at the start of the block's line (this project).
 unfoldable pub OpensAs : Document → List Container → Place → List Place → Kind → Opening → Type 0
 OpensAs d path p lines Blank opening = opening ≡ OpensLeaf BlankLine Line lines
 OpensAs d path p lines (ThematicBreak size) opening = opening ≡ OpensLeaf (Block p.line (rule_block (offset (unindented p)) size)) Line lines
 OpensAs d path p lines (AtxHeading level) opening =
     (chain : List Item) × (end_of_line : ℕ) × IsHeading d (heading_text_at d.text (offset (unindented p)) (level_number level)) chain end_of_line
     × (opening ≡ OpensLeaf (Block p.line (heading_block (offset (unindented p)) end_of_line level chain)) Line lines)
-OpensAs d path p lines Paragraph opening =
-    (chain : List Item) × (left : List Place) × IsParagraph d path (offset (unindented p)) [] lines chain left
-    × (opening ≡ OpensLeaf (Block (offset (unindented p)) (paragraph_block (offset (unindented p)) (start_of (length d.text) left) chain)) Line left)
+OpensAs d path p lines Paragraph opening = OpensParagraph d path p lines None opening
 
 -- the next line goes on with the path, and is blank behind what the path takes of it
 abbrev pub is_blank_behind : Option Rest → Bool
@@ -72,27 +83,54 @@ next_is_blank path (line ∷ lines) = is_blank_behind (after path line.rest)
 abbrev pub item_head : Place → ℕ → ℕ → ℕ → Head
 item_head p byte number columns = record { opener = ItemMarker byte number columns; start = offset p; closes = offset p }
 
+abbrev pub task_by : ℕ → Rest → Option (Bool × Rest) → Option Item × Rest
+task_by line r None = (None, r)
+task_by line r (Some task) = (Some (record { start = offset (place_at line r); «end» = offset (place_at line task.1); body = TaskListMarker task.0 }), task.1)
+
+-- the task list item marker that stands here behind an item's own, in the line that begins at an offset, where one does and the option is on; and
+-- what is left of the line (GFM 5.3)
+abbrev pub task_behind : Options → ℕ → Rest → Option Item × Rest
+task_behind options line r = task_by line r (if has options 16 then task_of r else None)
+
+-- where blocks go on behind the markers of an item
+abbrev pub behind_task : Option Item → Place → From
+behind_task None p = Inside p
+behind_task (Some marker) p = TextAt marker p
+
+-- the same where nothing is behind them on their line
+abbrev pub task_alone : Option Item → Place → From → From
+task_alone None p from = from
+task_alone (Some marker) p from = MarkAt marker p from
+
 -- The item whose marker has this byte and number. An item may begin with one blank line, that of its marker; where the next is blank too, the item
 -- takes blank lines alone, and its indent is 0 (CommonMark 5.2).
-abbrev pub item_opening : Document → List Container → Place → List Place → ℕ → ℕ → ℕ → Rest → Opening
-item_opening d path p lines byte number columns r =
+abbrev pub item_opening : Document → List Container → Place → List Place → ℕ → ℕ → ℕ → Option Item × Rest → Opening
+item_opening d path p lines byte number columns (marker, r) =
     if is_blank_rest r
     then (if next_is_blank (ListItem columns ∷ path) lines
-    then OpensNode (item_head p byte number 0) (Blanks (start_of (length d.text) lines)) lines
-    else OpensNode (item_head p byte number columns) Line lines)
-    else OpensNode (item_head p byte number columns) (Inside (at_rest p r)) lines
+    then OpensNode (item_head p byte number 0) (task_alone marker (at_rest p r) (Blanks (start_of (length d.text) lines))) lines
+    else OpensNode (item_head p byte number columns) (task_alone marker (at_rest p r) Line) lines)
+    else OpensNode (item_head p byte number columns) (behind_task marker (at_rest p r)) lines
 
 abbrev pub quote_head : Place → Head
 quote_head p = record { opener = QuoteMarker None; start = quote_start p; closes = p.line }
 
 -- What begins at a place: a list item where one does, else a block quote where one does, else what the kind of the place says.
 unfoldable pub OpensFrom : Document → List Container → Place → List Place → Option ((ℕ × ℕ × ℕ) × Rest) → Option Place → Opening → Type 0
-OpensFrom d path p lines (Some item) quote opening = opening ≡ item_opening d path p lines item.0.0 item.0.1 item.0.2 item.1
+OpensFrom d path p lines (Some item) quote opening = opening ≡ item_opening d path p lines item.0.0 item.0.1 item.0.2 (task_behind d.options p.line item.1)
 OpensFrom d path p lines None (Some inside) opening = opening ≡ OpensNode (quote_head p) (Inside inside) lines
 OpensFrom d path p lines None None opening = OpensAs d path p lines (kind_of p.rest) opening
 
 abbrev pub Opens : Document → List Container → Place → List Place → Opening → Type 0
 Opens d path p lines opening = OpensFrom d path p lines (item_at p.rest) (quote_inside p) opening
+
+-- What begins where blocks go on: behind a task list item marker a paragraph, and where nothing is behind it the marker alone.
+abbrev pub OpensAt : Document → List Container → From → Place → List Place → Opening → Type 0
+OpensAt d path Line p lines opening = Opens d path p lines opening
+OpensAt d path (Inside q) p lines opening = Opens d path p lines opening
+OpensAt d path (Blanks e) p lines opening = Opens d path p lines opening
+OpensAt d path (TextAt marker q) p lines opening = OpensParagraph d path p lines (Some marker) opening
+OpensAt d path (MarkAt marker q from) p lines opening = opening ≡ OpensLeaf (Block p.line ((0, marker) ∷ [])) Line lines
 
 -- The blocks of a container, with what is in each: a first block, and those after it.
 pub data Skeleton : Type 0 where
@@ -104,6 +142,8 @@ pub data Skeleton : Type 0 where
 -- Where a block begins: at a place inside a line, or behind what the path takes of the next line.
 abbrev pub Begins : List Container → From → List Place → Place → List Place → Type 0
 Begins path (Inside p) lines q behind = (q ≡ p) × (behind ≡ lines)
+Begins path (TextAt marker p) lines q behind = (q ≡ p) × (behind ≡ lines)
+Begins path (MarkAt marker p from) lines q behind = (q ≡ p) × (behind ≡ lines)
 Begins path Line [] q behind = ⊥
 Begins path Line (line ∷ lines) q behind = (taken path line ≡ Some q) × (behind ≡ lines)
 Begins path (Blanks e) [] q behind = ⊥
@@ -113,6 +153,8 @@ Begins path (Blanks e) (line ∷ lines) q behind = (taken path line ≡ Some q) 
 -- the next line isn't blank.
 abbrev pub Ends : List Container → From → List Place → Type 0
 Ends path (Inside p) lines = ⊥
+Ends path (TextAt marker p) lines = ⊥
+Ends path (MarkAt marker p from) lines = ⊥
 Ends path Line [] = Unit {0}
 Ends path Line (line ∷ lines) = after path line.rest ≡ None
 Ends path (Blanks e) lines = next_is_blank path lines ≡ false
@@ -122,6 +164,8 @@ abbrev pub behind_first : From → From → From
 behind_first (Blanks e) there = Blanks e
 behind_first Line there = there
 behind_first (Inside p) there = there
+behind_first (TextAt marker p) there = there
+behind_first (MarkAt marker p from) there = from
 
 -- Where a container ends before these lines, with a path around it: at the start of the next line; an item that takes blank lines alone ends behind the
 -- line of its marker, where the next line goes on with that path (this project).
@@ -129,20 +173,22 @@ abbrev pub end_before : ℕ → List Container → From → List Place → ℕ
 end_before n path (Blanks e) lines = if next_goes_on path lines then e else start_of n lines
 end_before n path Line lines = start_of n lines
 end_before n path (Inside p) lines = start_of n lines
+end_before n path (TextAt marker p) lines = start_of n lines
+end_before n path (MarkAt marker p from) lines = end_before n path from lines
 
 -- a first block that is a leaf, where the blocks behind it go on, and the lines that it leaves
 pub record IsLeafHere (d : Document) (path : List Container) (from : From) (lines : List Place) (leaf : Leaf) (there : From) (left : List Place) : Type 0 where
   pub place : Place
   pub behind : List Place
   pub begins : Begins path from lines place behind
-  pub opens : Opens d path place behind (OpensLeaf leaf there left)
+  pub opens : OpensAt d path from place behind (OpensLeaf leaf there left)
 
 -- a first block that is a container, where the blocks in it go on, and the lines behind
 pub record IsNodeHere (d : Document) (path : List Container) (from : From) (lines : List Place) (head : Head) (inside : From) (left : List Place) : Type 0 where
   pub place : Place
   pub behind : List Place
   pub begins : Begins path from lines place behind
-  pub opens : Opens d path place behind (OpensNode head inside left)
+  pub opens : OpensAt d path from place behind (OpensNode head inside left)
 
 -- The blocks of a container, whose path this is, take what is from here on up to the lines that are left.
 unfoldable pub IsSequence : Document → Skeleton → List Container → From → List Place → List Place → Type 0

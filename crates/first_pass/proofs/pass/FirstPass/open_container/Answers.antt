@@ -1,37 +1,57 @@
-use Rattle.std.proofs.Common.{◌≡◌, ℕ, ◌+◌, length, drop, Some, None, true, false, is_some, not, sym, ap, subst, ◌∙◌, arith}
+use Rattle.std.proofs.Common.{◌≡◌, ℕ, ◌+◌, length, drop, Option, Some, None, true, false, is_some, not, refl, sym, ap, subst, ◌∙◌, arith}
+use Rattle.first_pass_items.specs.declared.item.Item.{Item}
 use Rattle.first_pass_items.specs.declared.item.ItemBody.TheVariants.{BlockQuote as BlockQuoteBody}
 use Rattle.first_pass_scan.specs.Lines.{blank_len, line_len}
 use Rattle.first_pass_scan.specs.Rest.{Rest, after_columns}
-use Rattle.first_pass_scan.specs.Places.{place_at, offset, line_end, start_of}
+use Rattle.first_pass_scan.specs.Places.{place_at, offset, line_end, start_of, IsPlaceOf}
 use Rattle.first_pass_scan.proofs.PlaceFacts.{start_of-lines}
 use Rattle.first_pass_grammar.specs.declared.kind.Container.TheVariants.{BlockQuote}
 use Rattle.first_pass_grammar.specs.Containers.{prefix}
 use Rattle.first_pass_grammar.specs.Kinds.{item_at, is_blank_rest, quote_start}
 use Rattle.first_pass_grammar.specs.Leaves.{document}
-use Rattle.first_pass_grammar.specs.Skeleton.{Inside}
+use Rattle.first_pass_grammar.specs.Skeleton.{Inside, task_behind}
 use Rattle.first_pass_grammar.specs.Completion.{lines_from}
+use Rattle.first_pass.specs.Appends.{with_child}
+use Rattle.first_pass.specs.declared.containers.Opened.TheVariants.{Container as OneContainer}
 use Rattle.first_pass.specs.Closing.{Reading, remembered, begun, list_finished}
+use Rattle.first_pass.specs.Opening.{ReadyIn}
 use Rattle.first_pass.specs.State.{Ready, ReadyAt}
-use Rattle.first_pass.proofs.PlaceLemmas.{item_found, item_absent, item_keeps, item_shorter, quote_taken, prefix_keeps, quote_prefix_shorter, place_end, read_end}
+use Rattle.first_pass.proofs.PlaceLemmas.{item_found, item_keeps, item_absent, markers_keep, mark_is_no_text, quote_taken, prefix_keeps, quote_prefix_shorter, place_end, read_end}
 use Rattle.first_pass.proofs.LineLemmas.{list_finished_none, list_continued_none}
-use Rattle.first_pass.proofs.OpenerLemmas.{item_opened, ready_item, ready_empty_item, ready_quote}
+use Rattle.first_pass.proofs.OpenerLemmas.{item_opened, ready_item, empty_item_read, ready_empty_item, ready_quote, opened_behind, ready_behind}
 use Rattle.first_pass.proofs.pass.FirstPass.open_container.Goals as goal
+
+pub scan_task-marker-requires-clause-place : goal.scan_task-marker-requires-clause-place
+scan_task-marker-requires-clause-place c =
+    let is = item_found _ c.scan_item.result (c.in-Some.byte, c.in-Some.number, c.in-Some.indent) c.args.line_start.now c.scan_item.new.line_start c.in-Some.is c.scan_item.ensures in
+    subst (λ t. IsPlaceOf t (place_at c.args.start_ix c.scan_item.new.line_start)) (sym c.in_ok-open_item.ensures.text) (item_keeps c.args.self.now.text.now c.args.start_ix c.args.line_start.now _ c.requires.utf8 is c.requires.place).0
 
 -- the item that is taken
 taken : (c : goal.Then-is_none) → item_at c.args.line_start.now ≡ Some ((c.in-Some.byte, c.in-Some.number, c.in-Some.indent), c.scan_item.new.line_start)
 taken c = item_found _ c.scan_item.result (c.in-Some.byte, c.in-Some.number, c.in-Some.indent) c.args.line_start.now c.scan_item.new.line_start c.in-Some.is c.scan_item.ensures
 
+-- what stands behind its marker
+both : (o : Option Item) (r : Rest) (q : Option Item × Rest) → o ≡ q.0 → r ≡ q.1 → q ≡ (o, r)
+both o r q e f = ap (λ z. (z, q.1)) (sym e) ∙ ap (λ z. (o, z)) (sym f)
+
+task : (c : goal.Then-is_none) → task_behind c.args.self.now.options c.args.start_ix c.scan_item.new.line_start ≡ (c.scan_task-marker.result, c.scan_task-marker.new.line_start)
+task c =
+    ap (λ o. task_behind o c.args.start_ix c.scan_item.new.line_start) (sym c.in_ok-open_item.ensures.options)
+    ∙ both c.scan_task-marker.result c.scan_task-marker.new.line_start (task_behind c.open_item.new.self.options c.args.start_ix c.scan_item.new.line_start) c.scan_task-marker.ensures.marker c.scan_task-marker.ensures.rest
+
 pub returns-then-is_none-clause-place : goal.returns-then-is_none-clause-place
-returns-then-is_none-clause-place c = (item_keeps c.args.self.now.text.now c.args.start_ix c.args.line_start.now _ c.requires.utf8 (taken c) c.requires.place).0
+returns-then-is_none-clause-place c = (markers_keep c.args.self.now.text.now _ c.args.start_ix c.args.line_start.now _ c.scan_task-marker.new.line_start c.requires.utf8 (taken c) c.scan_task-marker.ensures.rest c.requires.place).0
 
 pub returns-then-is_none-clause-same_end : goal.returns-then-is_none-clause-same_end
-returns-then-is_none-clause-same_end c = (item_keeps c.args.self.now.text.now c.args.start_ix c.args.line_start.now _ c.requires.utf8 (taken c) c.requires.place).1
+returns-then-is_none-clause-same_end c = (markers_keep c.args.self.now.text.now _ c.args.start_ix c.args.line_start.now _ c.scan_task-marker.new.line_start c.requires.utf8 (taken c) c.scan_task-marker.ensures.rest c.requires.place).1
 
 pub returns-then-is_none-clause-opened : goal.returns-then-is_none-clause-opened
-returns-then-is_none-clause-opened c = (
-  item_shorter c.args.line_start.now _ (taken c),
-  ap (λ (q : Reading). q.empty_item) c.in_ok-open_item.ensures.reading ∙ list_continued_none (c.args.start_ix + c.bytes_scanned.result) c.in-Some.byte c.in-Some.number (remembered c.args.self.now.tree c.args.self.now.begin_list_item c.args.self.now.last_line_blank),
-)
+returns-then-is_none-clause-opened c =
+    opened_behind c.scan_task-marker.result c.open_item.new.self.begin_list_item c.args.line_start.now c.scan_task-marker.new.line_start (line_end (place_at c.args.start_ix c.args.line_start.now))
+    (λ x is. mark_is_no_text c.open_item.new.self.options c.args.start_ix c.scan_item.new.line_start x (sym c.scan_task-marker.ensures.marker ∙ is))
+    (markers_keep c.args.self.now.text.now _ c.args.start_ix c.args.line_start.now _ c.scan_task-marker.new.line_start c.requires.utf8 (taken c) c.scan_task-marker.ensures.rest c.requires.place).2
+    (ap (λ (q : Reading). q.empty_item) c.in_ok-open_item.ensures.reading
+    ∙ list_continued_none (c.args.start_ix + c.bytes_scanned.result) c.in-Some.byte c.in-Some.number (remembered c.args.self.now.tree c.args.self.now.begin_list_item c.args.self.now.last_line_blank))
 
 -- what is remembered with the item open
 opened_is : (c : goal.Then-is_none) → remembered c.open_item.new.self.tree c.open_item.new.self.begin_list_item c.open_item.new.self.last_line_blank
@@ -45,12 +65,14 @@ returns-then-is_none-clause-ready c =
     let self = c.args.self.now in
     let d = document self.text.now self.options in
     let p = place_at c.args.start_ix c.args.line_start.now in
+    let rest : Rest = c.scan_task-marker.new.line_start in
     let item : (ℕ × ℕ × ℕ) × Rest = ((c.in-Some.byte, c.in-Some.number, c.in-Some.indent), c.scan_item.new.line_start) in
     let none = c.is_none.ensures in
     let yes = c.if-is_none.true in
-    let blank : is_blank_rest c.scan_item.new.line_start ≡ false = ap (λ bs. is_some (blank_len bs)) (sym c.left.ensures) ∙ ap is_some (sym c.scan_blank_line.ensures.value) ∙ none ∙ ap not yes in
-    λ ready. subst (λ (q : Reading). ReadyAt d q.tree q.blank (Inside (place_at c.args.start_ix c.scan_item.new.line_start)) (lines_from self.text.now (line_end p))) (sym (opened_is c))
-    (ready_item d (remembered self.tree self.begin_list_item self.last_line_blank) p (lines_from self.text.now (line_end p)) item c.is_forest.ensures (taken c) blank c.requires.no_empty ready).0
+    let blank : is_blank_rest rest ≡ false = ap (λ bs. is_some (blank_len bs)) (sym c.left.ensures) ∙ ap is_some (sym c.scan_blank_line.ensures.value) ∙ none ∙ ap not yes in
+    λ ready. let done = ready_item d (remembered self.tree self.begin_list_item self.last_line_blank) p (lines_from self.text.now (line_end p)) item c.scan_task-marker.result rest c.is_forest.ensures (taken c) (task c) blank c.requires.no_empty ready in
+    subst (λ (q : Reading). ReadyIn d q (place_at c.args.start_ix rest) (line_end p) (OneContainer c.scan_task-marker.result)) (sym (opened_is c))
+    (ready_behind d (item_opened (offset p) c.in-Some.byte c.in-Some.number c.in-Some.indent (remembered self.tree self.begin_list_item self.last_line_blank)) (place_at c.args.start_ix rest) (line_end p) c.scan_task-marker.result done)
 
 -- the item that is taken, where its line ends behind it
 taken_whole : (c : goal.After-bytes_scanned-in-Some) → item_at c.args.line_start.now ≡ Some ((c.in-Some.byte, c.in-Some.number, c.in-Some.indent), c.scan_item.new.line_start)
@@ -58,33 +80,34 @@ taken_whole c = item_found _ c.scan_item.result (c.in-Some.byte, c.in-Some.numbe
 
 pub overflow_add-start_ix : goal.overflow_add-start_ix
 overflow_add-start_ix c =
-    let i = (item_keeps c.args.self.now.text.now c.args.start_ix c.args.line_start.now _ c.requires.utf8 (taken_whole c) c.requires.place).0 in
+    let i = (markers_keep c.args.self.now.text.now _ c.args.start_ix c.args.line_start.now _ c.scan_task-marker.new.line_start c.requires.utf8 (taken_whole c) c.scan_task-marker.ensures.rest c.requires.place).0 in
     let n = c.bytes_scanned-in-Some.ensures in
     omega (arith, i.within)
 
 pub next_line-next-requires : goal.next_line-next-requires
 next_line-next-requires c =
-    let i = (item_keeps c.args.self.now.text.now c.args.start_ix c.args.line_start.now _ c.requires.utf8 (taken_whole c) c.requires.place).0 in
+    let i = (markers_keep c.args.self.now.text.now _ c.args.start_ix c.args.line_start.now _ c.scan_task-marker.new.line_start c.requires.utf8 (taken_whole c) c.scan_task-marker.ensures.rest c.requires.place).0 in
     let n = c.bytes_scanned-in-Some.ensures in
     let l = ap length (c.as_bytes.ensures.value ∙ c.in_ok-open_item.ensures.text) in
     omega (arith, i.within)
 
-taken_empty : (c : goal.After-self-1) → item_at c.args.line_start.now ≡ Some ((c.in-Some.byte, c.in-Some.number, c.in-Some.indent), c.scan_item.new.line_start)
+taken_empty : (c : goal.After-self-in-Some-1) → item_at c.args.line_start.now ≡ Some ((c.in-Some.byte, c.in-Some.number, c.in-Some.indent), c.scan_item.new.line_start)
 taken_empty c = item_found _ c.scan_item.result (c.in-Some.byte, c.in-Some.number, c.in-Some.indent) c.args.line_start.now c.scan_item.new.line_start c.in-Some.is c.scan_item.ensures
 
 pub returns-in-Some-clause-place : goal.returns-in-Some-clause-place
-returns-in-Some-clause-place c = (item_keeps c.args.self.now.text.now c.args.start_ix c.args.line_start.now _ c.requires.utf8 (taken_empty c) c.requires.place).0
+returns-in-Some-clause-place c = (markers_keep c.args.self.now.text.now _ c.args.start_ix c.args.line_start.now _ c.scan_task-marker.new.line_start c.requires.utf8 (taken_empty c) c.scan_task-marker.ensures.rest c.requires.place).0
 
 pub returns-in-Some-clause-same_end : goal.returns-in-Some-clause-same_end
-returns-in-Some-clause-same_end c = (item_keeps c.args.self.now.text.now c.args.start_ix c.args.line_start.now _ c.requires.utf8 (taken_empty c) c.requires.place).1
+returns-in-Some-clause-same_end c = (markers_keep c.args.self.now.text.now _ c.args.start_ix c.args.line_start.now _ c.scan_task-marker.new.line_start c.requires.utf8 (taken_empty c) c.scan_task-marker.ensures.rest c.requires.place).1
 
 -- the item's line ends there
-next_is : (c : goal.After-self-1) → c.next_line-next.result ≡ line_end (place_at c.args.start_ix c.args.line_start.now)
+next_is : (c : goal.After-self-in-Some-1) → c.next_line-next.result ≡ line_end (place_at c.args.start_ix c.args.line_start.now)
 next_is c =
     let text = c.args.self.now.text.now in
-    let k = item_keeps text c.args.start_ix c.args.line_start.now _ c.requires.utf8 (taken_empty c) c.requires.place in
+    let rest : Rest = c.scan_task-marker.new.line_start in
+    let k = markers_keep text _ c.args.start_ix c.args.line_start.now _ rest c.requires.utf8 (taken_empty c) c.scan_task-marker.ensures.rest c.requires.place in
     c.next_line-next.ensures.value ∙ ap (λ bs. c.args.start_ix + c.bytes_scanned-in-Some.result + line_len (drop (c.args.start_ix + c.bytes_scanned-in-Some.result) bs)) (c.as_bytes.ensures.value ∙ c.in_ok-open_item.ensures.text)
-    ∙ ap (λ n. c.args.start_ix + n + line_len (drop (c.args.start_ix + n) text)) c.bytes_scanned-in-Some.ensures ∙ read_end text c.args.start_ix c.scan_item.new.line_start k.0 ∙ k.1
+    ∙ ap (λ n. c.args.start_ix + n + line_len (drop (c.args.start_ix + n) text)) c.bytes_scanned-in-Some.ensures ∙ read_end text c.args.start_ix rest k.0 ∙ k.1
 
 pub returns-in-Some-clause-opened : goal.returns-in-Some-clause-opened
 returns-in-Some-clause-opened c = next_is c
@@ -95,19 +118,24 @@ returns-in-Some-clause-ready c =
     let text = self.text.now in
     let d = document text self.options in
     let p = place_at c.args.start_ix c.args.line_start.now in
+    let rest : Rest = c.scan_task-marker.new.line_start in
+    let marker : Option Item = c.scan_task-marker.result in
     let old : Reading = remembered self.tree self.begin_list_item self.last_line_blank in
     let item : (ℕ × ℕ × ℕ) × Rest = ((c.in-Some.byte, c.in-Some.number, c.in-Some.indent), c.scan_item.new.line_start) in
     let none = c.is_none.ensures in
     let yes = c.if-is_none.false in
-    let blank : is_blank_rest c.scan_item.new.line_start ≡ true = ap (λ bs. is_some (blank_len bs)) (sym c.left.ensures) ∙ ap is_some (sym c.scan_blank_line.ensures.value) ∙ none ∙ ap not yes in
+    let blank : is_blank_rest rest ≡ true = ap (λ bs. is_some (blank_len bs)) (sym c.left.ensures) ∙ ap is_some (sym c.scan_blank_line.ensures.value) ∙ none ∙ ap not yes in
     let next = next_is c in
     let at_end = place_end text p c.requires.utf8 c.requires.place in
     let first : start_of (length text) (lines_from text (line_end p)) ≡ c.next_line-next.result = start_of-lines text (line_end p) at_end.0 ∙ sym next in
+    let task = ap (λ o. task_behind o c.args.start_ix c.scan_item.new.line_start) (sym c.in_ok-open_item.ensures.options)
+    ∙ both marker rest (task_behind c.open_item.new.self.options c.args.start_ix c.scan_item.new.line_start) c.scan_task-marker.ensures.marker c.scan_task-marker.ensures.rest in
     let now : remembered c.open_item.new.self.tree c.open_item.new.self.begin_list_item c.open_item.new.self.last_line_blank ≡ item_opened (offset p) c.in-Some.byte c.in-Some.number c.in-Some.indent old =
     c.in_ok-open_item.ensures.reading ∙ ap (λ n. item_opened (c.args.start_ix + n) c.in-Some.byte c.in-Some.number c.in-Some.indent old) c.bytes_scanned.ensures in
-    λ ready. subst (λ n. Ready d (remembered c.open_item.new.self.tree (Some c.next_line-next.result) c.open_item.new.self.last_line_blank) (lines_from text n)) (sym next)
-    (subst (λ (q : Reading). Ready d (record q { empty_item = Some c.next_line-next.result }) (lines_from text (line_end p))) (sym now)
-    (ready_empty_item d old p (lines_from text (line_end p)) item c.next_line-next.result c.is_forest.ensures (taken_empty c) blank first c.requires.no_empty ready))
+    λ ready. subst (λ n. Ready d (remembered c.append_item.new.tree (Some c.next_line-next.result) c.open_item.new.self.last_line_blank) (lines_from text n)) (sym next)
+    (subst (λ t. Ready d (remembered t (Some c.next_line-next.result) c.open_item.new.self.last_line_blank) (lines_from text (line_end p))) (sym c.in_ok-append_item.ensures)
+    (subst (λ (q : Reading). Ready d (empty_item_read q marker c.next_line-next.result) (lines_from text (line_end p))) (sym now)
+    (ready_empty_item d old p (lines_from text (line_end p)) item marker rest c.next_line-next.result c.is_forest.ensures (taken_empty c) task blank first c.requires.no_empty ready)))
 
 -- no item, but a block quote
 no_item : (c : goal.In_ok-open_quote) → (item_at c.args.line_start.now ≡ None) × (c.scan_item.new.line_start ≡ c.args.line_start.now)

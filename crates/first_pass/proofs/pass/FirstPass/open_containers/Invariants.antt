@@ -7,8 +7,8 @@ use Rattle.first_pass.specs.State.{ReadyAt}
 use Rattle.first_pass.proofs.pass.FirstPass.open_containers.Given as goal
 
 -- the containers are open that begin before this place
-abbrev pub invariant-loop-next : goal.invariant-loop-next
-invariant-loop-next l = record {
+abbrev pub invariant-loop-marker : goal.invariant-loop-marker
+invariant-loop-marker l = record {
   same_text : l.self.text.now ≡ l.initial.self.text.now;
   same_options : l.self.options ≡ l.initial.self.options;
   same_allocs : l.self.allocs ≡ l.initial.self.allocs;
@@ -19,5 +19,5 @@ invariant-loop-next l = record {
       → ReadyAt (document l.initial.self.text.now l.initial.self.options) l.self.tree l.self.last_line_blank (Inside (place_at l.start_ix l.line_start)) (lines_from l.initial.self.text.now (line_end (place_at l.start_ix l.fn.line_start)));
 }
 
-abbrev pub decreases-loop-next : goal.decreases-loop-next
-decreases-loop-next l = length l.line_start.left
+abbrev pub decreases-loop-marker : goal.decreases-loop-marker
+decreases-loop-marker l = length l.line_start.left

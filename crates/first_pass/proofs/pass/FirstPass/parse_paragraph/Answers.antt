@@ -1,9 +1,9 @@
 use Rattle.std.proofs.Common.{[], ◌++◌, refl, ap, subst, ◌∙◌}
 use Rattle.first_pass_items.specs.declared.item.Item.{Item}
 use Rattle.first_pass_items.specs.declared.item.ItemBody.TheVariants.{Paragraph}
-use Rattle.first_pass_grammar.specs.Leaves.{document, IsParagraph}
+use Rattle.first_pass_grammar.specs.Leaves.{document, IsParagraph, marker_items}
 use Rattle.first_pass_grammar.specs.Completion.{lines_from}
-use Rattle.first_pass.specs.Appends.{with_child, marker_items, line_end_at}
+use Rattle.first_pass.specs.Appends.{with_child, line_end_at}
 use Rattle.first_pass.proofs.PathLemmas.{open_are_in, path_of-paragraph}
 use Rattle.first_pass.proofs.BlockLemmas.{opened_at, opened_is, marked_chain, still_open, block_closed}
 use Rattle.first_pass.proofs.pass.FirstPass.parse_paragraph.Goals as goal

@@ -1,0 +1,49 @@
+use Rattle.std.proofs.Common.{◌≡◌, ◌+◌, Some, IsCharBoundary, sym, ap, subst, ◌∙◌, arith}
+use Rattle.first_pass_items.specs.declared.item.Item.{Item}
+use Rattle.first_pass_scan.specs.Places.{place_at, line_end, offset}
+use Rattle.first_pass_grammar.specs.Kinds.{unindented}
+use Rattle.first_pass_grammar.specs.Leaves.{document}
+use Rattle.first_pass_grammar.specs.Completion.{lines_from}
+use Rattle.first_pass.specs.Appends.{line_end_at, AddsParagraph}
+use Rattle.first_pass.specs.Closing.{Reading, remembered}
+use Rattle.first_pass.specs.State.{Ready}
+use Rattle.first_pass.proofs.PlaceLemmas.{all_keep, at_read}
+use Rattle.first_pass.proofs.LeafLemmas.{line_end_of, ready_text}
+use Rattle.first_pass.proofs.pass.FirstPass.parse_task_text.Goals as goal
+
+pub overflow_add-start_ix : goal.overflow_add-start_ix
+overflow_add-start_ix c =
+    let i = all_keep c.args.self.now.text.now c.args.start_ix c.args.line_start c.requires.utf8 c.requires.place in
+    let e = at_read c.args.start_ix c.bytes_scanned.result c.args.line_start c.scan_indentation.new.line_start c.bytes_scanned.ensures c.scan_indentation.ensures.rest in
+    omega (arith, i.within)
+
+pub parse_paragraph-requires-clause-boundary : goal.parse_paragraph-requires-clause-boundary
+parse_paragraph-requires-clause-boundary c =
+    let text = c.args.self.now.text.now in
+    let i = all_keep text c.args.start_ix c.args.line_start c.requires.utf8 c.requires.place in
+    let e = at_read c.args.start_ix c.bytes_scanned.result c.args.line_start c.scan_indentation.new.line_start c.bytes_scanned.ensures c.scan_indentation.ensures.rest in
+    subst (IsCharBoundary text) (sym e) i.boundary
+
+pub returns-clause-later : goal.returns-clause-later
+returns-clause-later c =
+    let text = c.args.self.now.text.now in
+    let i = all_keep text c.args.start_ix c.args.line_start c.requires.utf8 c.requires.place in
+    let e = at_read c.args.start_ix c.bytes_scanned.result c.args.line_start c.scan_indentation.new.line_start c.bytes_scanned.ensures c.scan_indentation.ensures.rest in
+    let f = ap (line_end_at text) e ∙ line_end_of text (place_at c.args.start_ix c.args.line_start) i in
+    let later = c.in_ok-next.ensures.block.later in
+    omega arith
+
+pub returns-clause-ready : goal.returns-clause-ready
+returns-clause-ready c =
+    let self = c.args.self.now in
+    let d = document self.text.now self.options in
+    let p = place_at c.args.start_ix c.args.line_start in
+    let at = c.args.start_ix + c.bytes_scanned.result in
+    let old : Reading = remembered self.tree self.begin_list_item self.last_line_blank in
+    let i = all_keep self.text.now c.args.start_ix c.args.line_start c.requires.utf8 c.requires.place in
+    let e = at_read c.args.start_ix c.bytes_scanned.result c.args.line_start c.scan_indentation.new.line_start c.bytes_scanned.ensures c.scan_indentation.ensures.rest in
+    let new = c.parse_paragraph.new.self in
+    let next = c.in_ok-next.next in
+    λ ready. subst (λ o. Ready d (remembered new.tree o new.last_line_blank) (lines_from self.text.now next)) (sym c.in_ok-next.ensures.empty_item)
+    (subst (λ b. Ready d (remembered new.tree self.begin_list_item b) (lines_from self.text.now next)) (sym c.in_ok-next.ensures.blank)
+    (ready_text d old new.tree p at next c.args.marker e i c.in_ok-next.ensures.block c.requires.no_empty ready))
