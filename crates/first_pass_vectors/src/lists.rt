@@ -170,6 +170,10 @@ const TEXTS: &[(&str, &str, &str)] = &[
         "\u{e9}\n- \u{e9}\n  \u{fc}",
         "Root 0..12\n  Paragraph 0..3\n    Text 0..2\n  List(tight,-,0) 3..12\n    ListItem(2) 3..12\n      TightParagraph 5..12\n        Text 5..7\n        SoftBreak 7..8\n        Text 10..12\n",
     ),
+];
+
+// The same for other line endings, deeper lists, and lists beside other blocks.
+const MIXED: &[(&str, &str, &str)] = &[
     (
         "",
         "- a\r\n- b\r\n\r\n",
@@ -582,7 +586,43 @@ const LISTS: &[(&str, &str, &str)] = &[
 
 #[test]
 fn lists_are_printed(rt: HostRuntime) -> Result<(), Fail> {
-    for (bits, text, want) in TEXTS.iter().chain(ITEMS).chain(LISTS) {
+    for (bits, text, want) in TEXTS {
+        let printed = print(rt.alloc(), bits, text)?;
+        assert!(rt;
+            printed.as_str() == *want,
+            "options {bits:?}, text {text:?}: {printed}"
+        );
+    }
+    Ok(())
+}
+
+#[test]
+fn mixed_lists_are_printed(rt: HostRuntime) -> Result<(), Fail> {
+    for (bits, text, want) in MIXED {
+        let printed = print(rt.alloc(), bits, text)?;
+        assert!(rt;
+            printed.as_str() == *want,
+            "options {bits:?}, text {text:?}: {printed}"
+        );
+    }
+    Ok(())
+}
+
+#[test]
+fn items_of_the_standard_are_printed(rt: HostRuntime) -> Result<(), Fail> {
+    for (bits, text, want) in ITEMS {
+        let printed = print(rt.alloc(), bits, text)?;
+        assert!(rt;
+            printed.as_str() == *want,
+            "options {bits:?}, text {text:?}: {printed}"
+        );
+    }
+    Ok(())
+}
+
+#[test]
+fn lists_of_the_standard_are_printed(rt: HostRuntime) -> Result<(), Fail> {
+    for (bits, text, want) in LISTS {
         let printed = print(rt.alloc(), bits, text)?;
         assert!(rt;
             printed.as_str() == *want,
