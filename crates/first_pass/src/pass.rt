@@ -20,8 +20,8 @@ ghost use Rattle.first_pass.specs.State.{Ready, ReadyAt};
 ghost use Rattle.first_pass.specs.TableEntries.{tables, no_tables};
 
 use crate::containers::Behind;
-pub use crate::interrupt::scan_paragraph_interrupt_no_table;
 use crate::indentation::scan_indentation;
+pub use crate::interrupt::scan_paragraph_interrupt_no_table;
 use crate::items::Allocations;
 use crate::kinds::kind_at;
 use first_pass_below::flank::TableParseMode;

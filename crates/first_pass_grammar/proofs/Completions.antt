@@ -13,7 +13,7 @@ use Rattle.first_pass_grammar.specs.declared.kind.Container.{Container}
 use Rattle.first_pass_grammar.specs.declared.kind.Container.TheVariants.{BlockQuote, ListItem}
 use Rattle.first_pass_grammar.specs.Containers.{taken}
 use Rattle.first_pass_grammar.specs.Leaves.{Document}
-use Rattle.first_pass_grammar.specs.Skeleton.{Leaf, BlankLine, Block, Head, Opener, QuoteMarker, ItemMarker, From, Line, Inside, Blanks, TextAt, MarkAt, Opening, OpensLeaf, OpensNode, OpensParagraph, Opens, OpensAt, Skeleton, Nil, Then, Node, Begins, Ends, behind_first, end_before, IsLeafHere, IsNodeHere, IsSequence}
+use Rattle.first_pass_grammar.specs.Skeleton.{Leaf, BlankLine, Block, Head, Opener, QuoteMarker, ItemMarker, From, Line, Inside, Blanks, TextAt, MarkAt, Opening, OpensLeaf, OpensNode, OpensParagraph, Opens, Skeleton, Nil, Then, Node, Begins, Ends, behind_first, end_before, IsLeafHere, IsNodeHere, IsSequence}
 use Rattle.first_pass_grammar.specs.Lists.{joins, counts_with, run_behind, has_gap, list_end, is_loosened}
 use Rattle.first_pass_grammar.specs.Derivation.{Tables, Derives, forest_of, container_items, leaf_items, node_of, tables_of, root_of, list_flags, tight_body, tightened}
 use Rattle.first_pass_grammar.specs.Completion.{ended, flagged, reflagged, list_closed, Pending, NoList, OneList, byte_in, rendered, Frame, InContainer, InList, containers_of, is_quote, loosened, loosened_in, Finish, AreBelow, IsPlain, IsShaped, Completes}

@@ -12,4 +12,6 @@ mod faults;
 #[cfg(test)]
 mod lists;
 #[cfg(test)]
+mod tasks;
+#[cfg(test)]
 mod texts;

@@ -1,4 +1,4 @@
-use Rattle.std.proofs.Common.{◌≡◌, ℕ, ◌+◌, length, drop, Option, Some, None, true, false, is_some, not, refl, sym, ap, subst, ◌∙◌, arith}
+use Rattle.std.proofs.Common.{◌≡◌, ℕ, ◌+◌, length, drop, Option, Some, None, true, false, is_some, not, sym, ap, subst, ◌∙◌, arith}
 use Rattle.first_pass_items.specs.declared.item.Item.{Item}
 use Rattle.first_pass_items.specs.declared.item.ItemBody.TheVariants.{BlockQuote as BlockQuoteBody}
 use Rattle.first_pass_scan.specs.Lines.{blank_len, line_len}
@@ -11,7 +11,6 @@ use Rattle.first_pass_grammar.specs.Kinds.{item_at, is_blank_rest, quote_start}
 use Rattle.first_pass_grammar.specs.Leaves.{document}
 use Rattle.first_pass_grammar.specs.Skeleton.{Inside, task_behind}
 use Rattle.first_pass_grammar.specs.Completion.{lines_from}
-use Rattle.first_pass.specs.Appends.{with_child}
 use Rattle.first_pass.specs.declared.containers.Opened.TheVariants.{Container as OneContainer}
 use Rattle.first_pass.specs.Closing.{Reading, remembered, begun, list_finished}
 use Rattle.first_pass.specs.Opening.{ReadyIn}

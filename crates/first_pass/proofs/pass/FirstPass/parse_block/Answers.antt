@@ -3,7 +3,6 @@ use Rattle.first_pass_scan.specs.Lines.{line_len}
 use Rattle.first_pass_scan.specs.Places.{place_at, line_end}
 use Rattle.first_pass_scan.proofs.LineFacts.{line_len-within}
 use Rattle.first_pass_scan.proofs.PlaceFacts.{line_end_boundary}
-use Rattle.first_pass.specs.declared.containers.Behind.TheVariants.{NextLine}
 use Rattle.first_pass.specs.Opening.{IsBehind}
 use Rattle.first_pass.proofs.pass.FirstPass.parse_block.Goals as goal
 

@@ -1,10 +1,8 @@
-use Rattle.std.proofs.Common.{◌≡◌, ◌+◌, Some, IsCharBoundary, sym, ap, subst, ◌∙◌, arith}
-use Rattle.first_pass_items.specs.declared.item.Item.{Item}
-use Rattle.first_pass_scan.specs.Places.{place_at, line_end, offset}
-use Rattle.first_pass_grammar.specs.Kinds.{unindented}
+use Rattle.std.proofs.Common.{◌+◌, IsCharBoundary, sym, ap, subst, ◌∙◌, arith}
+use Rattle.first_pass_scan.specs.Places.{place_at}
 use Rattle.first_pass_grammar.specs.Leaves.{document}
 use Rattle.first_pass_grammar.specs.Completion.{lines_from}
-use Rattle.first_pass.specs.Appends.{line_end_at, AddsParagraph}
+use Rattle.first_pass.specs.Appends.{line_end_at}
 use Rattle.first_pass.specs.Closing.{Reading, remembered}
 use Rattle.first_pass.specs.State.{Ready}
 use Rattle.first_pass.proofs.PlaceLemmas.{all_keep, at_read}

@@ -1,6 +1,4 @@
-use Rattle.std.proofs.Common.{◌≡◌, ◌∙◌, ◌+◌, Some, sym, ap, subst, arith, MatchOption, Option, Bool, None}
-use Rattle.first_pass_scan.specs.Rest.{Rest}
-use Rattle.first_pass_scan.specs.Markers.{task_of}
+use Rattle.std.proofs.Common.{arith}
 use Rattle.first_pass.proofs.PlaceLemmas.{task_keeps, task_found}
 use Rattle.first_pass.proofs.pass.FirstPass.scan_task.Goals as goal
 
