@@ -27,6 +27,11 @@ const TEXTS: &[(&str, &str, &str)] = &[
         "Root 0..7\n  Paragraph 4..7\n    Text 4..7\n",
     ),
     ("", ">\n", "Root 0..2\n  BlockQuote 0..2\n"),
+    (
+        "",
+        "\\\n\na",
+        "Root 0..4\n  Paragraph 0..2\n    Text 0..1\n  Paragraph 3..4\n    Text 3..4\n",
+    ),
     ("", "###\n", "Root 0..4\n  Heading(3) 0..4\n"),
     (
         "",
