@@ -22,7 +22,7 @@ use Rattle.first_pass_grammar.specs.Leaves.{Document}
 use Rattle.first_pass_grammar.specs.Skeleton.{BlankLine, From, Line, Inside, Blanks, OpensLeaf, OpensAs, OpensFrom, Opens, is_blank_behind, next_is_blank, end_before}
 use Rattle.first_pass_grammar.specs.Derivation.{node_of}
 use Rattle.first_pass_grammar.specs.Completion.{Frame, InContainer, InList, containers_of, AreBelow, Completes}
-use Rattle.first_pass_grammar.proofs.Completions.{counts_in, completes-enter, completes-blank, completes-only_blank}
+use Rattle.first_pass_grammar.proofs.Completions.{counts_in, completes-enter, completes-blank_line, completes-only_blank}
 use Rattle.first_pass.specs.Appends.{closed_by}
 use Rattle.first_pass.specs.Closing.{Reading, top_body, is_item, popped_by, popped, item_finished_by, item_finished, emptied, blank_read_by, blank_read}
 use Rattle.first_pass.specs.Path.{container_of, container_at, with_container, path_in, path_of}
@@ -209,7 +209,7 @@ module _ (d : Document) (r : Reading) (p : Place) (lines : List Place) (blank : 
       let now : ReadyAt d r.tree (counts_in ready.frames r.blank) Line lines = record {
         frames = ready.frames;
         are_open = ready.are_open;
-        completes = completes-blank d r.blank ready.frames r.tree.nodes (map (λ i. i.0) r.tree.spine) p lines lines (opens_blank d (containers_of ready.frames) p lines blank) ready.completes;
+        completes = completes-blank_line d r.blank ready.frames r.tree.nodes (map (λ i. i.0) r.tree.spine) p lines lines (opens_blank d (containers_of ready.frames) p lines blank) ready.completes;
       } in
       ready_plain d (blank_read_by r b) lines (same_none b ∙ none)
       (subst (λ t. ReadyAt d t (blank_read_by r b).blank Line lines) (sym (same_tree b none)) (subst (λ t. ReadyAt d r.tree t Line lines) counts now))

@@ -37,7 +37,7 @@ no_list_frame None byte loose h n = cc
 no_list_frame (Some (ListBody flags list number)) byte loose h n = cc
 no_list_frame (Some b) byte loose h n = cc
 
-plain_by : (nodes : List (ℕ × Item)) (s : List TreeIndex) (frames : List Frame) → AreOpen nodes s frames → is_list (option_and_then (λ (ix : TreeIndex). body_at nodes ix.0) (slice_get s 0)) ≡ false → IsPlain frames
+pub plain_by : (nodes : List (ℕ × Item)) (s : List TreeIndex) (frames : List Frame) → AreOpen nodes s frames → is_list (option_and_then (λ (ix : TreeIndex). body_at nodes ix.0) (slice_get s 0)) ≡ false → IsPlain frames
 plain_by nodes [] [] o n = tt
 plain_by nodes [] (frame ∷ frames) o n = absurd o
 plain_by nodes (ix ∷ s) [] o n = absurd o

@@ -1,9 +1,9 @@
 -- A leaf block read at a place where no container begins.
-use Rattle.std.proofs.Common.{◌≡◌, ℕ, suc, ◌+◌, nat_lt, Bool, true, false, List, [], ◌++◌, length, map, drop, Option, Some, None, is_some, refl, sym, ap, subst, ◌∙◌, arith, if◌then◌else◌}
+use Rattle.std.proofs.Common.{◌≡◌, inl, inr, ℕ, suc, ◌+◌, nat_lt, Bool, true, false, List, [], ◌++◌, length, map, drop, Option, Some, None, is_some, refl, sym, ap, subst, ◌∙◌, arith, if◌then◌else◌}
 use Rattle.std.specs.Option.{option_map}
 use Rattle.first_pass_items.specs.declared.item.Item.{Item}
 use Rattle.first_pass_items.specs.declared.item.ItemBody.{ItemBody}
-use Rattle.first_pass_items.specs.declared.item.ItemBody.TheVariants.{List as ListBody}
+use Rattle.first_pass_items.specs.declared.item.ItemBody.TheVariants.{BlockQuote as BlockQuoteBody, List as ListBody}
 use Rattle.first_pass_items.specs.declared.item.HeadingLevel.{HeadingLevel}
 use Rattle.first_pass_tree.specs.declared.tree_index.TreeIndex.{TreeIndex}
 use Rattle.first_pass_tree.specs.Forest.{Forest, IsForest, added, at_depth}
@@ -19,19 +19,22 @@ use Rattle.first_pass_grammar.specs.declared.kind.Kind.TheVariants.{Blank, Thema
 use Rattle.first_pass_grammar.specs.Containers.{at_rest, prefix}
 use Rattle.first_pass_grammar.specs.Kinds.{unindented, is_blank_rest, quote_inside, item_at, heading_or, rule_or, kind_of}
 use Rattle.first_pass_grammar.specs.Leaves.{Document, IsParagraph, IsHeading, heading_text_at, rule_block, heading_block, paragraph_block, marker_items}
-use Rattle.first_pass_grammar.specs.Skeleton.{Block, Line, Inside, Opening, OpensLeaf, OpensParagraph, OpensAs, OpensFrom, Opens}
+use Rattle.first_pass_grammar.specs.Skeleton.{BlankLine, Block, Line, Inside, LeafAt, IsLeafHere, Opening, OpensLeaf, OpensParagraph, OpensAs, OpensFrom, Opens}
 use Rattle.first_pass_grammar.specs.Completion.{lines_from, Frame, containers_of, AreBelow, Completes}
-use Rattle.first_pass_grammar.proofs.Completions.{completes-block, completes-text}
+use Rattle.first_pass_grammar.proofs.Completions.{completes-leaf, completes-blank, completes-block, completes-text, counts_in}
 use Rattle.first_pass.specs.Appends.{line_end_at, AddsParagraph, AddsHeading}
-use Rattle.first_pass.specs.Closing.{Reading, remembered, top_body, list_finished}
+use Rattle.first_pass.specs.Closing.{Reading, remembered, top_body, is_list, list_finished, blank_read_by, blank_read}
 use Rattle.first_pass.specs.Path.{path_of}
 use Rattle.first_pass.specs.State.{AreOpen, ReadyAt, Ready}
-use Rattle.first_pass.specs.Opening.{ReadyText}
+use Rattle.first_pass.specs.Opening.{ReadyText, ReadyLazy, ReadyLeaf}
 use Rattle.first_pass.proofs.OpenLemmas.{open_path, open_below, frame-append}
 use Rattle.first_pass.proofs.RuleLemmas.{rule_line}
 use Rattle.first_pass.proofs.StateLemmas.{ready_plain}
-use Rattle.first_pass.proofs.FinishLemmas.{EndsListAt, ready_finished, path_finished}
+use Rattle.first_pass.proofs.FinishLemmas.{EndsListAt, plain_by, ready_finished, path_finished}
 use Rattle.first_pass.proofs.OpenerLemmas.{depth_of}
+use Rattle.first_pass.proofs.EnterLemmas.{ready_blank}
+use Rattle.first_pass.proofs.TagLemmas.{finishes_nothing, quote_counts}
+use Rattle.first_pass_items.specs.declared.item.BlockQuoteKind.{BlockQuoteKind}
 
 -- The line of a text ends where its line ends.
 pub line_end_of : (text : List ℕ) (p : Place) → IsPlaceOf text (unindented p) → line_end_at text (offset (unindented p)) ≡ line_end p
@@ -77,9 +80,9 @@ with_block d f frames items left o below k =
     }
 
 -- a block is added once a new block has ended what it ends
-ready_added : (d : Document) (r : Reading) (new : Forest Item) (p : Place) (lines left : List Place) (at : ℕ) (items : List (ℕ × Item)) → IsForest r.tree → Opens d (path_of r.tree) p lines (OpensLeaf (Block at items) Line left)
+added_block : (d : Document) (r : Reading) (new : Forest Item) (p : Place) (lines left : List Place) (at : ℕ) (items : List (ℕ × Item)) → IsForest r.tree → Opens d (path_of r.tree) p lines (OpensLeaf (Block at items) Line left)
     → new ≡ added (list_finished at r).tree items → r.empty_item ≡ None → ReadyAt d r.tree r.blank (Inside p) lines → Ready d (remembered new (list_finished at r).empty_item (list_finished at r).blank) left
-ready_added d r new p lines left at items forest opens new_is none ready =
+added_block d r new p lines left at items forest opens new_is none ready =
     let opening : Opening = OpensLeaf (Block at items) Line left in
     let done = ready_finished d r p lines at opening forest opens tt (block_away (top_body r.tree) at items left) none ready in
     let f : Forest Item = (list_finished at r).tree in
@@ -91,12 +94,68 @@ ready_added d r new p lines left at items forest opens new_is none ready =
     ready_plain d (remembered new (list_finished at r).empty_item (list_finished at r).blank) left done.none
     (subst (λ t. ReadyAt d new t Line left) (sym done.blank) (subst (λ z. ReadyAt d z false Line left) (sym new_is) q))
 
+-- the same behind the tag of a block quote, where a new block ends nothing
+lazy_block : (d : Document) (r : Reading) (new : Forest Item) (p : Place) (lines left : List Place) (at : ℕ) (items : List (ℕ × Item)) → OpensAs d (path_of r.tree) p lines (kind_of p.rest) (OpensLeaf (Block at items) Line left)
+    → new ≡ added (list_finished at r).tree items → r.empty_item ≡ None → ReadyLazy d r p lines → Ready d (remembered new (list_finished at r).empty_item (list_finished at r).blank) left
+lazy_block d r new p lines left at items opens new_is none lazy =
+    let f : Forest Item = r.tree in
+    let frames : List Frame = lazy.ready.frames in
+    let os : List ℕ = map (λ (i : TreeIndex). i.0) f.spine in
+    let plain = plain_by f.nodes f.spine frames lazy.ready.are_open (ap is_list lazy.quote) in
+    let path = open_path f.nodes f.spine frames lazy.ready.are_open in
+    let first : IsLeafHere d (containers_of frames) (LeafAt p) lines (Block at items) Line left = record {
+      place = p;
+      behind = lines;
+      begins = (refl, refl);
+      opens = subst (λ z. OpensAs d z p lines (kind_of p.rest) (OpensLeaf (Block at items) Line left)) path opens;
+    } in
+    let k = completes-leaf d frames f.nodes os (LeafAt p) lines left at items plain (λ path mid. refl) first lazy.ready.completes in
+    let q = with_block d f frames items left lazy.ready.are_open lazy.ready.completes.below k in
+    let same : list_finished at r ≡ r = finishes_nothing at r lazy.kind lazy.quote lazy.blank none in
+    subst (λ (z : Reading). Ready d (remembered new z.empty_item z.blank) left) (sym same)
+    (ready_plain d (remembered new r.empty_item r.blank) left none
+    (subst (λ t. ReadyAt d new t Line left) (sym lazy.blank) (subst (λ z. ReadyAt d z false Line left) (sym (new_is ∙ ap (λ (z : Reading). added z.tree items) same)) q)))
+
+-- a leaf is added at its place
+ready_added : (d : Document) (r : Reading) (new : Forest Item) (p : Place) (lines left : List Place) (at : ℕ) (items : List (ℕ × Item)) (k : Kind) → IsForest r.tree → kind_of p.rest ≡ k → OpensAs d (path_of r.tree) p lines k (OpensLeaf (Block at items) Line left)
+    → new ≡ added (list_finished at r).tree items → r.empty_item ≡ None → ReadyLeaf d r p lines → Ready d (remembered new (list_finished at r).empty_item (list_finished at r).blank) left
+ready_added d r new p lines left at items k forest kind opens new_is none (inl (no_item, no_quote, ready)) =
+    added_block d r new p lines left at items forest (no_container d (path_of r.tree) p lines k (OpensLeaf (Block at items) Line left) no_item no_quote kind opens) new_is none ready
+ready_added d r new p lines left at items k forest kind opens new_is none (inr lazy) =
+    lazy_block d r new p lines left at items (subst (λ z. OpensAs d (path_of r.tree) p lines z (OpensLeaf (Block at items) Line left)) (sym kind) opens) new_is none lazy
+
+kind_blank_is : (r : Reading) (b : Option ItemBody) (kind : Option BlockQuoteKind) → b ≡ Some (BlockQuoteBody kind) → blank_read_by r b ≡ r
+kind_blank_is r b kind is = ap (blank_read_by r) is
+
+-- a blank line at the place of a leaf
+pub ready_blank_leaf : (d : Document) (r : Reading) (p : Place) (lines : List Place) → kind_of p.rest ≡ Blank → r.empty_item ≡ None → ReadyLeaf d r p lines → Ready d (blank_read r) lines
+unfolding blank_read OpensAs
+ready_blank_leaf d r p lines kind none (inl (no_item, no_quote, ready)) = ready_blank d r p lines (kind_blank_rest p.rest kind) none ready
+ready_blank_leaf d r p lines kind none (inr lazy) =
+    let f : Forest Item = r.tree in
+    let frames : List Frame = lazy.ready.frames in
+    let os : List ℕ = map (λ (i : TreeIndex). i.0) f.spine in
+    let blank : OpensAs d (containers_of frames) p lines Blank (OpensLeaf BlankLine Line lines) = refl in
+    let first : IsLeafHere d (containers_of frames) (LeafAt p) lines BlankLine Line lines = record {
+      place = p;
+      behind = lines;
+      begins = (refl, refl);
+      opens = subst (λ z. OpensAs d (containers_of frames) p lines z (OpensLeaf BlankLine Line lines)) (sym kind) blank;
+    } in
+    let counts : counts_in frames false ≡ false = quote_counts f.nodes f.spine frames lazy.kind lazy.quote lazy.ready.are_open in
+    let now : ReadyAt d f false Line lines = record {
+      frames = frames;
+      are_open = lazy.ready.are_open;
+      completes = subst (λ t. Completes d t frames f.nodes os Line lines) counts (completes-blank d false frames f.nodes os (LeafAt p) lines lines (λ path mid. refl) first lazy.ready.completes);
+    } in
+    subst (λ q. Ready d q lines) (sym (kind_blank_is r (top_body r.tree) lazy.kind lazy.quote)) (ready_plain d r lines none (subst (λ t. ReadyAt d f t Line lines) (sym lazy.blank) now))
+
 -- behind a heading
-pub ready_heading : (d : Document) (r : Reading) (new : Forest Item) (p : Place) (at next : ℕ) (level : HeadingLevel) → IsForest r.tree → item_at p.rest ≡ None → prefix (BlockQuote None) p.rest ≡ None → kind_of p.rest ≡ AtxHeading level
+pub ready_heading : (d : Document) (r : Reading) (new : Forest Item) (p : Place) (at next : ℕ) (level : HeadingLevel) → IsForest r.tree → kind_of p.rest ≡ AtxHeading level
     → at ≡ offset (unindented p) → IsPlaceOf d.text (unindented p) → AddsHeading d at level (list_finished p.line r).tree new next → r.empty_item ≡ None
-    → ReadyAt d r.tree r.blank (Inside p) (lines_from d.text (line_end p)) → Ready d (remembered new (list_finished p.line r).empty_item (list_finished p.line r).blank) (lines_from d.text next)
+    → ReadyLeaf d r p (lines_from d.text (line_end p)) → Ready d (remembered new (list_finished p.line r).empty_item (list_finished p.line r).blank) (lines_from d.text next)
 unfolding OpensAs
-ready_heading d r new p at next level forest no_item no_quote kind at_is place h none ready =
+ready_heading d r new p at next level forest kind at_is place h none ready =
     let lines : List Place = lines_from d.text (line_end p) in
     let block : List (ℕ × Item) = heading_block at next level h.chain in
     let o : Opening = OpensLeaf (Block p.line block) Line (lines_from d.text next) in
@@ -108,7 +167,7 @@ ready_heading d r new p at next level forest no_item no_quote kind at_is place h
       ap (λ k. OpensLeaf (Block p.line (heading_block k next level h.chain)) Line (lines_from d.text next)) at_is
           ∙ ap (λ n. OpensLeaf (Block p.line (heading_block (offset (unindented p)) next level h.chain)) Line (lines_from d.text n)) next_is,
     ) in
-    ready_added d r new p lines (lines_from d.text next) p.line block forest (no_container d (path_of r.tree) p lines (AtxHeading level) o no_item no_quote kind heading) h.tree_is none ready
+    ready_added d r new p lines (lines_from d.text next) p.line block (AtxHeading level) forest kind heading h.tree_is none ready
 
 -- a paragraph that was added, behind a task list item marker or not, is what opens at its place
 opens_paragraph : (d : Document) (path : List Container) (old new : Forest Item) (p : Place) (at next : ℕ) (marker : Option Item) → path_of old ≡ path → at ≡ offset (unindented p) → IsPlaceOf d.text (unindented p) → (a : AddsParagraph d at marker old new next)
@@ -131,16 +190,16 @@ opens_paragraph d path old new p at next marker path_is at_is place a =
     )
 
 -- behind a paragraph
-pub ready_paragraph : (d : Document) (r : Reading) (new : Forest Item) (p : Place) (at next : ℕ) → IsForest r.tree → item_at p.rest ≡ None → prefix (BlockQuote None) p.rest ≡ None → kind_of p.rest ≡ Paragraph
+pub ready_paragraph : (d : Document) (r : Reading) (new : Forest Item) (p : Place) (at next : ℕ) → IsForest r.tree → kind_of p.rest ≡ Paragraph
     → at ≡ offset (unindented p) → IsPlaceOf d.text (unindented p) → AddsParagraph d at None (list_finished at r).tree new next → r.empty_item ≡ None
-    → ReadyAt d r.tree r.blank (Inside p) (lines_from d.text (line_end p)) → Ready d (remembered new (list_finished at r).empty_item (list_finished at r).blank) (lines_from d.text next)
+    → ReadyLeaf d r p (lines_from d.text (line_end p)) → Ready d (remembered new (list_finished at r).empty_item (list_finished at r).blank) (lines_from d.text next)
 unfolding OpensAs
-ready_paragraph d r new p at next forest no_item no_quote kind at_is place a none ready =
+ready_paragraph d r new p at next forest kind at_is place a none ready =
     let lines : List Place = lines_from d.text (line_end p) in
     let block : List (ℕ × Item) = paragraph_block at next a.chain in
     let o : Opening = OpensLeaf (Block at block) Line (lines_from d.text next) in
     let paragraph : OpensAs d (path_of r.tree) p lines Paragraph o = opens_paragraph d (path_of r.tree) (list_finished at r).tree new p at next None (path_finished at r none) at_is place a in
-    ready_added d r new p lines (lines_from d.text next) at block forest (no_container d (path_of r.tree) p lines Paragraph o no_item no_quote kind paragraph) a.tree_is none ready
+    ready_added d r new p lines (lines_from d.text next) at block Paragraph forest kind paragraph a.tree_is none ready
 
 -- behind the paragraph of a task list item
 pub ready_text : (d : Document) (r : Reading) (new : Forest Item) (p : Place) (at next : ℕ) (marker : Item) → at ≡ offset (unindented p) → IsPlaceOf d.text (unindented p) → AddsParagraph d at (Some marker) r.tree new next → r.empty_item ≡ None
@@ -205,15 +264,15 @@ rule_end p at size kind at_is =
     omega arith
 
 -- behind a thematic break
-pub ready_rule : (d : Document) (r : Reading) (new : Forest Item) (p : Place) (at next size : ℕ) → IsForest r.tree → item_at p.rest ≡ None → prefix (BlockQuote None) p.rest ≡ None → kind_of p.rest ≡ ThematicBreak size
+pub ready_rule : (d : Document) (r : Reading) (new : Forest Item) (p : Place) (at next size : ℕ) → IsForest r.tree → kind_of p.rest ≡ ThematicBreak size
     → at ≡ offset (unindented p) → next ≡ line_end p → new ≡ added (list_finished p.line r).tree (rule_block at size) → r.empty_item ≡ None
-    → ReadyAt d r.tree r.blank (Inside p) (lines_from d.text (line_end p)) → Ready d (remembered new (list_finished p.line r).empty_item (list_finished p.line r).blank) (lines_from d.text next)
+    → ReadyLeaf d r p (lines_from d.text (line_end p)) → Ready d (remembered new (list_finished p.line r).empty_item (list_finished p.line r).blank) (lines_from d.text next)
 unfolding OpensAs
-ready_rule d r new p at next size forest no_item no_quote kind at_is next_is new_is none ready =
+ready_rule d r new p at next size forest kind at_is next_is new_is none ready =
     let lines : List Place = lines_from d.text (line_end p) in
     let block : List (ℕ × Item) = rule_block at size in
     let o : Opening = OpensLeaf (Block p.line block) Line (lines_from d.text next) in
     let rule : OpensAs d (path_of r.tree) p lines (ThematicBreak size) o =
     ap (λ k. OpensLeaf (Block p.line (rule_block k size)) Line (lines_from d.text next)) at_is
     ∙ ap (λ n. OpensLeaf (Block p.line (rule_block (offset (unindented p)) size)) Line (lines_from d.text n)) next_is in
-    ready_added d r new p lines (lines_from d.text next) p.line block forest (no_container d (path_of r.tree) p lines (ThematicBreak size) o no_item no_quote kind rule) new_is none ready
+    ready_added d r new p lines (lines_from d.text next) p.line block (ThematicBreak size) forest kind rule new_is none ready

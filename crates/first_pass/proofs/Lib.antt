@@ -14,5 +14,6 @@ pub mod PlaceLemmas
 pub mod PopLemmas
 pub mod RuleLemmas
 pub mod StateLemmas
+pub mod TagLemmas
 pub mod TightLemmas
 pub mod WithinLemmas

@@ -7,6 +7,7 @@ use Rattle.first_pass_items.specs.declared.item.Item.{Item}
 use Rattle.first_pass_items.specs.declared.item.ItemBody.{ItemBody}
 use Rattle.first_pass_items.specs.declared.item.ItemBody.TheVariants.{BlockQuote as BlockQuoteBody, List as ListBody, ListItem as ListItemBody}
 use Rattle.first_pass_items.specs.declared.item.ListFlags.{ListFlags}
+use Rattle.first_pass_items.specs.declared.item.BlockQuoteKind.{BlockQuoteKind}
 use Rattle.first_pass_tree.specs.declared.tree_index.TreeIndex.{TreeIndex}
 use Rattle.first_pass_tree.proofs.Blocks.{modify-at}
 use Rattle.first_pass_tree.specs.Forest.{Forest, IsForest, is_text, modify, with_body_at, body_at, appended, pushed}
@@ -17,7 +18,7 @@ use Rattle.first_pass_grammar.specs.declared.kind.Container.TheVariants.{BlockQu
 use Rattle.first_pass_grammar.specs.Containers.{at_rest, prefix}
 use Rattle.first_pass_grammar.specs.Kinds.{is_blank_rest, quote_inside, quote_start, item_at}
 use Rattle.first_pass_grammar.specs.Leaves.{Document}
-use Rattle.first_pass_grammar.specs.Skeleton.{From, Line, Inside, Blanks, Opening, OpensNode, next_is_blank, item_head, task_behind, behind_task, task_alone, item_opening, quote_head, OpensFrom, Opens}
+use Rattle.first_pass_grammar.specs.Skeleton.{From, Line, Inside, Blanks, Opening, OpensNode, next_is_blank, item_head, task_behind, behind_task, task_alone, item_opening, quote_head, tag_behind, behind_tag, quote_opening, OpensFrom, Opens}
 use Rattle.first_pass_grammar.specs.Derivation.{node_of, list_flags}
 use Rattle.first_pass_grammar.specs.Completion.{lines_from, Frame, InContainer, InList, containers_of, AreBelow, IsPlain, Completes}
 use Rattle.first_pass_grammar.proofs.Tightening.{modify-append, length-modify}
@@ -26,7 +27,7 @@ use Rattle.first_pass.specs.Appends.{with_child}
 use Rattle.first_pass.specs.Closing.{Reading, loosened_by, loosened_at, top_body, is_list_of, item_finished_by, item_finished, list_finished, loosened_top, list_kept, begun, list_continued, emptied}
 use Rattle.first_pass.specs.Path.{container_of, with_container, path_in, path_of}
 use Rattle.first_pass.specs.declared.containers.Opened.TheVariants.{Container as OneContainer}
-use Rattle.first_pass.specs.Opening.{IsOpenedAt, ReadyIn}
+use Rattle.first_pass.specs.Opening.{IsOpenedAt, ReadyIn, ReadyTagged}
 use Rattle.first_pass.specs.State.{frame_of, AreOpen, ReadyAt, ReadyBeforeLine, ReadyInItem, ReadyEmpty, Ready}
 use Rattle.first_pass.proofs.PathLemmas.{get_front}
 use Rattle.first_pass.proofs.EnterLemmas.{path_below}
@@ -53,36 +54,80 @@ pub depth_of : (s : List TreeIndex) → suc (length (map (λ (i : TreeIndex). i.
 depth_of s = let k = length-map s (λ (i : TreeIndex). i.0) in omega arith
 
 -- what opens a quote opens a block, and ends any list at its line
-quote_away : (b : Option ItemBody) (p : Place) (lines : List Place) (inside : From) → EndsListAt p.line b (OpensNode (quote_head p) inside lines)
-quote_away None p lines inside = tt
-quote_away (Some (ListBody flags list number)) p lines inside = (refl, refl)
-quote_away (Some b) p lines inside = tt
+quote_away : (b : Option ItemBody) (p : Place) (kind : Option BlockQuoteKind) (behind : List Place) (inside : From) → EndsListAt p.line b (OpensNode (quote_head p kind) inside behind)
+quote_away None p kind behind inside = tt
+quote_away (Some (ListBody flags list number)) p kind behind inside = (refl, refl)
+quote_away (Some b) p kind behind inside = tt
 
-opens_quote : (d : Document) (path : List Container) (p : Place) (lines : List Place) (r : Rest) → item_at p.rest ≡ None → prefix (BlockQuote None) p.rest ≡ Some r → Opens d path p lines (OpensNode (quote_head p) (Inside (at_rest p r)) lines)
+opens_quote : (d : Document) (path : List Container) (p : Place) (lines : List Place) (r : Rest) → item_at p.rest ≡ None → prefix (BlockQuote None) p.rest ≡ Some r
+    → Opens d path p lines (quote_opening path p (at_rest p r) lines (tag_behind d.options r))
 unfolding OpensFrom
 opens_quote d path p lines r none is =
-    subst (λ o. OpensFrom d path p lines o (quote_inside p) (OpensNode (quote_head p) (Inside (at_rest p r)) lines)) (sym none)
-    (subst (λ o. OpensFrom d path p lines None (option_map (at_rest p) o) (OpensNode (quote_head p) (Inside (at_rest p r)) lines)) (sym is) refl)
+    let opening : Opening = quote_opening path p (at_rest p r) lines (tag_behind d.options r) in
+    subst (λ o. OpensFrom d path p lines o (quote_inside p) opening) (sym none) (subst (λ o. OpensFrom d path p lines None (option_map (at_rest p) o) opening) (sym is) refl)
 
--- a block quote opened
-pub ready_quote : (d : Document) (r : Reading) (p : Place) (lines : List Place) (inside : Rest) → IsForest r.tree → item_at p.rest ≡ None → prefix (BlockQuote None) p.rest ≡ Some inside → r.empty_item ≡ None
-    → ReadyAt d r.tree r.blank (Inside p) lines → (let q : Reading = begun (quote_start p) (BlockQuoteBody None) (list_finished p.line r) in ReadyAt d q.tree q.blank (Inside (at_rest p inside)) lines × (q.empty_item ≡ None))
-ready_quote d r p lines inside forest no_item is none ready =
-    let opening : Opening = OpensNode (quote_head p) (Inside (at_rest p inside)) lines in
-    let opens = opens_quote d (path_of r.tree) p lines inside no_item is in
-    let done = ready_finished d r p lines p.line opening forest opens tt (quote_away (top_body r.tree) p lines (Inside (at_rest p inside))) none ready in
+-- what a block quote is once it is opened
+quote_body : (f : Forest Item) (start : ℕ) (kind : Option BlockQuoteKind) → body_at (appended f (node_of start 0 (BlockQuoteBody kind))).nodes (length f.nodes) ≡ Some (BlockQuoteBody kind)
+quote_body f start kind = get_end f.nodes (length f.spine + 1, node_of start 0 (BlockQuoteBody kind)) [] (length f.nodes) refl
+
+-- a block quote of a kind opened, wherever blocks go on in it
+pub record QuoteIsOpen (d : Document) (old : Reading) (q : Reading) (kind : Option BlockQuoteKind) (inside : From) (behind : List Place) : Type 0 where
+  pub ready : ReadyAt d q.tree false inside behind
+  pub path : path_of q.tree ≡ BlockQuote kind ∷ path_of old.tree
+  pub top : top_body q.tree ≡ Some (BlockQuoteBody kind)
+  pub blank : q.blank ≡ false
+  pub none : q.empty_item ≡ None
+
+pub quote_is_open : (d : Document) (r : Reading) (p : Place) (lines behind : List Place) (kind : Option BlockQuoteKind) (inside : From) → IsForest r.tree → Opens d (path_of r.tree) p lines (OpensNode (quote_head p kind) inside behind) → r.empty_item ≡ None
+    → ReadyAt d r.tree r.blank (Inside p) lines → QuoteIsOpen d r (begun (quote_start p) (BlockQuoteBody kind) (list_finished p.line r)) kind inside behind
+quote_is_open d r p lines behind kind inside forest opens none ready =
+    let opening : Opening = OpensNode (quote_head p kind) inside behind in
+    let done = ready_finished d r p lines p.line opening forest opens tt (quote_away (top_body r.tree) p kind behind inside) none ready in
     let f : Forest Item = (list_finished p.line r).tree in
     let frames : List Frame = done.ready.0.frames in
     let opens' : Opens d (containers_of frames) p lines opening = subst (λ z. Opens d z p lines opening) (sym done.path ∙ open_path f.nodes f.spine frames done.ready.0.are_open) opens in
     let os : List ℕ = map (λ (i : TreeIndex). i.0) f.spine in
-    let x : Item = node_of (quote_start p) 0 (BlockQuoteBody None) in
-    let k = completes-quote d frames f.nodes os p lines lines None (quote_start p) p.line 0 (Inside (at_rest p inside)) done.ready.1 opens' done.ready.0.completes in
-    let now : ReadyAt d (pushed (appended f x) (record { 0 = length f.nodes })) false (Inside (at_rest p inside)) lines = record {
-      frames = InContainer (BlockQuote None) ∷ frames;
-      are_open = opened_too f.nodes (length f.spine + 1) x f.spine frames (InContainer (BlockQuote None)) refl done.ready.0.completes.below done.ready.0.are_open;
-      completes = subst (λ z. Completes d false (InContainer (BlockQuote None) ∷ frames) (f.nodes ++ (z, x) ∷ []) (length f.nodes ∷ os) (Inside (at_rest p inside)) lines) (depth_of f.spine) k;
+    let x : Item = node_of (quote_start p) 0 (BlockQuoteBody kind) in
+    let g : Forest Item = pushed (appended f x) (record { 0 = length f.nodes }) in
+    let k = completes-quote d frames f.nodes os p lines behind kind (quote_start p) p.line 0 inside done.ready.1 opens' done.ready.0.completes in
+    let now : ReadyAt d g false inside behind = record {
+      frames = InContainer (BlockQuote kind) ∷ frames;
+      are_open = opened_too f.nodes (length f.spine + 1) x f.spine frames (InContainer (BlockQuote kind)) refl done.ready.0.completes.below done.ready.0.are_open;
+      completes = subst (λ z. Completes d false (InContainer (BlockQuote kind) ∷ frames) (f.nodes ++ (z, x) ∷ []) (length f.nodes ∷ os) inside behind) (depth_of f.spine) k;
     } in
-    (subst (λ t. ReadyAt d (pushed (appended f x) (record { 0 = length f.nodes })) t (Inside (at_rest p inside)) lines) (sym done.blank) now, done.none)
+    record {
+      ready = now;
+      path = open_path g.nodes g.spine now.frames now.are_open ∙ ap (λ z. BlockQuote kind ∷ z) (sym (open_path f.nodes f.spine frames done.ready.0.are_open) ∙ done.path);
+      top = quote_body f (quote_start p) kind;
+      blank = done.blank;
+      none = done.none;
+    }
+
+-- a block quote without a tag
+pub ready_quote : (d : Document) (r : Reading) (p : Place) (lines : List Place) (inside : Rest) → IsForest r.tree → item_at p.rest ≡ None → prefix (BlockQuote None) p.rest ≡ Some inside → tag_behind d.options inside ≡ None → r.empty_item ≡ None
+    → ReadyAt d r.tree r.blank (Inside p) lines → (let q : Reading = begun (quote_start p) (BlockQuoteBody None) (list_finished p.line r) in ReadyAt d q.tree q.blank (Inside (at_rest p inside)) lines)
+ready_quote d r p lines inside forest no_item is no_tag none ready =
+    let q : Reading = begun (quote_start p) (BlockQuoteBody None) (list_finished p.line r) in
+    let path : List Container = path_of r.tree in
+    let opens = subst (λ t. Opens d path p lines (quote_opening path p (at_rest p inside) lines t)) no_tag (opens_quote d path p lines inside no_item is) in
+    let begun_is = quote_is_open d r p lines lines None (Inside (at_rest p inside)) forest opens none ready in
+    subst (λ t. ReadyAt d q.tree t (Inside (at_rest p inside)) lines) (sym begun_is.blank) begun_is.ready
+
+-- a block quote with one
+pub ready_tagged : (d : Document) (r : Reading) (p : Place) (lines : List Place) (inside : Rest) (kind : BlockQuoteKind) → IsForest r.tree → item_at p.rest ≡ None → prefix (BlockQuote None) p.rest ≡ Some inside → tag_behind d.options inside ≡ Some kind → r.empty_item ≡ None
+    → ReadyAt d r.tree r.blank (Inside p) lines → ReadyTagged d (begun (quote_start p) (BlockQuoteBody (Some kind)) (list_finished p.line r)) lines
+ready_tagged d r p lines inside kind forest no_item is tag none ready =
+    let q : Reading = begun (quote_start p) (BlockQuoteBody (Some kind)) (list_finished p.line r) in
+    let path : List Container = path_of r.tree in
+    let from : From × List Place = behind_tag (BlockQuote (Some kind) ∷ path) lines in
+    let opens = subst (λ t. Opens d path p lines (quote_opening path p (at_rest p inside) lines t)) tag (opens_quote d path p lines inside no_item is) in
+    let begun_is = quote_is_open d r p lines from.1 (Some kind) from.0 forest opens none ready in
+    record {
+      kind = Some kind;
+      quote = begun_is.top;
+      blank = begun_is.blank;
+      ready = subst (λ z. ReadyAt d q.tree false (behind_tag z lines).0 (behind_tag z lines).1) (sym begun_is.path) begun_is.ready;
+    }
 
 -- the tree with an item opened in its list, which goes on or begins
 abbrev pub item_opened : ℕ → ℕ → ℕ → ℕ → Reading → Reading

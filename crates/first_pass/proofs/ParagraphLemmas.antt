@@ -29,7 +29,7 @@ interrupts-end : (whole : Bool) → interrupts whole (line_rest []) ≡ true
 unfolding interrupts
 interrupts-end whole = refl
 
-ends_past : (text : List ℕ) (n : ℕ) → length text ≤ n → drop n text ≡ []
+pub ends_past : (text : List ℕ) (n : ℕ) → length text ≤ n → drop n text ≡ []
 ends_past [] zero h = refl
 ends_past [] (suc n) h = refl
 ends_past (b ∷ bs) zero h = absurd (omega arith)

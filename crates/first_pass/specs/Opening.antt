@@ -1,5 +1,5 @@
 -- What is said of a container that is opened (private functions alone cite this).
-use Rattle.std.specs.Prelude.{◌≡◌, ℕ, ◌<◌, false, List, length, Option, Some, None}
+use Rattle.std.specs.Prelude.{◌≡◌, ◌⊎◌, ℕ, ◌<◌, false, List, length, Option, Some, None}
 use Rattle.first_pass_items.specs.declared.item.Item.{Item}
 use Rattle.first_pass_tree.specs.Forest.{is_text}
 use Rattle.first_pass_scan.specs.Rest.{Rest}
@@ -8,13 +8,16 @@ use Rattle.first_pass_grammar.specs.declared.kind.Container.TheVariants.{BlockQu
 use Rattle.first_pass_grammar.specs.Containers.{prefix}
 use Rattle.first_pass_grammar.specs.Kinds.{item_at}
 use Rattle.first_pass_grammar.specs.Leaves.{Document}
-use Rattle.first_pass_grammar.specs.Skeleton.{Inside, TextAt}
+use Rattle.first_pass_grammar.specs.Skeleton.{Inside, LeafAt, TextAt, behind_tag}
 use Rattle.first_pass_grammar.specs.Completion.{lines_from, IsPlain}
 use Rattle.first_pass.specs.declared.containers.Opened.{Opened}
-use Rattle.first_pass.specs.declared.containers.Opened.TheVariants.{Nothing, Container as OneContainer, EmptyItem}
+use Rattle.first_pass.specs.declared.containers.Opened.TheVariants.{Nothing, Container as OneContainer, EmptyItem, TaggedQuote}
 use Rattle.first_pass.specs.declared.containers.Behind.{Behind}
-use Rattle.first_pass.specs.declared.containers.Behind.TheVariants.{Leaf as BehindLeaf, TaskText, NextLine}
-use Rattle.first_pass.specs.Closing.{Reading}
+use Rattle.first_pass.specs.declared.containers.Behind.TheVariants.{Leaf as BehindLeaf, TaskText, NextLine, Tag}
+use Rattle.first_pass.specs.Closing.{Reading, top_body}
+use Rattle.first_pass.specs.Path.{path_of}
+use Rattle.first_pass_items.specs.declared.item.BlockQuoteKind.{BlockQuoteKind}
+use Rattle.first_pass_items.specs.declared.item.ItemBody.TheVariants.{BlockQuote as BlockQuoteBody}
 use Rattle.first_pass.specs.State.{Ready, ReadyAt}
 
 -- where nothing is opened no container begins; else a part of the line is taken, or the whole line
@@ -23,6 +26,7 @@ IsOpenedAt Nothing empty old new e = (item_at new ≡ None) × (prefix (BlockQuo
 IsOpenedAt (OneContainer None) empty old new e = (length new.left < length old.left) × (empty ≡ None)
 IsOpenedAt (OneContainer (Some marker)) empty old new e = (is_text marker.body ≡ false) × (empty ≡ None)
 IsOpenedAt (EmptyItem next) empty old new e = next ≡ e
+IsOpenedAt (TaggedQuote next) empty old new e = (next ≡ e) × (empty ≡ None)
 
 -- a task list item marker is remembered, with its paragraph at a place in the line, in what is no list
 pub record ReadyText (d : Document) (r : Reading) (marker : Item) (p : Place) (lines : List Place) : Type 0 where
@@ -30,20 +34,41 @@ pub record ReadyText (d : Document) (r : Reading) (marker : Item) (p : Place) (l
   pub ready : ReadyAt d r.tree false (TextAt marker p) lines
   pub plain : IsPlain ready.frames
 
+-- a block quote with a tag is innermost, before the next line
+pub record ReadyTagged (d : Document) (r : Reading) (lines : List Place) : Type 0 where
+  pub kind : Option BlockQuoteKind
+  pub quote : top_body r.tree ≡ Some (BlockQuoteBody kind)
+  pub blank : r.blank ≡ false
+  pub ready : ReadyAt d r.tree false (behind_tag (path_of r.tree) lines).0 (behind_tag (path_of r.tree) lines).1
+
+-- the same in that line, at the place of a leaf
+pub record ReadyLazy (d : Document) (r : Reading) (p : Place) (lines : List Place) : Type 0 where
+  pub kind : Option BlockQuoteKind
+  pub quote : top_body r.tree ≡ Some (BlockQuoteBody kind)
+  pub blank : r.blank ≡ false
+  pub ready : ReadyAt d r.tree false (LeafAt p) lines
+
+-- a leaf is at a place in a line, where no container begins or behind the tag of a block quote
+abbrev pub ReadyLeaf : Document → Reading → Place → List Place → Type 0
+ReadyLeaf d r p lines = ((item_at p.rest ≡ None) × (prefix (BlockQuote None) p.rest ≡ None) × ReadyAt d r.tree r.blank (Inside p) lines) ⊎ ReadyLazy d r p lines
+
 -- what the pass remembers then goes on at a place in the line, or behind the line, which ends at an offset
 abbrev pub ReadyIn : Document → Reading → Place → ℕ → Opened → Type 0
 ReadyIn d r p e Nothing = ReadyAt d r.tree r.blank (Inside p) (lines_from d.text e)
 ReadyIn d r p e (OneContainer None) = ReadyAt d r.tree r.blank (Inside p) (lines_from d.text e)
 ReadyIn d r p e (OneContainer (Some marker)) = ReadyText d r marker p (lines_from d.text e)
 ReadyIn d r p e (EmptyItem next) = Ready d r (lines_from d.text next)
+ReadyIn d r p e (TaggedQuote next) = ReadyTagged d r (lines_from d.text next)
 
--- behind the containers no other begins, nor an empty item; a task list item marker is no text; or the whole line is taken
+-- behind the containers no other begins, nor an empty item; a task list item marker is no text; or the whole line is taken, in an item or a block quote
 abbrev pub IsBehind : Behind → Option ℕ → Rest → ℕ → Type 0
 IsBehind BehindLeaf empty r e = (item_at r ≡ None) × (prefix (BlockQuote None) r ≡ None) × (empty ≡ None)
 IsBehind (TaskText marker) empty r e = (is_text marker.body ≡ false) × (empty ≡ None)
 IsBehind (NextLine next) empty r e = next ≡ e
+IsBehind (Tag next) empty r e = (next ≡ e) × (empty ≡ None)
 
 abbrev pub ReadyBehind : Document → Reading → Place → ℕ → Behind → Type 0
 ReadyBehind d r p e BehindLeaf = ReadyAt d r.tree r.blank (Inside p) (lines_from d.text e)
 ReadyBehind d r p e (TaskText marker) = ReadyText d r marker p (lines_from d.text e)
 ReadyBehind d r p e (NextLine next) = Ready d r (lines_from d.text next)
+ReadyBehind d r p e (Tag next) = ReadyTagged d r (lines_from d.text next)

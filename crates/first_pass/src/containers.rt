@@ -10,7 +10,7 @@ ghost use Rattle.first_pass_grammar.specs.Kinds.{item_at};
 ghost use Rattle.first_pass_tree.specs.declared.tree_index.TreeIndex.{TreeIndex};
 ghost use Rattle.first_pass.specs.Path.{container_of, prefix_of, path_in, path_of, outer};
 ghost use Rattle.first_pass_scan.specs.Lines.{line_len};
-ghost use Rattle.first_pass_grammar.specs.Skeleton.{Inside, task_behind};
+ghost use Rattle.first_pass_grammar.specs.Skeleton.{Inside, task_behind, tag_behind};
 ghost use Rattle.first_pass_grammar.specs.Completion.{lines_from};
 ghost use Rattle.first_pass.specs.Closing.{remembered};
 ghost use Rattle.first_pass.specs.State.{NoMore, Ready, ReadyAt};
@@ -20,7 +20,7 @@ use crate::indentation::scan_indentation;
 use crate::paragraph::append_item;
 use crate::pass::FirstPass;
 use bitflags::Flags;
-use first_pass_items::item::{Item, ItemBody};
+use first_pass_items::item::{BlockQuoteKind, Item, ItemBody};
 use first_pass_items::option_set::Options;
 use first_pass_scan::line_start::LineStart;
 use first_pass_scan::lines::scan_blank_line;
@@ -88,6 +88,8 @@ enum Opened {
     Container(Option<Item>),
     // An item with nothing behind its markers; the next line begins at the offset.
     EmptyItem(usize),
+    // A block quote with a tag; the next line begins at the offset.
+    TaggedQuote(usize),
 }
 
 // What is behind the containers that begin in a line.
@@ -98,6 +100,8 @@ pub(crate) enum Behind {
     TaskText(Item),
     // Nothing, in an item; the next line begins at the offset.
     NextLine(usize),
+    // The tag of a block quote; the next line begins at the offset.
+    Tag(usize),
 }
 
 impl<'a> FirstPass<'a> {
@@ -174,6 +178,7 @@ impl<'a> FirstPass<'a> {
                 Opened::Container(None) => {}
                 Opened::Container(Some(marker)) => return Ok(Behind::TaskText(marker)),
                 Opened::EmptyItem(next) => return Ok(Behind::NextLine(next)),
+                Opened::TaggedQuote(next) => return Ok(Behind::Tag(next)),
             }
         }
     }
@@ -212,10 +217,25 @@ impl<'a> FirstPass<'a> {
             return Ok(Opened::EmptyItem(next));
         }
         if let Some(quote) = scan_quote(line_start) {
-            self.open_quote(start_ix, start_ix + quote)?;
-            return Ok(Opened::Container(None));
+            let tag = self.scan_tag(line_start);
+            self.open_quote(start_ix, start_ix + quote, tag)?;
+            if tag.is_none() {
+                return Ok(Opened::Container(None));
+            }
+            let next = next_line(self.text.as_bytes(), start_ix + line_start.bytes_scanned());
+            return Ok(Opened::TaggedQuote(next));
         }
         Ok(Opened::Nothing)
+    }
+
+    // The kind that a tag here gives a block quote, where one is there and the option is on.
+    fn scan_tag(&self, line_start: &LineStart<'a>) -> Option<BlockQuoteKind>
+        ensures { result ≡ tag_behind self.now.options line_start.now }
+    {
+        if !self.options.contains(Options::ENABLE_GFM) {
+            return None;
+        }
+        line_start.copy().scan_blockquote_tag()
     }
 
     // Takes the task list item marker behind an item's own, in the line whose reading began at `start_ix`,

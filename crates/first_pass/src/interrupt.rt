@@ -5,7 +5,7 @@ ghost use Rattle.first_pass_scan.specs.Places.{line_rest, place_at, offset, IsPl
 ghost use Rattle.first_pass_scan.specs.Rest.{indent};
 ghost use Rattle.first_pass_scan.specs.Markers.{is_bullet, listitem};
 ghost use Rattle.first_pass_grammar.specs.Containers.{after, front};
-ghost use Rattle.first_pass_grammar.specs.Kinds.{interrupts_with, item_interrupts, ends_paragraph, unindented};
+ghost use Rattle.first_pass_grammar.specs.Kinds.{interrupts_with, item_interrupts, ends_paragraph, ends_tag, unindented, all_taken};
 ghost use Rattle.first_pass.specs.Path.{path_of};
 
 use crate::containers::scan_containers;
@@ -66,27 +66,23 @@ pub fn scan_paragraph_interrupt_no_table(
 }
 
 // Whether the line that begins at `start` goes on with all open containers; the columns of indentation, but
-// 4 where there are more, behind what it takes for them; and the offset behind those columns.
-fn scan_prefixes(
-    text: &str,
+// 4 where there are more, behind what it takes for them; and what is left behind those columns.
+fn scan_prefixes<'a>(
+    text: &'a str,
     start: usize,
     tree: &Tree<Item>,
     options: Options,
-) -> (bool, usize, usize)
+) -> (bool, usize, LineStart<'a>)
     requires { IsCharBoundary text.now start }
     ensures whole { result.0 ≡ is_some (after (path_of tree.now) (line_rest (drop start text.now))) }
     ensures columns { result.1 ≡ min 4 (indent (front (path_of tree.now) (line_rest (drop start text.now)))) }
-    ensures behind { result.2 ≡ offset (unindented (place_at start (front (path_of tree.now) (line_rest (drop start text.now))))) }
+    ensures behind { result.2 ≡ all_taken (front (path_of tree.now) (line_rest (drop start text.now))) }
     ensures place { IsPlaceOf text.now (unindented (place_at start (front (path_of tree.now) (line_rest (drop start text.now))))) }
 {
     let mut line_start = LineStart::new(rest_of(text.as_bytes(), start));
     let kept = scan_containers(tree, &mut line_start, options, false);
     let columns = scan_indentation(&mut line_start);
-    (
-        kept == tree.spine_len(),
-        columns,
-        start + line_start.bytes_scanned(),
-    )
+    (kept == tree.spine_len(), columns, line_start)
 }
 
 /// Where the text of the line begins, as an offset into `text`, by which a paragraph goes on at the line
@@ -106,11 +102,39 @@ pub fn next_paragraph_text(
     ensures place { OnOk result (IsPlaceOf text.now (unindented (place_at start (front (path_of tree.now) (line_rest (drop start text.now)))))) }
     ensures utf8 { IsUtf8 text.now }
 {
-    let (whole, columns, at) = scan_prefixes(text, start, tree, options);
+    let (whole, columns, line_start) = scan_prefixes(text, start, tree, options);
+    let at = start + line_start.bytes_scanned();
     let interrupted = if columns < 4 {
         scan_paragraph_interrupt_no_table(alloc, &text[at..], whole, false, false, tree, 0)?
     } else {
         scan_eol(rest_of(text.as_bytes(), at)).is_some()
     };
     if interrupted { Ok(None) } else { Ok(Some(at)) }
+}
+
+// What is left of the line that begins at `start`, behind its columns, where it belongs to a block quote
+// with a tag that is innermost, whatever open containers it goes on with; `None` where it is read as any line.
+#[tactic(auto, unfolding(first_pass_grammar::specs::Kinds::interrupts))]
+pub(crate) fn lazy_leaf<'a>(
+    alloc: Global,
+    text: &'a str,
+    start: usize,
+    tree: &Tree<Item>,
+    options: Options,
+) -> Result<Option<LineStart<'a>>, AllocError>
+    requires { IsCharBoundary text.now start }
+    ensures value { IfOk result (λ leaf. leaf ≡ (if ends_tag (path_of tree.now) (line_rest (drop start text.now))
+        then None else Some (all_taken (front (path_of tree.now) (line_rest (drop start text.now)))))) }
+    ensures place { OnOk result (IsPlaceOf text.now (unindented (place_at start (front (path_of tree.now) (line_rest (drop start text.now)))))) }
+    ensures utf8 { IsUtf8 text.now }
+{
+    let (whole, columns, line_start) = scan_prefixes(text, start, tree, options);
+    if columns >= 4 {
+        return Ok(Some(line_start));
+    }
+    let rest = &text[start + line_start.bytes_scanned()..];
+    if scan_paragraph_interrupt_no_table(alloc, rest, whole, false, false, tree, 0)? {
+        return Ok(None);
+    }
+    Ok(Some(line_start))
 }

@@ -7,7 +7,7 @@ ghost use Rattle.first_pass_items.specs.declared.item.ItemBody.TheVariants.{Bloc
 
 use crate::pass::FirstPass;
 use bitflags::Flags;
-use first_pass_items::item::{Item, ItemBody, ListFlags};
+use first_pass_items::item::{BlockQuoteKind, Item, ItemBody, ListFlags};
 use first_pass_tree::forest::Tree;
 use first_pass_tree::tree_index::TreeIndex;
 use std::alloc::AllocError;
@@ -246,15 +246,20 @@ impl<'a> FirstPass<'a> {
         self.open_node(start, ItemBody::ListItem(indent))
     }
 
-    // Opens a block quote at the offset `start`, in the line that begins at `line`.
-    pub(crate) fn open_quote(&mut self, line: usize, start: usize) -> Result<(), AllocError>
+    // Opens a block quote of a kind at the offset `start`, in the line that begins at `line`.
+    pub(crate) fn open_quote(
+        &mut self,
+        line: usize,
+        start: usize,
+        kind: Option<BlockQuoteKind>,
+    ) -> Result<(), AllocError>
         ensures text { OnOk result (self.new.text.now ≡ self.old.text.now) }
         ensures options { OnOk result (self.new.options ≡ self.old.options) }
         ensures allocs { OnOk result (self.new.allocs ≡ self.old.allocs) }
-        ensures reading { OnOk result (remembered self.new.tree self.new.begin_list_item self.new.last_line_blank ≡ begun start (BlockQuoteBody None) (list_finished line (remembered self.old.tree self.old.begin_list_item self.old.last_line_blank))) }
+        ensures reading { OnOk result (remembered self.new.tree self.new.begin_list_item self.new.last_line_blank ≡ begun start (BlockQuoteBody kind) (list_finished line (remembered self.old.tree self.old.begin_list_item self.old.last_line_blank))) }
     {
         self.finish_list(line);
-        self.open_node(start, ItemBody::BlockQuote(None))
+        self.open_node(start, ItemBody::BlockQuote(kind))
     }
 
     // Opens a node at the offset `start`, as a last child of the innermost open one.

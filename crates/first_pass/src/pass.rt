@@ -15,12 +15,13 @@ ghost use Rattle.first_pass_grammar.specs.Skeleton.{Inside, Line};
 ghost use Rattle.first_pass_tree.specs.Forest.{is_text};
 ghost use Rattle.first_pass_grammar.specs.Kinds.{item_at};
 ghost use Rattle.first_pass.specs.Closing.{remembered};
-ghost use Rattle.first_pass.specs.Opening.{ReadyText};
+ghost use Rattle.first_pass.specs.Opening.{ReadyText, ReadyTagged, ReadyLeaf};
 ghost use Rattle.first_pass.specs.State.{Ready, ReadyAt};
 ghost use Rattle.first_pass.specs.TableEntries.{tables, no_tables};
 
 use crate::containers::Behind;
 use crate::indentation::scan_indentation;
+use crate::interrupt::lazy_leaf;
 pub use crate::interrupt::scan_paragraph_interrupt_no_table;
 use crate::items::Allocations;
 use crate::kinds::kind_at;
@@ -121,6 +122,32 @@ impl<'a> FirstPass<'a> {
                 Ok(next)
             }
             Behind::NextLine(next) => Ok(next),
+            Behind::Tag(next) => {
+                let next = self.parse_tagged(next)?;
+                Ok(next)
+            }
+        }
+    }
+
+    // Reads the line that begins at `start`, behind the tag of the block quote that is innermost, where it
+    // belongs to that quote; answers as `parse_block`, or `start` where the line is read as any other.
+    fn parse_tagged(&mut self, start: usize) -> Result<usize, AllocError>
+        requires boundary { IsCharBoundary self.old.text.now start }
+        requires no_empty { self.old.begin_list_item ≡ None }
+        ensures text { OnOk result (self.new.text.now ≡ self.old.text.now) }
+        ensures options { OnOk result (self.new.options ≡ self.old.options) }
+        ensures allocs { OnOk result (self.new.allocs ≡ self.old.allocs) }
+        ensures later { IfOk result (λ next. start ≤ next) }
+        ensures boundary { IfOk result (λ next. IsCharBoundary self.old.text.now next) }
+        ensures ready { IfOk result (λ next. ReadyTagged (document self.old.text.now self.old.options) (remembered self.old.tree self.old.begin_list_item self.old.last_line_blank) (lines_from self.old.text.now start)
+            → Ready (document self.old.text.now self.old.options) (remembered self.new.tree self.new.begin_list_item self.new.last_line_blank) (lines_from self.old.text.now next)) }
+    {
+        match lazy_leaf(self.alloc, self.text, start, &self.tree, self.options)? {
+            None => Ok(start),
+            Some(line_start) => {
+                let next = self.parse_leaf(start, line_start)?;
+                Ok(next)
+            }
         }
     }
 
@@ -152,7 +179,7 @@ impl<'a> FirstPass<'a> {
     }
 
     // Reads the leaf block that begins at a place in the line whose reading began at `start_ix`, where no
-    // container begins; answers as `parse_block`.
+    // container begins, or behind a block quote's tag; answers as `parse_block`.
     fn parse_leaf(
         &mut self,
         start_ix: usize,
@@ -160,8 +187,6 @@ impl<'a> FirstPass<'a> {
     ) -> Result<usize, AllocError>
         requires utf8 { IsUtf8 self.old.text.now }
         requires place { IsPlaceOf self.old.text.now (place_at start_ix line_start) }
-        requires no_quote { prefix (BlockQuote None) line_start ≡ None }
-        requires no_item { item_at line_start ≡ None }
         requires no_empty { self.old.begin_list_item ≡ None }
         ensures text { OnOk result (self.new.text.now ≡ self.old.text.now) }
         ensures options { OnOk result (self.new.options ≡ self.old.options) }
@@ -169,7 +194,7 @@ impl<'a> FirstPass<'a> {
         ensures later { IfOk result (λ next. line_end (place_at start_ix line_start.entry) ≤ next) }
         ensures boundary { IfOk result (λ next. IsCharBoundary self.old.text.now next) }
         ensures ready { IfOk result (λ next.
-            ReadyAt (document self.old.text.now self.old.options) self.old.tree self.old.last_line_blank (Inside (place_at start_ix line_start.entry)) (lines_from self.old.text.now (line_end (place_at start_ix line_start.entry)))
+            ReadyLeaf (document self.old.text.now self.old.options) (remembered self.old.tree self.old.begin_list_item self.old.last_line_blank) (place_at start_ix line_start.entry) (lines_from self.old.text.now (line_end (place_at start_ix line_start.entry)))
             → Ready (document self.old.text.now self.old.options) (remembered self.new.tree self.new.begin_list_item self.new.last_line_blank) (lines_from self.old.text.now next)) }
     {
         self.tree.is_forest();

@@ -165,28 +165,18 @@ block_step d frames nodes os from lines left closes items forest tables plain al
     (subst (λ z. Finish d NoList false z (nodes ++ added) os (behind_first from Line) left forest tables) (sym (loosened_in-false frames)) fin)
 
 -- a blank line, where a list may go on
-blank_step : (d : Document) (frames : List Frame) (list : Pending) (run : Bool) (nodes : List (ℕ × Item)) (os : List ℕ) (p : Place) (lines left : List Place) (forest : List (ℕ × Item)) (tables : Tables)
-    → IsPlain frames → Opens d (containers_of frames) p lines (OpensLeaf BlankLine Line left)
-    → Finish d list (counts_with (in_quote frames) (byte_in list) run) frames nodes os Line left forest tables → Finish d list run frames nodes os (Inside p) lines forest tables
+blank_step : (d : Document) (frames : List Frame) (list : Pending) (run : Bool) (nodes : List (ℕ × Item)) (os : List ℕ) (from : From) (lines left : List Place) (forest : List (ℕ × Item)) (tables : Tables)
+    → IsPlain frames → EndsAlike (length d.text) from (behind_first from Line) → IsLeafHere d (containers_of frames) from lines BlankLine Line left
+    → Finish d list (counts_with (in_quote frames) (byte_in list) run) frames nodes os (behind_first from Line) left forest tables → Finish d list run frames nodes os from lines forest tables
 unfolding IsSequence forest_of run_behind has_gap rendered is_loosened list_end
-blank_step d frames NoList run nodes os p lines left forest tables plain opens fin =
-    extend d frames NoList NoList run (counts_with (in_quote frames) None run) false nodes nodes os (Inside p) Line lines left forest tables (λ s. Then BlankLine s) plain (λ path mid. refl)
-    (λ s mid seq. record { seq = (Line, left, leaf_here d (containers_of frames) p lines BlankLine Line left opens, seq); items = λ last. refl; runs = refl; gaps = refl })
-    (subst (λ z. Finish d NoList (counts_with (in_quote frames) None run) z nodes os Line left forest tables) (sym (loosened_in-false frames)) fin)
-blank_step d frames (OneList o byte loose) run nodes os p lines left forest tables plain opens fin =
-    extend d frames (OneList o byte loose) (OneList o byte loose) run true false nodes nodes os (Inside p) Line lines left forest tables (λ s. Then BlankLine s) plain (λ path mid. refl)
-    (λ s mid seq. record { seq = (Line, left, leaf_here d (containers_of frames) p lines BlankLine Line left opens, seq); items = λ last. refl; runs = refl; gaps = refl })
-    (subst (λ z. Finish d (OneList o byte loose) true z nodes os Line left forest tables) (sym (loosened_in-false frames)) fin)
-
--- a blank line in an item that takes blank lines alone
-only_blank_step : (d : Document) (frames : List Frame) (run : Bool) (nodes : List (ℕ × Item)) (os : List ℕ) (e : ℕ) (line p : Place) (lines : List Place) (forest : List (ℕ × Item)) (tables : Tables)
-    → IsPlain frames → Begins (containers_of frames) (Blanks e) (line ∷ lines) p lines → Opens d (containers_of frames) p lines (OpensLeaf BlankLine Line lines)
-    → Finish d NoList (counts_with (in_quote frames) None run) frames nodes os (Blanks e) lines forest tables → Finish d NoList run frames nodes os (Blanks e) (line ∷ lines) forest tables
-unfolding IsSequence forest_of run_behind has_gap rendered
-only_blank_step d frames run nodes os e line p lines forest tables plain begins opens fin =
-    extend d frames NoList NoList run (counts_with (in_quote frames) None run) false nodes nodes os (Blanks e) (Blanks e) (line ∷ lines) lines forest tables (λ s. Then BlankLine s) plain (λ path mid. refl)
-    (λ s mid seq. record { seq = (Line, lines, record { place = p; behind = lines; begins = begins; opens = opens }, seq); items = λ last. refl; runs = refl; gaps = refl })
-    (subst (λ z. Finish d NoList (counts_with (in_quote frames) None run) z nodes os (Blanks e) lines forest tables) (sym (loosened_in-false frames)) fin)
+blank_step d frames NoList run nodes os from lines left forest tables plain alike first fin =
+    extend d frames NoList NoList run (counts_with (in_quote frames) None run) false nodes nodes os from (behind_first from Line) lines left forest tables (λ s. Then BlankLine s) plain alike
+    (λ s mid seq. record { seq = (Line, left, first, seq); items = λ last. refl; runs = refl; gaps = refl })
+    (subst (λ z. Finish d NoList (counts_with (in_quote frames) None run) z nodes os (behind_first from Line) left forest tables) (sym (loosened_in-false frames)) fin)
+blank_step d frames (OneList o byte loose) run nodes os from lines left forest tables plain alike first fin =
+    extend d frames (OneList o byte loose) (OneList o byte loose) run true false nodes nodes os from (behind_first from Line) lines left forest tables (λ s. Then BlankLine s) plain alike
+    (λ s mid seq. record { seq = (Line, left, first, seq); items = λ last. refl; runs = refl; gaps = refl })
+    (subst (λ z. Finish d (OneList o byte loose) true z nodes os (behind_first from Line) left forest tables) (sym (loosened_in-false frames)) fin)
 
 ended-mid : (nodes more : List (ℕ × Item)) (k e : ℕ) (x : Item) → ended (nodes ++ (k, x) ∷ more) (length nodes) e ≡ nodes ++ (k, record { start = x.start; «end» = e; body = x.body }) ∷ more
 unfolding ended
@@ -689,7 +679,7 @@ completes-enter d run frames nodes os line q lines is c = record {
 }
 
 -- behind a block with no blocks in it, wherever it begins
-completes-leaf : (d : Document) (frames : List Frame) (nodes : List (ℕ × Item)) (os : List ℕ) (from : From) (lines left : List Place) (closes : ℕ) (items : List (ℕ × Item))
+pub completes-leaf : (d : Document) (frames : List Frame) (nodes : List (ℕ × Item)) (os : List ℕ) (from : From) (lines left : List Place) (closes : ℕ) (items : List (ℕ × Item))
     → IsPlain frames → EndsAlike (length d.text) from (behind_first from Line) → IsLeafHere d (containers_of frames) from lines (Block closes items) Line left
     → Completes d false frames nodes os from lines → Completes d false frames (nodes ++ leaf_items (suc (length os)) false (Block closes items)) os (behind_first from Line) left
 completes-leaf d frames nodes os from lines left closes items plain alike first c = record {
@@ -726,40 +716,38 @@ counts_in [] run = counts_with false None run
 counts_in (InContainer c ∷ frames) run = counts_with (is_quote c) None run
 counts_in (InList byte loose ∷ frames) run = true
 
-blank_plain : (frames : List Frame) (run : Bool) → IsPlain frames → counts_in frames run ≡ counts_with (in_quote frames) None run
-blank_plain [] run plain = refl
-blank_plain (InContainer c ∷ frames) run plain = refl
-blank_plain (InList byte loose ∷ frames) run plain = absurd plain
-
-blank_any : (d : Document) (frames : List Frame) (run : Bool) (nodes : List (ℕ × Item)) (os : List ℕ) (p : Place) (lines left : List Place) (forest : List (ℕ × Item)) (tables : Tables)
-    → IsShaped frames → Opens d (containers_of frames) p lines (OpensLeaf BlankLine Line left)
-    → Finish d NoList (counts_in frames run) frames nodes os Line left forest tables → Finish d NoList run frames nodes os (Inside p) lines forest tables
+blank_any : (d : Document) (frames : List Frame) (run : Bool) (nodes : List (ℕ × Item)) (os : List ℕ) (from : From) (lines left : List Place) (forest : List (ℕ × Item)) (tables : Tables)
+    → IsShaped frames → EndsAlike (length d.text) from (behind_first from Line) → IsLeafHere d (containers_of frames) from lines BlankLine Line left
+    → Finish d NoList (counts_in frames run) frames nodes os (behind_first from Line) left forest tables → Finish d NoList run frames nodes os from lines forest tables
 unfolding Finish
-blank_any d [] run nodes os p lines left forest tables shape opens fin = blank_step d [] NoList run nodes os p lines left forest tables tt opens fin
-blank_any d (InContainer c ∷ frames) run nodes os p lines left forest tables shape opens fin = blank_step d (InContainer c ∷ frames) NoList run nodes os p lines left forest tables tt opens fin
-blank_any d (InList byte loose ∷ frames) run nodes [] p lines left forest tables shape opens fin = fin
-blank_any d (InList byte loose ∷ frames) run nodes (o ∷ os) p lines left forest tables shape opens fin = blank_step d frames (OneList o byte loose) run nodes os p lines left forest tables shape.0 opens fin
+blank_any d [] run nodes os from lines left forest tables shape alike first fin = blank_step d [] NoList run nodes os from lines left forest tables tt alike first fin
+blank_any d (InContainer c ∷ frames) run nodes os from lines left forest tables shape alike first fin = blank_step d (InContainer c ∷ frames) NoList run nodes os from lines left forest tables tt alike first fin
+blank_any d (InList byte loose ∷ frames) run nodes [] from lines left forest tables shape alike first fin = fin
+blank_any d (InList byte loose ∷ frames) run nodes (o ∷ os) from lines left forest tables shape alike first fin = blank_step d frames (OneList o byte loose) run nodes os from lines left forest tables shape.0 alike first fin
 
--- behind a blank line
-pub completes-blank : (d : Document) (run : Bool) (frames : List Frame) (nodes : List (ℕ × Item)) (os : List ℕ) (p : Place) (lines left : List Place)
-    → Opens d (containers_of frames) p lines (OpensLeaf BlankLine Line left)
-    → Completes d run frames nodes os (Inside p) lines → Completes d (counts_in frames run) frames nodes os Line left
-completes-blank d run frames nodes os p lines left opens c = record {
+-- behind a blank line, wherever it begins
+pub completes-blank : (d : Document) (run : Bool) (frames : List Frame) (nodes : List (ℕ × Item)) (os : List ℕ) (from : From) (lines left : List Place)
+    → EndsAlike (length d.text) from (behind_first from Line) → IsLeafHere d (containers_of frames) from lines BlankLine Line left
+    → Completes d run frames nodes os from lines → Completes d (counts_in frames run) frames nodes os (behind_first from Line) left
+completes-blank d run frames nodes os from lines left alike first c = record {
   below = c.below;
   shape = c.shape;
-  whole = λ forest tables fin. c.whole forest tables (blank_any d frames run nodes os p lines left forest tables c.shape opens fin);
+  whole = λ forest tables fin. c.whole forest tables (blank_any d frames run nodes os from lines left forest tables c.shape alike first fin);
 }
+
+-- behind a blank line that begins inside a line
+pub completes-blank_line : (d : Document) (run : Bool) (frames : List Frame) (nodes : List (ℕ × Item)) (os : List ℕ) (p : Place) (lines left : List Place)
+    → Opens d (containers_of frames) p lines (OpensLeaf BlankLine Line left)
+    → Completes d run frames nodes os (Inside p) lines → Completes d (counts_in frames run) frames nodes os Line left
+completes-blank_line d run frames nodes os p lines left opens c = completes-blank d run frames nodes os (Inside p) lines left (λ path mid. refl) (leaf_here d (containers_of frames) p lines BlankLine Line left opens) c
 
 -- behind a blank line in an item that takes blank lines alone
 pub completes-only_blank : (d : Document) (run : Bool) (columns : ℕ) (frames : List Frame) (nodes : List (ℕ × Item)) (os : List ℕ) (e : ℕ) (line p : Place) (lines : List Place)
     → Begins (ListItem columns ∷ containers_of frames) (Blanks e) (line ∷ lines) p lines → Opens d (ListItem columns ∷ containers_of frames) p lines (OpensLeaf BlankLine Line lines)
     → Completes d run (InContainer (ListItem columns) ∷ frames) nodes os (Blanks e) (line ∷ lines) → Completes d true (InContainer (ListItem columns) ∷ frames) nodes os (Blanks e) lines
-completes-only_blank d run columns frames nodes os e line p lines begins opens c = record {
-  below = c.below;
-  shape = c.shape;
-  whole = λ forest tables fin. c.whole forest tables (only_blank_step d (InContainer (ListItem columns) ∷ frames) run nodes os e line p lines forest tables tt begins opens
-      (subst (λ z. Finish d NoList z (InContainer (ListItem columns) ∷ frames) nodes os (Blanks e) lines forest tables) (sym (or-true run)) fin));
-}
+completes-only_blank d run columns frames nodes os e line p lines begins opens c =
+    subst (λ z. Completes d z (InContainer (ListItem columns) ∷ frames) nodes os (Blanks e) lines) (or-true run)
+    (completes-blank d run (InContainer (ListItem columns) ∷ frames) nodes os (Blanks e) (line ∷ lines) lines (λ path mid. refl) (record { place = p; behind = lines; begins = begins; opens = opens }) c)
 
 -- At the text's end, with nothing open, the nodes are the forest.
 pub completes-end : (d : Document) (run : Bool) (nodes : List (ℕ × Item)) → Completes d run [] nodes [] Line [] → Derives d nodes (tables_of Nil)

@@ -12,7 +12,7 @@ use Rattle.first_pass_grammar.specs.declared.kind.Kind.TheVariants.{Blank, Thema
 use Rattle.first_pass_grammar.specs.Containers.{at_rest, after, front}
 use Rattle.first_pass_grammar.specs.Kinds.{unindented, is_blank_rest, quote_inside, item_at, kind_of}
 use Rattle.first_pass_grammar.specs.Leaves.{Document, add_break, IsParagraph, IsHeading}
-use Rattle.first_pass_grammar.specs.Skeleton.{Leaf, Head, opened, From, Line, Inside, Blanks, TextAt, MarkAt, Opening, OpensLeaf, OpensNode, OpensParagraph, OpensAs, is_blank_behind, OpensFrom, Opens, OpensAt, Skeleton, Nil, Then, Node, Begins, Ends, behind_first, end_before, IsLeafHere, IsNodeHere, IsSequence}
+use Rattle.first_pass_grammar.specs.Skeleton.{Leaf, Head, opened, From, Line, Inside, LeafAt, Blanks, TextAt, MarkAt, Opening, OpensLeaf, OpensNode, OpensParagraph, OpensAs, is_blank_behind, OpensFrom, Opens, OpensAt, Skeleton, Nil, Then, Node, Begins, Ends, behind_first, end_before, IsLeafHere, IsNodeHere, IsSequence}
 use Rattle.first_pass_grammar.specs.Derivation.{Tables, forest_of, tables_of, root_of, Derives}
 
 -- a paragraph has one chain and leaves one list of lines
@@ -83,6 +83,7 @@ one_opening d path p lines o o' e e' = opens_from d path p lines (item_at p.rest
 opens_at : (d : Document) (path : List Container) (from : From) (p : Place) (lines : List Place) (o o' : Opening) → OpensAt d path from p lines o → OpensAt d path from p lines o' → o ≡ o'
 opens_at d path Line p lines o o' e e' = one_opening d path p lines o o' e e'
 opens_at d path (Inside q) p lines o o' e e' = one_opening d path p lines o o' e e'
+opens_at d path (LeafAt q) p lines o o' e e' = opens_once d path p lines (kind_of p.rest) o o' e e'
 opens_at d path (Blanks x) p lines o o' e e' = one_opening d path p lines o o' e e'
 opens_at d path (TextAt marker q) p lines o o' e e' = one_paragraph_opening d path p lines (Some marker) o o' e e'
 opens_at d path (MarkAt marker q from) p lines o o' e e' = e ∙ sym e'
@@ -90,6 +91,7 @@ opens_at d path (MarkAt marker q from) p lines o o' e e' = e ∙ sym e'
 -- a block begins at one place
 begins_once : (path : List Container) (from : From) (lines : List Place) (p q : Place) (a b : List Place) → Begins path from lines p a → Begins path from lines q b → (p ≡ q) × (a ≡ b)
 begins_once path (Inside x) lines p q a b (e, f) (g, h) = (cc, cc)
+begins_once path (LeafAt x) lines p q a b (e, f) (g, h) = (cc, cc)
 begins_once path (TextAt m x) lines p q a b (e, f) (g, h) = (cc, cc)
 begins_once path (MarkAt m x y) lines p q a b (e, f) (g, h) = (cc, cc)
 begins_once path Line [] p q a b e f = absurd e
@@ -104,6 +106,7 @@ blank_taken line q (Some r) t b = let e : at_rest line r ≡ q = cc in ap (λ z.
 -- where a sequence ends no block begins
 pub ends_not_begins : (path : List Container) (from : From) (lines : List Place) (p : Place) (a : List Place) → Ends path from lines → Begins path from lines p a → ⊥
 ends_not_begins path (Inside x) lines p a e b = e
+ends_not_begins path (LeafAt x) lines p a e b = e
 ends_not_begins path (TextAt m x) lines p a e b = e
 ends_not_begins path (MarkAt m x y) lines p a e b = e
 ends_not_begins path Line [] p a e b = b

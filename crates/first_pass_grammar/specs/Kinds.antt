@@ -69,3 +69,8 @@ interrupts whole r = if nat_lt (indent r) 4 then interrupts_with whole (all_take
 -- the line of which this is left ends a paragraph in the containers of a path (CommonMark 4.8, and 5.1 on lazy continuation lines)
 abbrev pub ends_paragraph : List Container → Rest → Bool
 ends_paragraph path r = interrupts (is_some (after path r)) (front path r)
+
+-- Behind the tag of a block quote, the line of which this is left is read as any other where, at under four columns, it would end a paragraph. Else it
+-- belongs to the quote, whatever containers of the path it goes on with (this project).
+abbrev pub ends_tag : List Container → Rest → Bool
+ends_tag path r = nat_lt (indent (front path r)) 4 && ends_paragraph path r

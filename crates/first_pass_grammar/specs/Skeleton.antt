@@ -6,15 +6,16 @@ use Rattle.first_pass_items.specs.declared.item.ItemBody.TheVariants.{TaskListMa
 use Rattle.first_pass_items.specs.declared.option_set.Options.{Options}
 use Rattle.first_pass_items.specs.OptionWords.{has}
 use Rattle.first_pass_scan.specs.Lines.{level_number}
-use Rattle.first_pass_scan.specs.Markers.{task_of}
+use Rattle.first_pass_scan.specs.Markers.{task_of, past_tag}
 use Rattle.first_pass_scan.specs.Rest.{Rest}
 use Rattle.first_pass_scan.specs.Places.{Place, place_at, offset, start_of}
 use Rattle.first_pass_grammar.specs.declared.kind.Container.{Container}
 use Rattle.first_pass_grammar.specs.declared.kind.Container.TheVariants.{BlockQuote, ListItem}
 use Rattle.first_pass_grammar.specs.declared.kind.Kind.{Kind}
 use Rattle.first_pass_grammar.specs.declared.kind.Kind.TheVariants.{Blank, ThematicBreak, AtxHeading, Paragraph}
-use Rattle.first_pass_grammar.specs.Containers.{at_rest, after, taken, next_goes_on}
-use Rattle.first_pass_grammar.specs.Kinds.{unindented, is_blank_rest, quote_inside, quote_start, item_at, kind_of}
+use Rattle.first_pass_grammar.specs.Containers.{at_rest, after, front, taken, next_goes_on}
+use Rattle.first_pass_grammar.specs.Kinds.{unindented, is_blank_rest, quote_inside, quote_start, item_at, kind_of, ends_tag}
+use Rattle.std.specs.Option.{option_map}
 use Rattle.first_pass_grammar.specs.Leaves.{Document, IsParagraph, IsHeading, heading_text_at, rule_block, heading_block, paragraph_block, marker_items}
 
 -- a blank line; or a block with no blocks in it: where it ends a list before it, and its items with their depths below it
@@ -38,12 +39,13 @@ abbrev pub opened : Opener → Container
 opened (QuoteMarker kind) = BlockQuote kind
 opened (ItemMarker byte number indent) = ListItem indent
 
--- Where blocks go on: at the next line; at a place inside a line; in an item that takes blank lines alone, at the next line as long as it is
--- blank, with the offset behind the line of the item's marker; behind a task list item marker, at the place where its text begins; or at such a
--- marker with nothing behind it on its line, with where blocks go on then (GFM 5.3).
+-- Where blocks go on: at the next line; at a place inside a line; at such a place where no container begins, behind a block quote's tag; in an item that
+-- takes blank lines alone, at the next line as long as it is blank, with the offset behind the line of the item's marker; behind a task list item
+-- marker, at the place where its text begins; or at such a marker with nothing behind it on its line, with where blocks go on then (GFM 5.3).
 pub data From : Type 0 where
   Line : From
   Inside : Place → From
+  LeafAt : Place → From
   Blanks : ℕ → From
   TextAt : Item → Place → From
   MarkAt : Item → Place → From → From
@@ -112,22 +114,41 @@ item_opening d path p lines byte number columns (marker, r) =
     else OpensNode (item_head p byte number columns) (task_alone marker (at_rest p r) Line) lines)
     else OpensNode (item_head p byte number columns) (behind_task marker (at_rest p r)) lines
 
-abbrev pub quote_head : Place → Head
-quote_head p = record { opener = QuoteMarker None; start = quote_start p; closes = p.line }
+-- a block quote starts at its `>`, and ends a list before it at the start of its line (this project)
+abbrev pub quote_head : Place → Option BlockQuoteKind → Head
+quote_head p kind = record { opener = QuoteMarker kind; start = quote_start p; closes = p.line }
+
+-- the kind that a tag which stands here gives a block quote, where one does and the option is on (GitHub's alerts)
+abbrev pub tag_behind : Options → Rest → Option BlockQuoteKind
+tag_behind options r = option_map (λ tag. tag.0) (if has options 2048 then past_tag r else None)
+
+-- Where blocks go on behind the line of a block quote's tag, of which this is the path, and the lines then: the next line is read as any other, or
+-- belongs to the quote, and a leaf begins behind its columns (this project).
+abbrev pub behind_tag : List Container → List Place → From × List Place
+behind_tag path [] = (Line, [])
+behind_tag path (line ∷ lines) = if ends_tag path line.rest then (Line, line ∷ lines) else (LeafAt (unindented (at_rest line (front path line.rest))), lines)
+
+-- The block quote inside which a place is, behind its marker and with a tag there or none.
+abbrev pub quote_opening : List Container → Place → Place → List Place → Option BlockQuoteKind → Opening
+quote_opening path p inside lines None = OpensNode (quote_head p None) (Inside inside) lines
+quote_opening path p inside lines (Some kind) =
+    OpensNode (quote_head p (Some kind)) (behind_tag (BlockQuote (Some kind) ∷ path) lines).0 (behind_tag (BlockQuote (Some kind) ∷ path) lines).1
 
 -- What begins at a place: a list item where one does, else a block quote where one does, else what the kind of the place says.
 unfoldable pub OpensFrom : Document → List Container → Place → List Place → Option ((ℕ × ℕ × ℕ) × Rest) → Option Place → Opening → Type 0
 OpensFrom d path p lines (Some item) quote opening = opening ≡ item_opening d path p lines item.0.0 item.0.1 item.0.2 (task_behind d.options p.line item.1)
-OpensFrom d path p lines None (Some inside) opening = opening ≡ OpensNode (quote_head p) (Inside inside) lines
+OpensFrom d path p lines None (Some inside) opening = opening ≡ quote_opening path p inside lines (tag_behind d.options inside.rest)
 OpensFrom d path p lines None None opening = OpensAs d path p lines (kind_of p.rest) opening
 
 abbrev pub Opens : Document → List Container → Place → List Place → Opening → Type 0
 Opens d path p lines opening = OpensFrom d path p lines (item_at p.rest) (quote_inside p) opening
 
--- What begins where blocks go on: behind a task list item marker a paragraph, and where nothing is behind it the marker alone.
+-- What begins where blocks go on: where no container does what the kind of the place says; behind a task list item marker a paragraph, and where
+-- nothing is behind it the marker alone.
 abbrev pub OpensAt : Document → List Container → From → Place → List Place → Opening → Type 0
 OpensAt d path Line p lines opening = Opens d path p lines opening
 OpensAt d path (Inside q) p lines opening = Opens d path p lines opening
+OpensAt d path (LeafAt q) p lines opening = OpensAs d path p lines (kind_of p.rest) opening
 OpensAt d path (Blanks e) p lines opening = Opens d path p lines opening
 OpensAt d path (TextAt marker q) p lines opening = OpensParagraph d path p lines (Some marker) opening
 OpensAt d path (MarkAt marker q from) p lines opening = opening ≡ OpensLeaf (Block p.line ((0, marker) ∷ [])) Line lines
@@ -142,6 +163,7 @@ pub data Skeleton : Type 0 where
 -- Where a block begins: at a place inside a line, or behind what the path takes of the next line.
 abbrev pub Begins : List Container → From → List Place → Place → List Place → Type 0
 Begins path (Inside p) lines q behind = (q ≡ p) × (behind ≡ lines)
+Begins path (LeafAt p) lines q behind = (q ≡ p) × (behind ≡ lines)
 Begins path (TextAt marker p) lines q behind = (q ≡ p) × (behind ≡ lines)
 Begins path (MarkAt marker p from) lines q behind = (q ≡ p) × (behind ≡ lines)
 Begins path Line [] q behind = ⊥
@@ -153,6 +175,7 @@ Begins path (Blanks e) (line ∷ lines) q behind = (taken path line ≡ Some q) 
 -- the next line isn't blank.
 abbrev pub Ends : List Container → From → List Place → Type 0
 Ends path (Inside p) lines = ⊥
+Ends path (LeafAt p) lines = ⊥
 Ends path (TextAt marker p) lines = ⊥
 Ends path (MarkAt marker p from) lines = ⊥
 Ends path Line [] = Unit {0}
@@ -164,6 +187,7 @@ abbrev pub behind_first : From → From → From
 behind_first (Blanks e) there = Blanks e
 behind_first Line there = there
 behind_first (Inside p) there = there
+behind_first (LeafAt p) there = there
 behind_first (TextAt marker p) there = there
 behind_first (MarkAt marker p from) there = from
 
@@ -173,6 +197,7 @@ abbrev pub end_before : ℕ → List Container → From → List Place → ℕ
 end_before n path (Blanks e) lines = if next_goes_on path lines then e else start_of n lines
 end_before n path Line lines = start_of n lines
 end_before n path (Inside p) lines = start_of n lines
+end_before n path (LeafAt p) lines = start_of n lines
 end_before n path (TextAt marker p) lines = start_of n lines
 end_before n path (MarkAt marker p from) lines = end_before n path from lines
 

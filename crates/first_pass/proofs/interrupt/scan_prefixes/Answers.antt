@@ -1,17 +1,9 @@
-use Rattle.std.proofs.Common.{◌+◌, min, ap, ◌∙◌, arith}
-use Rattle.first_pass_scan.specs.Rest.{Rest, indent}
+use Rattle.std.proofs.Common.{min, ap, ◌∙◌}
+use Rattle.first_pass_scan.specs.Rest.{indent}
 use Rattle.first_pass_grammar.specs.Kinds.{all_taken}
 use Rattle.first_pass.specs.Path.{path_of}
 use Rattle.first_pass.proofs.PlaceLemmas.{text_place, front_read}
 use Rattle.first_pass.proofs.interrupt.scan_prefixes.Goals as goal
-
-pub overflow_add-result : goal.overflow_add-result
-overflow_add-result c =
-    let i = (text_place c.args.text.now c.args.start (path_of c.args.tree.now) c.utf8.text c.requires).0 in
-    let line = front_read _ _ _ c.args.start (path_of c.args.tree.now) _ _ c.as_bytes.ensures.value c.rest_of.ensures.value c.new-line_start.ensures c.scan_containers-kept.ensures.front in
-    let e = ap (λ (r : Rest). r.taken) (c.scan_indentation-columns.ensures.rest ∙ ap all_taken line) in
-    let n = c.bytes_scanned.ensures in
-    omega (arith, i.within)
 
 pub returns-clause-columns : goal.returns-clause-columns
 returns-clause-columns c =
@@ -21,7 +13,7 @@ returns-clause-columns c =
 pub returns-clause-behind : goal.returns-clause-behind
 returns-clause-behind c =
     let line = front_read _ _ _ c.args.start (path_of c.args.tree.now) _ _ c.as_bytes.ensures.value c.rest_of.ensures.value c.new-line_start.ensures c.scan_containers-kept.ensures.front in
-    ap (λ n. c.args.start + n) (c.bytes_scanned.ensures ∙ ap (λ (r : Rest). r.taken) (c.scan_indentation-columns.ensures.rest ∙ ap all_taken line))
+    c.scan_indentation-columns.ensures.rest ∙ ap all_taken line
 
 pub returns-clause-place : goal.returns-clause-place
 returns-clause-place c = (text_place c.args.text.now c.args.start (path_of c.args.tree.now) c.utf8.text c.requires).0

@@ -1,5 +1,6 @@
-use Rattle.std.proofs.Common.{◌≡◌, ℕ, ◌+◌, length, drop, Option, Some, None, true, false, is_some, not, sym, ap, subst, ◌∙◌, arith}
+use Rattle.std.proofs.Common.{◌≡◌, ℕ, ◌+◌, length, drop, Option, Some, None, refl, true, false, MatchOption, is_some, not, sym, ap, subst, ◌∙◌, arith}
 use Rattle.first_pass_items.specs.declared.item.Item.{Item}
+use Rattle.first_pass_items.specs.declared.item.BlockQuoteKind.{BlockQuoteKind}
 use Rattle.first_pass_items.specs.declared.item.ItemBody.TheVariants.{BlockQuote as BlockQuoteBody}
 use Rattle.first_pass_scan.specs.Lines.{blank_len, line_len}
 use Rattle.first_pass_scan.specs.Rest.{Rest, after_columns}
@@ -13,11 +14,11 @@ use Rattle.first_pass_grammar.specs.Skeleton.{Inside, task_behind}
 use Rattle.first_pass_grammar.specs.Completion.{lines_from}
 use Rattle.first_pass.specs.declared.containers.Opened.TheVariants.{Container as OneContainer}
 use Rattle.first_pass.specs.Closing.{Reading, remembered, begun, list_finished}
-use Rattle.first_pass.specs.Opening.{ReadyIn}
+use Rattle.first_pass.specs.Opening.{ReadyIn, ReadyTagged}
 use Rattle.first_pass.specs.State.{Ready, ReadyAt}
 use Rattle.first_pass.proofs.PlaceLemmas.{item_found, item_keeps, item_absent, markers_keep, mark_is_no_text, quote_taken, prefix_keeps, quote_prefix_shorter, place_end, read_end}
 use Rattle.first_pass.proofs.LineLemmas.{list_finished_none, list_continued_none}
-use Rattle.first_pass.proofs.OpenerLemmas.{item_opened, ready_item, empty_item_read, ready_empty_item, ready_quote, opened_behind, ready_behind}
+use Rattle.first_pass.proofs.OpenerLemmas.{item_opened, ready_item, empty_item_read, ready_empty_item, ready_quote, ready_tagged, opened_behind, ready_behind}
 use Rattle.first_pass.proofs.pass.FirstPass.open_container.Goals as goal
 
 pub scan_task-marker-requires-clause-place : goal.scan_task-marker-requires-clause-place
@@ -137,34 +138,103 @@ returns-in-Some-clause-ready c =
     (ready_empty_item d old p (lines_from text (line_end p)) item marker rest c.next_line-next.result c.is_forest.ensures (taken_empty c) task blank first c.requires.no_empty ready)))
 
 -- no item, but a block quote
-no_item : (c : goal.In_ok-open_quote) → (item_at c.args.line_start.now ≡ None) × (c.scan_item.new.line_start ≡ c.args.line_start.now)
-no_item c = item_absent _ c.scan_item.result c.args.line_start.now c.scan_item.new.line_start c.in_default.is c.scan_item.ensures
+quote_here : (old mid new : Rest) (found : Option (ℕ × ℕ × ℕ)) (width : Option ℕ) (at : ℕ) → found ≡ None → MatchOption (item_at old) ((found ≡ None) × (mid ≡ old)) (λ item. (found ≡ Some item.0) × (mid ≡ item.1)) → width ≡ Some at
+    → MatchOption (prefix (BlockQuote None) mid) ((width ≡ None) × (new ≡ mid)) (λ next. (width ≡ Some (after_columns 3 mid).taken) × (new ≡ next))
+    → (item_at old ≡ None) × (prefix (BlockQuote None) old ≡ Some new) × (at ≡ (after_columns 3 old).taken)
+quote_here old mid new found width at absent a taken b =
+    let i = item_absent (item_at old) found old mid absent a in
+    let t = quote_taken (prefix (BlockQuote None) mid) width _ at mid new taken b in
+    (i.0, ap (prefix (BlockQuote None)) (sym i.1) ∙ t.0, t.1 ∙ ap (λ (r : Rest). (after_columns 3 r).taken) i.1)
 
-quote_is : (c : goal.In_ok-open_quote) → (prefix (BlockQuote None) c.args.line_start.now ≡ Some c.scan_quote.new.line_start) × (c.in-Some-scan_quote.quote ≡ (after_columns 3 c.args.line_start.now).taken)
-quote_is c =
-    let t = quote_taken _ c.scan_quote.result _ c.in-Some-scan_quote.quote c.scan_item.new.line_start c.scan_quote.new.line_start c.in-Some-scan_quote.is c.scan_quote.ensures in
-    let same = (no_item c).1 in
-    (ap (prefix (BlockQuote None)) (sym same) ∙ t.0, t.1 ∙ ap (λ (r : Rest). (after_columns 3 r).taken) same)
+quote_is : (c : goal.Then-is_none-2) → (item_at c.args.line_start.now ≡ None) × (prefix (BlockQuote None) c.args.line_start.now ≡ Some c.scan_quote.new.line_start) × (c.in-Some-scan_quote.quote ≡ (after_columns 3 c.args.line_start.now).taken)
+quote_is c = quote_here c.args.line_start.now c.scan_item.new.line_start c.scan_quote.new.line_start c.scan_item.result c.scan_quote.result c.in-Some-scan_quote.quote c.in_default.is c.scan_item.ensures c.in-Some-scan_quote.is c.scan_quote.ensures
+
+pub returns-then-is_none-2-clause-place : goal.returns-then-is_none-2-clause-place
+returns-then-is_none-2-clause-place c = (prefix_keeps c.args.self.now.text.now c.args.start_ix (BlockQuote None) c.args.line_start.now c.scan_quote.new.line_start c.requires.utf8 (quote_is c).1 c.requires.place).0
+
+pub returns-then-is_none-2-clause-same_end : goal.returns-then-is_none-2-clause-same_end
+returns-then-is_none-2-clause-same_end c = (prefix_keeps c.args.self.now.text.now c.args.start_ix (BlockQuote None) c.args.line_start.now c.scan_quote.new.line_start c.requires.utf8 (quote_is c).1 c.requires.place).1
+
+pub returns-then-is_none-2-clause-opened : goal.returns-then-is_none-2-clause-opened
+returns-then-is_none-2-clause-opened c = (
+  quote_prefix_shorter c.args.line_start.now c.scan_quote.new.line_start (quote_is c).1,
+  ap (λ (q : Reading). q.empty_item) c.in_ok-open_quote.ensures.reading ∙ list_finished_none c.args.start_ix (remembered c.args.self.now.tree c.args.self.now.begin_list_item c.args.self.now.last_line_blank),
+)
+
+-- what is remembered with a block quote of no kind open
+no_kind : (o : Option BlockQuoteKind) → is_some o ≡ false → o ≡ None
+no_kind None h = refl
+no_kind (Some kind) h = cc
+
+pub returns-then-is_none-2-clause-ready : goal.returns-then-is_none-2-clause-ready
+returns-then-is_none-2-clause-ready c =
+    let self = c.args.self.now in
+    let d = document self.text.now self.options in
+    let p = place_at c.args.start_ix c.args.line_start.now in
+    let inside : Rest = c.scan_quote.new.line_start in
+    let old : Reading = remembered self.tree self.begin_list_item self.last_line_blank in
+    let none = no_kind c.scan_tag-tag.result c.if-is_none-2.ensures in
+    let now : remembered c.open_quote.new.self.tree c.open_quote.new.self.begin_list_item c.open_quote.new.self.last_line_blank ≡ begun (quote_start p) (BlockQuoteBody None) (list_finished c.args.start_ix old) =
+    c.in_ok-open_quote.ensures.reading ∙ ap (λ n. begun (c.args.start_ix + n) (BlockQuoteBody c.scan_tag-tag.result) (list_finished c.args.start_ix old)) (quote_is c).2 ∙ ap (λ k. begun (quote_start p) (BlockQuoteBody k) (list_finished c.args.start_ix old)) none in
+    λ ready. subst (λ (q : Reading). ReadyAt d q.tree q.blank (Inside (place_at c.args.start_ix inside)) (lines_from self.text.now (line_end p))) (sym now)
+    (ready_quote d old p (lines_from self.text.now (line_end p)) inside c.is_forest.ensures (quote_is c).0 (quote_is c).1 (sym c.scan_tag-tag.ensures ∙ none) c.requires.no_empty ready)
+
+-- a block quote with a tag
+tagged_at : (c : goal.After-bytes_scanned-in-Some-scan_quote) → prefix (BlockQuote None) c.args.line_start.now ≡ Some c.scan_quote.new.line_start
+tagged_at c = (quote_here c.args.line_start.now c.scan_item.new.line_start c.scan_quote.new.line_start c.scan_item.result c.scan_quote.result c.in-Some-scan_quote.quote c.in_default.is c.scan_item.ensures c.in-Some-scan_quote.is c.scan_quote.ensures).1
+
+pub overflow_add-start_ix-in-Some-scan_quote-2 : goal.overflow_add-start_ix-in-Some-scan_quote-2
+overflow_add-start_ix-in-Some-scan_quote-2 c =
+    let i = (prefix_keeps c.args.self.now.text.now c.args.start_ix (BlockQuote None) c.args.line_start.now c.scan_quote.new.line_start c.requires.utf8 (tagged_at c) c.requires.place).0 in
+    let n = c.bytes_scanned-in-Some-scan_quote.ensures in
+    omega (arith, i.within)
+
+pub next_line-next-requires-in-Some-scan_quote : goal.next_line-next-requires-in-Some-scan_quote
+next_line-next-requires-in-Some-scan_quote c =
+    let i = (prefix_keeps c.args.self.now.text.now c.args.start_ix (BlockQuote None) c.args.line_start.now c.scan_quote.new.line_start c.requires.utf8 (tagged_at c) c.requires.place).0 in
+    let n = c.bytes_scanned-in-Some-scan_quote.ensures in
+    let l = ap length (c.as_bytes-in-Some-scan_quote.ensures.value ∙ c.in_ok-open_quote.ensures.text) in
+    omega (arith, i.within)
+
+tagged_is : (c : goal.After-next_line-next-in-Some-scan_quote) → (item_at c.args.line_start.now ≡ None) × (prefix (BlockQuote None) c.args.line_start.now ≡ Some c.scan_quote.new.line_start) × (c.in-Some-scan_quote.quote ≡ (after_columns 3 c.args.line_start.now).taken)
+tagged_is c = quote_here c.args.line_start.now c.scan_item.new.line_start c.scan_quote.new.line_start c.scan_item.result c.scan_quote.result c.in-Some-scan_quote.quote c.in_default.is c.scan_item.ensures c.in-Some-scan_quote.is c.scan_quote.ensures
 
 pub returns-in-Some-scan_quote-clause-place : goal.returns-in-Some-scan_quote-clause-place
-returns-in-Some-scan_quote-clause-place c = (prefix_keeps c.args.self.now.text.now c.args.start_ix (BlockQuote None) c.args.line_start.now c.scan_quote.new.line_start c.requires.utf8 (quote_is c).0 c.requires.place).0
+returns-in-Some-scan_quote-clause-place c = (prefix_keeps c.args.self.now.text.now c.args.start_ix (BlockQuote None) c.args.line_start.now c.scan_quote.new.line_start c.requires.utf8 (tagged_is c).1 c.requires.place).0
 
 pub returns-in-Some-scan_quote-clause-same_end : goal.returns-in-Some-scan_quote-clause-same_end
-returns-in-Some-scan_quote-clause-same_end c = (prefix_keeps c.args.self.now.text.now c.args.start_ix (BlockQuote None) c.args.line_start.now c.scan_quote.new.line_start c.requires.utf8 (quote_is c).0 c.requires.place).1
+returns-in-Some-scan_quote-clause-same_end c = (prefix_keeps c.args.self.now.text.now c.args.start_ix (BlockQuote None) c.args.line_start.now c.scan_quote.new.line_start c.requires.utf8 (tagged_is c).1 c.requires.place).1
+
+-- the tag's line ends there
+tag_line_end : (c : goal.After-next_line-next-in-Some-scan_quote) → c.next_line-next-in-Some-scan_quote.result ≡ line_end (place_at c.args.start_ix c.args.line_start.now)
+tag_line_end c =
+    let text = c.args.self.now.text.now in
+    let rest : Rest = c.scan_quote.new.line_start in
+    let k = prefix_keeps text c.args.start_ix (BlockQuote None) c.args.line_start.now rest c.requires.utf8 (tagged_is c).1 c.requires.place in
+    c.next_line-next-in-Some-scan_quote.ensures.value
+    ∙ ap (λ bs. c.args.start_ix + c.bytes_scanned-in-Some-scan_quote.result + line_len (drop (c.args.start_ix + c.bytes_scanned-in-Some-scan_quote.result) bs)) (c.as_bytes-in-Some-scan_quote.ensures.value ∙ c.in_ok-open_quote.ensures.text)
+    ∙ ap (λ n. c.args.start_ix + n + line_len (drop (c.args.start_ix + n) text)) c.bytes_scanned-in-Some-scan_quote.ensures ∙ read_end text c.args.start_ix rest k.0 ∙ k.1
 
 pub returns-in-Some-scan_quote-clause-opened : goal.returns-in-Some-scan_quote-clause-opened
 returns-in-Some-scan_quote-clause-opened c = (
-  quote_prefix_shorter c.args.line_start.now c.scan_quote.new.line_start (quote_is c).0,
+  tag_line_end c,
   ap (λ (q : Reading). q.empty_item) c.in_ok-open_quote.ensures.reading ∙ list_finished_none c.args.start_ix (remembered c.args.self.now.tree c.args.self.now.begin_list_item c.args.self.now.last_line_blank),
 )
+
+some_kind : (o : Option BlockQuoteKind) → is_some o ≡ true → (kind : BlockQuoteKind) × (o ≡ Some kind)
+some_kind None h = cc
+some_kind (Some kind) h = (kind, refl)
 
 pub returns-in-Some-scan_quote-clause-ready : goal.returns-in-Some-scan_quote-clause-ready
 returns-in-Some-scan_quote-clause-ready c =
     let self = c.args.self.now in
     let d = document self.text.now self.options in
     let p = place_at c.args.start_ix c.args.line_start.now in
+    let inside : Rest = c.scan_quote.new.line_start in
     let old : Reading = remembered self.tree self.begin_list_item self.last_line_blank in
-    let now : remembered c.open_quote.new.self.tree c.open_quote.new.self.begin_list_item c.open_quote.new.self.last_line_blank ≡ begun (quote_start p) (BlockQuoteBody None) (list_finished c.args.start_ix old) =
-    c.in_ok-open_quote.ensures.reading ∙ ap (λ n. begun (c.args.start_ix + n) (BlockQuoteBody None) (list_finished c.args.start_ix old)) (quote_is c).1 in
-    λ ready. subst (λ (q : Reading). ReadyAt d q.tree q.blank (Inside (place_at c.args.start_ix c.scan_quote.new.line_start)) (lines_from self.text.now (line_end p))) (sym now)
-    (ready_quote d old p (lines_from self.text.now (line_end p)) c.scan_quote.new.line_start c.is_forest.ensures (no_item c).0 (quote_is c).0 c.requires.no_empty ready).0
+    let tag = some_kind c.scan_tag-tag.result c.if-is_none-2.ensures in
+    let now : remembered c.open_quote.new.self.tree c.open_quote.new.self.begin_list_item c.open_quote.new.self.last_line_blank ≡ begun (quote_start p) (BlockQuoteBody (Some tag.0)) (list_finished c.args.start_ix old) =
+    c.in_ok-open_quote.ensures.reading ∙ ap (λ n. begun (c.args.start_ix + n) (BlockQuoteBody c.scan_tag-tag.result) (list_finished c.args.start_ix old)) (tagged_is c).2 ∙ ap (λ k. begun (quote_start p) (BlockQuoteBody k) (list_finished c.args.start_ix old)) tag.1 in
+    λ ready. subst (λ n. ReadyTagged d (remembered c.open_quote.new.self.tree c.open_quote.new.self.begin_list_item c.open_quote.new.self.last_line_blank) (lines_from self.text.now n)) (sym (tag_line_end c))
+    (subst (λ (q : Reading). ReadyTagged d q (lines_from self.text.now (line_end p))) (sym now)
+    (ready_tagged d old p (lines_from self.text.now (line_end p)) inside tag.0 c.is_forest.ensures (tagged_is c).0 (tagged_is c).1 (sym c.scan_tag-tag.ensures ∙ tag.1) c.requires.no_empty ready))

@@ -50,3 +50,21 @@ pub returns-in-NextLine-clause-boundary : goal.returns-in-NextLine-clause-bounda
 returns-in-NextLine-clause-boundary c =
     let text = c.args.self.now.text.now in
     subst (IsCharBoundary text) (sym (item_end c)) (line_end_boundary text c.args.start_ix c.enter_line.ensures.utf8 c.requires.boundary c.requires.within)
+
+pub parse_tagged-requires-clause-boundary : goal.parse_tagged-requires-clause-boundary
+parse_tagged-requires-clause-boundary c =
+    let text = c.args.self.now.text.now in
+    let behind = subst (λ o. IsBehind o c.open_containers.new.self.begin_list_item c.open_containers.new.line_start (line_end (place_at c.args.start_ix c.in-Some.line_start))) c.in-Tag.is c.in_ok-open_containers.ensures.behind in
+    subst (λ t. IsCharBoundary t c.in-Tag.next) (sym (c.in_ok-open_containers.ensures.text ∙ c.enter_line.ensures.text))
+    (subst (IsCharBoundary text) (sym (behind.0 ∙ c.in-Some.ensures.same_end)) (line_end_boundary text c.args.start_ix c.enter_line.ensures.utf8 c.requires.boundary c.requires.within))
+
+pub returns-in_ok-next-in-Tag-clause-later : goal.returns-in_ok-next-in-Tag-clause-later
+returns-in_ok-next-in-Tag-clause-later c =
+    let within = line_len-within c.args.self.now.text.now c.args.start_ix c.requires.within in
+    let some = within.0 in
+    let behind = subst (λ o. IsBehind o c.open_containers.new.self.begin_list_item c.open_containers.new.line_start (line_end (place_at c.args.start_ix c.in-Some.line_start))) c.in-Tag.is c.in_ok-open_containers.ensures.behind in
+    let e = behind.0 ∙ c.in-Some.ensures.same_end in
+    let later = c.in_ok-next-in-Tag.ensures.later in
+    let fits = c.in_ok-next-in-Tag.ensures.boundary.0 in
+    let same = ap length (c.in_ok-open_containers.ensures.text ∙ c.enter_line.ensures.text) in
+    (omega arith, omega arith)

@@ -8,8 +8,7 @@ use Rattle.first_pass.specs.Appends.{line_end_at, AddsHeading, AddsParagraph}
 use Rattle.first_pass.specs.Closing.{Reading, remembered, list_finished, blank_read}
 use Rattle.first_pass.specs.State.{Ready}
 use Rattle.first_pass.proofs.PlaceLemmas.{all_keep, at_read, place_end}
-use Rattle.first_pass.proofs.EnterLemmas.{ready_blank}
-use Rattle.first_pass.proofs.LeafLemmas.{ready_rule, rule_end, ready_heading, ready_paragraph, kind_level, kind_blank_rest, line_end_of}
+use Rattle.first_pass.proofs.LeafLemmas.{ready_blank_leaf, ready_rule, rule_end, ready_heading, ready_paragraph, kind_level, line_end_of}
 use Rattle.first_pass.proofs.pass.FirstPass.parse_leaf.Goals as goal
 
 pub overflow_add-at : goal.overflow_add-at
@@ -48,7 +47,7 @@ returns-in-Blank-clause-ready c =
     let p = place_at c.args.start_ix c.args.line_start in
     λ ready. subst (λ q. Ready d q (lines_from self.text.now c.next_line.result)) (sym c.read_blank_line.ensures.reading)
     (subst (λ n. Ready d (blank_read (remembered self.tree self.begin_list_item self.last_line_blank)) (lines_from self.text.now n)) (sym (blank_end c))
-    (ready_blank d (remembered self.tree self.begin_list_item self.last_line_blank) p (lines_from self.text.now (line_end p)) (kind_blank_rest c.args.line_start (sym c.kind_at-kind.ensures.kind ∙ c.in-Blank.is)) c.requires.no_empty ready))
+    (ready_blank_leaf d (remembered self.tree self.begin_list_item self.last_line_blank) p (lines_from self.text.now (line_end p)) (sym c.kind_at-kind.ensures.kind ∙ c.in-Blank.is) c.requires.no_empty ready))
 
 pub parse_hrule-requires : goal.parse_hrule-requires
 parse_hrule-requires c =
@@ -91,7 +90,7 @@ returns-in-ThematicBreak-clause-ready c =
     let blank = c.in_ok-next-in-ThematicBreak.ensures.blank ∙ ap (λ (r : Reading). r.blank) c.finish_list.ensures.reading in
     λ ready. subst (λ o. Ready d (remembered new.tree o new.last_line_blank) (lines_from self.text.now next)) (sym item)
     (subst (λ b. Ready d (remembered new.tree q.empty_item b) (lines_from self.text.now next)) (sym blank)
-    (ready_rule d old new.tree p at next size c.is_forest.ensures c.requires.no_item c.requires.no_quote (sym c.kind_at-kind.ensures.kind ∙ c.in-ThematicBreak.is) e (break_end c) block c.requires.no_empty ready))
+    (ready_rule d old new.tree p at next size c.is_forest.ensures (sym c.kind_at-kind.ensures.kind ∙ c.in-ThematicBreak.is) e (break_end c) block c.requires.no_empty ready))
 
 pub parse_atx_heading-requires-clause-within : goal.parse_atx_heading-requires-clause-within
 parse_atx_heading-requires-clause-within c =
@@ -144,7 +143,7 @@ returns-in-AtxHeading-clause-ready c =
     let blank = c.in_ok-next-in-AtxHeading.ensures.blank ∙ ap (λ (r : Reading). r.blank) (heading_rem c) in
     λ ready. subst (λ o. Ready d (remembered c.parse_atx_heading.new.self.tree o c.parse_atx_heading.new.self.last_line_blank) (lines_from self.text.now c.in_ok-next-in-AtxHeading.next)) (sym item)
     (subst (λ b. Ready d (remembered c.parse_atx_heading.new.self.tree q.empty_item b) (lines_from self.text.now c.in_ok-next-in-AtxHeading.next)) (sym blank)
-    (ready_heading d old c.parse_atx_heading.new.self.tree p (c.args.start_ix + c.bytes_scanned.result) c.in_ok-next-in-AtxHeading.next c.in-AtxHeading.level c.is_forest.ensures c.requires.no_item c.requires.no_quote
+    (ready_heading d old c.parse_atx_heading.new.self.tree p (c.args.start_ix + c.bytes_scanned.result) c.in_ok-next-in-AtxHeading.next c.in-AtxHeading.level c.is_forest.ensures
     (sym c.kind_at-kind.ensures.kind ∙ c.in-AtxHeading.is) e i block c.requires.no_empty ready))
 
 pub parse_paragraph-requires-clause-boundary : goal.parse_paragraph-requires-clause-boundary
@@ -187,4 +186,4 @@ returns-clause-ready c =
     let blank = c.in_ok-next-in-Paragraph.ensures.blank ∙ ap (λ (r : Reading). r.blank) rem in
     λ ready. subst (λ o. Ready d (remembered new.tree o new.last_line_blank) (lines_from self.text.now next)) (sym item)
     (subst (λ b. Ready d (remembered new.tree q.empty_item b) (lines_from self.text.now next)) (sym blank)
-    (ready_paragraph d old new.tree p at next c.is_forest.ensures c.requires.no_item c.requires.no_quote (sym c.kind_at-kind.ensures.kind ∙ c.in-Paragraph.is) e i block c.requires.no_empty ready))
+    (ready_paragraph d old new.tree p at next c.is_forest.ensures (sym c.kind_at-kind.ensures.kind ∙ c.in-Paragraph.is) e i block c.requires.no_empty ready))

@@ -1,0 +1,92 @@
+-- A block quote with a tag: what it ends and counts, and the line behind it.
+use Rattle.std.proofs.Common.{◌≡◌, inl, inr, ℕ, ◌+◌, nat_lt, ◌&&◌, Bool, true, false, List, [], ◌∷◌, length, drop, slice_get, Option, Some, None, is_some, refl, sym, ap, subst, ◌∙◌, if◌then◌else◌}
+use Rattle.std.proofs.lemmas.Bool.{cases_lt}
+use Rattle.std.specs.Option.{option_and_then}
+use Rattle.first_pass_items.specs.declared.item.Item.{Item}
+use Rattle.first_pass_items.specs.declared.item.BlockQuoteKind.{BlockQuoteKind}
+use Rattle.first_pass_items.specs.declared.item.ItemBody.TheVariants.{BlockQuote as BlockQuoteBody}
+use Rattle.first_pass_tree.specs.declared.tree_index.TreeIndex.{TreeIndex}
+use Rattle.first_pass_tree.specs.Forest.{Forest, body_at}
+use Rattle.first_pass_scan.specs.Rest.{indent}
+use Rattle.first_pass_scan.specs.Lines.{line_len}
+use Rattle.first_pass_scan.specs.Places.{Place, line_rest, line_place, place_at}
+use Rattle.first_pass_scan.proofs.LineFacts.{lines_at-line, lines_at-end}
+use Rattle.first_pass_grammar.specs.declared.kind.Container.{Container}
+use Rattle.first_pass_grammar.specs.declared.kind.Container.TheVariants.{BlockQuote}
+use Rattle.first_pass_grammar.specs.Containers.{at_rest, after, front}
+use Rattle.first_pass_grammar.specs.Kinds.{unindented, interrupts, ends_tag}
+use Rattle.first_pass_grammar.specs.Leaves.{Document}
+use Rattle.first_pass_grammar.specs.Skeleton.{From, Line, LeafAt, behind_tag}
+use Rattle.first_pass_grammar.specs.Completion.{lines_from, Frame, InContainer}
+use Rattle.first_pass_grammar.proofs.Completions.{counts_in}
+use Rattle.first_pass.specs.Closing.{Reading, top_body, is_list, popped, item_finished_by, item_finished, list_left, gap_tree, gap_noted, list_finished}
+use Rattle.first_pass.specs.Path.{path_of}
+use Rattle.first_pass.specs.State.{frame_of, AreOpen, ReadyAt, Ready}
+use Rattle.first_pass.specs.Opening.{ReadyTagged, ReadyLazy}
+use Rattle.first_pass.proofs.PathLemmas.{front-end}
+use Rattle.first_pass.proofs.ParagraphLemmas.{ends_past}
+use Rattle.first_pass.proofs.StateLemmas.{ready_plain}
+
+left_none : (at : ℕ) (r : Reading) (t : Bool) → t ≡ false → (if t then popped at r else r) ≡ r
+left_none at r t is = rw is refl
+
+noted_none : (r : Reading) (f : Forest Item) (t : Bool) → t ≡ false → (if t then record r { tree = f; blank = false } else r) ≡ r
+noted_none r f t is = rw is refl
+
+-- Where a block quote is innermost, no item is empty and no blank line was read, a new block ends nothing.
+pub finishes_nothing : (at : ℕ) (r : Reading) (kind : Option BlockQuoteKind) → top_body r.tree ≡ Some (BlockQuoteBody kind) → r.blank ≡ false → r.empty_item ≡ None → list_finished at r ≡ r
+unfolding list_finished item_finished
+finishes_nothing at r kind quote blank none =
+    let item : item_finished_by r r.empty_item ≡ r = ap (item_finished_by r) none in
+    let left : list_left at r ≡ r = left_none at r (is_list (top_body r.tree)) (ap is_list quote) in
+    ap (λ q. gap_noted (list_left at q)) item ∙ ap gap_noted left ∙ noted_none r (gap_tree r.tree r.tree.spine) r.blank blank
+
+-- a blank line doesn't count directly in it
+pub quote_counts : (nodes : List (ℕ × Item)) (s : List TreeIndex) (frames : List Frame) (kind : Option BlockQuoteKind) → option_and_then (λ (ix : TreeIndex). body_at nodes ix.0) (slice_get s 0) ≡ Some (BlockQuoteBody kind) → AreOpen nodes s frames → counts_in frames false ≡ false
+quote_counts nodes [] frames kind quote o = cc
+quote_counts nodes (ix ∷ s) [] kind quote o = absurd o
+quote_counts nodes (ix ∷ s) (frame ∷ frames) kind quote o =
+    let is : Some (InContainer (BlockQuote kind)) ≡ Some frame = sym (ap (option_and_then frame_of) quote) ∙ o.0 in
+    let same : InContainer (BlockQuote kind) ≡ frame = cc in
+    ap (λ f. counts_in (f ∷ frames) false) (sym same)
+
+-- At the text's end no line belongs to it.
+end_by : (whole : Bool) → (nat_lt (indent (line_rest [])) 4 && interrupts whole (line_rest [])) ≡ true
+unfolding interrupts
+end_by whole = refl
+
+tag_end : (path : List Container) → ends_tag path (line_rest []) ≡ true
+tag_end path = ap (λ r. nat_lt (indent r) 4 && interrupts (is_some (after path (line_rest []))) r) (front-end path) ∙ end_by (is_some (after path (line_rest [])))
+
+tag_by : (path : List Container) (line : Place) (lines : List Place) (t : Bool) → ends_tag path line.rest ≡ t
+    → behind_tag path (line ∷ lines) ≡ (if t then (Line, line ∷ lines) else (LeafAt (unindented (at_rest line (front path line.rest))), lines))
+tag_by path line lines t is = rw is refl
+
+-- where blocks go on behind its tag, at the line that begins at an offset
+tag_line : (path : List Container) (text : List ℕ) (at : ℕ) (t : Bool) → ends_tag path (line_rest (drop at text)) ≡ t
+    → (let lines : List Place = lines_from text at in
+    behind_tag path lines ≡ (if t then (Line, lines) else (LeafAt (unindented (place_at at (front path (line_rest (drop at text))))), lines_from text (at + line_len (drop at text)))))
+tag_line path text at t is =
+    elim (cases_lt at (length text)) [
+      | inl within ↦ (let first = lines_at-line text at within in ap (behind_tag path) first ∙ tag_by path (line_place at (drop at text)) (lines_from text (at + line_len (drop at text))) t is ∙ ap (λ z. if t then (Line, z) else (LeafAt (unindented (place_at at (front path (line_rest (drop at text))))), lines_from text (at + line_len (drop at text)))) (sym first))
+      | inr past ↦ (let none : lines_from text at ≡ [] = lines_at-end text at past in
+          let over : t ≡ true = sym is ∙ ap (λ bs. ends_tag path (line_rest bs)) (ends_past text at past) ∙ tag_end path in
+          ap (behind_tag path) none ∙ ap (λ z. (Line, z)) (sym none) ∙ ap (λ u. if u then (Line, lines_from text at) else (LeafAt (unindented (place_at at (front path (line_rest (drop at text))))), lines_from text (at + line_len (drop at text)))) (sym over))
+    ]
+
+-- the line behind its tag, which is read as any other
+pub ready_any_line : (d : Document) (r : Reading) (at : ℕ) → ends_tag (path_of r.tree) (line_rest (drop at d.text)) ≡ true → r.empty_item ≡ None → ReadyTagged d r (lines_from d.text at) → Ready d r (lines_from d.text at)
+ready_any_line d r at is none tagged =
+    let lines : List Place = lines_from d.text at in
+    let here : behind_tag (path_of r.tree) lines ≡ (Line, lines) = tag_line (path_of r.tree) d.text at true is in
+    ready_plain d r lines none (subst (λ t. ReadyAt d r.tree t Line lines) (sym tagged.blank) (subst (λ (z : From × List Place). ReadyAt d r.tree false z.0 z.1) here tagged.ready))
+
+-- the same, which belongs to the quote
+pub ready_its_line : (d : Document) (r : Reading) (at : ℕ) → ends_tag (path_of r.tree) (line_rest (drop at d.text)) ≡ false → ReadyTagged d r (lines_from d.text at)
+    → ReadyLazy d r (unindented (place_at at (front (path_of r.tree) (line_rest (drop at d.text))))) (lines_from d.text (at + line_len (drop at d.text)))
+ready_its_line d r at is tagged = record {
+  kind = tagged.kind;
+  quote = tagged.quote;
+  blank = tagged.blank;
+  ready = subst (λ (z : From × List Place). ReadyAt d r.tree false z.0 z.1) (tag_line (path_of r.tree) d.text at false is) tagged.ready;
+}
