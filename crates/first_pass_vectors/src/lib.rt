@@ -12,6 +12,8 @@ mod faults;
 #[cfg(test)]
 mod lists;
 #[cfg(test)]
+mod tags;
+#[cfg(test)]
 mod tasks;
 #[cfg(test)]
 mod texts;
