@@ -1,3 +1,4 @@
 pub mod Completions
+pub mod Orders
 pub mod Tightening
 pub mod Unique

@@ -4,4 +4,5 @@ pub mod Derivation
 pub mod Kinds
 pub mod Leaves
 pub mod Lists
+pub mod Order
 pub mod Skeleton

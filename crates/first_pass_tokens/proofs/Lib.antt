@@ -1,3 +1,5 @@
 pub mod ChainLemmas
+pub mod CutOrder
 pub mod LineLemmas
+pub mod OrderLemmas
 pub mod SoFar

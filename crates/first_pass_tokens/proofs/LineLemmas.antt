@@ -133,7 +133,7 @@ pub content_of : {s : Source} {ps : List Piece} {end : ℕ} → s.start ≤ leng
 content_of within d = content_from _ _ _ _ within d.divided
 
 -- where a content ends
-ended_by : (s : Source) (end : ℕ) → ends_at s end ≡ true → (length s.text ≤ end) ⊎ (is_line_end (slice_index s.text end) ≡ true)
+pub ended_by : (s : Source) (end : ℕ) → ends_at s end ≡ true → (length s.text ≤ end) ⊎ (is_line_end (slice_index s.text end) ≡ true)
 unfolding ends_at
 ended_by s end h =
     elim (or_cases (nat_le (length s.text) end) (is_line_end (slice_index s.text end)) h) [

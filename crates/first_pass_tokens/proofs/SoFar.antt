@@ -82,7 +82,7 @@ so_far_start z within = record {
 }
 
 -- a text grows by the bytes behind it
-add_text_grows : (begin at n stop : ℕ) (escaped : Bool) (chain : List Item) → begin ≤ at → (begin < at) ⊎ (escaped ≡ false) → begin ≤ stop
+pub add_text_grows : (begin at n stop : ℕ) (escaped : Bool) (chain : List Item) → begin ≤ at → (begin < at) ⊎ (escaped ≡ false) → begin ≤ stop
     → add_text at (min (at + n) stop) false (add_text begin (min at stop) escaped chain) ≡ add_text begin (min (at + n) stop) escaped chain
 add_text_grows begin at n stop escaped chain upto mark ahead =
     elim (cases_lt at stop) [
@@ -196,7 +196,8 @@ begins_before z begin end low high within begins =
           omega arith)
     ]
 
-text_end_within : (z : Source) (end : ℕ) → text_end z end ≤ end
+-- the last text of a content ends in it
+pub text_end_within : (z : Source) (end : ℕ) → text_end z end ≤ end
 unfolding text_end
 text_end_within z end = cond_both (breaks_by_backslash z end) (end - 1) (end - blanks_at_end z end) (λ (x : ℕ). x ≤ end) (λ b. omega arith) (λ b. omega arith)
 

@@ -1,5 +1,6 @@
 pub mod Pieces
 pub mod Chains
 pub mod LineTokens
+pub mod Order
 pub mod TreeTokens
 pub mod Pending

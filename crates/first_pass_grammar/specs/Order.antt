@@ -1,0 +1,98 @@
+-- Order: which ranges lie in one another, and which behind one another (this project).
+use Rattle.std.specs.Prelude.{◌≡◌, ◌⊎◌, ℕ, suc, ◌≤◌, Bool, true, false, List, [], ◌∷◌, ◌++◌, length, map, Option, Some, None, IsCharBoundary, if◌then◌else◌}
+use Rattle.first_pass_items.specs.declared.item.Item.{Item}
+use Rattle.first_pass_items.specs.declared.item.ItemBody.{ItemBody}
+use Rattle.first_pass_items.specs.declared.item.ItemBody.TheVariants.{Paragraph, TightParagraph, TaskListMarker}
+use Rattle.first_pass_tree.specs.declared.tree_index.TreeIndex.{TreeIndex}
+use Rattle.first_pass_tree.specs.Forest.{Forest}
+
+-- the range of a node, and whether it is a paragraph, or the marker of a task list item
+pub record Extent : Type 0 where
+  pub start : ℕ
+  pub «end» : ℕ
+  pub paragraph : Bool
+  pub marker : Bool
+
+abbrev pub is_paragraph : ItemBody → Bool
+is_paragraph Paragraph = true
+is_paragraph TightParagraph = true
+is_paragraph _ = false
+
+abbrev pub is_task_marker : ItemBody → Bool
+is_task_marker (TaskListMarker checked) = true
+is_task_marker _ = false
+
+abbrev pub extent_of : Item → Extent
+extent_of x = record { start = x.start; «end» = x.«end»; paragraph = is_paragraph x.body; marker = is_task_marker x.body }
+
+-- the extents of nodes, each with its depth
+abbrev pub extents : List (ℕ × Item) → List (ℕ × Extent)
+extents nodes = map (λ n. (n.0, extent_of n.1)) nodes
+
+-- nodes side by side: the first with those below it, and those behind it
+pub data Row : Type 0 where
+  Empty : Row
+  Node : Extent → Row → Row → Row
+
+-- a row in reading order, each node with its depth, of which the row's own have this one
+unfoldable pub laid : ℕ → Row → List (ℕ × Extent)
+laid depth Empty = []
+laid depth (Node x kids next) = (depth, x) ∷ (laid (suc depth) kids ++ laid depth next)
+
+-- a range between two offsets, which begins and ends between two characters
+pub record IsBetween (text : List ℕ) (from to : ℕ) (x : Extent) : Type 0 where
+  pub behind : from ≤ x.start
+  pub order : x.start ≤ x.«end»
+  pub before : x.«end» ≤ to
+  pub starts : IsCharBoundary text x.start
+  pub ends : IsCharBoundary text x.«end»
+
+-- a task list item marker, which may stand from an offset on before another
+abbrev pub IsLead : List ℕ → Option ℕ → ℕ → Extent → Type 0
+IsLead text None from x = ⊥
+IsLead text (Some before) from x = (x.marker ≡ true) × IsBetween text before from x
+
+-- The nodes of a row lie between two offsets, one behind the other, and what is below each lies within it. Only a task list item marker that is first in
+-- a paragraph may stand before the paragraph's start, where the paragraph itself might (GFM 5.3, and this project).
+unfoldable pub Fits : List ℕ → Option ℕ → ℕ → ℕ → Row → Type 0
+Fits text lead from to Empty = from ≤ to
+Fits text lead from to (Node x kids next) =
+    (IsBetween text from to x × Fits text (if x.paragraph then Some from else None) x.start x.«end» kids × Fits text None x.«end» to next)
+    ⊎ (IsLead text lead from x × Fits text None x.start x.«end» kids × Fits text None from to next)
+
+-- The items of a block, each with its depth below it, lie between two offsets in order.
+abbrev pub FitsBetween : List ℕ → ℕ → ℕ → List (ℕ × Item) → Type 0
+FitsBetween text from to items = (row : Row) × (extents items ≡ laid 0 row) × Fits text None from to row
+
+-- The nodes of a finished tree, the root among them, lie in order between 0 and the text's length.
+abbrev pub IsOrdered : List ℕ → List (ℕ × Item) → Type 0
+IsOrdered text nodes = (row : Row) × (extents nodes ≡ laid 0 row) × Fits text None 0 (length text) row
+
+-- The nodes in reading order of which some are open, each in the one around it behind a row: these are listed from the innermost on, and below that is
+-- another row.
+unfoldable pub laid_open : Extent → List (Row × Extent) → Row → List (ℕ × Extent)
+laid_open root [] row = (0, root) ∷ laid 1 row
+laid_open root (level ∷ levels) row = laid_open root levels level.0 ++ (suc (length levels), level.1) ∷ laid (suc (suc (length levels))) row
+
+-- the open nodes stand at these places
+abbrev pub AreAt : Extent → List (Row × Extent) → List TreeIndex → Type 0
+AreAt root [] [] = Unit {0}
+AreAt root [] (ix ∷ spine) = ⊥
+AreAt root (level ∷ levels) [] = ⊥
+AreAt root (level ∷ levels) (ix ∷ spine) = (ix.0 ≡ length (laid_open root levels level.0)) × AreAt root levels spine
+
+-- in each open node what is below it lies behind its start and in order, up to the next open one or to an offset
+unfoldable pub FitsOpen : List ℕ → ℕ → List (Row × Extent) → Row → Type 0
+FitsOpen text to [] row = Fits text None 0 to row
+FitsOpen text to (level ∷ levels) row = Fits text None level.1.start to row × IsCharBoundary text level.1.start × FitsOpen text level.1.start levels level.0
+
+-- The nodes of a tree are in order up to an offset, those that are open reaching further.
+pub record IsOrderedTo (text : List ℕ) (f : Forest Item) (to : ℕ) : Type 0 where
+  pub root : Extent
+  pub levels : List (Row × Extent)
+  pub row : Row
+  pub nodes : extents f.nodes ≡ laid_open root levels row
+  pub places : AreAt root levels f.spine
+  pub fits : FitsOpen text to levels row
+  pub within : to ≤ length text
+  pub whole : IsBetween text 0 (length text) root × (root.start ≡ 0) × (root.«end» ≡ length text)

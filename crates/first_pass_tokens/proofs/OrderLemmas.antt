@@ -1,0 +1,304 @@
+-- Tokens one behind the other: a chain in order stays so with a token behind it, and the tokens of a line are in order.
+use Rattle.std.proofs.Common.{ℕ, zero, suc, ◌≡◌, ◌⊎◌, ◌+◌, ◌-◌, ◌≤◌, ◌<◌, ◌==◌, ◌%◌, min, Bool, true, false, List, [], ◌∷◌, ◌++◌, length, take, drop, get_or, slice_index, nat_lt, nat_le, if◌then◌else◌, Option, Some, None, IfSome, IsUtf8, IsCharBoundary, refl, sym, ap, subst, ◌∙◌, inl, inr, arith, length-drop}
+use Rattle.std.specs.List.{suffix_len, slice_range}
+use Rattle.std.proofs.lemmas.List.{get_or-drop}
+use Rattle.std.proofs.lemmas.List.Sums.{suffix_len-le-length, suffix_len-take_yes, suffix_len-take_no}
+use Rattle.std.proofs.lemmas.Str.{IsCharBoundary-after_ascii, IsCharBoundary-before_ascii, IsCharBoundary-end}
+use Rattle.std.proofs.lemmas.Bool.{cases_lt, cases_Bool, cond_both, eqb-true, and_parts, false≢true}
+use Rattle.std.proofs.lemmas.Bool.Decides.{nat_tests}
+use Rattle.first_pass_items.specs.declared.item.Item.{Item}
+use Rattle.first_pass_scan.specs.Lines.{is_line_end, is_white}
+use Rattle.first_pass_scan.proofs.PlaceFacts.{line_end_boundary}
+use Rattle.first_pass_below.specs.Walk.{is_special}
+use Rattle.first_pass_tokens.specs.declared.pieces.Piece.{Piece}
+use Rattle.first_pass_tokens.specs.declared.pieces.Piece.TheVariants.{Left, Begins}
+use Rattle.first_pass_tokens.specs.Pieces.{Source, piece_at, special_piece, backslash_piece}
+use Rattle.first_pass_tokens.specs.LineTokens.{ends_at, ArePieces, IsLine, EndsLine, add_pieces, text_end, breaks_by_backslash, backslashes_at_end, blanks_at_end, line_end_len, break_of, line_break}
+use Rattle.first_pass_tokens.specs.Chains.{text_token, touches, add_token, add_tokens, add_text, is_backslash_break, close_break}
+use Rattle.first_pass_tokens.specs.Order.{AreInOrder}
+use Rattle.first_pass_tokens.proofs.ChainLemmas.{add_text-none}
+use Rattle.first_pass_tokens.proofs.LineLemmas.{not_ended, ended_by, content_of, ends_line}
+use Rattle.first_pass_tokens.proofs.SoFar.{add_text_grows, text_end_within}
+
+-- the first of two offsets is not behind the other
+pub order_bound : (text : List ℕ) (from to : ℕ) (chain : List Item) → AreInOrder text from to chain → from ≤ to
+order_bound text from to [] h = h
+order_bound text from to (x ∷ xs) h = omega (arith, h.0, h.1, order_bound text x.«end» to xs h.4)
+
+-- a later end
+pub order_to : (text : List ℕ) (from mid to : ℕ) (chain : List Item) → AreInOrder text from mid chain → mid ≤ to → AreInOrder text from to chain
+order_to text from mid to [] h more = omega arith
+order_to text from mid to (x ∷ xs) h more = (h.0, h.1, h.2, h.3, order_to text x.«end» mid to xs h.4 more)
+
+-- an earlier start
+pub order_from : (text : List ℕ) (low from to : ℕ) (chain : List Item) → AreInOrder text from to chain → low ≤ from → AreInOrder text low to chain
+order_from text low from to [] h less = omega arith
+order_from text low from to (x ∷ xs) h less = (omega (arith, h.0), h.1, h.2, h.3, h.4)
+
+-- another list in order behind
+pub order_append : (text : List ℕ) (from mid to : ℕ) (xs ys : List Item) → AreInOrder text from mid xs → AreInOrder text mid to ys → AreInOrder text from to (xs ++ ys)
+order_append text from mid to [] ys h k = order_from text from mid to ys k h
+order_append text from mid to (x ∷ xs) ys h k = (h.0, h.1, h.2, h.3, order_append text x.«end» mid to xs ys h.4 k)
+
+-- a token behind
+pub order_add : (text : List ℕ) (from mid : ℕ) (chain : List Item) (y : Item) → AreInOrder text from mid chain → mid ≤ y.start → y.start ≤ y.«end» → IsCharBoundary text y.start → IsCharBoundary text y.«end» → AreInOrder text from y.«end» (add_token chain y)
+order_add text from mid [] y h behind order starts ends = (omega arith, order, starts, ends, omega arith)
+order_add text from mid (x ∷ []) y h behind order starts ends =
+    cond_both (touches x y) (record x { «end» = y.«end» } ∷ []) (x ∷ y ∷ []) (AreInOrder text from y.«end»)
+    (λ b. (h.0, omega (arith, h.1, h.4), h.2, ends, omega arith))
+    (λ b. (h.0, h.1, h.2, h.3, (omega (arith, h.4), order, starts, ends, omega arith)))
+order_add text from mid (x ∷ z ∷ zs) y h behind order starts ends = (h.0, h.1, h.2, h.3, order_add text x.«end» mid (z ∷ zs) y h.4 behind order starts ends)
+
+-- tokens in order behind
+pub order_adds : (text : List ℕ) (from mid to : ℕ) (chain tokens : List Item) → AreInOrder text from mid chain → AreInOrder text mid to tokens → AreInOrder text from to (add_tokens chain tokens)
+order_adds text from mid to chain [] h k = order_to text from mid to chain h k
+order_adds text from mid to chain (x ∷ xs) h k = order_adds text from x.«end» to (add_token chain x) xs (order_add text from mid chain x h k.0 k.1 k.2 k.3) k.4
+
+-- a text behind, or none
+pub order_text : (text : List ℕ) (from mid a b : ℕ) (escaped : Bool) (chain : List Item) → AreInOrder text from mid chain → mid ≤ a → a ≤ b → IsCharBoundary text a → IsCharBoundary text b → AreInOrder text from b (add_text a b escaped chain)
+order_text text from mid a b escaped chain h behind order starts ends =
+    cond_both (nat_lt a b) (add_token chain (text_token a b escaped)) chain (AreInOrder text from b)
+    (λ some. order_add text from mid chain (text_token a b escaped) h behind order starts ends)
+    (λ none. order_to text from mid b chain h (omega arith))
+
+-- past an offset at which texts stop, no piece adds one
+stopped : (stop at : ℕ) (ps : List Piece) (chain : List Item) → stop ≤ at → add_pieces stop at ps chain ≡ chain
+stopped stop at [] chain past = refl
+stopped stop at (Left n ∷ ps) chain past =
+    ap (add_pieces stop (at + n) ps) (add_text-none at (min (at + n) stop) false chain (omega arith)) ∙ stopped stop (at + n) ps chain (omega arith)
+stopped stop at (Begins dropped escaped ∷ ps) chain past =
+    ap (add_pieces stop (at + (dropped + 1)) ps) (add_text-none (at + dropped) (min (at + (dropped + 1)) stop) escaped chain (omega arith))
+    ∙ stopped stop (at + (dropped + 1)) ps chain (omega arith)
+
+-- a piece that begins a text drops a backslash
+abbrev DropsBackslash : List ℕ → ℕ → Piece → Type 0
+DropsBackslash text at (Left n) = Unit
+DropsBackslash text at (Begins dropped escaped) = (dropped ≡ 1) × (slice_index text at ≡ 92)
+
+backslash_drops : (text : List ℕ) (at : ℕ) → slice_index text at ≡ 92 → DropsBackslash text at (backslash_piece text at)
+unfolding backslash_piece
+backslash_drops text at is = cond_both _ (Begins 1 true) (Left 1) (DropsBackslash text at) (λ b. (refl, is)) (λ b. tt)
+
+special_drops : (text : List ℕ) (at : ℕ) → DropsBackslash text at (special_piece text at)
+unfolding special_piece
+special_drops text at = cond_both (slice_index text at == 92) (backslash_piece text at) (Left 1) (DropsBackslash text at) (λ b. backslash_drops text at (eqb-true (slice_index text at) 92 b)) (λ b. tt)
+
+piece_drops : (s : Source) (at : ℕ) → DropsBackslash s.text at (piece_at s at)
+unfolding piece_at
+piece_drops s at = cond_both (is_special s.options (slice_index s.text at)) (special_piece s.text at) (Left 1) (DropsBackslash s.text at) (λ b. special_drops s.text at) (λ b. tt)
+
+-- a chain in order, the text that grows behind it, and pieces
+module _ (s : Source) (utf8 : IsUtf8 s.text) (stop end from : ℕ) (stops : IsCharBoundary s.text stop) (within : stop ≤ end) where
+  pieces_in_order : (at : ℕ) (ps : List Piece) (begin : ℕ) (escaped : Bool) (chain : List Item) → ArePieces s at ps end → begin ≤ at → (begin < at) ⊎ (escaped ≡ false) → begin ≤ stop
+      → IsCharBoundary s.text begin → AreInOrder s.text from begin chain → AreInOrder s.text from stop (add_pieces stop at ps (add_text begin (min at stop) escaped chain))
+  pieces_in_order at [] begin escaped chain same upto mark ahead starts h =
+      let here : min at stop ≡ stop = omega arith in
+      rw here (order_text s.text from begin begin stop escaped chain h (omega arith) ahead starts stops)
+  pieces_in_order at (Left n ∷ ps) begin escaped chain pieces upto mark ahead starts h =
+      subst (λ c. AreInOrder s.text from stop (add_pieces stop (at + n) ps c)) (sym (add_text_grows begin at n stop escaped chain upto mark ahead))
+      (pieces_in_order (at + n) ps begin escaped chain pieces.2 (omega arith) (elim mark [ inl longer ↦ inl (omega arith) | inr plain ↦ inr plain ]) ahead starts h)
+  pieces_in_order at (Begins dropped mark_next ∷ ps) begin escaped chain pieces upto mark ahead starts h =
+      let drops : DropsBackslash s.text at (Begins dropped mark_next) = subst (DropsBackslash s.text at) (sym pieces.1) (piece_drops s at) in
+      let in_text = (not_ended s at pieces.0).0 in
+      let one : dropped ≡ 1 = drops.0 in
+      let here : IsCharBoundary s.text at = IsCharBoundary-before_ascii s.text at in_text (omega (arith, drops.1)) in
+      let behind : IsCharBoundary s.text (at + dropped) = rw one (IsCharBoundary-after_ascii s.text at utf8 in_text (omega (arith, drops.1))) in
+      elim (cases_lt at stop) [
+        | inl more ↦
+            let cut : min at stop ≡ at = omega arith in
+            pieces_in_order (at + (dropped + 1)) ps (at + dropped) mark_next (add_text begin (min at stop) escaped chain) pieces.2 (omega arith) (inl (omega arith)) (omega arith) behind
+            (rw cut (order_to s.text from at (at + dropped) (add_text begin at escaped chain) (order_text s.text from begin begin at escaped chain h (omega arith) upto starts here) (omega arith)))
+        | inr past ↦
+            let cut : min at stop ≡ stop = omega arith in
+            subst (AreInOrder s.text from stop) (sym (stopped stop at (Begins dropped mark_next ∷ ps) (add_text begin (min at stop) escaped chain) past))
+            (rw cut (order_text s.text from begin begin stop escaped chain h (omega arith) ahead starts stops))
+      ]
+
+-- the first and the last of the bytes that pass at the end of a front of a list
+suffix_first : (p : ℕ → Bool) (xs : List ℕ) (n : ℕ) → n ≤ length xs → 0 < suffix_len p (take n xs) → (suffix_len p (take n xs) ≤ n) × (p (get_or xs (n - suffix_len p (take n xs)) 0) ≡ true)
+suffix_first p xs zero within some = absurd (omega (arith, suffix_len-le-length p (take 0 xs)))
+suffix_first p xs (suc n) within some =
+    let back : suc n - 1 ≡ n = omega arith in
+    elim (cases_Bool (p (get_or xs (suc n - 1) 0))) [
+      | inl passes ↦
+          let one : suffix_len p (take (suc n) xs) ≡ 1 + suffix_len p (take (suc n - 1) xs) = suffix_len-take_yes p xs (suc n) 0 (omega arith) within passes in
+          let same : suffix_len p (take (suc n - 1) xs) ≡ suffix_len p (take n xs) = ap (λ (x : ℕ). suffix_len p (take x xs)) back in
+          elim (cases_lt 0 (suffix_len p (take n xs))) [
+            | inl more ↦
+                let rest = suffix_first p xs n (omega arith) more in
+                let place : suc n - suffix_len p (take (suc n) xs) ≡ n - suffix_len p (take n xs) = omega (arith, rest.0) in
+                (omega (arith, rest.0), ap (λ (x : ℕ). p (get_or xs x 0)) place ∙ rest.1)
+            | inr none ↦
+                let place : suc n - suffix_len p (take (suc n) xs) ≡ suc n - 1 = omega arith in
+                (omega arith, ap (λ (x : ℕ). p (get_or xs x 0)) place ∙ passes)
+          ]
+      | inr fails ↦
+          let none : suffix_len p (take (suc n) xs) ≡ 0 = suffix_len-take_no p xs (suc n) 0 (omega arith) within fails in
+          absurd (omega arith)
+    ]
+
+suffix_last : (p : ℕ → Bool) (xs : List ℕ) (n : ℕ) → n ≤ length xs → 0 < suffix_len p (take n xs) → (0 < n) × (p (get_or xs (n - 1) 0) ≡ true)
+suffix_last p xs zero within some = absurd (omega (arith, suffix_len-le-length p (take 0 xs)))
+suffix_last p xs (suc n) within some =
+    elim (cases_Bool (p (get_or xs (suc n - 1) 0))) [
+      | inl passes ↦ (omega arith, passes)
+      | inr fails ↦
+          let none : suffix_len p (take (suc n) xs) ≡ 0 = suffix_len-take_no p xs (suc n) 0 (omega arith) within fails in
+          absurd (omega arith)
+    ]
+
+-- the same at the end of a content
+content_first : (p : ℕ → Bool) (text : List ℕ) (start end : ℕ) → start ≤ end → end ≤ length text → 0 < suffix_len p (slice_range text start end)
+    → (suffix_len p (slice_range text start end) ≤ end - start) × (p (slice_index text (end - suffix_len p (slice_range text start end))) ≡ true)
+content_first p text start end order within some =
+    let len = length-drop start text in
+    let f = suffix_first p (drop start text) (end - start) (omega arith) some in
+    let place : start + (end - start - suffix_len p (slice_range text start end)) ≡ end - suffix_len p (slice_range text start end) = omega (arith, f.0) in
+    (omega (arith, f.0), ap p (sym (get_or-drop start text (end - start - suffix_len p (slice_range text start end)) 0 ∙ ap (slice_index text) place)) ∙ f.1)
+
+content_last : (p : ℕ → Bool) (text : List ℕ) (start end : ℕ) → start ≤ end → end ≤ length text → 0 < suffix_len p (slice_range text start end)
+    → (start ≤ end - 1) × (0 < end) × (p (slice_index text (end - 1)) ≡ true)
+content_last p text start end order within some =
+    let len = length-drop start text in
+    let f = suffix_last p (drop start text) (end - start) (omega arith) some in
+    let place : start + (end - start - 1) ≡ end - 1 = omega (arith, f.0) in
+    (omega (arith, f.0), omega (arith, f.0), ap p (sym (get_or-drop start text (end - start - 1) 0 ∙ ap (slice_index text) place)) ∙ f.1)
+
+line_end_small : (b : ℕ) → is_line_end b ≡ true → b < 128
+line_end_small b h = grind (arith, nat_tests, h)
+
+white_small : (b : ℕ) → is_white b ≡ true → b < 128
+white_small b h = grind (arith, nat_tests, h)
+
+-- a place in the content that begins at an offset, between two characters
+abbrev IsPlaceFrom : List ℕ → ℕ → ℕ → Type 0
+IsPlaceFrom text start at = (start ≤ at) × IsCharBoundary text at
+
+-- a content ends between two characters
+content_boundary : (s : Source) (end : ℕ) → end ≤ length s.text → ends_at s end ≡ true → IsCharBoundary s.text end
+content_boundary s end within ended =
+    elim (cases_lt end (length s.text)) [
+      | inl more ↦ elim (ended_by s end ended) [
+        | inl past ↦ absurd (omega arith)
+        | inr line ↦ IsCharBoundary-before_ascii s.text end more (line_end_small (slice_index s.text end) line)
+      ]
+      | inr past ↦ let e : end ≡ length s.text = omega arith in subst (IsCharBoundary s.text) (sym e) (IsCharBoundary-end s.text)
+    ]
+
+-- the last byte of a content that ends with a backslash
+backslash_last : (s : Source) (end : ℕ) → s.start ≤ end → end ≤ length s.text → breaks_by_backslash s end ≡ true → (s.start ≤ end - 1) × (0 < end) × (slice_index s.text (end - 1) ≡ 92)
+unfolding breaks_by_backslash backslashes_at_end
+backslash_last s end order within breaks =
+    let odd = eqb-true (backslashes_at_end s end % 2) 1 (and_parts (backslashes_at_end s end % 2 == 1) (nat_lt (end + line_end_len s end) (length s.text)) breaks).0 in
+    let last = content_last (λ b. b == 92) s.text s.start end order within (omega arith) in
+    (last.0, last.1, eqb-true (slice_index s.text (end - 1)) 92 last.2)
+
+blanks_by : (s : Source) (end n : ℕ) → n ≡ blanks_at_end s end → s.start ≤ end → end ≤ length s.text → IsCharBoundary s.text end → IsPlaceFrom s.text s.start (end - n)
+unfolding blanks_at_end
+blanks_by s end zero is order within boundary =
+    let none : end - 0 ≡ end = omega arith in
+    subst (IsPlaceFrom s.text s.start) (sym none) (order, boundary)
+blanks_by s end (suc n) is order within boundary =
+    let f = content_first is_white s.text s.start end order within (omega arith) in
+    subst (λ k. IsPlaceFrom s.text s.start (end - k)) (sym is) (omega (arith, f.0), IsCharBoundary-before_ascii s.text (end - blanks_at_end s end) (omega (arith, f.0)) (white_small _ f.1))
+
+-- where the last text of a content ends
+text_end_place : (s : Source) (end : ℕ) → s.start ≤ end → end ≤ length s.text → IsCharBoundary s.text end → IsPlaceFrom s.text s.start (text_end s end)
+unfolding text_end
+text_end_place s end order within boundary =
+    cond_both (breaks_by_backslash s end) (end - 1) (end - blanks_at_end s end) (IsPlaceFrom s.text s.start)
+    (λ breaks. let last = backslash_last s end order within breaks in
+    (last.0, IsCharBoundary-before_ascii s.text (end - 1) (omega (arith, last.1)) (omega (arith, last.2))))
+    (λ other. blanks_by s end (blanks_at_end s end) refl order within boundary)
+
+-- A break behind a text that ends at an offset, up to where its line ends; a backslash that makes it is one byte.
+pub record StandsBehind (text : List ℕ) (at next : ℕ) (x : Item) : Type 0 where
+  pub from : at ≤ x.start
+  pub order : x.start ≤ x.«end»
+  pub to : x.«end» ≡ next
+  pub starts : IsCharBoundary text x.start
+  pub ends : IsCharBoundary text x.«end»
+  pub backslash : is_backslash_break x.body ≡ true → (x.start + 1 ≤ next) × IsCharBoundary text (x.start + 1)
+
+break_by : (s : Source) (end next : ℕ) (breaks : Bool) → breaks_by_backslash s end ≡ breaks → s.start ≤ end → end ≤ length s.text → end ≤ next → IsCharBoundary s.text end → IsCharBoundary s.text next
+    → IsCharBoundary s.text (if breaks then end - 1 else end - blanks_at_end s end) → StandsBehind s.text (if breaks then end - 1 else end - blanks_at_end s end) next (break_of end next breaks (blanks_at_end s end))
+break_by s end next true is order within later boundary ends starts =
+    let last = backslash_last s end order within is in
+    let behind : end - 1 + 1 ≡ end = omega (arith, last.1) in
+    record {
+      from = omega arith;
+      order = omega arith;
+      to = refl;
+      starts = starts;
+      ends = ends;
+      backslash = λ b. (omega arith, rw behind boundary);
+    }
+break_by s end next false is order within later boundary ends starts =
+    cond_both (nat_le 2 (blanks_at_end s end)) _ _ (StandsBehind s.text (end - blanks_at_end s end) next)
+    (λ hard. record { from = omega arith; order = omega arith; to = refl; starts = starts; ends = ends; backslash = λ b. absurd (false≢true b) })
+    (λ soft. record { from = omega arith; order = later; to = refl; starts = boundary; ends = ends; backslash = λ b. absurd (false≢true b) })
+
+break_stands : (s : Source) (end next : ℕ) → next ≡ end + line_end_len s end → s.start ≤ end → end ≤ length s.text → IsCharBoundary s.text end → IsCharBoundary s.text next → IfSome (line_break s end) (StandsBehind s.text (text_end s end) next)
+unfolding line_break text_end
+break_stands s end next is order within boundary ends =
+    cond_both (nat_le (length s.text) end) None _ (λ (o : Option Item). IfSome o (StandsBehind s.text (text_end s end) next)) (λ b. tt)
+    (λ b. subst (λ n. StandsBehind s.text (text_end s end) next (break_of end n (breaks_by_backslash s end) (blanks_at_end s end))) is
+    (break_by s end next (breaks_by_backslash s end) refl order within (omega arith) boundary ends (text_end_place s end order within boundary).1))
+
+-- a line ends between two characters
+pub line_end_place : {s : Source} {answer : ℕ × Option Item} → IsUtf8 s.text → IsCharBoundary s.text s.start → EndsLine s answer → IsCharBoundary s.text answer.0
+line_end_place {s} {answer} utf8 boundary ends =
+    let within : answer.0 ≤ length s.text = ends.within in
+    let from : s.start ≤ answer.0 = ends.from in
+    elim (cases_lt s.start (length s.text)) [
+      | inl more ↦ subst (IsCharBoundary s.text) (sym ends.place) (line_end_boundary s.text s.start utf8 boundary more)
+      | inr past ↦ let e : answer.0 ≡ length s.text = omega arith in subst (IsCharBoundary s.text) (sym e) (IsCharBoundary-end s.text)
+    ]
+
+-- The tokens of a line are in order from its start up to an offset, behind which its break stands, and the line ends between two characters.
+pub record LineInOrder (s : Source) (stop : ℕ) (tokens : List Item) (answer : ℕ × Option Item) : Type 0 where
+  pub tokens_fit : AreInOrder s.text s.start stop tokens
+  pub before : stop ≤ answer.0
+  pub ends : IsCharBoundary s.text answer.0
+  pub break_fits : IfSome answer.1 (StandsBehind s.text stop answer.0)
+
+-- the tokens and the break of a line
+pub line_in_order : {s : Source} {tokens : List Item} {answer : ℕ × Option Item} → IsUtf8 s.text → IsCharBoundary s.text s.start → s.start ≤ length s.text → (line : IsLine s tokens answer) → LineInOrder s (text_end s line.content_end) tokens answer
+line_in_order {s} {tokens} {answer} utf8 boundary within line =
+    let end = line.content_end in
+    let c = content_of within line.division in
+    let finish = content_boundary s end c.within line.division.ended in
+    let place = text_end_place s end c.order c.within finish in
+    let short = text_end_within s end in
+    let next = line_end_place utf8 boundary (ends_line within line) in
+    let answer_is : answer.0 ≡ end + line_end_len s end = ap (λ (a : ℕ × Option Item). a.0) line.answer_is in
+    let break_is : answer.1 ≡ line_break s end = ap (λ (a : ℕ × Option Item). a.1) line.answer_is in
+    let empty : add_text s.start (min s.start (text_end s end)) false [] ≡ [] = add_text-none s.start (min s.start (text_end s end)) false [] (omega arith) in
+    record {
+      tokens_fit = subst (AreInOrder s.text s.start (text_end s end)) (ap (add_pieces (text_end s end) s.start line.pieces) empty ∙ sym line.tokens_are)
+          (pieces_in_order s utf8 (text_end s end) end s.start place.1 short s.start line.pieces s.start false [] line.division.divided (omega arith) (inr refl) place.0 boundary (omega arith));
+      before = omega arith;
+      ends = next;
+      break_fits = subst (λ (o : Option Item). IfSome o (StandsBehind s.text (text_end s end) answer.0)) (sym break_is) (break_stands s end answer.0 answer_is c.order c.within finish next);
+    }
+
+-- the break alone: it begins where the line's tokens end or behind that, and ends with the line
+pub break_in_order : {s : Source} {tokens : List Item} {answer : ℕ × Option Item} → IsUtf8 s.text → IsCharBoundary s.text s.start → s.start ≤ length s.text → (line : IsLine s tokens answer) → IfSome answer.1 (StandsBehind s.text (text_end s line.content_end) answer.0)
+break_in_order utf8 boundary within line = (line_in_order utf8 boundary within line).break_fits
+
+-- a chain behind which the last line's break stands, closed
+pub order_closed : (text : List ℕ) (from at next : ℕ) (break : Option Item) (chain : List Item) → AreInOrder text from at chain → at ≤ next → IfSome break (StandsBehind text at next) → AreInOrder text from next (close_break break chain)
+order_closed text from at next None chain h later behind = order_to text from at next chain h later
+order_closed text from at next (Some x) chain h later behind =
+    cond_both (is_backslash_break x.body) (add_text x.start (x.start + 1) false chain) chain (AreInOrder text from next)
+    (λ b. let shown = behind.backslash b in
+    order_to text from (x.start + 1) next (add_text x.start (x.start + 1) false chain)
+    (order_text text from at x.start (x.start + 1) false chain h behind.from (omega arith) behind.starts shown.1) shown.0)
+    (λ b. order_to text from at next chain h later)
+
+-- the chain of a line alone
+pub closed_line_in_order : {s : Source} {tokens : List Item} {next : ℕ} {break : Option Item} → IsUtf8 s.text → IsCharBoundary s.text s.start → s.start ≤ length s.text → IsLine s tokens (next, break) → AreInOrder s.text s.start next (close_break break (add_tokens [] tokens))
+closed_line_in_order {s} {tokens} {next} {break} utf8 boundary within line =
+    let l = line_in_order utf8 boundary within line in
+    order_closed s.text s.start (text_end s line.content_end) next break (add_tokens [] tokens)
+    (order_adds s.text s.start s.start (text_end s line.content_end) [] tokens (omega arith) l.tokens_fit) l.before l.break_fits
