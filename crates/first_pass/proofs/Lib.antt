@@ -8,6 +8,10 @@ pub mod LineLemmas
 pub mod ListLemmas
 pub mod OpenLemmas
 pub mod OpenerLemmas
+pub mod OrderHeading
+pub mod OrderLemmas
+pub mod OrderParagraph
+pub mod OrderSteps
 pub mod ParagraphLemmas
 pub mod PathLemmas
 pub mod PlaceLemmas

@@ -100,7 +100,8 @@ pub front_read : (text bytes rest : List ℕ) (start : ℕ) (path : List Contain
     → behind ≡ front path (line_rest (drop start text))
 front_read text bytes rest start path line behind a b e f = f ∙ ap (front path) (e ∙ ap line_rest (b ∙ ap (drop start) a))
 
-quote_less : (r s : Rest) (o : Option Rest) → past_quote r ≡ o → option_map (after_columns 1) o ≡ Some s → length s.left < length r.left
+-- what begins a block quote takes a byte
+pub quote_less : (r s : Rest) (o : Option Rest) → past_quote r ≡ o → option_map (after_columns 1) o ≡ Some s → length s.left < length r.left
 quote_less r s None q e = absurd (none-some s e)
 quote_less r s (Some t) q e =
     let f : after_columns 1 t ≡ s = cc in

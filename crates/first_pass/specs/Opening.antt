@@ -1,7 +1,9 @@
 -- What is said of a container that is opened (private functions alone cite this).
-use Rattle.std.specs.Prelude.{◌≡◌, ◌⊎◌, ℕ, ◌<◌, false, List, length, Option, Some, None}
+use Rattle.std.specs.Prelude.{◌≡◌, ◌⊎◌, ℕ, ◌<◌, false, List, length, Option, Some, None, if◌then◌else◌}
 use Rattle.first_pass_items.specs.declared.item.Item.{Item}
-use Rattle.first_pass_tree.specs.Forest.{is_text}
+use Rattle.first_pass_tree.specs.Forest.{Forest, is_text}
+use Rattle.first_pass_grammar.specs.Order.{IsOrderedTo}
+use Rattle.first_pass.specs.Ordered.{IsOrderedAt, StandsBefore}
 use Rattle.first_pass_scan.specs.Rest.{Rest}
 use Rattle.first_pass_scan.specs.Places.{Place}
 use Rattle.first_pass_grammar.specs.declared.kind.Container.TheVariants.{BlockQuote}
@@ -14,7 +16,7 @@ use Rattle.first_pass.specs.declared.containers.Opened.{Opened}
 use Rattle.first_pass.specs.declared.containers.Opened.TheVariants.{Nothing, Container as OneContainer, EmptyItem, TaggedQuote}
 use Rattle.first_pass.specs.declared.containers.Behind.{Behind}
 use Rattle.first_pass.specs.declared.containers.Behind.TheVariants.{Leaf as BehindLeaf, TaskText, NextLine, Tag}
-use Rattle.first_pass.specs.Closing.{Reading, top_body}
+use Rattle.first_pass.specs.Closing.{Reading, top_body, is_list}
 use Rattle.first_pass.specs.Path.{path_of}
 use Rattle.first_pass_items.specs.declared.item.BlockQuoteKind.{BlockQuoteKind}
 use Rattle.first_pass_items.specs.declared.item.ItemBody.TheVariants.{BlockQuote as BlockQuoteBody}
@@ -72,3 +74,27 @@ ReadyBehind d r p e BehindLeaf = ReadyAt d r.tree r.blank (Inside p) (lines_from
 ReadyBehind d r p e (TaskText marker) = ReadyText d r marker p (lines_from d.text e)
 ReadyBehind d r p e (NextLine next) = Ready d r (lines_from d.text next)
 ReadyBehind d r p e (Tag next) = ReadyTagged d r (lines_from d.text next)
+
+-- a list that is innermost is in order up to the line's beginning, and what else is up to a place in the line
+abbrev pub line_or : Forest Item → ℕ → ℕ → ℕ
+line_or f line at = if is_list (top_body f) then line else at
+
+-- a task list item marker stands in what is innermost before an offset, and nothing else is behind it
+pub record OrderedText (text : List ℕ) (f : Forest Item) (marker : Item) (at : ℕ) : Type 0 where
+  pub from : ℕ
+  pub ordered : IsOrderedTo text f from
+  pub stands : StandsBefore text from at (Some marker)
+
+-- how far what the pass remembers is in order, in a line that begins at an offset and whose reading has come to another, or behind it
+abbrev pub OrderedIn : List ℕ → Reading → ℕ → ℕ → Opened → Type 0
+OrderedIn text r line at Nothing = IsOrderedTo text r.tree (line_or r.tree line at)
+OrderedIn text r line at (OneContainer None) = IsOrderedTo text r.tree (line_or r.tree line at)
+OrderedIn text r line at (OneContainer (Some marker)) = OrderedText text r.tree marker at
+OrderedIn text r line at (EmptyItem next) = IsOrderedAt text r next
+OrderedIn text r line at (TaggedQuote next) = IsOrderedTo text r.tree next
+
+abbrev pub OrderedBehind : List ℕ → Reading → ℕ → ℕ → Behind → Type 0
+OrderedBehind text r line at BehindLeaf = IsOrderedTo text r.tree (line_or r.tree line at)
+OrderedBehind text r line at (TaskText marker) = OrderedText text r.tree marker at
+OrderedBehind text r line at (NextLine next) = IsOrderedAt text r next
+OrderedBehind text r line at (Tag next) = IsOrderedTo text r.tree next

@@ -2,7 +2,7 @@
 
 ghost use Rattle.std.specs.Prelude.{◌≡◌, ℕ, ◌+◌, ◌<◌, ◌≤◌, List, length, drop, Some, None, true, false, MatchOption, IfOk, IfSome, OnOk, IsUtf8, IsCharBoundary};
 ghost use Rattle.first_pass_scan.specs.Rest.{after_columns};
-ghost use Rattle.first_pass_scan.specs.Places.{Place, place_at, line_end, start_of, IsPlaceOf};
+ghost use Rattle.first_pass_scan.specs.Places.{Place, place_at, offset, line_end, start_of, IsPlaceOf};
 ghost use Rattle.first_pass_grammar.specs.Leaves.{Document, document};
 ghost use Rattle.first_pass_grammar.specs.declared.kind.Container.TheVariants.{BlockQuote, ListItem};
 ghost use Rattle.first_pass_grammar.specs.Containers.{prefix, after, front};
@@ -14,7 +14,9 @@ ghost use Rattle.first_pass_grammar.specs.Skeleton.{Inside, task_behind, tag_beh
 ghost use Rattle.first_pass_grammar.specs.Completion.{lines_from};
 ghost use Rattle.first_pass.specs.Closing.{remembered};
 ghost use Rattle.first_pass.specs.State.{NoMore, Ready, ReadyAt};
-ghost use Rattle.first_pass.specs.Opening.{IsOpenedAt, ReadyIn, IsBehind, ReadyBehind};
+ghost use Rattle.first_pass.specs.Opening.{IsOpenedAt, ReadyIn, IsBehind, ReadyBehind, line_or, OrderedIn, OrderedBehind};
+ghost use Rattle.first_pass.specs.Ordered.{IsOrderedAt};
+ghost use Rattle.first_pass_grammar.specs.Order.{IsOrderedTo};
 
 use crate::indentation::scan_indentation;
 use crate::paragraph::append_item;
@@ -116,6 +118,7 @@ impl<'a> FirstPass<'a> {
         ensures ready { (d : Document) (lines : List Place) → start_of (length d.text) lines ≡ ix → NoMore self.old.tree kept lines
             → Ready d (remembered self.old.tree self.old.begin_list_item self.old.last_line_blank) lines
             → Ready d (remembered self.new.tree self.new.begin_list_item self.new.last_line_blank) lines }
+        ensures order { ix ≤ length self.old.text.now → IsCharBoundary self.old.text.now ix → IsOrderedAt self.old.text.now (remembered self.old.tree self.old.begin_list_item self.old.last_line_blank) ix → IsOrderedAt self.old.text.now (remembered self.new.tree self.new.begin_list_item self.new.last_line_blank) ix }
     {
         while kept < self.tree.spine_len() {
             self.tree.is_forest();
@@ -140,6 +143,10 @@ impl<'a> FirstPass<'a> {
             (Ready (document self.old.text.now self.old.options) (remembered self.new.tree self.new.begin_list_item self.new.last_line_blank) (lines_from self.old.text.now (start_ix + line_len (drop start_ix self.old.text.now))))
             (λ line_start. ReadyAt (document self.old.text.now self.old.options) self.new.tree self.new.last_line_blank (Inside (place_at start_ix line_start))
             (lines_from self.old.text.now (start_ix + line_len (drop start_ix self.old.text.now)))) }
+        ensures order { IsOrderedAt self.old.text.now (remembered self.old.tree self.old.begin_list_item self.old.last_line_blank) start_ix
+            → MatchOption result
+            (IsOrderedAt self.old.text.now (remembered self.new.tree self.new.begin_list_item self.new.last_line_blank) (start_ix + line_len (drop start_ix self.old.text.now)))
+            (λ line_start. IsOrderedTo self.old.text.now self.new.tree start_ix) }
     {
         let mut line_start = LineStart::new(rest_of(self.text.as_bytes(), start_ix));
         let kept = scan_containers(&self.tree, &mut line_start, self.options, false);
@@ -171,6 +178,9 @@ impl<'a> FirstPass<'a> {
         ensures ready { IfOk result (λ answer.
             ReadyAt (document self.old.text.now self.old.options) self.old.tree self.old.last_line_blank (Inside (place_at start_ix line_start.old)) (lines_from self.old.text.now (line_end (place_at start_ix line_start.old)))
             → ReadyBehind (document self.old.text.now self.old.options) (remembered self.new.tree self.new.begin_list_item self.new.last_line_blank) (place_at start_ix line_start.new) (line_end (place_at start_ix line_start.old)) answer) }
+        ensures order { IfOk result (λ answer.
+            IsCharBoundary self.old.text.now start_ix → IsOrderedTo self.old.text.now self.old.tree (line_or self.old.tree start_ix (offset (place_at start_ix line_start.old)))
+            → OrderedBehind self.old.text.now (remembered self.new.tree self.new.begin_list_item self.new.last_line_blank) start_ix (offset (place_at start_ix line_start.new)) answer) }
     {
         loop {
             match self.open_container(start_ix, line_start)? {
@@ -202,6 +212,9 @@ impl<'a> FirstPass<'a> {
         ensures ready { IfOk result (λ answer.
             ReadyAt (document self.old.text.now self.old.options) self.old.tree self.old.last_line_blank (Inside (place_at start_ix line_start.old)) (lines_from self.old.text.now (line_end (place_at start_ix line_start.old)))
             → ReadyIn (document self.old.text.now self.old.options) (remembered self.new.tree self.new.begin_list_item self.new.last_line_blank) (place_at start_ix line_start.new) (line_end (place_at start_ix line_start.old)) answer) }
+        ensures order { IfOk result (λ answer.
+            IsCharBoundary self.old.text.now start_ix → IsOrderedTo self.old.text.now self.old.tree (line_or self.old.tree start_ix (offset (place_at start_ix line_start.old)))
+            → OrderedIn self.old.text.now (remembered self.new.tree self.new.begin_list_item self.new.last_line_blank) start_ix (offset (place_at start_ix line_start.new)) answer) }
     {
         self.tree.is_forest();
         let before = start_ix + line_start.bytes_scanned();

@@ -1,9 +1,10 @@
 //! The text of an ATX heading.
 
 ghost use Rattle.std.specs.List.{suffix_len};
-ghost use Rattle.std.specs.Prelude.{◌≡◌, ◌==◌, take, drop, ◌≤◌, Some, length, IfOk, OnOk};
+ghost use Rattle.std.specs.Prelude.{◌≡◌, ℕ, ◌==◌, take, drop, ◌≤◌, Some, length, IfOk, OnOk, IsCharBoundary};
 ghost use Rattle.first_pass_scan.specs.Lines.{atx_level as atx_level_of, level_number as number_of};
 ghost use Rattle.first_pass_grammar.specs.Leaves.{document, is_put_aside, kept_len, heading_text_at};
+ghost use Rattle.first_pass.specs.Ordered.{AddsBetween};
 ghost use Rattle.first_pass.specs.Appends.{AppendsHeading, AddsHeading, IsJustPushed};
 
 use crate::paragraph::append_last_backslash;
@@ -85,6 +86,7 @@ impl<'a> FirstPass<'a> {
         ensures empty_item { OnOk result (self.new.begin_list_item ≡ self.old.begin_list_item) }
         ensures blank { OnOk result (self.new.last_line_blank ≡ self.old.last_line_blank) }
         ensures block { IfOk result (λ next. AddsHeading (document self.old.text.now self.old.options) start atx_level self.old.tree self.new.tree next) }
+        ensures fits { IfOk result (λ next. (from : ℕ) → from ≤ start → IsCharBoundary self.old.text.now start → AddsBetween self.old.text.now from next self.old.tree self.new.tree) }
     {
         self.tree.append(Item {
             start,

@@ -1,7 +1,8 @@
 //! Lists and their items: how they go on, become loose and are closed (CommonMark 5.2, 5.3).
 
-ghost use Rattle.std.specs.Prelude.{◌≡◌, ◌<◌, length, None, IsSome, slice_get, slice_index, OnOk};
+ghost use Rattle.std.specs.Prelude.{◌≡◌, ◌<◌, ◌≤◌, ℕ, length, None, IsSome, IsCharBoundary, slice_get, slice_index, OnOk};
 ghost use Rattle.first_pass.specs.Closing.{with_tight_node, tight_items, loosened_at, top_body, is_item, is_list_of, remembered, popped, item_finished, list_left, gap_noted, list_finished, list_kept, list_continued, begun, blank_read};
+ghost use Rattle.first_pass.specs.Ordered.{IsOrderedAt};
 ghost use Rattle.first_pass_tree.specs.Forest.{depths};
 ghost use Rattle.first_pass_items.specs.declared.item.ItemBody.TheVariants.{BlockQuote as BlockQuoteBody, ListItem as ListItemBody};
 
@@ -69,6 +70,7 @@ impl<'a> FirstPass<'a> {
         ensures options { self.new.options ≡ self.old.options }
         ensures allocs { self.new.allocs ≡ self.old.allocs }
         ensures reading { remembered self.new.tree self.new.begin_list_item self.new.last_line_blank ≡ popped ix (remembered self.old.tree self.old.begin_list_item self.old.last_line_blank) }
+        ensures order { (at : ℕ) → at ≤ ix → ix ≤ length self.old.text.now → IsCharBoundary self.old.text.now ix → IsOrderedAt self.old.text.now (remembered self.old.tree self.old.begin_list_item self.old.last_line_blank) at → IsOrderedAt self.old.text.now (remembered self.new.tree self.new.begin_list_item self.new.last_line_blank) ix }
     {
         self.tree.is_forest();
         let cur_ix = self.close_node(ix);
@@ -89,6 +91,7 @@ impl<'a> FirstPass<'a> {
         ensures options { self.new.options ≡ self.old.options }
         ensures allocs { self.new.allocs ≡ self.old.allocs }
         ensures reading { remembered self.new.tree self.new.begin_list_item self.new.last_line_blank ≡ item_finished (remembered self.old.tree self.old.begin_list_item self.old.last_line_blank) }
+        ensures order { (at : ℕ) → IsOrderedAt self.old.text.now (remembered self.old.tree self.old.begin_list_item self.old.last_line_blank) at → IsOrderedAt self.old.text.now (remembered self.new.tree self.new.begin_list_item self.new.last_line_blank) at }
     {
         if let Some(marker_end) = self.begin_list_item {
             if self.last_line_blank && self.is_in_item() {
@@ -118,6 +121,7 @@ impl<'a> FirstPass<'a> {
         ensures options { self.new.options ≡ self.old.options }
         ensures allocs { self.new.allocs ≡ self.old.allocs }
         ensures reading { remembered self.new.tree self.new.begin_list_item self.new.last_line_blank ≡ list_finished ix (remembered self.old.tree self.old.begin_list_item self.old.last_line_blank) }
+        ensures order { (at : ℕ) → at ≤ ix → ix ≤ length self.old.text.now → IsCharBoundary self.old.text.now ix → IsOrderedAt self.old.text.now (remembered self.old.tree self.old.begin_list_item self.old.last_line_blank) at → IsOrderedAt self.old.text.now (remembered self.new.tree self.new.begin_list_item self.new.last_line_blank) ix }
     {
         self.finish_empty_list_item();
         self.leave_list(ix);
@@ -186,6 +190,7 @@ impl<'a> FirstPass<'a> {
         ensures options { OnOk result (self.new.options ≡ self.old.options) }
         ensures allocs { OnOk result (self.new.allocs ≡ self.old.allocs) }
         ensures reading { OnOk result (remembered self.new.tree self.new.begin_list_item self.new.last_line_blank ≡ list_continued start ch index (remembered self.old.tree self.old.begin_list_item self.old.last_line_blank)) }
+        ensures order { OnOk result ((at : ℕ) → at ≤ start → start ≤ length self.old.text.now → IsCharBoundary self.old.text.now start → IsOrderedAt self.old.text.now (remembered self.old.tree self.old.begin_list_item self.old.last_line_blank) at → IsOrderedAt self.old.text.now (remembered self.new.tree self.new.begin_list_item self.new.last_line_blank) start) }
     {
         self.finish_empty_list_item();
         if self.is_in_list_of(ch) {

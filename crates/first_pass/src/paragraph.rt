@@ -1,10 +1,11 @@
 //! The lines of a paragraph.
 
-ghost use Rattle.std.specs.Prelude.{◌≡◌, ◌<◌, ◌^◌, false, IfOk, IfSome, OnOk, IsCharBoundary};
+ghost use Rattle.std.specs.Prelude.{◌≡◌, ◌<◌, ◌^◌, ℕ, false, IfOk, IfSome, OnOk, IsUtf8, IsCharBoundary};
 ghost use Rattle.first_pass_tokens.specs.TreeTokens.{JoinsNone};
 ghost use Rattle.first_pass_grammar.specs.Leaves.{document};
 ghost use Rattle.first_pass_tree.specs.Forest.{is_text};
 ghost use Rattle.first_pass.specs.Appends.{AppendsParagraph, AddsParagraph, with_child, with_closed_break};
+ghost use Rattle.first_pass.specs.Ordered.{AddsBetween, StandsBefore};
 
 use crate::interrupt::next_paragraph_text;
 use crate::pass::FirstPass;
@@ -66,6 +67,7 @@ impl<'a> FirstPass<'a> {
         ensures empty_item { OnOk result (self.new.begin_list_item ≡ self.old.begin_list_item) }
         ensures blank { OnOk result (self.new.last_line_blank ≡ self.old.last_line_blank) }
         ensures block { IfOk result (λ next. AddsParagraph (document self.old.text.now self.old.options) start_ix tasklist_marker self.old.tree self.new.tree next) }
+        ensures fits { IfOk result (λ next. (from : ℕ) → StandsBefore self.old.text.now from start_ix tasklist_marker → AddsBetween self.old.text.now from next self.old.tree self.new.tree) }
     {
         self.tree.is_forest();
         self.tree.append(Item {
@@ -90,6 +92,7 @@ impl<'a> FirstPass<'a> {
         ensures allocs { OnOk result (self.new.allocs ≡ self.old.allocs) }
         ensures empty_item { OnOk result (self.new.begin_list_item ≡ self.old.begin_list_item) }
         ensures blank { OnOk result (self.new.last_line_blank ≡ self.old.last_line_blank) }
+        ensures utf8 { OnOk result (IsUtf8 self.old.text.now) }
         ensures lines { IfOk result (λ next. AppendsParagraph (document self.old.text.now self.old.options) start self.old.tree self.new.tree next) }
     {
         self.tree.is_forest();

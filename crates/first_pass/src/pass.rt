@@ -1,10 +1,10 @@
 //! The block pass: the lines of a text, one block after the other.
 
-ghost use Rattle.std.specs.Prelude.{◌≡◌, ◌<◌, ◌≤◌, false, [], length, None, Some, IsSome, slice_get, IfOk, IfSome, OnOk, IsUtf8, IsCharBoundary};
-ghost use Rattle.first_pass_scan.specs.Places.{place_at, line_end, IsPlaceOf};
+ghost use Rattle.std.specs.Prelude.{◌≡◌, ◌<◌, ◌≤◌, false, [], length, None, Some, IsSome, slice_get, IfOk, IfSome, OnOk, IsUtf8, IsCharBoundary, ℕ};
+ghost use Rattle.first_pass_scan.specs.Places.{place_at, offset, line_end, IsPlaceOf};
 ghost use Rattle.first_pass_below.specs.Walk.{MarksSpecial};
 ghost use Rattle.first_pass_tokens.specs.LineTokens.{EndsLine};
-ghost use Rattle.first_pass_tokens.specs.TreeTokens.{AppendsLine};
+ghost use Rattle.first_pass_tokens.specs.TreeTokens.{AppendsLine, JoinsNone};
 ghost use Rattle.first_pass_grammar.specs.Leaves.{document};
 ghost use Rattle.first_pass_grammar.specs.declared.kind.Container.TheVariants.{BlockQuote};
 ghost use Rattle.first_pass_grammar.specs.Containers.{prefix};
@@ -15,7 +15,9 @@ ghost use Rattle.first_pass_grammar.specs.Skeleton.{Inside, Line};
 ghost use Rattle.first_pass_tree.specs.Forest.{is_text};
 ghost use Rattle.first_pass_grammar.specs.Kinds.{item_at};
 ghost use Rattle.first_pass.specs.Closing.{remembered};
-ghost use Rattle.first_pass.specs.Opening.{ReadyText, ReadyTagged, ReadyLeaf};
+ghost use Rattle.first_pass.specs.Opening.{ReadyText, ReadyTagged, ReadyLeaf, line_or, OrderedText};
+ghost use Rattle.first_pass.specs.Ordered.{IsOrderedAt};
+ghost use Rattle.first_pass_grammar.specs.Order.{IsOrdered, IsOrderedTo};
 ghost use Rattle.first_pass.specs.State.{Ready, ReadyAt};
 ghost use Rattle.first_pass.specs.TableEntries.{tables, no_tables};
 
@@ -74,6 +76,7 @@ impl<'a> FirstPass<'a> {
         ensures options { IfOk result (λ pass. pass.options ≡ options) }
         ensures tables { IfOk result (λ pass. tables pass.allocs ≡ no_tables) }
         ensures ready { IfOk result (λ pass. Ready (document text.now options) (remembered pass.tree pass.begin_list_item pass.last_line_blank) (lines_from text.now 0)) }
+        ensures order { IfOk result (λ pass. IsOrderedAt text.now (remembered pass.tree pass.begin_list_item pass.last_line_blank) 0) }
     {
         // A guess at how many nodes the text will have.
         let capacity = max(128, text.len() / 32);
@@ -108,6 +111,7 @@ impl<'a> FirstPass<'a> {
         ensures boundary { IfOk result (λ next. IsCharBoundary self.old.text.now next) }
         ensures ready { IfOk result (λ next. Ready (document self.old.text.now self.old.options) (remembered self.old.tree self.old.begin_list_item self.old.last_line_blank) (lines_from self.old.text.now start_ix)
             → Ready (document self.old.text.now self.old.options) (remembered self.new.tree self.new.begin_list_item self.new.last_line_blank) (lines_from self.old.text.now next)) }
+        ensures order { IfOk result (λ next. IsOrderedAt self.old.text.now (remembered self.old.tree self.old.begin_list_item self.old.last_line_blank) start_ix → IsOrderedAt self.old.text.now (remembered self.new.tree self.new.begin_list_item self.new.last_line_blank) next) }
     {
         let Some(mut line_start) = self.enter_line(start_ix) else {
             return Ok(next_line(self.text.as_bytes(), start_ix));
@@ -141,6 +145,7 @@ impl<'a> FirstPass<'a> {
         ensures boundary { IfOk result (λ next. IsCharBoundary self.old.text.now next) }
         ensures ready { IfOk result (λ next. ReadyTagged (document self.old.text.now self.old.options) (remembered self.old.tree self.old.begin_list_item self.old.last_line_blank) (lines_from self.old.text.now start)
             → Ready (document self.old.text.now self.old.options) (remembered self.new.tree self.new.begin_list_item self.new.last_line_blank) (lines_from self.old.text.now next)) }
+        ensures order { IfOk result (λ next. IsOrderedTo self.old.text.now self.old.tree start → IsOrderedAt self.old.text.now (remembered self.new.tree self.new.begin_list_item self.new.last_line_blank) next) }
     {
         match lazy_leaf(self.alloc, self.text, start, &self.tree, self.options)? {
             None => Ok(start),
@@ -170,6 +175,7 @@ impl<'a> FirstPass<'a> {
         ensures boundary { IfOk result (λ next. IsCharBoundary self.old.text.now next) }
         ensures ready { IfOk result (λ next. ReadyText (document self.old.text.now self.old.options) (remembered self.old.tree self.old.begin_list_item self.old.last_line_blank) marker (place_at start_ix line_start.entry) (lines_from self.old.text.now (line_end (place_at start_ix line_start.entry)))
             → Ready (document self.old.text.now self.old.options) (remembered self.new.tree self.new.begin_list_item self.new.last_line_blank) (lines_from self.old.text.now next)) }
+        ensures order { IfOk result (λ next. OrderedText self.old.text.now self.old.tree marker (offset (place_at start_ix line_start.entry)) → IsOrderedAt self.old.text.now (remembered self.new.tree self.new.begin_list_item self.new.last_line_blank) next) }
     {
         self.tree.is_forest();
         let mut line_start = line_start;
@@ -196,6 +202,8 @@ impl<'a> FirstPass<'a> {
         ensures ready { IfOk result (λ next.
             ReadyLeaf (document self.old.text.now self.old.options) (remembered self.old.tree self.old.begin_list_item self.old.last_line_blank) (place_at start_ix line_start.entry) (lines_from self.old.text.now (line_end (place_at start_ix line_start.entry)))
             → Ready (document self.old.text.now self.old.options) (remembered self.new.tree self.new.begin_list_item self.new.last_line_blank) (lines_from self.old.text.now next)) }
+        ensures order { IfOk result (λ next. IsCharBoundary self.old.text.now start_ix → IsOrderedTo self.old.text.now self.old.tree (line_or self.old.tree start_ix (offset (place_at start_ix line_start.entry)))
+            → IsOrderedAt self.old.text.now (remembered self.new.tree self.new.begin_list_item self.new.last_line_blank) next) }
     {
         self.tree.is_forest();
         let mut line_start = line_start;
@@ -247,6 +255,8 @@ impl<'a> FirstPass<'a> {
         ensures ends { IfOk result (λ answer. EndsLine
             (record { options = self.old.options; text = text_upto self.old.text.now end; start = start }) answer) }
         ensures boundary { IfOk result (λ answer. end ≡ None → IsCharBoundary self.old.text.now start → IsCharBoundary self.old.text.now answer.0) }
+        ensures order { IfOk result (λ answer. end ≡ None → JoinsNone self.old.tree → IsCharBoundary self.old.text.now start → (from : ℕ) → from ≤ start
+            → IsOrderedTo self.old.text.now self.old.tree from → IsOrderedTo self.old.text.now self.new.tree answer.0) }
     {
         let bytes = text_upto(self.text, end);
         let answer = append_line(
@@ -287,6 +297,7 @@ pub fn run_first_pass<'a>(
 ) -> Result<(Tree<Item>, Allocations<'a>), AllocError>
     ensures derived { IfOk result (λ answer. Derives (document text.now options) answer.0.nodes (tables answer.1)) }
     ensures finished { IfOk result (λ answer. answer.0.spine ≡ []) }
+    ensures order { IfOk result (λ answer. IsOrdered text.now answer.0.nodes) }
 {
     let mut pass = FirstPass::new(alloc, text, options)?;
     let mut ix = 0;

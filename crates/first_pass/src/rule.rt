@@ -1,8 +1,9 @@
 //! Thematic breaks.
 
-ghost use Rattle.std.specs.Prelude.{◌≡◌, ◌+◌, ◌≤◌, length, IfOk, OnOk};
+ghost use Rattle.std.specs.Prelude.{◌≡◌, ℕ, ◌+◌, ◌≤◌, length, IsCharBoundary, IfOk, OnOk};
 ghost use Rattle.first_pass_tree.specs.Forest.{added};
 ghost use Rattle.first_pass_grammar.specs.Leaves.{rule_block};
+ghost use Rattle.first_pass.specs.Ordered.{AddsBetween};
 
 use crate::pass::FirstPass;
 use first_pass_items::item::{Item, ItemBody};
@@ -19,6 +20,7 @@ impl<'a> FirstPass<'a> {
         ensures empty_item { OnOk result (self.new.begin_list_item ≡ self.old.begin_list_item) }
         ensures blank { OnOk result (self.new.last_line_blank ≡ self.old.last_line_blank) }
         ensures block { OnOk result (self.new.tree ≡ added self.old.tree (rule_block ix hrule_size)) }
+        ensures fits { OnOk result ((from : ℕ) → from ≤ ix → IsCharBoundary self.old.text.now ix → IsCharBoundary self.old.text.now (ix + hrule_size) → AddsBetween self.old.text.now from (ix + hrule_size) self.old.tree self.new.tree) }
         ensures behind { IfOk result (λ next. next ≡ ix + hrule_size) }
     {
         let end = ix + hrule_size;

@@ -1,11 +1,13 @@
-use Rattle.std.proofs.Common.{◌≡◌, [], refl, sym, ap, ◌∙◌, subst}
-use Rattle.std.proofs.lemmas.Str.{IsCharBoundary-start}
+use Rattle.std.proofs.Common.{◌≡◌, ◌≤◌, [], length, IsCharBoundary, arith, refl, sym, ap, ◌∙◌, subst}
+use Rattle.std.proofs.lemmas.Str.{IsCharBoundary-start, IsCharBoundary-end}
 use Rattle.first_pass_scan.proofs.LineFacts.{lines_at-end}
 use Rattle.first_pass_grammar.specs.Leaves.{document}
 use Rattle.first_pass_grammar.specs.Derivation.{Derives}
-use Rattle.first_pass.specs.Closing.{remembered}
+use Rattle.first_pass.specs.Closing.{Reading, remembered}
+use Rattle.first_pass.specs.Ordered.{reached, IsOrderedAt}
 use Rattle.first_pass.specs.State.{Ready}
 use Rattle.first_pass.specs.TableEntries.{tables}
+use Rattle.first_pass.proofs.OrderLemmas.{ordered_whole}
 use Rattle.first_pass.proofs.FrontLemmas.{outer-none}
 use Rattle.first_pass.proofs.StateLemmas.{ready_finish}
 use Rattle.first_pass.proofs.pass.run_first_pass.Goals as goal
@@ -17,6 +19,7 @@ loop-ix-init c = record {
   none = c.in_ok-pass.ensures.tables;
   boundary = IsCharBoundary-start c.args.text.now c.utf8.text;
   ready = c.in_ok-pass.ensures.ready;
+  order = c.in_ok-pass.ensures.order;
 }
 
 -- At the end of the text all containers are closed.
@@ -35,3 +38,19 @@ returns-clause-derived c =
 
 pub returns-clause-finished : goal.returns-clause-finished
 returns-clause-finished c = all_closed c
+
+pub returns-clause-order : goal.returns-clause-order
+returns-clause-order c =
+    let text = c.args.text.now in
+    let i = c.loop-ix.invariant in
+    let n = length text in
+    let last = IsCharBoundary-end text in
+    let now : Reading = remembered c.close_containers.new.self.tree c.close_containers.new.self.begin_list_item c.close_containers.new.self.last_line_blank in
+    let read : Reading = remembered c.loop-ix.pass.tree c.loop-ix.pass.begin_list_item c.loop-ix.pass.last_line_blank in
+    let past = c.loop-ix-test.false in
+    let within = i.order.within in
+    let same : c.loop-ix.ix ≡ n = omega arith in
+    let closes : n ≤ n → IsCharBoundary text n → IsOrderedAt text read n → IsOrderedAt text now n =
+    subst (λ t. n ≤ length t → IsCharBoundary t n → IsOrderedAt t read n → IsOrderedAt t now n) i.same_text c.close_containers.ensures.order in
+    let here : IsOrderedAt text now n = closes (omega arith) last (subst (IsOrderedAt text read) same i.order) in
+    ordered_whole text now.tree (reached now.empty_item n) (all_closed c) here.ordered

@@ -2,6 +2,7 @@ use Rattle.std.proofs.Common.{◌≡◌, ◌-◌, length, IsCharBoundary}
 use Rattle.first_pass_grammar.specs.Leaves.{document}
 use Rattle.first_pass_grammar.specs.Completion.{lines_from}
 use Rattle.first_pass.specs.Closing.{remembered}
+use Rattle.first_pass.specs.Ordered.{IsOrderedAt}
 use Rattle.first_pass.specs.State.{Ready}
 use Rattle.first_pass.specs.TableEntries.{tables, no_tables}
 use Rattle.first_pass.proofs.pass.run_first_pass.Given as goal
@@ -14,6 +15,7 @@ invariant-loop-ix l = record {
   none : tables l.pass.allocs ≡ no_tables;
   boundary : IsCharBoundary l.text l.ix;
   ready : Ready (document l.text l.fn.options) (remembered l.pass.tree l.pass.begin_list_item l.pass.last_line_blank) (lines_from l.text l.ix);
+  order : IsOrderedAt l.text (remembered l.pass.tree l.pass.begin_list_item l.pass.last_line_blank) l.ix;
 }
 
 abbrev pub decreases-loop-ix : goal.decreases-loop-ix

@@ -1,10 +1,15 @@
-use Rattle.std.proofs.Common.{◌+◌, drop, is_some, sym, ap, subst, ◌∙◌}
+use Rattle.std.proofs.Common.{◌+◌, drop, is_some, sym, ap, subst, ◌∙◌, arith}
 use Rattle.first_pass_scan.specs.Lines.{blank_len, line_len}
 use Rattle.first_pass_scan.specs.Places.{line_rest, place_at}
 use Rattle.first_pass_grammar.specs.Leaves.{document}
 use Rattle.first_pass_grammar.specs.Skeleton.{Inside}
 use Rattle.first_pass_grammar.specs.Completion.{lines_from}
-use Rattle.first_pass.specs.Closing.{Reading, remembered}
+use Rattle.first_pass.specs.Closing.{Reading, remembered, item_finished}
+use Rattle.first_pass.specs.Ordered.{IsOrderedAt}
+use Rattle.first_pass_grammar.specs.Order.{IsOrderedTo}
+use Rattle.first_pass_scan.proofs.LineFacts.{line_len-within}
+use Rattle.first_pass.proofs.OrderLemmas.{ordered_item_finished, ordered_blank_read}
+use Rattle.first_pass.proofs.OrderSteps.{ordered_tree}
 use Rattle.first_pass.specs.State.{Ready, ReadyAt}
 use Rattle.first_pass.proofs.LineLemmas.{at_line, blank_line_read, line_entered, finished_none, line_kept}
 use Rattle.first_pass.proofs.pass.FirstPass.enter_line.Goals as goal
@@ -43,3 +48,22 @@ returns-clause-same_end c =
 pub returns-clause-no_empty : goal.returns-clause-no_empty
 returns-clause-no_empty c =
     ap (λ (q : Reading). q.empty_item) c.finish_empty_list_item.ensures.reading ∙ finished_none (remembered c.close_containers.new.self.tree c.close_containers.new.self.begin_list_item c.close_containers.new.self.last_line_blank)
+
+pub returns-then-is_some-clause-order : goal.returns-then-is_some-clause-order
+returns-then-is_some-clause-order c =
+    let text = c.args.self.now.text.now in
+    let start = c.args.start_ix in
+    let closed : Reading = remembered c.close_containers.new.self.tree c.close_containers.new.self.begin_list_item c.close_containers.new.self.last_line_blank in
+    let w = c.requires.within in
+    let n = line_len-within text start w in
+    λ ordered. subst (λ (q : Reading). IsOrderedAt text q (start + line_len (drop start text))) (sym c.read_blank_line.ensures.reading)
+    (ordered_blank_read text closed start (start + line_len (drop start text)) (omega arith) n.1 (c.close_containers.ensures.order (omega arith) c.requires.boundary ordered))
+
+pub returns-clause-order : goal.returns-clause-order
+returns-clause-order c =
+    let text = c.args.self.now.text.now in
+    let start = c.args.start_ix in
+    let closed : Reading = remembered c.close_containers.new.self.tree c.close_containers.new.self.begin_list_item c.close_containers.new.self.last_line_blank in
+    let w = c.requires.within in
+    λ ordered. subst (λ (q : Reading). IsOrderedTo text q.tree start) (sym c.finish_empty_list_item.ensures.reading)
+    (ordered_tree text (item_finished closed) start (finished_none closed) (ordered_item_finished text closed start (c.close_containers.ensures.order (omega arith) c.requires.boundary ordered)))

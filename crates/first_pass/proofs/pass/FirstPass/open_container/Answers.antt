@@ -1,7 +1,7 @@
-use Rattle.std.proofs.Common.{◌≡◌, ℕ, ◌+◌, length, drop, Option, Some, None, refl, true, false, MatchOption, is_some, not, sym, ap, subst, ◌∙◌, arith}
+use Rattle.std.proofs.Common.{◌≡◌, ℕ, ◌+◌, length, drop, Option, Some, None, refl, true, false, MatchOption, IsCharBoundary, is_some, not, sym, ap, subst, ◌∙◌, arith}
 use Rattle.first_pass_items.specs.declared.item.Item.{Item}
 use Rattle.first_pass_items.specs.declared.item.BlockQuoteKind.{BlockQuoteKind}
-use Rattle.first_pass_items.specs.declared.item.ItemBody.TheVariants.{BlockQuote as BlockQuoteBody}
+use Rattle.first_pass_items.specs.declared.item.ItemBody.TheVariants.{BlockQuote as BlockQuoteBody, ListItem as ListItemBody}
 use Rattle.first_pass_scan.specs.Lines.{blank_len, line_len}
 use Rattle.first_pass_scan.specs.Rest.{Rest, after_columns}
 use Rattle.first_pass_scan.specs.Places.{place_at, offset, line_end, start_of, IsPlaceOf}
@@ -13,11 +13,16 @@ use Rattle.first_pass_grammar.specs.Leaves.{document}
 use Rattle.first_pass_grammar.specs.Skeleton.{Inside, task_behind}
 use Rattle.first_pass_grammar.specs.Completion.{lines_from}
 use Rattle.first_pass.specs.declared.containers.Opened.TheVariants.{Container as OneContainer}
-use Rattle.first_pass.specs.Closing.{Reading, remembered, begun, list_finished}
-use Rattle.first_pass.specs.Opening.{ReadyIn, ReadyTagged}
+use Rattle.first_pass.specs.Closing.{Reading, remembered, is_list, begun, list_finished, list_continued}
+use Rattle.first_pass.specs.Opening.{ReadyIn, ReadyTagged, line_or, OrderedIn}
+use Rattle.first_pass.specs.Ordered.{IsOrderedAt}
+use Rattle.first_pass_grammar.specs.Order.{IsOrderedTo}
+use Rattle.first_pass.specs.Appends.{with_child}
 use Rattle.first_pass.specs.State.{Ready, ReadyAt}
-use Rattle.first_pass.proofs.PlaceLemmas.{item_found, item_keeps, item_absent, markers_keep, mark_is_no_text, quote_taken, prefix_keeps, quote_prefix_shorter, place_end, read_end}
+use Rattle.first_pass.proofs.PlaceLemmas.{item_found, item_keeps, item_shorter, item_absent, markers_keep, mark_is_no_text, quote_taken, prefix_keeps, quote_prefix_shorter, place_end, read_end}
 use Rattle.first_pass.proofs.LineLemmas.{list_finished_none, list_continued_none}
+use Rattle.first_pass.proofs.OrderLemmas.{ordered_later}
+use Rattle.first_pass.proofs.OrderSteps.{offset_later, ordered_on, top_begun, ordered_item, ordered_quote, mark_stands, ordered_container, ordered_empty_item, quote_stands, place_before_end}
 use Rattle.first_pass.proofs.OpenerLemmas.{item_opened, ready_item, empty_item_read, ready_empty_item, ready_quote, ready_tagged, opened_behind, ready_behind}
 use Rattle.first_pass.proofs.pass.FirstPass.open_container.Goals as goal
 
@@ -238,3 +243,94 @@ returns-in-Some-scan_quote-clause-ready c =
     λ ready. subst (λ n. ReadyTagged d (remembered c.open_quote.new.self.tree c.open_quote.new.self.begin_list_item c.open_quote.new.self.last_line_blank) (lines_from self.text.now n)) (sym (tag_line_end c))
     (subst (λ (q : Reading). ReadyTagged d q (lines_from self.text.now (line_end p))) (sym now)
     (ready_tagged d old p (lines_from self.text.now (line_end p)) inside tag.0 c.is_forest.ensures (tagged_is c).0 (tagged_is c).1 (sym c.scan_tag-tag.ensures ∙ tag.1) c.requires.no_empty ready))
+
+pub returns-then-is_none-clause-order : goal.returns-then-is_none-clause-order
+returns-then-is_none-clause-order c =
+    let self = c.args.self.now in
+    let text = self.text.now in
+    let line = c.args.start_ix in
+    let r : Rest = c.args.line_start.now in
+    let behind : Rest = c.scan_item.new.line_start in
+    let rest : Rest = c.scan_task-marker.new.line_start in
+    let start : ℕ = offset (place_at line r) in
+    let old : Reading = remembered self.tree self.begin_list_item self.last_line_blank in
+    let i = c.requires.place in
+    let j = markers_keep text _ line r _ rest c.requires.utf8 (taken c) c.scan_task-marker.ensures.rest i in
+    let k = item_keeps text line r _ c.requires.utf8 (taken c) i in
+    let less = j.2 in
+    let shorter = item_shorter r _ (taken c) in
+    let low = offset_later text line r rest i j.0 (omega arith) in
+    let opened : Reading = item_opened start c.in-Some.byte c.in-Some.number c.in-Some.indent old in
+    λ first ordered. subst (λ (q : Reading). OrderedIn text q line (offset (place_at line rest)) (OneContainer c.scan_task-marker.result)) (sym (opened_is c))
+    (ordered_container text opened line start (offset (place_at line rest)) c.scan_task-marker.result (ap is_list (top_begun start (ListItemBody c.in-Some.indent) (list_continued start c.in-Some.byte c.in-Some.number old))) low j.0.within
+    (ordered_item text old line start c.in-Some.byte c.in-Some.number c.in-Some.indent (omega arith) i.within i.boundary c.requires.no_empty ordered)
+    (λ x some. mark_stands text c.open_item.new.self.options line behind rest start c.scan_task-marker.result x c.requires.utf8 k.0 (offset_later text line r behind i k.0 (omega arith)) c.scan_task-marker.ensures.marker c.scan_task-marker.ensures.rest some))
+
+pub returns-in-Some-clause-order : goal.returns-in-Some-clause-order
+returns-in-Some-clause-order c =
+    let self = c.args.self.now in
+    let text = self.text.now in
+    let line = c.args.start_ix in
+    let r : Rest = c.args.line_start.now in
+    let behind : Rest = c.scan_item.new.line_start in
+    let rest : Rest = c.scan_task-marker.new.line_start in
+    let start : ℕ = offset (place_at line r) in
+    let next = c.next_line-next.result in
+    let marker : Option Item = c.scan_task-marker.result in
+    let old : Reading = remembered self.tree self.begin_list_item self.last_line_blank in
+    let i = c.requires.place in
+    let j = markers_keep text _ line r _ rest c.requires.utf8 (taken_empty c) c.scan_task-marker.ensures.rest i in
+    let k = item_keeps text line r _ c.requires.utf8 (taken_empty c) i in
+    let shorter = item_shorter r _ (taken_empty c) in
+    let ends = next_is c in
+    let same = j.1 in
+    let here = place_before_end (place_at line r) in
+    let there = place_before_end (place_at line rest) in
+    let at_end : IsCharBoundary text next = subst (IsCharBoundary text) (sym ends) (place_end text (place_at line r) c.requires.utf8 i) in
+    let now : remembered c.open_item.new.self.tree c.open_item.new.self.begin_list_item c.open_item.new.self.last_line_blank ≡ item_opened start c.in-Some.byte c.in-Some.number c.in-Some.indent old =
+    c.in_ok-open_item.ensures.reading ∙ ap (λ n. item_opened (line + n) c.in-Some.byte c.in-Some.number c.in-Some.indent old) c.bytes_scanned.ensures in
+    λ first ordered. subst (λ t. IsOrderedAt text (remembered t (Some next) c.open_item.new.self.last_line_blank) next) (sym c.in_ok-append_item.ensures)
+    (subst (λ (q : Reading). IsOrderedAt text (remembered (with_child q.tree marker) (Some next) c.open_item.new.self.last_line_blank) next) (sym now)
+    (ordered_empty_item text start (offset (place_at line rest)) next c.in-Some.indent (list_continued start c.in-Some.byte c.in-Some.number old) marker c.open_item.new.self.last_line_blank (omega arith) (omega arith) at_end.0 at_end
+    (ordered_item text old line start c.in-Some.byte c.in-Some.number c.in-Some.indent (omega arith) i.within i.boundary c.requires.no_empty ordered)
+    (λ x some. mark_stands text c.open_item.new.self.options line behind rest start marker x c.requires.utf8 k.0 (offset_later text line r behind i k.0 (omega arith)) c.scan_task-marker.ensures.marker c.scan_task-marker.ensures.rest some)))
+
+pub returns-then-is_none-2-clause-order : goal.returns-then-is_none-2-clause-order
+returns-then-is_none-2-clause-order c =
+    let self = c.args.self.now in
+    let text = self.text.now in
+    let line = c.args.start_ix in
+    let r : Rest = c.args.line_start.now in
+    let inside : Rest = c.scan_quote.new.line_start in
+    let old : Reading = remembered self.tree self.begin_list_item self.last_line_blank in
+    let i = c.requires.place in
+    let j = (prefix_keeps text line (BlockQuote None) r inside c.requires.utf8 (quote_is c).1 i).0 in
+    let at = c.in-Some-scan_quote.quote in
+    let s = quote_stands text line at r inside c.requires.utf8 (quote_is c).1 i j (quote_is c).2 in
+    let quote : Reading = begun (line + at) (BlockQuoteBody c.scan_tag-tag.result) (list_finished line old) in
+    λ first ordered. subst (λ (q : Reading). IsOrderedTo text q.tree (line_or q.tree line (offset (place_at line inside)))) (sym c.in_ok-open_quote.ensures.reading)
+    (ordered_on text quote.tree line (line + at) (offset (place_at line inside)) (ap is_list (top_begun (line + at) (BlockQuoteBody c.scan_tag-tag.result) (list_finished line old))) s.1 j.within
+    (ordered_quote text old line (offset (place_at line r)) (line + at) c.scan_tag-tag.result (omega arith) s.0 s.2.0 first s.2 c.requires.no_empty ordered))
+
+pub returns-in-Some-scan_quote-clause-order : goal.returns-in-Some-scan_quote-clause-order
+returns-in-Some-scan_quote-clause-order c =
+    let self = c.args.self.now in
+    let text = self.text.now in
+    let line = c.args.start_ix in
+    let r : Rest = c.args.line_start.now in
+    let inside : Rest = c.scan_quote.new.line_start in
+    let next = c.next_line-next-in-Some-scan_quote.result in
+    let old : Reading = remembered self.tree self.begin_list_item self.last_line_blank in
+    let i = c.requires.place in
+    let k = prefix_keeps text line (BlockQuote None) r inside c.requires.utf8 (tagged_is c).1 i in
+    let at = c.in-Some-scan_quote.quote in
+    let s = quote_stands text line at r inside c.requires.utf8 (tagged_is c).1 i k.0 (tagged_is c).2 in
+    let quote : Reading = begun (line + at) (BlockQuoteBody c.scan_tag-tag.result) (list_finished line old) in
+    let ends = tag_line_end c in
+    let same = k.1 in
+    let there = place_before_end (place_at line inside) in
+    let mid = s.1 in
+    let at_end : IsCharBoundary text next = subst (IsCharBoundary text) (sym ends) (place_end text (place_at line r) c.requires.utf8 i) in
+    λ first ordered. subst (λ (q : Reading). IsOrderedTo text q.tree next) (sym c.in_ok-open_quote.ensures.reading)
+    (ordered_later text quote.tree (line + at) next (omega arith) at_end.0
+    (ordered_quote text old line (offset (place_at line r)) (line + at) c.scan_tag-tag.result (omega arith) s.0 s.2.0 first s.2 c.requires.no_empty ordered))

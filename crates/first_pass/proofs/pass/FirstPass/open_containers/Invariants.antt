@@ -1,8 +1,10 @@
-use Rattle.std.proofs.Common.{◌≡◌, length, None}
-use Rattle.first_pass_scan.specs.Places.{place_at, line_end, IsPlaceOf}
+use Rattle.std.proofs.Common.{◌≡◌, length, None, IsCharBoundary}
+use Rattle.first_pass_scan.specs.Places.{place_at, offset, line_end, IsPlaceOf}
 use Rattle.first_pass_grammar.specs.Leaves.{document}
 use Rattle.first_pass_grammar.specs.Skeleton.{Inside}
 use Rattle.first_pass_grammar.specs.Completion.{lines_from}
+use Rattle.first_pass_grammar.specs.Order.{IsOrderedTo}
+use Rattle.first_pass.specs.Opening.{line_or}
 use Rattle.first_pass.specs.State.{ReadyAt}
 use Rattle.first_pass.proofs.pass.FirstPass.open_containers.Given as goal
 
@@ -17,6 +19,8 @@ invariant-loop-marker l = record {
   no_empty : l.self.begin_list_item ≡ None;
   ready : ReadyAt (document l.initial.self.text.now l.initial.self.options) l.initial.self.tree l.initial.self.last_line_blank (Inside (place_at l.start_ix l.fn.line_start)) (lines_from l.initial.self.text.now (line_end (place_at l.start_ix l.fn.line_start)))
       → ReadyAt (document l.initial.self.text.now l.initial.self.options) l.self.tree l.self.last_line_blank (Inside (place_at l.start_ix l.line_start)) (lines_from l.initial.self.text.now (line_end (place_at l.start_ix l.fn.line_start)));
+  order : IsCharBoundary l.initial.self.text.now l.start_ix → IsOrderedTo l.initial.self.text.now l.initial.self.tree (line_or l.initial.self.tree l.start_ix (offset (place_at l.start_ix l.fn.line_start)))
+      → IsOrderedTo l.initial.self.text.now l.self.tree (line_or l.self.tree l.start_ix (offset (place_at l.start_ix l.line_start)));
 }
 
 abbrev pub decreases-loop-marker : goal.decreases-loop-marker

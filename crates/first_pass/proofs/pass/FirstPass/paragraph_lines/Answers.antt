@@ -50,3 +50,6 @@ returns-in-None-clause-lines c =
     let boundary = c.in_ok-next.ensures.boundary refl (subst (λ text. IsCharBoundary text c.lines.ix) (sym i.same_text) i.read.boundary) in
     so_far_stop _ _ _ _ _ c.args.start c.lines.ix c.in_ok-next.next _ _ _ c.append_last_backslash.new.tree c.in_ok-next.line_break _ _ i.same_text i.same_options c.in_ok-next.ensures.text refl (open_are_in c.args.self.now.tree.nodes c.args.self.now.tree.spine c.is_forest.ensures.opened) (subst IsUtf8 (c.in_ok-next.ensures.text ∙ i.same_text) c.next_paragraph_text.ensures.utf8)
     i.read c.requires.apart c.in_ok-next.ensures.line c.in_ok-next.ensures.ends c.in_ok-at.ensures.value c.in-None.is boundary c.in_ok-append_last_backslash-in-None.ensures
+
+pub returns-in-None-clause-utf8 : goal.returns-in-None-clause-utf8
+returns-in-None-clause-utf8 c = subst IsUtf8 (c.in_ok-next.ensures.text ∙ c.lines.invariant.same_text) c.next_paragraph_text.ensures.utf8

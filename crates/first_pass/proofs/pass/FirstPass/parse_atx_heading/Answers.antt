@@ -1,9 +1,11 @@
-use Rattle.std.proofs.Common.{◌≡◌, ap, subst, ◌∙◌}
+use Rattle.std.proofs.Common.{◌≡◌, IsUtf8, ap, subst, ◌∙◌}
 use Rattle.first_pass_items.specs.declared.item.Item.{Item}
 use Rattle.first_pass_scan.specs.Lines.{level_number}
 use Rattle.first_pass_tokens.specs.TreeTokens.{chained}
 use Rattle.first_pass_grammar.specs.Leaves.{Document, document, heading_text_at, IsHeading}
 use Rattle.first_pass.specs.Appends.{line_end_at}
+use Rattle.first_pass_tokens.proofs.OrderLemmas.{closed_line_in_order}
+use Rattle.first_pass.proofs.OrderHeading.{heading_text_boundary, heading_fits}
 use Rattle.first_pass.proofs.HeadingLemmas.{heading_line_end}
 use Rattle.first_pass.proofs.BlockLemmas.{opened_at, opened_is, just_pushed, still_open, block_place, block_named}
 use Rattle.first_pass.proofs.pass.FirstPass.parse_atx_heading.Goals as goal
@@ -50,3 +52,11 @@ returns-clause-block c =
       tree_is = block_named g c.heading_text.new.self.tree x line.chain ix at (line.tree_is ∙ ap (λ f. chained f line.chain) opened) c.close_node.new.self.tree c.set_body.new.self c.in_ok-end.end _ c.close_node.ensures.tree c.set_body.ensures;
       end_is = line.end_is ∙ ap (line_end_at text) begins ∙ heading_line_end text c.args.start c.args.atx_level c.requires.within c.requires.heading;
     }
+
+pub returns-clause-fits : goal.returns-clause-fits
+returns-clause-fits c from behind starts =
+    let text = c.args.self.now.text.now in
+    let u = subst IsUtf8 c.as_bytes.ensures.value c.as_bytes.ensures.utf8 in
+    let h = returns-clause-block c in
+    let at = heading_text_boundary text c.args.start c.args.atx_level u starts c.requires.heading in
+    heading_fits (document text c.args.self.now.options) c.args.start c.args.atx_level c.args.self.now.tree c.set_body.new.self c.in_ok-end.end u starts h (closed_line_in_order u at at.0 h.line.line) from behind

@@ -1,9 +1,14 @@
 use Rattle.std.proofs.Common.{◌≡◌, ◌+◌, length, drop, IsCharBoundary, sym, ap, subst, ◌∙◌, arith}
 use Rattle.first_pass_scan.specs.Lines.{line_len}
-use Rattle.first_pass_scan.specs.Places.{place_at, line_end}
+use Rattle.first_pass_scan.specs.Places.{place_at, offset, line_end}
 use Rattle.first_pass_scan.proofs.LineFacts.{line_len-within}
 use Rattle.first_pass_scan.proofs.PlaceFacts.{line_end_boundary}
-use Rattle.first_pass.specs.Opening.{IsBehind}
+use Rattle.first_pass_grammar.specs.Order.{IsOrderedTo}
+use Rattle.first_pass.specs.Closing.{Reading, remembered}
+use Rattle.first_pass.specs.Ordered.{IsOrderedAt}
+use Rattle.first_pass.specs.declared.containers.Behind.TheVariants.{Leaf as BehindLeaf, TaskText, NextLine, Tag}
+use Rattle.first_pass.specs.Opening.{IsBehind, line_or, OrderedText, OrderedBehind}
+use Rattle.first_pass.proofs.OrderSteps.{ordered_in_line}
 use Rattle.first_pass.proofs.pass.FirstPass.parse_block.Goals as goal
 
 pub returns-in_default-clause-boundary : goal.returns-in_default-clause-boundary
@@ -68,3 +73,92 @@ returns-in_ok-next-in-Tag-clause-later c =
     let fits = c.in_ok-next-in-Tag.ensures.boundary.0 in
     let same = ap length (c.in_ok-open_containers.ensures.text ∙ c.enter_line.ensures.text) in
     (omega arith, omega arith)
+
+pub returns-in_ok-next-in-Leaf-clause-order : goal.returns-in_ok-next-in-Leaf-clause-order
+returns-in_ok-next-in-Leaf-clause-order c =
+    let self = c.args.self.now in
+    let text = self.text.now in
+    let start = c.args.start_ix in
+    let entered = c.enter_line.new.self in
+    let there = c.open_containers.new.self in
+    let read : Reading = remembered there.tree there.begin_list_item there.last_line_blank in
+    let p = place_at start c.in-Some.line_start in
+    let q = place_at start c.open_containers.new.line_start in
+    let w = c.requires.within in
+    let high = c.in-Some.ensures.place.within in
+    let te : entered.text.now ≡ text = c.enter_line.ensures.text in
+    let same : there.text.now ≡ text = c.in_ok-open_containers.ensures.text ∙ te in
+    let opens : IsCharBoundary text start → IsOrderedTo text entered.tree (line_or entered.tree start (offset p)) → OrderedBehind text read start (offset q) c.in_ok-open_containers.field-0 =
+    subst (λ t. IsCharBoundary t start → IsOrderedTo t entered.tree (line_or entered.tree start (offset p)) → OrderedBehind t read start (offset q) c.in_ok-open_containers.field-0) te c.in_ok-open_containers.ensures.order in
+    λ ordered. let behind : OrderedBehind text read start (offset q) BehindLeaf =
+    subst (λ o. OrderedBehind text read start (offset q) o) c.in-Leaf.is (opens c.requires.boundary (ordered_in_line text entered.tree start (offset p) (omega arith) high (c.in-Some.ensures.order ordered))) in
+    let new = c.parse_leaf.new.self in
+    let done : IsCharBoundary text start → IsOrderedTo text there.tree (line_or there.tree start (offset q)) → IsOrderedAt text (remembered new.tree new.begin_list_item new.last_line_blank) c.in_ok-next-in-Leaf.next =
+    subst (λ t. IsCharBoundary t start → IsOrderedTo t there.tree (line_or there.tree start (offset q)) → IsOrderedAt t (remembered new.tree new.begin_list_item new.last_line_blank) c.in_ok-next-in-Leaf.next) same c.in_ok-next-in-Leaf.ensures.order in
+    done c.requires.boundary behind
+
+pub returns-in_ok-next-in-TaskText-clause-order : goal.returns-in_ok-next-in-TaskText-clause-order
+returns-in_ok-next-in-TaskText-clause-order c =
+    let self = c.args.self.now in
+    let text = self.text.now in
+    let start = c.args.start_ix in
+    let entered = c.enter_line.new.self in
+    let there = c.open_containers.new.self in
+    let read : Reading = remembered there.tree there.begin_list_item there.last_line_blank in
+    let p = place_at start c.in-Some.line_start in
+    let q = place_at start c.open_containers.new.line_start in
+    let w = c.requires.within in
+    let high = c.in-Some.ensures.place.within in
+    let te : entered.text.now ≡ text = c.enter_line.ensures.text in
+    let same : there.text.now ≡ text = c.in_ok-open_containers.ensures.text ∙ te in
+    let opens : IsCharBoundary text start → IsOrderedTo text entered.tree (line_or entered.tree start (offset p)) → OrderedBehind text read start (offset q) c.in_ok-open_containers.field-0 =
+    subst (λ t. IsCharBoundary t start → IsOrderedTo t entered.tree (line_or entered.tree start (offset p)) → OrderedBehind t read start (offset q) c.in_ok-open_containers.field-0) te c.in_ok-open_containers.ensures.order in
+    λ ordered. let behind : OrderedBehind text read start (offset q) (TaskText c.in-TaskText.marker) =
+    subst (λ o. OrderedBehind text read start (offset q) o) c.in-TaskText.is (opens c.requires.boundary (ordered_in_line text entered.tree start (offset p) (omega arith) high (c.in-Some.ensures.order ordered))) in
+    let new = c.parse_task_text.new.self in
+    let done : OrderedText text there.tree c.in-TaskText.marker (offset q) → IsOrderedAt text (remembered new.tree new.begin_list_item new.last_line_blank) c.in_ok-next-in-TaskText.next =
+    subst (λ t. OrderedText t there.tree c.in-TaskText.marker (offset q) → IsOrderedAt t (remembered new.tree new.begin_list_item new.last_line_blank) c.in_ok-next-in-TaskText.next) same c.in_ok-next-in-TaskText.ensures.order in
+    done behind
+
+pub returns-in-NextLine-clause-order : goal.returns-in-NextLine-clause-order
+returns-in-NextLine-clause-order c =
+    let self = c.args.self.now in
+    let text = self.text.now in
+    let start = c.args.start_ix in
+    let entered = c.enter_line.new.self in
+    let there = c.open_containers.new.self in
+    let read : Reading = remembered there.tree there.begin_list_item there.last_line_blank in
+    let p = place_at start c.in-Some.line_start in
+    let q = place_at start c.open_containers.new.line_start in
+    let w = c.requires.within in
+    let high = c.in-Some.ensures.place.within in
+    let te : entered.text.now ≡ text = c.enter_line.ensures.text in
+    let same : there.text.now ≡ text = c.in_ok-open_containers.ensures.text ∙ te in
+    let opens : IsCharBoundary text start → IsOrderedTo text entered.tree (line_or entered.tree start (offset p)) → OrderedBehind text read start (offset q) c.in_ok-open_containers.field-0 =
+    subst (λ t. IsCharBoundary t start → IsOrderedTo t entered.tree (line_or entered.tree start (offset p)) → OrderedBehind t read start (offset q) c.in_ok-open_containers.field-0) te c.in_ok-open_containers.ensures.order in
+    λ ordered. let behind : OrderedBehind text read start (offset q) (NextLine c.in-NextLine.next) =
+    subst (λ o. OrderedBehind text read start (offset q) o) c.in-NextLine.is (opens c.requires.boundary (ordered_in_line text entered.tree start (offset p) (omega arith) high (c.in-Some.ensures.order ordered))) in
+    behind
+
+pub returns-in_ok-next-in-Tag-clause-order : goal.returns-in_ok-next-in-Tag-clause-order
+returns-in_ok-next-in-Tag-clause-order c =
+    let self = c.args.self.now in
+    let text = self.text.now in
+    let start = c.args.start_ix in
+    let entered = c.enter_line.new.self in
+    let there = c.open_containers.new.self in
+    let read : Reading = remembered there.tree there.begin_list_item there.last_line_blank in
+    let p = place_at start c.in-Some.line_start in
+    let q = place_at start c.open_containers.new.line_start in
+    let w = c.requires.within in
+    let high = c.in-Some.ensures.place.within in
+    let te : entered.text.now ≡ text = c.enter_line.ensures.text in
+    let same : there.text.now ≡ text = c.in_ok-open_containers.ensures.text ∙ te in
+    let opens : IsCharBoundary text start → IsOrderedTo text entered.tree (line_or entered.tree start (offset p)) → OrderedBehind text read start (offset q) c.in_ok-open_containers.field-0 =
+    subst (λ t. IsCharBoundary t start → IsOrderedTo t entered.tree (line_or entered.tree start (offset p)) → OrderedBehind t read start (offset q) c.in_ok-open_containers.field-0) te c.in_ok-open_containers.ensures.order in
+    λ ordered. let behind : OrderedBehind text read start (offset q) (Tag c.in-Tag.next) =
+    subst (λ o. OrderedBehind text read start (offset q) o) c.in-Tag.is (opens c.requires.boundary (ordered_in_line text entered.tree start (offset p) (omega arith) high (c.in-Some.ensures.order ordered))) in
+    let new = c.parse_tagged.new.self in
+    let done : IsOrderedTo text there.tree c.in-Tag.next → IsOrderedAt text (remembered new.tree new.begin_list_item new.last_line_blank) c.in_ok-next-in-Tag.next =
+    subst (λ t. IsOrderedTo t there.tree c.in-Tag.next → IsOrderedAt t (remembered new.tree new.begin_list_item new.last_line_blank) c.in_ok-next-in-Tag.next) same c.in_ok-next-in-Tag.ensures.order in
+    done behind

@@ -1,13 +1,18 @@
-use Rattle.std.proofs.Common.{◌≡◌, ◌+◌, length, drop, IsCharBoundary, None, sym, ap, subst, ◌∙◌, arith}
+use Rattle.std.proofs.Common.{◌≡◌, inl, inr, ℕ, ◌+◌, ◌≤◌, length, drop, IsCharBoundary, None, refl, sym, ap, subst, ◌∙◌, arith}
 use Rattle.first_pass_scan.specs.Lines.{atx_level}
-use Rattle.first_pass_scan.specs.Places.{place_at, line_end}
+use Rattle.first_pass_scan.specs.Places.{place_at, offset, line_end}
 use Rattle.first_pass_tree.specs.Forest.{added}
 use Rattle.first_pass_grammar.specs.Leaves.{document, rule_block}
 use Rattle.first_pass_grammar.specs.Completion.{lines_from}
 use Rattle.first_pass.specs.Appends.{line_end_at, AddsHeading, AddsParagraph}
 use Rattle.first_pass.specs.Closing.{Reading, remembered, list_finished, blank_read}
+use Rattle.first_pass.specs.Opening.{line_or}
+use Rattle.first_pass.specs.Ordered.{IsOrderedAt, AddsBetween, StandsBefore}
 use Rattle.first_pass.specs.State.{Ready}
 use Rattle.first_pass.proofs.PlaceLemmas.{all_keep, at_read, place_end}
+use Rattle.first_pass.proofs.LineLemmas.{list_finished_none}
+use Rattle.first_pass.proofs.OrderLemmas.{ordered_none, ordered_blank_read}
+use Rattle.first_pass.proofs.OrderSteps.{line_or-below, ordered_leaf, unindented_later, place_before_end}
 use Rattle.first_pass.proofs.LeafLemmas.{ready_blank_leaf, ready_rule, rule_end, ready_heading, ready_paragraph, kind_level, line_end_of}
 use Rattle.first_pass.proofs.pass.FirstPass.parse_leaf.Goals as goal
 
@@ -187,3 +192,88 @@ returns-clause-ready c =
     λ ready. subst (λ o. Ready d (remembered new.tree o new.last_line_blank) (lines_from self.text.now next)) (sym item)
     (subst (λ b. Ready d (remembered new.tree q.empty_item b) (lines_from self.text.now next)) (sym blank)
     (ready_paragraph d old new.tree p at next c.is_forest.ensures (sym c.kind_at-kind.ensures.kind ∙ c.in-Paragraph.is) e i block c.requires.no_empty ready))
+
+pub returns-in-Blank-clause-order : goal.returns-in-Blank-clause-order
+returns-in-Blank-clause-order c =
+    let self = c.args.self.now in
+    let text = self.text.now in
+    let p = place_at c.args.start_ix c.args.line_start in
+    let old : Reading = remembered self.tree self.begin_list_item self.last_line_blank in
+    let a = line_or old.tree c.args.start_ix (offset p) in
+    let i = c.requires.place in
+    let within = i.within in
+    let below = line_or-below old.tree c.args.start_ix (offset p) (omega arith) in
+    let here = place_before_end p in
+    let same = blank_end c in
+    let high = (place_end text p c.requires.utf8 i).0 in
+    λ first ordered. subst (λ (q : Reading). IsOrderedAt text q c.next_line.result) (sym c.read_blank_line.ensures.reading)
+    (ordered_blank_read text old a c.next_line.result (omega arith) (omega arith) (ordered_none text old a c.requires.no_empty (omega arith) ordered))
+
+pub returns-in-ThematicBreak-clause-order : goal.returns-in-ThematicBreak-clause-order
+returns-in-ThematicBreak-clause-order c =
+    let self = c.args.self.now in
+    let text = self.text.now in
+    let p = place_at c.args.start_ix c.args.line_start in
+    let at = c.args.start_ix + c.bytes_scanned.result in
+    let size = c.in-ThematicBreak.size in
+    let next = c.in_ok-next-in-ThematicBreak.next in
+    let old : Reading = remembered self.tree self.begin_list_item self.last_line_blank in
+    let i = all_keep text c.args.start_ix c.args.line_start c.requires.utf8 c.requires.place in
+    let e = at_read c.args.start_ix c.bytes_scanned.result c.args.line_start c.kind_at-kind.new.line_start c.bytes_scanned.ensures c.kind_at-kind.ensures.rest in
+    let later = unindented_later text c.args.start_ix c.args.line_start c.requires.utf8 c.requires.place in
+    let boundary : IsCharBoundary text at = subst (IsCharBoundary text) (sym e) i.boundary in
+    let ends : next ≡ at + size = c.in_ok-next-in-ThematicBreak.ensures.behind in
+    let last : IsCharBoundary text next = subst (IsCharBoundary text) (sym (break_end c)) (place_end text p c.requires.utf8 c.requires.place) in
+    let f = c.finish_list.new.self in
+    let rem : remembered f.tree f.begin_list_item f.last_line_blank ≡ list_finished c.args.start_ix old = c.finish_list.ensures.reading in
+    let new = c.parse_hrule.new.self in
+    let fits : (from : ℕ) → from ≤ at → IsCharBoundary text at → IsCharBoundary text (at + size) → AddsBetween text from (at + size) f.tree new.tree =
+    subst (λ t. (from : ℕ) → from ≤ at → IsCharBoundary t at → IsCharBoundary t (at + size) → AddsBetween t from (at + size) f.tree new.tree) c.finish_list.ensures.text c.in_ok-next-in-ThematicBreak.ensures.fits in
+    let adds : AddsBetween text at next (list_finished c.args.start_ix old).tree new.tree =
+    subst (λ (z : Reading). AddsBetween text at next z.tree new.tree) rem (subst (λ n. AddsBetween text at n f.tree new.tree) (sym ends) (fits at (omega arith) boundary (subst (IsCharBoundary text) ends last))) in
+    let none = c.in_ok-next-in-ThematicBreak.ensures.empty_item ∙ ap (λ (r : Reading). r.empty_item) rem ∙ list_finished_none c.args.start_ix old in
+    λ first ordered. ordered_leaf text old (remembered new.tree new.begin_list_item new.last_line_blank) c.args.start_ix (offset p) c.args.start_ix at next (omega arith) (omega arith) (inl (refl, first)) boundary.0 boundary c.requires.no_empty ordered adds last.0 none
+
+pub returns-in-AtxHeading-clause-order : goal.returns-in-AtxHeading-clause-order
+returns-in-AtxHeading-clause-order c =
+    let self = c.args.self.now in
+    let text = self.text.now in
+    let p = place_at c.args.start_ix c.args.line_start in
+    let at = c.args.start_ix + c.bytes_scanned.result in
+    let next = c.in_ok-next-in-AtxHeading.next in
+    let old : Reading = remembered self.tree self.begin_list_item self.last_line_blank in
+    let i = all_keep text c.args.start_ix c.args.line_start c.requires.utf8 c.requires.place in
+    let e = at_read c.args.start_ix c.bytes_scanned.result c.args.line_start c.kind_at-kind.new.line_start c.bytes_scanned.ensures c.kind_at-kind.ensures.rest in
+    let later = unindented_later text c.args.start_ix c.args.line_start c.requires.utf8 c.requires.place in
+    let boundary : IsCharBoundary text at = subst (IsCharBoundary text) (sym e) i.boundary in
+    let last : IsCharBoundary text next = subst (IsCharBoundary text) (sym (heading_end c)) (place_end text p c.requires.utf8 c.requires.place) in
+    let f = c.finish_list-in-AtxHeading.new.self in
+    let rem : remembered f.tree f.begin_list_item f.last_line_blank ≡ list_finished c.args.start_ix old = heading_rem c in
+    let new = c.parse_atx_heading.new.self in
+    let fits : (from : ℕ) → from ≤ at → IsCharBoundary text at → AddsBetween text from next f.tree new.tree =
+    subst (λ t. (from : ℕ) → from ≤ at → IsCharBoundary t at → AddsBetween t from next f.tree new.tree) c.finish_list-in-AtxHeading.ensures.text c.in_ok-next-in-AtxHeading.ensures.fits in
+    let adds : AddsBetween text at next (list_finished c.args.start_ix old).tree new.tree = subst (λ (z : Reading). AddsBetween text at next z.tree new.tree) rem (fits at (omega arith) boundary) in
+    let none = c.in_ok-next-in-AtxHeading.ensures.empty_item ∙ ap (λ (r : Reading). r.empty_item) rem ∙ list_finished_none c.args.start_ix old in
+    λ first ordered. ordered_leaf text old (remembered new.tree new.begin_list_item new.last_line_blank) c.args.start_ix (offset p) c.args.start_ix at next (omega arith) (omega arith) (inl (refl, first)) boundary.0 boundary c.requires.no_empty ordered adds last.0 none
+
+pub returns-clause-order : goal.returns-clause-order
+returns-clause-order c =
+    let self = c.args.self.now in
+    let text = self.text.now in
+    let p = place_at c.args.start_ix c.args.line_start in
+    let at = c.args.start_ix + c.bytes_scanned.result in
+    let next = c.in_ok-next-in-Paragraph.next in
+    let old : Reading = remembered self.tree self.begin_list_item self.last_line_blank in
+    let i = all_keep text c.args.start_ix c.args.line_start c.requires.utf8 c.requires.place in
+    let e = at_read c.args.start_ix c.bytes_scanned.result c.args.line_start c.kind_at-kind.new.line_start c.bytes_scanned.ensures c.kind_at-kind.ensures.rest in
+    let later = unindented_later text c.args.start_ix c.args.line_start c.requires.utf8 c.requires.place in
+    let boundary : IsCharBoundary text at = subst (IsCharBoundary text) (sym e) i.boundary in
+    let f = c.finish_list-in-Paragraph.new.self in
+    let last : IsCharBoundary text next = subst (λ t. IsCharBoundary t next) c.finish_list-in-Paragraph.ensures.text c.in_ok-next-in-Paragraph.ensures.block.boundary in
+    let rem : remembered f.tree f.begin_list_item f.last_line_blank ≡ list_finished at old = c.finish_list-in-Paragraph.ensures.reading in
+    let new = c.parse_paragraph.new.self in
+    let fits : (from : ℕ) → StandsBefore text from at None → AddsBetween text from next f.tree new.tree =
+    subst (λ t. (from : ℕ) → StandsBefore t from at None → AddsBetween t from next f.tree new.tree) c.finish_list-in-Paragraph.ensures.text c.in_ok-next-in-Paragraph.ensures.fits in
+    let adds : AddsBetween text at next (list_finished at old).tree new.tree = subst (λ (z : Reading). AddsBetween text at next z.tree new.tree) rem (fits at (omega arith)) in
+    let none = c.in_ok-next-in-Paragraph.ensures.empty_item ∙ ap (λ (r : Reading). r.empty_item) rem ∙ list_finished_none at old in
+    λ first ordered. ordered_leaf text old (remembered new.tree new.begin_list_item new.last_line_blank) c.args.start_ix (offset p) at at next (omega arith) (omega arith) (inr refl) boundary.0 boundary c.requires.no_empty ordered adds last.0 none

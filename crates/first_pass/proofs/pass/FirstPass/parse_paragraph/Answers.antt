@@ -6,6 +6,7 @@ use Rattle.first_pass_grammar.specs.Completion.{lines_from}
 use Rattle.first_pass.specs.Appends.{with_child, line_end_at}
 use Rattle.first_pass.proofs.PathLemmas.{open_are_in, path_of-paragraph}
 use Rattle.first_pass.proofs.BlockLemmas.{opened_at, opened_is, marked_chain, still_open, block_closed}
+use Rattle.first_pass.proofs.OrderParagraph.{paragraph_fits}
 use Rattle.first_pass.proofs.pass.FirstPass.parse_paragraph.Goals as goal
 
 pub close_node-requires : goal.close_node-requires
@@ -36,3 +37,8 @@ returns-clause-block c =
       later = lines.later;
       boundary = lines.boundary;
     }
+
+pub returns-clause-fits : goal.returns-clause-fits
+returns-clause-fits c =
+    paragraph_fits (document c.args.self.now.text.now c.args.self.now.options) c.args.start_ix c.args.tasklist_marker c.args.self.now.tree c.close_node.new.self.tree c.in_ok-ix.ix
+    (returns-clause-block c) c.in_ok-ix.ensures.utf8 c.requires.boundary

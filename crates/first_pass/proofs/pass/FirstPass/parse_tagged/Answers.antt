@@ -1,4 +1,4 @@
-use Rattle.std.proofs.Common.{◌≡◌, inr, ◌+◌, drop, Bool, true, false, Some, None, refl, sym, subst, ◌∙◌, if◌then◌else◌}
+use Rattle.std.proofs.Common.{◌≡◌, inr, ◌+◌, drop, Bool, true, false, Some, None, refl, sym, subst, ◌∙◌, if◌then◌else◌, ap, arith}
 use Rattle.first_pass_scan.specs.Rest.{Rest}
 use Rattle.first_pass_scan.specs.Lines.{line_len}
 use Rattle.first_pass_scan.specs.Places.{line_rest, place_at, line_end}
@@ -10,6 +10,8 @@ use Rattle.first_pass.specs.Closing.{Reading, remembered}
 use Rattle.first_pass.specs.Path.{path_of}
 use Rattle.first_pass.specs.Opening.{ReadyLazy}
 use Rattle.first_pass.proofs.PlaceLemmas.{text_place}
+use Rattle.first_pass.proofs.OrderLemmas.{ordered_none}
+use Rattle.first_pass.proofs.OrderSteps.{ordered_in_line}
 use Rattle.first_pass.proofs.TagLemmas.{ready_any_line, ready_its_line}
 use Rattle.first_pass.proofs.pass.FirstPass.parse_tagged.Goals as goal
 
@@ -40,3 +42,19 @@ returns-in_ok-next-in-Some-clause-ready c =
     λ tagged. let lazy : ReadyLazy d old (place_at at (all_taken behind)) (lines_from text (line_end (place_at at (all_taken behind)))) =
     subst (λ n. ReadyLazy d old (place_at at (all_taken behind)) (lines_from text n)) (sym ends) (ready_its_line d old at its.0 tagged) in
     c.in_ok-next-in-Some.ensures.ready (inr (subst (λ r. ReadyLazy d old (place_at at r) (lines_from text (line_end (place_at at r)))) (sym its.1) lazy))
+
+pub returns-in-None-clause-order : goal.returns-in-None-clause-order
+returns-in-None-clause-order c =
+    let self = c.args.self.now in
+    λ ordered. ordered_none self.text.now (remembered self.tree self.begin_list_item self.last_line_blank) c.args.start c.requires.no_empty c.requires.boundary.0 ordered
+
+pub returns-in_ok-next-in-Some-clause-order : goal.returns-in_ok-next-in-Some-clause-order
+returns-in_ok-next-in-Some-clause-order c =
+    let self = c.args.self.now in
+    let text = self.text.now in
+    let at = c.args.start in
+    let behind : Rest = front (path_of self.tree) (line_rest (drop at text)) in
+    let its = its_by (ends_tag (path_of self.tree) (line_rest (drop at text))) (all_taken behind) c.in-Some.line_start (sym c.in-Some.is ∙ c.in_ok-lazy_leaf.ensures.value) in
+    let within = c.in_ok-lazy_leaf.ensures.place.within in
+    let same = ap (λ (r : Rest). at + r.taken) its.1 in
+    λ ordered. c.in_ok-next-in-Some.ensures.order c.requires.boundary (ordered_in_line text self.tree at (at + c.in-Some.line_start.taken) (omega arith) (omega arith) ordered)

@@ -6,6 +6,7 @@ use Rattle.first_pass.specs.Appends.{line_end_at}
 use Rattle.first_pass.specs.Closing.{Reading, remembered}
 use Rattle.first_pass.specs.State.{Ready}
 use Rattle.first_pass.proofs.PlaceLemmas.{all_keep, at_read}
+use Rattle.first_pass.proofs.OrderSteps.{ordered_block, unindented_later}
 use Rattle.first_pass.proofs.LeafLemmas.{line_end_of, ready_text}
 use Rattle.first_pass.proofs.pass.FirstPass.parse_task_text.Goals as goal
 
@@ -45,3 +46,18 @@ returns-clause-ready c =
     λ ready. subst (λ o. Ready d (remembered new.tree o new.last_line_blank) (lines_from self.text.now next)) (sym c.in_ok-next.ensures.empty_item)
     (subst (λ b. Ready d (remembered new.tree self.begin_list_item b) (lines_from self.text.now next)) (sym c.in_ok-next.ensures.blank)
     (ready_text d old new.tree p at next c.args.marker e i c.in_ok-next.ensures.block c.requires.no_empty ready))
+
+pub returns-clause-order : goal.returns-clause-order
+returns-clause-order c =
+    let self = c.args.self.now in
+    let text = self.text.now in
+    let p = place_at c.args.start_ix c.args.line_start in
+    let at = c.args.start_ix + c.bytes_scanned.result in
+    let next = c.in_ok-next.next in
+    let e = at_read c.args.start_ix c.bytes_scanned.result c.args.line_start c.scan_indentation.new.line_start c.bytes_scanned.ensures c.scan_indentation.ensures.rest in
+    let later = unindented_later text c.args.start_ix c.args.line_start c.requires.utf8 c.requires.place in
+    let new = c.parse_paragraph.new.self in
+    λ o. let b = o.stands.1 in
+    let before = b.before in
+    ordered_block text self.tree (remembered new.tree new.begin_list_item new.last_line_blank) o.from next
+    (c.in_ok-next.ensures.fits o.from (o.stands.0, record { behind = b.behind; order = b.order; before = omega arith; starts = b.starts; ends = b.ends })) c.in_ok-next.ensures.block.boundary.0 (c.in_ok-next.ensures.empty_item ∙ c.requires.no_empty) o.ordered

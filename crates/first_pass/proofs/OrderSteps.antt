@@ -1,0 +1,221 @@
+-- Order at each step of reading a line: containers opened, and what is behind them.
+use Rattle.std.proofs.Common.{◌≡◌, ◌⊎◌, inl, inr, ℕ, ◌+◌, ◌<◌, ◌≤◌, Bool, true, false, List, [], ◌∷◌, length, Option, Some, None, IsUtf8, IsCharBoundary, refl, sym, ap, subst, ◌∙◌, arith, length-append, if◌then◌else◌}
+use Rattle.std.specs.Option.{option_map}
+use Rattle.first_pass_items.specs.declared.item.Item.{Item}
+use Rattle.first_pass_items.specs.declared.item.BlockQuoteKind.{BlockQuoteKind}
+use Rattle.first_pass_items.specs.declared.item.ItemBody.{ItemBody}
+use Rattle.first_pass_items.specs.declared.item.ItemBody.TheVariants.{BlockQuote as BlockQuoteBody, ListItem as ListItemBody, TaskListMarker}
+use Rattle.first_pass_items.specs.declared.option_set.Options.{Options}
+use Rattle.first_pass_items.specs.OptionWords.{has}
+use Rattle.first_pass_tree.specs.Forest.{Forest, appended}
+use Rattle.first_pass_scan.specs.Markers.{task_of}
+use Rattle.first_pass_scan.specs.Rest.{Rest, indent, after_columns, past_quote}
+use Rattle.first_pass_scan.specs.Places.{Place, place_at, offset, line_end, IsPlaceOf}
+use Rattle.first_pass_scan.proofs.PlaceFacts.{place_length, columns_keep, columns_shorter}
+use Rattle.first_pass_tokens.specs.Pieces.{Source}
+use Rattle.first_pass_tokens.specs.Order.{AreInOrder}
+use Rattle.first_pass_tokens.specs.TreeTokens.{chained, JoinsNone, AppendsLine}
+use Rattle.first_pass_tokens.proofs.LineLemmas.{line_alone, appended_line}
+use Rattle.first_pass_tokens.proofs.OrderLemmas.{order_bound, order_to, order_from, line_in_order}
+use Rattle.first_pass_grammar.specs.declared.kind.Container.TheVariants.{BlockQuote}
+use Rattle.first_pass_grammar.specs.Containers.{prefix}
+use Rattle.first_pass_grammar.specs.Kinds.{all_taken, unindented}
+use Rattle.first_pass_grammar.specs.Skeleton.{task_by, task_behind}
+use Rattle.first_pass_grammar.specs.Derivation.{node_of}
+use Rattle.first_pass_grammar.specs.Order.{IsOrderedTo}
+use Rattle.first_pass.specs.declared.containers.Opened.TheVariants.{Container as OneContainer}
+use Rattle.first_pass.specs.Appends.{with_child}
+use Rattle.first_pass.specs.Closing.{Reading, remembered, top_body, is_list, is_item, item_finished_by, item_finished, list_finished, begun, list_continued}
+use Rattle.first_pass.specs.Opening.{line_or, OrderedIn}
+use Rattle.first_pass.specs.Ordered.{reached, IsOrderedAt, AddsBetween, StandsBefore}
+use Rattle.first_pass.proofs.PathLemmas.{get_front}
+use Rattle.first_pass.proofs.OpenLemmas.{get_end}
+use Rattle.first_pass.proofs.PlaceLemmas.{all_keep, task_keeps, quote_less}
+use Rattle.first_pass.proofs.LineLemmas.{list_finished_none, list_continued_none}
+use Rattle.first_pass.proofs.OpenerLemmas.{item_opened}
+use Rattle.first_pass.proofs.OrderLemmas.{ordered_later, ordered_appended, ordered_added, ordered_begun, ordered_none, ordered_list_finished, ordered_list_continued}
+
+-- the less is left, the later is the place
+pub offset_later : (text : List ℕ) (line : ℕ) (r s : Rest) → IsPlaceOf text (place_at line r) → IsPlaceOf text (place_at line s) → length s.left ≤ length r.left → offset (place_at line r) ≤ offset (place_at line s)
+offset_later text line r s i j less =
+    let a = place_length text (place_at line r) i in
+    let b = place_length text (place_at line s) j in
+    omega arith
+
+by_list : (t : Bool) (text : List ℕ) (f : Forest Item) (line at : ℕ) → line ≤ at → at ≤ length text → IsOrderedTo text f line → IsOrderedTo text f (if t then line else at)
+by_list true text f line at low high o = o
+by_list false text f line at low high o = ordered_later text f line at low high o
+
+-- in order up to where a line begins, and so up to a place in it
+pub ordered_in_line : (text : List ℕ) (f : Forest Item) (line at : ℕ) → line ≤ at → at ≤ length text → IsOrderedTo text f line → IsOrderedTo text f (line_or f line at)
+ordered_in_line text f line at low high o = by_list (is_list (top_body f)) text f line at low high o
+
+or_below : (t : Bool) (line at : ℕ) → line ≤ at → (if t then line else at) ≤ at
+or_below true line at h = h
+or_below false line at h = omega arith
+
+-- at the latest up to the place
+pub line_or-below : (f : Forest Item) (line at : ℕ) → line ≤ at → line_or f line at ≤ at
+line_or-below f line at h = or_below (is_list (top_body f)) line at h
+
+line_or-list : (f : Forest Item) (line at : ℕ) → is_list (top_body f) ≡ true → line_or f line at ≤ line
+line_or-list f line at h = (let e : line_or f line at ≡ line = rw h refl in omega arith)
+
+-- in order further on where no list is innermost
+pub ordered_on : (text : List ℕ) (f : Forest Item) (line a at : ℕ) → is_list (top_body f) ≡ false → a ≤ at → at ≤ length text → IsOrderedTo text f a → IsOrderedTo text f (line_or f line at)
+ordered_on text f line a at none low high o = subst (IsOrderedTo text f) (let e : at ≡ line_or f line at = rw none refl in e) (ordered_later text f a at low high o)
+
+none_reached : (o : Option ℕ) (at : ℕ) → o ≡ None → reached o at ≡ at
+none_reached o at none = ap (λ z. reached z at) none
+
+-- what is remembered is in order where no item is empty
+pub ordered_tree : (text : List ℕ) (r : Reading) (at : ℕ) → r.empty_item ≡ None → IsOrderedAt text r at → IsOrderedTo text r.tree at
+ordered_tree text r at none o = subst (IsOrderedTo text r.tree) (none_reached r.empty_item at none) o.ordered
+
+-- what is innermost once it is opened
+pub top_begun : (start : ℕ) (body : ItemBody) (r : Reading) → top_body (begun start body r).tree ≡ Some body
+top_begun start body r = get_end r.tree.nodes (length r.tree.spine + 1, node_of start 0 body) [] (length r.tree.nodes) refl
+
+-- the same with a task list item marker in it
+pub top_marked : (start : ℕ) (body : ItemBody) (r : Reading) (marker : Option Item) → top_body (with_child (begun start body r).tree marker) ≡ Some body
+top_marked start body r None = top_begun start body r
+top_marked start body r (Some x) =
+    let f : Forest Item = (begun start body r).tree in
+    let more : length f.nodes ≡ length r.tree.nodes + 1 = length-append r.tree.nodes ((length r.tree.spine + 1, node_of start 0 body) ∷ []) in
+    let within : length r.tree.nodes < length f.nodes = omega arith in
+    ap (option_map (λ (n : ℕ × Item). n.1.body)) (get_front f.nodes ((length f.spine + 1, x) ∷ []) (length r.tree.nodes) within) ∙ top_begun start body r
+
+-- an item opened at a place in a line
+pub ordered_item : (text : List ℕ) (r : Reading) (line start byte number columns : ℕ) → line ≤ start → start ≤ length text → IsCharBoundary text start → r.empty_item ≡ None
+    → IsOrderedTo text r.tree (line_or r.tree line start) → IsOrderedTo text (item_opened start byte number columns r).tree start
+ordered_item text r line start byte number columns low high boundary none o =
+    let at : ℕ = line_or r.tree line start in
+    let below : at ≤ start = line_or-below r.tree line start low in
+    let before = ordered_none text r at none (omega arith) o in
+    let on = ordered_list_continued text r at start byte number below high boundary before in
+    ordered_begun text (list_continued start byte number r) start start (ListItemBody columns) (omega arith) high boundary (ordered_tree text (list_continued start byte number r) start (list_continued_none start byte number r) on)
+
+-- a block quote opened at a place in a line
+pub ordered_quote : (text : List ℕ) (r : Reading) (line at start : ℕ) (kind : Option BlockQuoteKind) → line ≤ at → at ≤ start → start ≤ length text → IsCharBoundary text line → IsCharBoundary text start → r.empty_item ≡ None
+    → IsOrderedTo text r.tree (line_or r.tree line at) → IsOrderedTo text (begun start (BlockQuoteBody kind) (list_finished line r)).tree start
+unfolding item_finished
+ordered_quote text r line at start kind low mid high first boundary none o =
+    let a : ℕ = line_or r.tree line at in
+    let below : a ≤ at = line_or-below r.tree line at low in
+    let before = ordered_none text r a none (omega arith) o in
+    let same : item_finished_by r r.empty_item ≡ r = ap (item_finished_by r) none in
+    let on = ordered_list_finished text r a line start (omega arith) (omega arith) high first (λ h. line_or-list r.tree line at (sym (ap (λ (q : Reading). is_list (top_body q.tree)) same) ∙ h)) before in
+    ordered_begun text (list_finished line r) start start (BlockQuoteBody kind) (omega arith) high boundary (ordered_tree text (list_finished line r) start (list_finished_none line r) on)
+
+-- where a new block begins, behind what it ends: a list that is innermost, at the line's beginning or at the block's first byte
+pub ordered_finished : (text : List ℕ) (r : Reading) (line at e start : ℕ) → line ≤ at → at ≤ start → (e ≡ line) × IsCharBoundary text line ⊎ (e ≡ start) → start ≤ length text → IsCharBoundary text start → r.empty_item ≡ None
+    → IsOrderedTo text r.tree (line_or r.tree line at) → IsOrderedTo text (list_finished e r).tree start
+unfolding item_finished
+ordered_finished text r line at e start low mid which high boundary none o =
+    let a : ℕ = line_or r.tree line at in
+    let below : a ≤ at = line_or-below r.tree line at low in
+    let before = ordered_none text r a none (omega arith) o in
+    let same : item_finished_by r r.empty_item ≡ r = ap (item_finished_by r) none in
+    let on : IsOrderedAt text (list_finished e r) start = elim which [
+      | inl (is, first) ↦
+          subst (λ z. IsOrderedAt text (list_finished z r) start) (sym is)
+          (ordered_list_finished text r a line start (omega arith) (omega arith) high first (λ h. line_or-list r.tree line at (sym (ap (λ (q : Reading). is_list (top_body q.tree)) same) ∙ h)) before)
+      | inr is ↦ subst (λ z. IsOrderedAt text (list_finished z r) start) (sym is) (ordered_list_finished text r a start start (omega arith) (omega arith) high boundary (λ h. omega arith) before)
+    ] in
+    ordered_tree text (list_finished e r) start (list_finished_none e r) on
+
+-- a task list item marker stands behind an item's own
+mark_by : (text : List ℕ) (line : ℕ) (r : Rest) (o : Option (Bool × Rest)) (from : ℕ) (x : Item) → IsUtf8 text → ((task : Bool × Rest) → o ≡ Some task → task_of r ≡ Some task) → IsPlaceOf text (place_at line r) → from ≤ offset (place_at line r)
+    → (task_by line r o).0 ≡ Some x → StandsBefore text from (offset (place_at line (task_by line r o).1)) (Some x)
+mark_by text line r None from x u h i low is = cc
+mark_by text line r (Some task) from x u h i low is =
+    let k = task_keeps text line r task u (h task refl) i in
+    let order = offset_later text line r task.1 i k.0 k.2 in
+    let y : Item = record { start = offset (place_at line r); «end» = offset (place_at line task.1); body = TaskListMarker task.0 } in
+    let same : y ≡ x = cc in
+    subst (λ (z : Item). StandsBefore text from (offset (place_at line task.1)) (Some z)) same (refl, record { behind = low; order = order; before = omega arith; starts = i.boundary; ends = k.0.boundary })
+
+option_on : (t : Bool) (o : Option (Bool × Rest)) (task : Bool × Rest) → (if t then o else None) ≡ Some task → o ≡ Some task
+option_on true o task h = h
+option_on false o task h = cc
+
+pub mark_stands : (text : List ℕ) (options : Options) (line : ℕ) (r s : Rest) (from : ℕ) (marker : Option Item) (x : Item) → IsUtf8 text → IsPlaceOf text (place_at line r) → from ≤ offset (place_at line r) → marker ≡ (task_behind options line r).0
+    → s ≡ (task_behind options line r).1 → marker ≡ Some x → StandsBefore text from (offset (place_at line s)) (Some x)
+mark_stands text options line r s from marker x u i low is rest some =
+    subst (λ (z : Rest). StandsBefore text from (offset (place_at line z)) (Some x)) (sym rest)
+    (mark_by text line r (if has options 16 then task_of r else None) from x u (λ task h. option_on (has options 16) (task_of r) task h) i low (sym is ∙ some))
+
+-- an item with something behind its markers
+pub ordered_container : (text : List ℕ) (q : Reading) (line start at : ℕ) (marker : Option Item) → is_list (top_body q.tree) ≡ false → start ≤ at → at ≤ length text → IsOrderedTo text q.tree start
+    → ((x : Item) → marker ≡ Some x → StandsBefore text start at (Some x)) → OrderedIn text q line at (OneContainer marker)
+ordered_container text q line start at None none low high o stands = ordered_on text q.tree line start at none low high o
+ordered_container text q line start at (Some x) none low high o stands = record { from = start; ordered = o; stands = stands x refl }
+
+marked_by : (text : List ℕ) (f : Forest Item) (start at next : ℕ) (marker : Option Item) → start ≤ next → at ≤ next → next ≤ length text → IsOrderedTo text f start → ((x : Item) → marker ≡ Some x → StandsBefore text start at (Some x)) → IsOrderedTo text (with_child f marker) next
+marked_by text f start at next None low mid high o stands = ordered_later text f start next low high o
+marked_by text f start at next (Some x) low mid high o stands =
+    let b = (stands x refl).1 in
+    let e = b.before in
+    ordered_appended text f start next x (record { behind = b.behind; order = b.order; before = omega arith; starts = b.starts; ends = b.ends }) high o
+
+-- one with nothing behind them
+pub ordered_empty_item : (text : List ℕ) (start at next columns : ℕ) (r : Reading) (marker : Option Item) (blank : Bool) → start ≤ next → at ≤ next → next ≤ length text → IsCharBoundary text next
+    → IsOrderedTo text (begun start (ListItemBody columns) r).tree start → ((x : Item) → marker ≡ Some x → StandsBefore text start at (Some x))
+    → IsOrderedAt text (remembered (with_child (begun start (ListItemBody columns) r).tree marker) (Some next) blank) next
+ordered_empty_item text start at next columns r marker blank low mid high boundary o stands = record {
+  ordered = marked_by text (begun start (ListItemBody columns) r).tree start at next marker low mid high o stands;
+  later = omega arith;
+  within = high;
+  innermost = λ e is. (ap is_item (top_marked start (ListItemBody columns) r marker), let same : next ≡ e = cc in subst (IsCharBoundary text) same boundary);
+}
+
+-- a block added
+pub ordered_block : (text : List ℕ) (old : Forest Item) (r : Reading) (from next : ℕ) → AddsBetween text from next old r.tree → next ≤ length text → r.empty_item ≡ None → IsOrderedTo text old from → IsOrderedAt text r next
+ordered_block text old r from next a high none o =
+    ordered_none text r next none high (subst (λ f. IsOrderedTo text f next) (sym a.tree_is) (ordered_added text old from next a.items a.fits high o))
+
+quote_start_before : (r s : Rest) → prefix (BlockQuote None) r ≡ Some s → length s.left < length (after_columns 3 r).left
+unfolding prefix
+quote_start_before r s is = quote_less (after_columns 3 r) s (past_quote (after_columns 3 r)) refl is
+
+-- where a block quote starts, between the place where it begins and the place inside
+pub quote_stands : (text : List ℕ) (line at : ℕ) (r s : Rest) → IsUtf8 text → prefix (BlockQuote None) r ≡ Some s → IsPlaceOf text (place_at line r) → IsPlaceOf text (place_at line s) → at ≡ (after_columns 3 r).taken
+    → (offset (place_at line r) ≤ line + at) × (line + at ≤ offset (place_at line s)) × IsCharBoundary text (line + at)
+quote_stands text line at r s u is i j at_is =
+    let q : Rest = after_columns 3 r in
+    let k = columns_keep text 3 (place_at line r) u i in
+    let a = offset_later text line r q i k (columns_shorter 3 r) in
+    let less = quote_start_before r s is in
+    let b = offset_later text line q s k j (omega arith) in
+    (omega arith, omega arith, subst (λ n. IsCharBoundary text (line + n)) (sym at_is) k.boundary)
+
+-- a place is at the latest where its line ends
+pub place_before_end : (p : Place) → offset p ≤ line_end p
+place_before_end p = omega arith
+
+-- a leaf block added at its place
+pub ordered_leaf : (text : List ℕ) (r new : Reading) (line at e start next : ℕ) → line ≤ at → at ≤ start → (e ≡ line) × IsCharBoundary text line ⊎ (e ≡ start) → start ≤ length text → IsCharBoundary text start → r.empty_item ≡ None
+    → IsOrderedTo text r.tree (line_or r.tree line at) → AddsBetween text start next (list_finished e r).tree new.tree → next ≤ length text → new.empty_item ≡ None → IsOrderedAt text new next
+ordered_leaf text r new line at e start next low mid which high boundary none o adds fits none' =
+    ordered_block text (list_finished e r).tree new start next adds fits none' (ordered_finished text r line at e start low mid which high boundary none o)
+
+-- the place behind the columns of another
+pub unindented_later : (text : List ℕ) (line : ℕ) (r : Rest) → IsUtf8 text → IsPlaceOf text (place_at line r) → offset (place_at line r) ≤ offset (unindented (place_at line r))
+unindented_later text line r u i = offset_later text line r (all_taken r) i (all_keep text line r u i) (columns_shorter (indent r) r)
+
+-- a chain added token by token
+ordered_chain : (text : List ℕ) (f : Forest Item) (from to : ℕ) (chain : List Item) → AreInOrder text from to chain → to ≤ length text → IsOrderedTo text f from → IsOrderedTo text (chained f chain) to
+ordered_chain text f from to [] h high o = ordered_later text f from to h high o
+ordered_chain text f from to (x ∷ xs) h high o =
+    let within = order_bound text x.«end» to xs h.4 in
+    ordered_chain text (appended f x) x.«end» to xs h.4 high
+    (ordered_appended text f from x.«end» x (record { behind = h.0; order = h.1; before = omega arith; starts = h.2; ends = h.3 }) (omega arith) o)
+
+-- the tokens of a line added, where none is joined
+pub ordered_line : (s : Source) (old new : Forest Item) (next : ℕ) (line_break : Option Item) (from : ℕ) → IsUtf8 s.text → IsCharBoundary s.text s.start → AppendsLine s old new (next, line_break) → JoinsNone old → from ≤ s.start
+    → IsOrderedTo s.text old from → IsOrderedTo s.text new next
+ordered_line s old new next line_break from u boundary h none low o =
+    let l = line_in_order u boundary boundary.0 h.line in
+    let tokens : AreInOrder s.text s.start next h.tokens = order_to s.text s.start _ next h.tokens l.tokens_fit l.before in
+    let is : new ≡ chained old h.tokens = appended_line old [] h refl none ∙ ap (chained old) (line_alone h.line) in
+    subst (λ f. IsOrderedTo s.text f next) (sym is) (ordered_chain s.text old from next h.tokens (order_from s.text from s.start next h.tokens tokens low) l.ends.0 o)
