@@ -365,6 +365,11 @@ const ITEMS: &[(&str, &str, &str)] = &[
     ),
     (
         "",
+        "* * *\n123456789. a\n1234567890. b",
+        "Root 0..32\n  Rule 0..6\n  List(tight,.,123456789) 6..32\n    ListItem(11) 6..32\n      TightParagraph 17..32\n        Text 17..18\n        SoftBreak 18..19\n        Text 19..32\n",
+    ),
+    (
+        "",
         "123456789. ok\n",
         "Root 0..14\n  List(tight,.,123456789) 0..14\n    ListItem(11) 0..14\n      TightParagraph 11..14\n        Text 11..13\n",
     ),

@@ -8,6 +8,16 @@ use std::test::Fail;
 const TEXTS: &[(&str, &str, &str)] = &[
     (
         "16",
+        "- [ ] a\n",
+        "Root 0..8\n  List(tight,-,0) 0..8\n    ListItem(2) 0..8\n      TightParagraph 6..8\n        TaskListMarker(false) 2..5\n        Text 6..7\n",
+    ),
+    (
+        "16",
+        "- [x]\n  a",
+        "Root 0..9\n  List(tight,-,0) 0..9\n    ListItem(2) 0..9\n      TaskListMarker(true) 2..5\n      TightParagraph 8..9\n        Text 8..9\n",
+    ),
+    (
+        "16",
         "- [ ] a\n- [x] b\n- [X] c",
         "Root 0..23\n  List(tight,-,0) 0..23\n    ListItem(2) 0..8\n      TightParagraph 6..8\n        TaskListMarker(false) 2..5\n        Text 6..7\n    ListItem(2) 8..16\n      TightParagraph 14..16\n        TaskListMarker(true) 10..13\n        Text 14..15\n    ListItem(2) 16..23\n      TightParagraph 22..23\n        TaskListMarker(true) 18..21\n        Text 22..23\n",
     ),
