@@ -1,5 +1,5 @@
 -- Thematic breaks and ATX headings are in order.
-use Rattle.std.proofs.Common.{◌≡◌, ◌⊎◌, inl, inr, ℕ, zero, suc, ◌+◌, ◌-◌, ◌<◌, ◌≤◌, ◌==◌, ◌||◌, Bool, true, false, List, [], ◌∷◌, length, take, drop, get_or, slice_index, nat_lt, Option, Some, None, IsUtf8, IsCharBoundary, refl, sym, ap, subst, ◌∙◌, arith, length-drop, length-take-le, get_or-drop, drop-drop, if◌then◌else◌}
+use Rattle.std.proofs.Common.{◌≡◌, ◌⊎◌, inl, inr, ℕ, zero, suc, ◌+◌, ◌-◌, ◌<◌, ◌≤◌, ◌==◌, ◌||◌, Bool, true, false, List, [], ◌∷◌, length, take, drop, get_or, slice_index, nat_lt, Some, None, IsUtf8, IsCharBoundary, refl, sym, ap, subst, ◌∙◌, arith, length-drop, length-take-le, get_or-drop, drop-drop, if◌then◌else◌}
 use Rattle.std.specs.Char.{is_ascii_punctuation}
 use Rattle.std.specs.List.{prefix_len, suffix_len}
 use Rattle.std.proofs.lemmas.Bool.{cond_both, cases_Bool, cases_lt, eqb-true, eq-eqb, or_cases, ltb-true, false≢true}
@@ -9,7 +9,7 @@ use Rattle.std.proofs.lemmas.List.Sums.{suffix_len-le-length, suffix_len-take_ye
 use Rattle.first_pass_items.specs.declared.item.Item.{Item}
 use Rattle.first_pass_items.specs.declared.item.HeadingLevel.{HeadingLevel}
 use Rattle.first_pass_items.specs.declared.item.ItemBody.TheVariants.{Heading as HeadingBody, Rule}
-use Rattle.first_pass_tree.specs.Forest.{Forest, at_depth, block_of, added}
+use Rattle.first_pass_tree.specs.Forest.{Forest, block_of, added}
 use Rattle.first_pass_scan.specs.Lines.{is_line_end, is_number_sign, is_white, ends_line, line_len, level_number, atx_level}
 use Rattle.first_pass_scan.specs.Places.{Place, IsPlaceOf, offset, moved_bytes, line_place}
 use Rattle.first_pass_scan.proofs.LineFacts.{line_len-none, line_len-step, line_len-some, line_len-fits}
@@ -22,8 +22,9 @@ use Rattle.first_pass_tokens.proofs.LineLemmas.{ends_line as line_ends}
 use Rattle.first_pass_tokens.proofs.OrderLemmas.{order_bound, order_from, order_to}
 use Rattle.first_pass_tokens.proofs.CutOrder.{cut_in_order, line_none_escaped}
 use Rattle.first_pass_grammar.specs.Leaves.{Document, is_put_aside, kept_len, heading_chain, heading_text_at, heading_block, rule_block, IsHeading, content_at}
-use Rattle.first_pass_grammar.specs.Order.{Extent, extent_of, extents, is_paragraph, Row, laid, IsBetween, Fits, FitsBetween}
+use Rattle.first_pass_grammar.specs.Order.{Extent, extent_of, is_paragraph, laid, IsBetween, Fits, FitsBetween}
 use Rattle.first_pass_grammar.specs.Order.Row.{Empty, Node}
+use Rattle.first_pass_grammar.proofs.Orders.{row_of, row_of-laid, row_of-fits}
 use Rattle.first_pass.specs.Appends.{AddsHeading, line_end_at}
 use Rattle.first_pass.specs.Ordered.{AddsBetween}
 use Rattle.first_pass.proofs.PlaceLemmas.{place_end, line_start_end}
@@ -206,31 +207,13 @@ heading_in_order d start chain end_of_line within h order =
           inr (omega arith, at, cut_in_order d.text start end_of_line (start + n) whole order at (omega arith) free)
     ]))
 
--- a chain as a row of nodes
-unfoldable row_of : List Item → Row
-row_of [] = Empty
-row_of (x ∷ xs) = Node (extent_of x) Empty (row_of xs)
-
-chain_laid : (depth : ℕ) (chain : List Item) → extents (at_depth depth (leaves chain)) ≡ laid depth (row_of chain)
-unfolding row_of laid
-chain_laid depth [] = refl
-chain_laid depth (x ∷ xs) =
-    let z : depth + 0 ≡ depth = omega arith in
-    ap (λ (k : ℕ). (k, extent_of x) ∷ extents (at_depth depth (leaves xs))) z ∙ ap (λ (ns : List (ℕ × Extent)). (depth, extent_of x) ∷ ns) (chain_laid depth xs)
-
-chain_fits : (text : List ℕ) (lead : Option ℕ) (from to : ℕ) (chain : List Item) → AreInOrder text from to chain → Fits text lead from to (row_of chain)
-unfolding row_of Fits
-chain_fits text lead from to [] h = h
-chain_fits text lead from to (x ∷ xs) h =
-    inl (record { behind = h.0; order = h.1; before = order_bound text x.«end» to xs h.4; starts = h.2; ends = h.3 }, h.1, chain_fits text None x.«end» to xs h.4)
-
 -- A block of a chain lies between two offsets where its item does, and the chain is in order within that.
 pub block_fits : (text : List ℕ) (from to : ℕ) (x : Item) (chain : List Item) → IsBetween text from to (extent_of x) → AreInOrder text x.start x.«end» chain → FitsBetween text from to (block_of x (leaves chain))
 unfolding laid Fits
 block_fits text from to x chain between order = (
   Node (extent_of x) (row_of chain) Empty,
-  ap (λ (ns : List (ℕ × Extent)). (0, extent_of x) ∷ ns) (chain_laid 1 chain ∙ sym (append-nil (laid 1 (row_of chain)))),
-  inl (between, chain_fits text (if is_paragraph x.body then Some from else None) x.start x.«end» chain order, between.before),
+  ap (λ (ns : List (ℕ × Extent)). (0, extent_of x) ∷ ns) (row_of-laid 1 chain ∙ sym (append-nil (laid 1 (row_of chain)))),
+  inl (between, row_of-fits text (if is_paragraph x.body then Some from else None) x.start x.«end» chain order, between.before),
 )
 
 -- A thematic break fits in its line.

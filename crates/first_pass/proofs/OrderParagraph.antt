@@ -1,17 +1,16 @@
 -- A paragraph's tokens are in order, and so is its block.
-use Rattle.std.proofs.Common.{◌≡◌, inl, inr, ℕ, ◌+◌, ◌≤◌, List, [], ◌∷◌, ◌++◌, length, drop, Option, Some, None, IfSome, IsUtf8, IsCharBoundary, refl, sym, ap, subst, ◌∙◌, arith}
+use Rattle.std.proofs.Common.{◌≡◌, inl, inr, ℕ, ◌≤◌, List, [], ◌∷◌, ◌++◌, length, drop, Option, Some, None, IfSome, IsUtf8, IsCharBoundary, refl, sym, ap, subst, ◌∙◌, arith}
 use Rattle.std.proofs.lemmas.List.{append-nil}
 use Rattle.std.proofs.lemmas.Bool.{cases_lt}
 use Rattle.first_pass_items.specs.declared.item.Item.{Item}
 use Rattle.first_pass_items.specs.declared.item.ItemBody.TheVariants.{Paragraph}
-use Rattle.first_pass_tree.specs.Forest.{Forest, at_depth}
+use Rattle.first_pass_tree.specs.Forest.{Forest}
 use Rattle.first_pass_scan.specs.Places.{Place, offset, line_rest, line_place, place_at, IsPlaceOf, start_of}
 use Rattle.first_pass_scan.proofs.LineFacts.{lines_at-line, lines_at-end}
 use Rattle.first_pass_scan.proofs.PlaceFacts.{start_of-lines}
 use Rattle.first_pass_tokens.specs.LineTokens.{IsLine, EndsLine, text_end}
 use Rattle.first_pass_tokens.specs.Chains.{add_tokens, close_break}
 use Rattle.first_pass_tokens.specs.Order.{AreInOrder}
-use Rattle.first_pass_tokens.specs.TreeTokens.{leaves}
 use Rattle.first_pass_tokens.proofs.LineLemmas.{ends_line}
 use Rattle.first_pass_tokens.proofs.OrderLemmas.{StandsBehind, LineInOrder, line_in_order, order_bound, order_to, order_append, order_adds, order_closed}
 use Rattle.first_pass_grammar.specs.declared.kind.Container.{Container}
@@ -19,8 +18,9 @@ use Rattle.first_pass_grammar.specs.Containers.{at_rest, front}
 use Rattle.first_pass_grammar.specs.Kinds.{unindented}
 use Rattle.first_pass_grammar.specs.Leaves.{Document, content_at, add_break, IsParagraph, paragraph_block, marker_items}
 use Rattle.first_pass_grammar.specs.Completion.{lines_from}
-use Rattle.first_pass_grammar.specs.Order.{Extent, Row, Empty, Node, extent_of, extents, laid, Fits, FitsBetween, IsBetween}
+use Rattle.first_pass_grammar.specs.Order.{Extent, Empty, Node, extent_of, extents, laid, Fits, FitsBetween, IsBetween}
 use Rattle.first_pass.specs.Appends.{line_end_at, AddsParagraph}
+use Rattle.first_pass_grammar.proofs.Orders.{row_of, row_of-laid, row_of-fits}
 use Rattle.first_pass.specs.Ordered.{AddsBetween, StandsBefore}
 use Rattle.first_pass.specs.Path.{path_of}
 use Rattle.first_pass.proofs.ParagraphLemmas.{line_end-text}
@@ -87,30 +87,6 @@ pub paragraph_in_order : (d : Document) (path : List Container) (start : ℕ) (w
     → IsParagraph d path start [] (lines_from d.text (line_end_at d.text start)) whole left → AreInOrder d.text start (start_of (length d.text) left) whole
 paragraph_in_order d path start whole left utf8 boundary lines =
     lines_in_order d path utf8 start (lines_from d.text (line_end_at d.text start)) start [] whole left refl boundary (omega arith) lines
-
--- items side by side, nothing below them
-unfoldable pub row_of : List Item → Row
-row_of [] = Empty
-row_of (x ∷ xs) = Node (extent_of x) Empty (row_of xs)
-
--- a row of leaves in reading order, and that it is in order
-pub row_of-laid : (k : ℕ) (chain : List Item) → extents (at_depth k (leaves chain)) ≡ laid k (row_of chain)
-unfolding laid row_of
-row_of-laid k [] = refl
-row_of-laid k (x ∷ xs) =
-    let none : k + 0 ≡ k = omega arith in
-    ap (λ (j : ℕ). (j, extent_of x) ∷ extents (at_depth k (leaves xs))) none ∙ ap (λ (row : List (ℕ × Extent)). (k, extent_of x) ∷ row) (row_of-laid k xs)
-
-pub row_of-fits : (text : List ℕ) (lead : Option ℕ) (from to : ℕ) (chain : List Item) → AreInOrder text from to chain → Fits text lead from to (row_of chain)
-unfolding Fits row_of
-row_of-fits text lead from to [] h = h
-row_of-fits text lead from to (x ∷ xs) h =
-    let later = order_bound text x.«end» to xs h.4 in
-    inl (record { behind = h.0; order = h.1; before = later; starts = h.2; ends = h.3 }, h.1, row_of-fits text None x.«end» to xs h.4)
-
--- the leaves of a chain in order, at any depth and behind any lead
-pub leaves_fit : (text : List ℕ) (lead : Option ℕ) (from to k : ℕ) (chain : List Item) → AreInOrder text from to chain → (row : Row) × (extents (at_depth k (leaves chain)) ≡ laid k row) × Fits text lead from to row
-leaves_fit text lead from to k chain h = (row_of chain, row_of-laid k chain, row_of-fits text lead from to chain h)
 
 -- what stands below a paragraph
 kids_fit : (text : List ℕ) (from start next : ℕ) (marker : Option Item) (chain : List Item) → AreInOrder text start next chain → StandsBefore text from start marker

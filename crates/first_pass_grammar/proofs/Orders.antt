@@ -7,6 +7,9 @@ use Rattle.first_pass_items.specs.declared.item.ItemBody.TheVariants.{Paragraph 
 use Rattle.first_pass_tree.specs.declared.tree_index.TreeIndex.{TreeIndex}
 use Rattle.first_pass_tree.specs.Forest.{modify, at_depth, body_at}
 use Rattle.first_pass_tree.proofs.Blocks.{at_depth-append}
+use Rattle.first_pass_tokens.specs.Order.{AreInOrder}
+use Rattle.first_pass_tokens.specs.TreeTokens.{leaves}
+use Rattle.first_pass_tokens.proofs.OrderLemmas.{order_bound}
 use Rattle.first_pass_grammar.specs.Derivation.{tight_body, tightened}
 use Rattle.first_pass_grammar.specs.Order.{Extent, is_paragraph, is_task_marker, extent_of, extents, Row, Empty, Node, laid, IsBetween, IsLead, Fits, laid_open, AreAt, FitsOpen}
 
@@ -233,3 +236,23 @@ fits-whole text root to row whole start_is end_is within h =
     let last : root.«end» ≤ length text = omega arith in
     let inside : Fits text None root.start root.«end» row = subst (λ (n : ℕ). Fits text None n root.«end» row) (sym start_is) (fits-later text None 0 to root.«end» row later h) in
     inl (whole, fits-any_lead text (if root.paragraph then Some 0 else None) root.start root.«end» row inside, last)
+
+-- items side by side, nothing below them
+unfoldable pub row_of : List Item → Row
+row_of [] = Empty
+row_of (x ∷ xs) = Node (extent_of x) Empty (row_of xs)
+
+-- a row of leaves in reading order, and that it is in order
+pub row_of-laid : (k : ℕ) (chain : List Item) → extents (at_depth k (leaves chain)) ≡ laid k (row_of chain)
+unfolding laid row_of
+row_of-laid k [] = refl
+row_of-laid k (x ∷ xs) =
+    let none : k + 0 ≡ k = omega arith in
+    ap (λ (j : ℕ). (j, extent_of x) ∷ extents (at_depth k (leaves xs))) none ∙ ap (λ (row : List (ℕ × Extent)). (k, extent_of x) ∷ row) (row_of-laid k xs)
+
+pub row_of-fits : (text : List ℕ) (lead : Option ℕ) (from to : ℕ) (chain : List Item) → AreInOrder text from to chain → Fits text lead from to (row_of chain)
+unfolding Fits row_of
+row_of-fits text lead from to [] h = h
+row_of-fits text lead from to (x ∷ xs) h =
+    let later = order_bound text x.«end» to xs h.4 in
+    inl (record { behind = h.0; order = h.1; before = later; starts = h.2; ends = h.3 }, h.1, row_of-fits text None x.«end» to xs h.4)
