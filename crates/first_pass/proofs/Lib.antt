@@ -9,6 +9,7 @@ pub mod ListLemmas
 pub mod OpenLemmas
 pub mod OpenerLemmas
 pub mod OrderHeading
+pub mod OrderJoin
 pub mod OrderLemmas
 pub mod OrderParagraph
 pub mod OrderSteps

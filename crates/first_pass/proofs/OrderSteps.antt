@@ -7,16 +7,11 @@ use Rattle.first_pass_items.specs.declared.item.ItemBody.{ItemBody}
 use Rattle.first_pass_items.specs.declared.item.ItemBody.TheVariants.{BlockQuote as BlockQuoteBody, ListItem as ListItemBody, TaskListMarker}
 use Rattle.first_pass_items.specs.declared.option_set.Options.{Options}
 use Rattle.first_pass_items.specs.OptionWords.{has}
-use Rattle.first_pass_tree.specs.Forest.{Forest, appended}
+use Rattle.first_pass_tree.specs.Forest.{Forest}
 use Rattle.first_pass_scan.specs.Markers.{task_of}
 use Rattle.first_pass_scan.specs.Rest.{Rest, indent, after_columns, past_quote}
 use Rattle.first_pass_scan.specs.Places.{Place, place_at, offset, line_end, IsPlaceOf}
 use Rattle.first_pass_scan.proofs.PlaceFacts.{place_length, columns_keep, columns_shorter}
-use Rattle.first_pass_tokens.specs.Pieces.{Source}
-use Rattle.first_pass_tokens.specs.Order.{AreInOrder}
-use Rattle.first_pass_tokens.specs.TreeTokens.{chained, JoinsNone, AppendsLine}
-use Rattle.first_pass_tokens.proofs.LineLemmas.{line_alone, appended_line}
-use Rattle.first_pass_tokens.proofs.OrderLemmas.{order_bound, order_to, order_from, line_in_order}
 use Rattle.first_pass_grammar.specs.declared.kind.Container.TheVariants.{BlockQuote}
 use Rattle.first_pass_grammar.specs.Containers.{prefix}
 use Rattle.first_pass_grammar.specs.Kinds.{all_taken, unindented}
@@ -202,20 +197,3 @@ ordered_leaf text r new line at e start next low mid which high boundary none o 
 -- the place behind the columns of another
 pub unindented_later : (text : List ℕ) (line : ℕ) (r : Rest) → IsUtf8 text → IsPlaceOf text (place_at line r) → offset (place_at line r) ≤ offset (unindented (place_at line r))
 unindented_later text line r u i = offset_later text line r (all_taken r) i (all_keep text line r u i) (columns_shorter (indent r) r)
-
--- a chain added token by token
-ordered_chain : (text : List ℕ) (f : Forest Item) (from to : ℕ) (chain : List Item) → AreInOrder text from to chain → to ≤ length text → IsOrderedTo text f from → IsOrderedTo text (chained f chain) to
-ordered_chain text f from to [] h high o = ordered_later text f from to h high o
-ordered_chain text f from to (x ∷ xs) h high o =
-    let within = order_bound text x.«end» to xs h.4 in
-    ordered_chain text (appended f x) x.«end» to xs h.4 high
-    (ordered_appended text f from x.«end» x (record { behind = h.0; order = h.1; before = omega arith; starts = h.2; ends = h.3 }) (omega arith) o)
-
--- the tokens of a line added, where none is joined
-pub ordered_line : (s : Source) (old new : Forest Item) (next : ℕ) (line_break : Option Item) (from : ℕ) → IsUtf8 s.text → IsCharBoundary s.text s.start → AppendsLine s old new (next, line_break) → JoinsNone old → from ≤ s.start
-    → IsOrderedTo s.text old from → IsOrderedTo s.text new next
-ordered_line s old new next line_break from u boundary h none low o =
-    let l = line_in_order u boundary boundary.0 h.line in
-    let tokens : AreInOrder s.text s.start next h.tokens = order_to s.text s.start _ next h.tokens l.tokens_fit l.before in
-    let is : new ≡ chained old h.tokens = appended_line old [] h refl none ∙ ap (chained old) (line_alone h.line) in
-    subst (λ f. IsOrderedTo s.text f next) (sym is) (ordered_chain s.text old from next h.tokens (order_from s.text from s.start next h.tokens tokens low) l.ends.0 o)

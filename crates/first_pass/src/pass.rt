@@ -4,7 +4,7 @@ ghost use Rattle.std.specs.Prelude.{◌≡◌, ◌<◌, ◌≤◌, false, [], le
 ghost use Rattle.first_pass_scan.specs.Places.{place_at, offset, line_end, IsPlaceOf};
 ghost use Rattle.first_pass_below.specs.Walk.{MarksSpecial};
 ghost use Rattle.first_pass_tokens.specs.LineTokens.{EndsLine};
-ghost use Rattle.first_pass_tokens.specs.TreeTokens.{AppendsLine, JoinsNone};
+ghost use Rattle.first_pass_tokens.specs.TreeTokens.{AppendsLine};
 ghost use Rattle.first_pass_grammar.specs.Leaves.{document};
 ghost use Rattle.first_pass_grammar.specs.declared.kind.Container.TheVariants.{BlockQuote};
 ghost use Rattle.first_pass_grammar.specs.Containers.{prefix};
@@ -255,9 +255,10 @@ impl<'a> FirstPass<'a> {
         ensures ends { IfOk result (λ answer. EndsLine
             (record { options = self.old.options; text = text_upto self.old.text.now end; start = start }) answer) }
         ensures boundary { IfOk result (λ answer. end ≡ None → IsCharBoundary self.old.text.now start → IsCharBoundary self.old.text.now answer.0) }
-        ensures order { IfOk result (λ answer. end ≡ None → JoinsNone self.old.tree → IsCharBoundary self.old.text.now start → (from : ℕ) → from ≤ start
+        ensures order { IfOk result (λ answer. end ≡ None → IsCharBoundary self.old.text.now start → (from : ℕ) → from ≤ start
             → IsOrderedTo self.old.text.now self.old.tree from → IsOrderedTo self.old.text.now self.new.tree answer.0) }
     {
+        self.tree.is_forest();
         let bytes = text_upto(self.text, end);
         let answer = append_line(
             bytes,

@@ -2,7 +2,7 @@ use Rattle.std.proofs.Common.{◌≡◌, refl, ap, subst, ◌∙◌}
 use Rattle.first_pass_grammar.specs.Leaves.{document, content_at}
 use Rattle.first_pass.specs.Appends.{text_upto}
 use Rattle.first_pass_tokens.specs.TreeTokens.{AppendsLine}
-use Rattle.first_pass.proofs.OrderSteps.{ordered_line}
+use Rattle.first_pass.proofs.OrderJoin.{ordered_line}
 use Rattle.first_pass.proofs.ParagraphLemmas.{next_boundary, same_end}
 use Rattle.first_pass.proofs.pass.FirstPass.parse_line.Goals as goal
 
@@ -14,7 +14,7 @@ returns-clause-boundary c = λ whole boundary.
     next_boundary (document text c.args.self.now.options) c.args.start c.in_ok-answer.answer.0 c.in_ok-answer.answer.1 c.text_upto-bytes.ensures.utf8 boundary ends
 
 pub returns-clause-order : goal.returns-clause-order
-returns-clause-order c = λ whole none boundary from low ordered.
+returns-clause-order c = λ whole boundary from low ordered.
     let text = c.args.self.now.text.now in
     let options = c.args.self.now.options in
     let old = c.args.self.now.tree in
@@ -22,4 +22,4 @@ returns-clause-order c = λ whole none boundary from low ordered.
     let answer = c.in_ok-answer.answer in
     let e : c.text_upto-bytes.result.now ≡ text = c.text_upto-bytes.ensures.value ∙ ap (text_upto text) whole in
     let h : AppendsLine (content_at (document text options) c.args.start) old new answer = subst (λ t. AppendsLine (content_at (document t options) c.args.start) old new answer) e c.in_ok-answer.ensures.line in
-    ordered_line (content_at (document text options) c.args.start) old new answer.0 answer.1 from c.text_upto-bytes.ensures.utf8 boundary h none low ordered
+    ordered_line (content_at (document text options) c.args.start) old new answer.0 answer.1 from c.text_upto-bytes.ensures.utf8 boundary c.is_forest.ensures h low ordered
