@@ -1,5 +1,5 @@
 -- A text joined to the last child of the innermost open node: order is kept.
-use Rattle.std.proofs.Common.{◌≡◌, ◌⊎◌, inl, inr, ℕ, zero, suc, ◌+◌, ◌<◌, ◌≤◌, ◌==◌, ◌&&◌, Bool, true, false, List, [], ◌∷◌, ◌++◌, length, slice_get, slice_index, Option, Some, None, IfSome, IsUtf8, IsCharBoundary, refl, sym, ap, subst, ◌∙◌, arith, if◌then◌else◌}
+use Rattle.std.proofs.Common.{◌≡◌, ◌⊎◌, inl, inr, ℕ, zero, suc, ◌+◌, ◌<◌, ◌≤◌, ◌==◌, ◌&&◌, Bool, true, false, List, [], ◌∷◌, ◌++◌, length, slice_get, slice_index, Option, Some, None, IfSome, IsUtf8, IsCharBoundary, refl, sym, ap, subst, ◌∙◌, arith, if◌then◌else◌, take}
 use Rattle.std.proofs.lemmas.Bool.{and_parts, eqb-true}
 use Rattle.std.specs.Option.{option_map}
 use Rattle.first_pass_items.specs.declared.item.Item.{Item}
@@ -11,7 +11,10 @@ use Rattle.first_pass_tree.proofs.Keeps.{appended-is, modified-is}
 use Rattle.first_pass_tokens.specs.Order.{AreInOrder}
 use Rattle.first_pass_tokens.specs.TreeTokens.{with_token, with_tokens, AppendsLine}
 use Rattle.first_pass_tokens.proofs.OrderLemmas.{order_bound, order_to, order_from, line_in_order}
-use Rattle.first_pass_tokens.specs.Pieces.{Source}
+use Rattle.first_pass_grammar.specs.Leaves.{Document, document, content_at}
+use Rattle.first_pass.specs.Appends.{text_upto}
+use Rattle.std.proofs.lemmas.Str.{IsUtf8-take, IsCharBoundary-from_take}
+use Rattle.std.proofs.lemmas.List.{length-take-le}
 use Rattle.first_pass_grammar.specs.Order.{Extent, extent_of, extents, is_task_marker, Row, Empty, Node, laid, IsBetween, IsLead, Fits, laid_open, FitsOpen, IsOrderedTo}
 use Rattle.first_pass_grammar.proofs.Orders.{beside, ended_at, laid_open-beside, length-places, fits-order, fits-later, extents-ended}
 use Rattle.first_pass.proofs.OrderLemmas.{ordered_later, ordered_appended}
@@ -203,10 +206,46 @@ ordered_tokens text f from to (x ∷ xs) forest h high o =
     let one = token_by (is_text x.body && joins_at f x.start f.current) text f from x refl forest (record { behind = h.0; order = h.1; before = omega arith; starts = h.2; ends = h.3 }) (omega arith) o in
     ordered_tokens text (with_token f x) x.«end» to xs one.0 h.4 high one.1
 
--- the tokens of a line added
-pub ordered_line : (s : Source) (old new : Forest Item) (next : ℕ) (line_break : Option Item) (from : ℕ) → IsUtf8 s.text → IsCharBoundary s.text s.start → IsForest old → AppendsLine s old new (next, line_break) → from ≤ s.start
-    → IsOrderedTo s.text old from → IsOrderedTo s.text new next
-ordered_line s old new next line_break from u boundary forest h low o =
+-- a front of a front
+take_less : (i e : ℕ) (xs : List ℕ) → i ≤ e → take i (take e xs) ≡ take i xs
+take_less zero e xs h = refl
+take_less (suc i) zero xs h = absurd (omega arith)
+take_less (suc i) (suc e) [] h = refl
+take_less (suc i) (suc e) (x ∷ xs) h = ap (λ z. x ∷ z) (take_less i e xs (omega arith))
+
+module _ (text : List ℕ) (e : ℕ) (utf8 : IsUtf8 text) (ends : IsCharBoundary text e) where
+  -- of the front of a text, which ends between two characters
+  front_len : length (take e text) ≡ e
+  front_len = length-take-le e text ends.0
+
+  front_utf8 : IsUtf8 (take e text)
+  front_utf8 = IsUtf8-take text e utf8 ends
+
+  place_in_text : (i : ℕ) → IsCharBoundary (take e text) i → IsCharBoundary text i
+  place_in_text i b =
+      let n = front_len in
+      let low = b.0 in
+      let high = ends.0 in
+      IsCharBoundary-from_take text i utf8 (omega arith) (subst IsUtf8 (take_less i e text (omega arith)) (IsUtf8-take (take e text) i front_utf8 b))
+
+  place_in_front : (i : ℕ) → i ≤ e → IsCharBoundary text i → IsCharBoundary (take e text) i
+  place_in_front i low b =
+      let n = front_len in
+      IsCharBoundary-from_take (take e text) i front_utf8 (omega arith) (subst IsUtf8 (sym (take_less i e text low)) (IsUtf8-take text i utf8 b))
+
+  order_in_text : (from to : ℕ) (chain : List Item) → AreInOrder (take e text) from to chain → AreInOrder text from to chain
+  order_in_text from to [] h = h
+  order_in_text from to (x ∷ xs) h = (h.0, h.1, place_in_text x.start h.2, place_in_text x.«end» h.3, order_in_text x.«end» to xs h.4)
+
+-- the tokens of a line added, which begins at an offset of a text of which nothing counts from another on, or all
+pub ordered_line : (d : Document) (start : ℕ) (end : Option ℕ) (old new : Forest Item) (next : ℕ) (line_break : Option Item) (from : ℕ) → IsUtf8 d.text → IfSome end (λ e. (start ≤ e) × IsCharBoundary d.text e) → IsCharBoundary d.text start → IsForest old
+    → AppendsLine (content_at (document (text_upto d.text end) d.options) start) old new (next, line_break) → from ≤ start → IsOrderedTo d.text old from → IsOrderedTo d.text new next
+ordered_line d start None old new next line_break from u ends boundary forest h low o =
     let l = line_in_order u boundary boundary.0 h.line in
-    let tokens : AreInOrder s.text s.start next h.tokens = order_to s.text s.start _ next h.tokens l.tokens_fit l.before in
-    subst (λ f. IsOrderedTo s.text f next) (sym h.tree_is) (ordered_tokens s.text old from next h.tokens forest (order_from s.text from s.start next h.tokens tokens low) l.ends.0 o)
+    let tokens : AreInOrder d.text start next h.tokens = order_to d.text start _ next h.tokens l.tokens_fit l.before in
+    subst (λ f. IsOrderedTo d.text f next) (sym h.tree_is) (ordered_tokens d.text old from next h.tokens forest (order_from d.text from start next h.tokens tokens low) l.ends.0 o)
+ordered_line d start (Some e) old new next line_break from u ends boundary forest h low o =
+    let first = place_in_front d.text e u ends.1 start ends.0 boundary in
+    let l = line_in_order (front_utf8 d.text e u ends.1) first first.0 h.line in
+    let tokens : AreInOrder d.text start next h.tokens = order_in_text d.text e u ends.1 start next h.tokens (order_to (take e d.text) start _ next h.tokens l.tokens_fit l.before) in
+    subst (λ f. IsOrderedTo d.text f next) (sym h.tree_is) (ordered_tokens d.text old from next h.tokens forest (order_from d.text from start next h.tokens tokens low) (place_in_text d.text e u ends.1 next l.ends).0 o)

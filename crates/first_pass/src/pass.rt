@@ -255,7 +255,7 @@ impl<'a> FirstPass<'a> {
         ensures ends { IfOk result (λ answer. EndsLine
             (record { options = self.old.options; text = text_upto self.old.text.now end; start = start }) answer) }
         ensures boundary { IfOk result (λ answer. end ≡ None → IsCharBoundary self.old.text.now start → IsCharBoundary self.old.text.now answer.0) }
-        ensures order { IfOk result (λ answer. end ≡ None → IsCharBoundary self.old.text.now start → (from : ℕ) → from ≤ start
+        ensures order { IfOk result (λ answer. IfSome end (λ e. IsCharBoundary self.old.text.now e) → IsCharBoundary self.old.text.now start → (from : ℕ) → from ≤ start
             → IsOrderedTo self.old.text.now self.old.tree from → IsOrderedTo self.old.text.now self.new.tree answer.0) }
     {
         self.tree.is_forest();
