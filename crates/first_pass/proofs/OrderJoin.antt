@@ -15,7 +15,8 @@ use Rattle.first_pass_grammar.specs.Leaves.{Document, document, content_at}
 use Rattle.first_pass.specs.Appends.{text_upto}
 use Rattle.std.proofs.lemmas.Str.{IsUtf8-take, IsCharBoundary-from_take}
 use Rattle.std.proofs.lemmas.List.{length-take-le}
-use Rattle.first_pass_grammar.specs.Order.{Extent, extent_of, extents, is_task_marker, Row, Empty, Node, laid, IsBetween, IsLead, Fits, laid_open, FitsOpen, IsOrderedTo}
+use Rattle.first_pass_grammar.specs.Order.{Extent, extent_of, extents, is_task_marker, Row, Empty, Node, laid, IsBetween, IsLead, Fits}
+use Rattle.first_pass_grammar.specs.OpenOrder.{laid_open, FitsOpen, IsOrderedTo}
 use Rattle.first_pass_grammar.proofs.Orders.{beside, ended_at, laid_open-beside, length-places, fits-order, fits-later, extents-ended}
 use Rattle.first_pass.proofs.OrderLemmas.{ordered_later, ordered_appended}
 

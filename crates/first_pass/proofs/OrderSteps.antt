@@ -17,7 +17,7 @@ use Rattle.first_pass_grammar.specs.Containers.{prefix}
 use Rattle.first_pass_grammar.specs.Kinds.{all_taken, unindented}
 use Rattle.first_pass_grammar.specs.Skeleton.{task_by, task_behind}
 use Rattle.first_pass_grammar.specs.Derivation.{node_of}
-use Rattle.first_pass_grammar.specs.Order.{IsOrderedTo}
+use Rattle.first_pass_grammar.specs.OpenOrder.{IsOrderedTo}
 use Rattle.first_pass.specs.declared.containers.Opened.TheVariants.{Container as OneContainer}
 use Rattle.first_pass.specs.Appends.{with_child}
 use Rattle.first_pass.specs.Closing.{Reading, remembered, top_body, is_list, is_item, item_finished_by, item_finished, list_finished, begun, list_continued}
@@ -25,7 +25,7 @@ use Rattle.first_pass.specs.Opening.{line_or, OrderedIn}
 use Rattle.first_pass.specs.Ordered.{reached, IsOrderedAt, AddsBetween, StandsBefore}
 use Rattle.first_pass.proofs.PathLemmas.{get_front}
 use Rattle.first_pass.proofs.OpenLemmas.{get_end}
-use Rattle.first_pass.proofs.PlaceLemmas.{all_keep, task_keeps, quote_less}
+use Rattle.first_pass.proofs.PlaceLemmas.{all_keep, task_keeps, option_on, quote_less}
 use Rattle.first_pass.proofs.LineLemmas.{list_finished_none, list_continued_none}
 use Rattle.first_pass.proofs.OpenerLemmas.{item_opened}
 use Rattle.first_pass.proofs.OrderLemmas.{ordered_later, ordered_appended, ordered_added, ordered_begun, ordered_none, ordered_list_finished, ordered_list_continued}
@@ -90,18 +90,6 @@ ordered_item text r line start byte number columns low high boundary none o =
     let on = ordered_list_continued text r at start byte number below high boundary before in
     ordered_begun text (list_continued start byte number r) start start (ListItemBody columns) (omega arith) high boundary (ordered_tree text (list_continued start byte number r) start (list_continued_none start byte number r) on)
 
--- a block quote opened at a place in a line
-pub ordered_quote : (text : List ℕ) (r : Reading) (line at start : ℕ) (kind : Option BlockQuoteKind) → line ≤ at → at ≤ start → start ≤ length text → IsCharBoundary text line → IsCharBoundary text start → r.empty_item ≡ None
-    → IsOrderedTo text r.tree (line_or r.tree line at) → IsOrderedTo text (begun start (BlockQuoteBody kind) (list_finished line r)).tree start
-unfolding item_finished
-ordered_quote text r line at start kind low mid high first boundary none o =
-    let a : ℕ = line_or r.tree line at in
-    let below : a ≤ at = line_or-below r.tree line at low in
-    let before = ordered_none text r a none (omega arith) o in
-    let same : item_finished_by r r.empty_item ≡ r = ap (item_finished_by r) none in
-    let on = ordered_list_finished text r a line start (omega arith) (omega arith) high first (λ h. line_or-list r.tree line at (sym (ap (λ (q : Reading). is_list (top_body q.tree)) same) ∙ h)) before in
-    ordered_begun text (list_finished line r) start start (BlockQuoteBody kind) (omega arith) high boundary (ordered_tree text (list_finished line r) start (list_finished_none line r) on)
-
 -- where a new block begins, behind what it ends: a list that is innermost, at the line's beginning or at the block's first byte
 pub ordered_finished : (text : List ℕ) (r : Reading) (line at e start : ℕ) → line ≤ at → at ≤ start → (e ≡ line) × IsCharBoundary text line ⊎ (e ≡ start) → start ≤ length text → IsCharBoundary text start → r.empty_item ≡ None
     → IsOrderedTo text r.tree (line_or r.tree line at) → IsOrderedTo text (list_finished e r).tree start
@@ -119,6 +107,12 @@ ordered_finished text r line at e start low mid which high boundary none o =
     ] in
     ordered_tree text (list_finished e r) start (list_finished_none e r) on
 
+-- a block quote opened at a place in a line
+pub ordered_quote : (text : List ℕ) (r : Reading) (line at start : ℕ) (kind : Option BlockQuoteKind) → line ≤ at → at ≤ start → start ≤ length text → IsCharBoundary text line → IsCharBoundary text start → r.empty_item ≡ None
+    → IsOrderedTo text r.tree (line_or r.tree line at) → IsOrderedTo text (begun start (BlockQuoteBody kind) (list_finished line r)).tree start
+ordered_quote text r line at start kind low mid high first boundary none o =
+    ordered_begun text (list_finished line r) start start (BlockQuoteBody kind) (omega arith) high boundary (ordered_finished text r line at line start low mid (inl (refl, first)) high boundary none o)
+
 -- a task list item marker stands behind an item's own
 mark_by : (text : List ℕ) (line : ℕ) (r : Rest) (o : Option (Bool × Rest)) (from : ℕ) (x : Item) → IsUtf8 text → ((task : Bool × Rest) → o ≡ Some task → task_of r ≡ Some task) → IsPlaceOf text (place_at line r) → from ≤ offset (place_at line r)
     → (task_by line r o).0 ≡ Some x → StandsBefore text from (offset (place_at line (task_by line r o).1)) (Some x)
@@ -129,10 +123,6 @@ mark_by text line r (Some task) from x u h i low is =
     let y : Item = record { start = offset (place_at line r); «end» = offset (place_at line task.1); body = TaskListMarker task.0 } in
     let same : y ≡ x = cc in
     subst (λ (z : Item). StandsBefore text from (offset (place_at line task.1)) (Some z)) same (refl, record { behind = low; order = order; before = omega arith; starts = i.boundary; ends = k.0.boundary })
-
-option_on : (t : Bool) (o : Option (Bool × Rest)) (task : Bool × Rest) → (if t then o else None) ≡ Some task → o ≡ Some task
-option_on true o task h = h
-option_on false o task h = cc
 
 pub mark_stands : (text : List ℕ) (options : Options) (line : ℕ) (r s : Rest) (from : ℕ) (marker : Option Item) (x : Item) → IsUtf8 text → IsPlaceOf text (place_at line r) → from ≤ offset (place_at line r) → marker ≡ (task_behind options line r).0
     → s ≡ (task_behind options line r).1 → marker ≡ Some x → StandsBefore text from (offset (place_at line s)) (Some x)

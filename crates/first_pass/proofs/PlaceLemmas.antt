@@ -213,7 +213,7 @@ behind_by : (text : List ℕ) (line : ℕ) (r : Rest) (o : Option (Bool × Rest)
 behind_by text line r None h u i = (i, refl, omega arith)
 behind_by text line r (Some task) h u i = task_keeps text line r task u (h task refl) i
 
-option_on : (t : Bool) (o : Option (Bool × Rest)) (task : Bool × Rest) → (if t then o else None) ≡ Some task → o ≡ Some task
+pub option_on : (t : Bool) (o : Option (Bool × Rest)) (task : Bool × Rest) → (if t then o else None) ≡ Some task → o ≡ Some task
 option_on true o task h = h
 option_on false o task h = cc
 

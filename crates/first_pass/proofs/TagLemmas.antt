@@ -22,7 +22,7 @@ use Rattle.first_pass_grammar.proofs.Completions.{counts_in}
 use Rattle.first_pass.specs.Closing.{Reading, top_body, is_list, popped, item_finished_by, item_finished, list_left, gap_tree, gap_noted, list_finished}
 use Rattle.first_pass.specs.Path.{path_of}
 use Rattle.first_pass.specs.State.{frame_of, AreOpen, ReadyAt, Ready}
-use Rattle.first_pass.specs.Opening.{ReadyTagged, ReadyLazy}
+use Rattle.first_pass.specs.Opening.{ReadyInQuote, ReadyTagged, ReadyLazy}
 use Rattle.first_pass.proofs.PathLemmas.{front-end}
 use Rattle.first_pass.proofs.ParagraphLemmas.{ends_past}
 use Rattle.first_pass.proofs.StateLemmas.{ready_plain}
@@ -84,9 +84,4 @@ ready_any_line d r at is none tagged =
 -- the same, which belongs to the quote
 pub ready_its_line : (d : Document) (r : Reading) (at : ℕ) → ends_tag (path_of r.tree) (line_rest (drop at d.text)) ≡ false → ReadyTagged d r (lines_from d.text at)
     → ReadyLazy d r (unindented (place_at at (front (path_of r.tree) (line_rest (drop at d.text))))) (lines_from d.text (at + line_len (drop at d.text)))
-ready_its_line d r at is tagged = record {
-  kind = tagged.kind;
-  quote = tagged.quote;
-  blank = tagged.blank;
-  ready = subst (λ (z : From × List Place). ReadyAt d r.tree false z.0 z.1) (tag_line (path_of r.tree) d.text at false is) tagged.ready;
-}
+ready_its_line d r at is tagged = subst (λ (z : From × List Place). ReadyInQuote d r z.0 z.1) (tag_line (path_of r.tree) d.text at false is) tagged

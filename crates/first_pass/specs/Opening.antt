@@ -2,7 +2,7 @@
 use Rattle.std.specs.Prelude.{◌≡◌, ◌⊎◌, ℕ, ◌<◌, false, List, length, Option, Some, None, if◌then◌else◌}
 use Rattle.first_pass_items.specs.declared.item.Item.{Item}
 use Rattle.first_pass_tree.specs.Forest.{Forest, is_text}
-use Rattle.first_pass_grammar.specs.Order.{IsOrderedTo}
+use Rattle.first_pass_grammar.specs.OpenOrder.{IsOrderedTo}
 use Rattle.first_pass.specs.Ordered.{IsOrderedAt, StandsBefore}
 use Rattle.first_pass_scan.specs.Rest.{Rest}
 use Rattle.first_pass_scan.specs.Places.{Place}
@@ -10,7 +10,7 @@ use Rattle.first_pass_grammar.specs.declared.kind.Container.TheVariants.{BlockQu
 use Rattle.first_pass_grammar.specs.Containers.{prefix}
 use Rattle.first_pass_grammar.specs.Kinds.{item_at}
 use Rattle.first_pass_grammar.specs.Leaves.{Document}
-use Rattle.first_pass_grammar.specs.Skeleton.{Inside, LeafAt, TextAt, behind_tag}
+use Rattle.first_pass_grammar.specs.Skeleton.{From, Inside, LeafAt, TextAt, behind_tag}
 use Rattle.first_pass_grammar.specs.Completion.{lines_from, IsPlain}
 use Rattle.first_pass.specs.declared.containers.Opened.{Opened}
 use Rattle.first_pass.specs.declared.containers.Opened.TheVariants.{Nothing, Container as OneContainer, EmptyItem, TaggedQuote}
@@ -36,19 +36,20 @@ pub record ReadyText (d : Document) (r : Reading) (marker : Item) (p : Place) (l
   pub ready : ReadyAt d r.tree false (TextAt marker p) lines
   pub plain : IsPlain ready.frames
 
--- a block quote with a tag is innermost, before the next line
-pub record ReadyTagged (d : Document) (r : Reading) (lines : List Place) : Type 0 where
+-- a block quote with a tag is innermost, before blocks go on with these lines
+pub record ReadyInQuote (d : Document) (r : Reading) (from : From) (lines : List Place) : Type 0 where
   pub kind : Option BlockQuoteKind
   pub quote : top_body r.tree ≡ Some (BlockQuoteBody kind)
   pub blank : r.blank ≡ false
-  pub ready : ReadyAt d r.tree false (behind_tag (path_of r.tree) lines).0 (behind_tag (path_of r.tree) lines).1
+  pub ready : ReadyAt d r.tree false from lines
 
--- the same in that line, at the place of a leaf
-pub record ReadyLazy (d : Document) (r : Reading) (p : Place) (lines : List Place) : Type 0 where
-  pub kind : Option BlockQuoteKind
-  pub quote : top_body r.tree ≡ Some (BlockQuoteBody kind)
-  pub blank : r.blank ≡ false
-  pub ready : ReadyAt d r.tree false (LeafAt p) lines
+-- before the line behind its tag
+abbrev pub ReadyTagged : Document → Reading → List Place → Type 0
+ReadyTagged d r lines = ReadyInQuote d r (behind_tag (path_of r.tree) lines).0 (behind_tag (path_of r.tree) lines).1
+
+-- in that line, at the place of a leaf
+abbrev pub ReadyLazy : Document → Reading → Place → List Place → Type 0
+ReadyLazy d r p lines = ReadyInQuote d r (LeafAt p) lines
 
 -- a leaf is at a place in a line, where no container begins or behind the tag of a block quote
 abbrev pub ReadyLeaf : Document → Reading → Place → List Place → Type 0

@@ -16,7 +16,7 @@ ghost use Rattle.first_pass.specs.Closing.{remembered};
 ghost use Rattle.first_pass.specs.State.{NoMore, Ready, ReadyAt};
 ghost use Rattle.first_pass.specs.Opening.{IsOpenedAt, ReadyIn, IsBehind, ReadyBehind, line_or, OrderedIn, OrderedBehind};
 ghost use Rattle.first_pass.specs.Ordered.{IsOrderedAt};
-ghost use Rattle.first_pass_grammar.specs.Order.{IsOrderedTo};
+ghost use Rattle.first_pass_grammar.specs.OpenOrder.{IsOrderedTo};
 
 use crate::indentation::scan_indentation;
 use crate::paragraph::append_item;

@@ -17,7 +17,8 @@ ghost use Rattle.first_pass_grammar.specs.Kinds.{item_at};
 ghost use Rattle.first_pass.specs.Closing.{remembered};
 ghost use Rattle.first_pass.specs.Opening.{ReadyText, ReadyTagged, ReadyLeaf, line_or, OrderedText};
 ghost use Rattle.first_pass.specs.Ordered.{IsOrderedAt};
-ghost use Rattle.first_pass_grammar.specs.Order.{IsOrdered, IsOrderedTo};
+ghost use Rattle.first_pass_grammar.specs.Order.{IsOrdered};
+ghost use Rattle.first_pass_grammar.specs.OpenOrder.{IsOrderedTo};
 ghost use Rattle.first_pass.specs.State.{Ready, ReadyAt};
 ghost use Rattle.first_pass.specs.TableEntries.{tables, no_tables};
 

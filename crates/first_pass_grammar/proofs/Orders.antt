@@ -11,7 +11,8 @@ use Rattle.first_pass_tokens.specs.Order.{AreInOrder}
 use Rattle.first_pass_tokens.specs.TreeTokens.{leaves}
 use Rattle.first_pass_tokens.proofs.OrderLemmas.{order_bound}
 use Rattle.first_pass_grammar.specs.Derivation.{tight_body, tightened}
-use Rattle.first_pass_grammar.specs.Order.{Extent, is_paragraph, is_task_marker, extent_of, extents, Row, Empty, Node, laid, IsBetween, IsLead, Fits, laid_open, AreAt, FitsOpen}
+use Rattle.first_pass_grammar.specs.Order.{Extent, is_paragraph, is_task_marker, extent_of, extents, Row, Empty, Node, laid, IsBetween, IsLead, Fits}
+use Rattle.first_pass_grammar.specs.OpenOrder.{laid_open, AreAt, FitsOpen}
 
 -- a row, and another behind it
 abbrev pub beside : Row → Row → Row

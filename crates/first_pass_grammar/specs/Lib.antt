@@ -4,5 +4,6 @@ pub mod Derivation
 pub mod Kinds
 pub mod Leaves
 pub mod Lists
+pub mod OpenOrder
 pub mod Order
 pub mod Skeleton

@@ -6,7 +6,7 @@ use Rattle.first_pass_grammar.specs.Skeleton.{Inside}
 use Rattle.first_pass_grammar.specs.Completion.{lines_from}
 use Rattle.first_pass.specs.Closing.{Reading, remembered, item_finished}
 use Rattle.first_pass.specs.Ordered.{IsOrderedAt}
-use Rattle.first_pass_grammar.specs.Order.{IsOrderedTo}
+use Rattle.first_pass_grammar.specs.OpenOrder.{IsOrderedTo}
 use Rattle.first_pass_scan.proofs.LineFacts.{line_len-within}
 use Rattle.first_pass.proofs.OrderLemmas.{ordered_item_finished, ordered_blank_read}
 use Rattle.first_pass.proofs.OrderSteps.{ordered_tree}

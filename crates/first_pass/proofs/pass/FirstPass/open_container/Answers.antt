@@ -16,7 +16,7 @@ use Rattle.first_pass.specs.declared.containers.Opened.TheVariants.{Container as
 use Rattle.first_pass.specs.Closing.{Reading, remembered, is_list, begun, list_finished, list_continued}
 use Rattle.first_pass.specs.Opening.{ReadyIn, ReadyTagged, line_or, OrderedIn}
 use Rattle.first_pass.specs.Ordered.{IsOrderedAt}
-use Rattle.first_pass_grammar.specs.Order.{IsOrderedTo}
+use Rattle.first_pass_grammar.specs.OpenOrder.{IsOrderedTo}
 use Rattle.first_pass.specs.Appends.{with_child}
 use Rattle.first_pass.specs.State.{Ready, ReadyAt}
 use Rattle.first_pass.proofs.PlaceLemmas.{item_found, item_keeps, item_shorter, item_absent, markers_keep, mark_is_no_text, quote_taken, prefix_keeps, quote_prefix_shorter, place_end, read_end}

@@ -8,7 +8,7 @@ use Rattle.first_pass.specs.declared.containers.Opened.{Opened}
 use Rattle.first_pass.specs.declared.containers.Opened.TheVariants.{Nothing, Container as OneContainer, EmptyItem, TaggedQuote}
 use Rattle.first_pass.specs.Closing.{Reading, remembered}
 use Rattle.first_pass.specs.Opening.{ReadyIn, line_or, OrderedIn}
-use Rattle.first_pass_grammar.specs.Order.{IsOrderedTo}
+use Rattle.first_pass_grammar.specs.OpenOrder.{IsOrderedTo}
 use Rattle.first_pass.specs.State.{ReadyAt}
 use Rattle.first_pass.proofs.pass.FirstPass.open_containers.Goals as goal
 

@@ -3,7 +3,7 @@ use Rattle.first_pass_scan.specs.Places.{place_at, offset, line_end, IsPlaceOf}
 use Rattle.first_pass_grammar.specs.Leaves.{document}
 use Rattle.first_pass_grammar.specs.Skeleton.{Inside}
 use Rattle.first_pass_grammar.specs.Completion.{lines_from}
-use Rattle.first_pass_grammar.specs.Order.{IsOrderedTo}
+use Rattle.first_pass_grammar.specs.OpenOrder.{IsOrderedTo}
 use Rattle.first_pass.specs.Opening.{line_or}
 use Rattle.first_pass.specs.State.{ReadyAt}
 use Rattle.first_pass.proofs.pass.FirstPass.open_containers.Given as goal

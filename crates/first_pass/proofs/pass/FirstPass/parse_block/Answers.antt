@@ -3,7 +3,7 @@ use Rattle.first_pass_scan.specs.Lines.{line_len}
 use Rattle.first_pass_scan.specs.Places.{place_at, offset, line_end}
 use Rattle.first_pass_scan.proofs.LineFacts.{line_len-within}
 use Rattle.first_pass_scan.proofs.PlaceFacts.{line_end_boundary}
-use Rattle.first_pass_grammar.specs.Order.{IsOrderedTo}
+use Rattle.first_pass_grammar.specs.OpenOrder.{IsOrderedTo}
 use Rattle.first_pass.specs.Closing.{Reading, remembered}
 use Rattle.first_pass.specs.Ordered.{IsOrderedAt}
 use Rattle.first_pass.specs.declared.containers.Behind.TheVariants.{Leaf as BehindLeaf, TaskText, NextLine, Tag}
