@@ -113,7 +113,7 @@ name_size bs h =
     rw h.parts (omega arith)
 
 -- where the name of a block stands, it is the letters and digits at the front
-name_found : (bs : List ℕ) (n : ℕ) → n ≡ prefix_len is_ascii_alphanumeric bs → HasBlockName bs → IsBlockName (take n bs) × (ends_block_name (drop n bs) ≡ true)
+pub name_found : (bs : List ℕ) (n : ℕ) → n ≡ prefix_len is_ascii_alphanumeric bs → HasBlockName bs → IsBlockName (take n bs) × (ends_block_name (drop n bs) ≡ true)
 name_found bs n e h =
     let size : n ≡ length h.name = e ∙ name_size bs h in
     (subst IsBlockName (sym (front_of n bs h.name h.rest h.parts size)) h.is_name, ap ends_block_name (rest_behind n bs h.name h.rest h.parts size) ∙ h.ends)

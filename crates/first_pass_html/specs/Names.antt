@@ -1,7 +1,7 @@
 -- Names of HTML tags.
-use Rattle.std.specs.Prelude.{ℕ, Bool, true, ◌&&◌, List, [], ◌∷◌, map, codes}
+use Rattle.std.specs.Prelude.{ℕ, Bool, true, ◌&&◌, List, [], ◌∷◌, map, bytes_eq, codes}
 use Rattle.std.specs.Borrow.{Bor}
-use Rattle.std.specs.List.{Contains}
+use Rattle.std.specs.List.{Contains, list_any}
 use Rattle.std.specs.Ordering.{nat_cmp, is_lt}
 use Rattle.std.specs.Cmp.Lexicographic.{slice_cmp}
 use Rattle.std.specs.Char.{to_ascii_lowercase}
@@ -80,6 +80,10 @@ block_names =
 -- the bytes are such a name, in any case (CommonMark 4.6, start condition 6)
 abbrev pub IsBlockName : List ℕ → Type 0
 IsBlockName name = Contains block_names (in_lower_case name)
+
+-- whether the bytes are such a name, in any case (CommonMark 4.6, start condition 6)
+unfoldable pub is_block_name : List ℕ → Bool
+is_block_name name = list_any (bytes_eq (in_lower_case name)) block_names
 
 -- the bytes of a text (this project)
 abbrev pub text_of : Bor (List ℕ) → List ℕ

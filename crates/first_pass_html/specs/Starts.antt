@@ -2,9 +2,9 @@
 use Rattle.std.specs.Prelude.{◌≡◌, ℕ, Bool, true, false, ◌==◌, ◌&&◌, ◌||◌, List, [], ◌∷◌, ◌++◌, length, drop, take, bytes_eq, Option, None, Some, codes, if◌then◌else◌}
 use Rattle.std.specs.List.{prefix_len}
 use Rattle.std.specs.Option.{is_some}
-use Rattle.std.specs.Char.{is_ascii_alphabetic}
+use Rattle.std.specs.Char.{is_ascii_alphabetic, is_ascii_alphanumeric}
 use Rattle.first_pass_scan.specs.Lines.{is_ascii_white, begins}
-use Rattle.first_pass_html.specs.Names.{in_lower_case, IsBlockName}
+use Rattle.first_pass_html.specs.Names.{in_lower_case, IsBlockName, is_block_name}
 
 -- the bytes begin with a text (this project)
 abbrev pub begins_with : List ℕ → List ℕ → Bool
@@ -63,3 +63,11 @@ pub record HasBlockName (bs : List ℕ) : Type 0 where
   pub parts : bs ≡ name ++ rest
   pub is_name : IsBlockName name
   pub ends : ends_block_name rest ≡ true
+
+-- the name of a block stands first in any case, and behind it what ends the name (CommonMark 4.6, start condition 6)
+unfoldable pub begins_block_name : List ℕ → Bool
+begins_block_name bs = let n = prefix_len is_ascii_alphanumeric bs in is_block_name (take n bs) && ends_block_name (drop n bs)
+
+-- an HTML block of the sixth kind begins here, behind its `<` (CommonMark 4.6, start condition 6)
+abbrev pub begins_block_tag : List ℕ → Bool
+begins_block_tag bs = begins_block_name (past_slash bs)

@@ -2,7 +2,8 @@
 
 ghost use Rattle.std.specs.Prelude.{◌≡◌, ◌↔◌, IsTrue, true, map};
 ghost use Rattle.std.specs.List.{Contains};
-ghost use Rattle.first_pass_html.specs.Names.{block_names, IsBlockName, text_of, rises};
+ghost use Rattle.first_pass_html.specs.Names.{block_names, text_of, rises};
+ghost use Rattle.first_pass_html.specs.Names as names;
 
 // The names of the tags that begin an HTML block of the sixth kind, in order (CommonMark 4.6).
 static BLOCK_NAMES: [&str; 62] = [
@@ -76,7 +77,8 @@ const LONGEST: usize = 10;
 /// Whether the bytes are a name of a tag that begins an HTML block of the sixth kind, in any case.
 /// CommonMark 4.6, start condition 6.
 pub fn is_block_name(name: &[u8]) -> bool
-    ensures { IsTrue result ↔ IsBlockName name.now }
+    ensures value { IsTrue result ↔ names.IsBlockName name.now }
+    ensures listed { result ≡ names.is_block_name name.now }
 {
     if name.len() > LONGEST {
         return false;

@@ -35,6 +35,7 @@ pub fn get_html_end_tag(bytes: &[u8]) -> Option<&'static str>
 /// CommonMark 4.6.
 pub fn starts_html_block_type_6(bytes: &[u8]) -> bool
     ensures value { IsTrue result ↔ starts.HasBlockName (starts.past_slash bytes.now) }
+    ensures begins { result ≡ starts.begins_block_tag bytes.now }
 {
     match bytes {
         [b'/', rest @ ..] => begins_block_name(rest),
@@ -119,8 +120,10 @@ fn ends_block_name(bytes: &[u8]) -> bool
 }
 
 // Whether the name of a block stands first, and what ends it behind it.
+#[tactic(auto, unfolding(crate::specs::Starts::begins_block_name))]
 fn begins_block_name(bytes: &[u8]) -> bool
-    ensures { IsTrue result ↔ starts.HasBlockName bytes.now }
+    ensures value { IsTrue result ↔ starts.HasBlockName bytes.now }
+    ensures begins { result ≡ starts.begins_block_name bytes.now }
 {
     let name = name_len(bytes);
     is_block_name(&bytes[..name]) && ends_block_name(rest_of(bytes, name))
