@@ -1,4 +1,5 @@
 pub mod Columns
+pub mod KnownFacts
 pub mod LeafFacts
 pub mod LineFacts
 pub mod MarkerFacts
@@ -7,3 +8,4 @@ pub mod PlaceFacts
 pub mod RuleFacts
 pub mod TableFacts
 pub mod HeadingFacts
+pub mod MetadataFacts

@@ -93,11 +93,15 @@ any_line_closes c start bs = list_any (λ line. closes_metadata c line.rest.left
 abbrev pub behind_line : List ℕ → List ℕ
 behind_line bs = drop (line_len bs) bs
 
--- metadata of the byte c opens here: a line of just three of it, then a line that is neither blank nor a closing one, and a closing line further on (this project)
-unfoldable pub opens_metadata : ℕ → List ℕ → Bool
-opens_metadata c bs =
+-- metadata of the byte c may open here, as its first two lines say: a line of just three of it, then a line that is neither blank nor a closing one (this project)
+unfoldable pub begins_metadata : ℕ → List ℕ → Bool
+begins_metadata c bs =
     let next = behind_line bs in
-    (run_len c bs == 3) && is_blank_line (drop 3 bs) && not (is_blank_line next) && not (closes_metadata c next) && any_line_closes c 0 (behind_line next)
+    (run_len c bs == 3) && is_blank_line (drop 3 bs) && not (is_blank_line next) && not (closes_metadata c next)
+
+-- metadata of the byte c opens here: its first two lines allow it, and a closing line stands behind them (this project)
+unfoldable pub opens_metadata : ℕ → List ℕ → Bool
+opens_metadata c bs = begins_metadata c bs && any_line_closes c 0 (behind_line (behind_line bs))
 
 -- the byte of the metadata block that opens here, `-` where its YAML form is on and `+` where the other is (this project)
 unfoldable pub metadata_byte : Bool → Bool → List ℕ → Option ℕ

@@ -4,3 +4,4 @@ pub mod Places
 pub mod LeafLines
 pub mod Markers
 pub mod TableHead
+pub mod MetadataSearch

@@ -2,9 +2,10 @@
 //! metadata; and how far the first columns of a line go.
 
 ghost use Rattle.std.specs.List.{prefix_len, list_any};
-ghost use Rattle.std.specs.Prelude.{◌≡◌, ◌≤◌, ◌==◌, true, length, IfSome};
-ghost use Rattle.first_pass_scan.specs.Lines.{is_blank};
-ghost use Rattle.first_pass_scan.specs.LeafLines.{run_len, in_rule, hrule_len, HasNoRule, underline_len, setext_underline, has_backquote as holds_backquote, code_fence, closing_fence_len, closing_marks, closing_metadata_len, any_line_closes, opens_metadata as metadata_opens, metadata_byte, blank_columns, IsLongestIndent};
+ghost use Rattle.std.specs.Prelude.{◌≡◌, ◌≤◌, ◌==◌, true, length, Some, None, IfSome, if◌then◌else◌};
+ghost use Rattle.first_pass_scan.specs.Lines.{is_blank, line_len};
+ghost use Rattle.first_pass_scan.specs.LeafLines.{run_len, in_rule, hrule_len, HasNoRule, underline_len, setext_underline, has_backquote as holds_backquote, code_fence, closing_fence_len, closing_marks, closing_metadata_len, any_line_closes, begins_metadata, opens_metadata as metadata_opens, metadata_byte, blank_columns, IsLongestIndent};
+ghost use Rattle.first_pass_scan.specs.MetadataSearch.{closing_line_from};
 
 use crate::lines::{content_len, is_blank, scan_blank_line, scan_eol, scan_nextline};
 use crate::places::{next_line, rest_of};
@@ -182,18 +183,45 @@ pub fn scan_closing_metadata_block(bytes: &[u8], byte: u8) -> Option<usize>
     Some(end)
 }
 
+// Where the first line begins, from the offset `from` into the text on, that closes metadata of the
+// byte, or the text's length.
+pub(crate) fn scan_closing_line(text: &[u8], from: usize, byte: u8) -> usize
+    requires { from ≤ length text.now }
+    ensures { result ≡ closing_line_from byte text.now from }
+{
+    let mut at = from;
+    while at < text.len() {
+        if scan_closing_metadata_block(rest_of(text, at), byte).is_some() {
+            return at;
+        }
+        at = next_line(text, at);
+    }
+    at
+}
+
 // Whether some line closes metadata of the byte.
 fn has_closing_line(bytes: &[u8], byte: u8) -> bool
     ensures { result ≡ any_line_closes byte 0 bytes.now }
 {
-    let mut start = 0;
-    while start < bytes.len() {
-        if scan_closing_metadata_block(rest_of(bytes, start), byte).is_some() {
-            return true;
-        }
-        start = next_line(bytes, start);
+    scan_closing_line(bytes, 0, byte) < bytes.len()
+}
+
+// How many bytes the first line has, its end too, where it and the next one let metadata of the byte
+// open here.
+#[tactic(auto, unfolding(crate::specs::LeafLines::begins_metadata))]
+pub(crate) fn scan_metadata_opening(bytes: &[u8], byte: u8) -> Option<usize>
+    ensures value { result ≡ (if begins_metadata byte bytes.now then Some (line_len bytes.now) else None) }
+    ensures within { IfSome result (λ n. n ≤ length bytes.now) }
+{
+    if scan_run(bytes, byte) != 3 || scan_blank_line(&bytes[3..]).is_none() {
+        return None;
     }
-    false
+    let end = scan_nextline(bytes);
+    let next = rest_of(bytes, end);
+    if scan_blank_line(next).is_some() || scan_closing_metadata_block(next, byte).is_some() {
+        return None;
+    }
+    Some(end)
 }
 
 // Whether metadata of the byte opens here.
@@ -201,14 +229,13 @@ fn has_closing_line(bytes: &[u8], byte: u8) -> bool
 fn opens_metadata(bytes: &[u8], byte: u8) -> bool
     ensures { result ≡ metadata_opens byte bytes.now }
 {
-    if scan_run(bytes, byte) != 3 || scan_blank_line(&bytes[3..]).is_none() {
-        return false;
+    match scan_metadata_opening(bytes, byte) {
+        None => false,
+        Some(end) => {
+            let next = rest_of(bytes, end);
+            has_closing_line(rest_of(next, scan_nextline(next)), byte)
+        }
     }
-    let next = rest_of(bytes, scan_nextline(bytes));
-    if scan_blank_line(next).is_some() || scan_closing_metadata_block(next, byte).is_some() {
-        return false;
-    }
-    has_closing_line(rest_of(next, scan_nextline(next)), byte)
 }
 
 /// The byte of the metadata block that `bytes` begins with: `-` where `yaml` is on, `+` where `pluses`

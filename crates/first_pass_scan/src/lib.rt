@@ -6,6 +6,7 @@ pub mod leaf_scan;
 pub mod line_start;
 pub mod lines;
 mod markers;
+pub mod metadata_search;
 pub mod places;
 pub mod table_scan;
 
@@ -20,6 +21,7 @@ mod tests {
         begins, is_ascii_white, is_blank, is_line_end, is_white, level_number, scan_atx_heading,
         scan_blank_line, scan_eol, scan_nextline, scan_whitespace_no_nl,
     };
+    use crate::metadata_search::{MetadataEnds, metadata_at};
     use crate::places::{next_line, rest_of};
     use crate::table_scan::{count_header_cols, scan_table_head};
     use first_pass_items::item::{Alignment, BlockQuoteKind, HeadingLevel};
@@ -203,6 +205,56 @@ mod tests {
         }
         assert_eq!(rt; scan_closing_metadata_block(b"...  \n", b'-'), Some(5));
         assert_eq!(rt; scan_closing_metadata_block(b"---\t", b'-'), None);
+    }
+
+    #[test]
+    fn metadata_of_one_text(rt: HostRuntime) {
+        let (none, dashes, pluses) = (None, Some(b'-'), Some(b'+'));
+        for (text, blocks) in [
+            (
+                "---\t\na\n---\t\nb\n---\t\nc\n",
+                [(0, none), (7, none), (14, none)],
+            ),
+            (
+                "---\t\na\n---\t\nb\n---\t\nc\n...",
+                [(0, dashes), (7, dashes), (14, dashes)],
+            ),
+            (
+                "---\na\n---\nb\n---\nc\n",
+                [(0, dashes), (6, dashes), (12, none)],
+            ),
+            (
+                "---\na\n+++\nb\n---\nc\n+++\n",
+                [(0, dashes), (6, pluses), (12, none)],
+            ),
+            (
+                "---\na\n+++\nb\n---\nc\n+++\n",
+                [(12, none), (6, pluses), (0, dashes)],
+            ),
+            (
+                "> ---\n> a\n> ---\n> b\n---\n",
+                [(2, dashes), (12, dashes), (16, none)],
+            ),
+        ] {
+            let bytes = text.as_bytes();
+            let mut ends = MetadataEnds::new();
+            for (start, block) in blocks {
+                assert!(rt; start <= bytes.len(), "{text:?}");
+                let found = metadata_at(bytes, start, true, true, &mut ends);
+                assert_eq!(rt; found, block, "{text:?} at {start}");
+                let rest = rest_of(bytes, start);
+                assert_eq!(rt;
+                    scan_metadata_block(rest, true, true),
+                    block,
+                    "{text:?} at {start}"
+                );
+            }
+        }
+        let mut ends = MetadataEnds::new();
+        assert_eq!(rt;
+            metadata_at(b"---\na\n---", 0, false, true, &mut ends),
+            none
+        );
     }
 
     #[test]
