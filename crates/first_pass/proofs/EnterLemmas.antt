@@ -17,15 +17,16 @@ use Rattle.first_pass_grammar.specs.declared.kind.Container.{Container}
 use Rattle.first_pass_grammar.specs.declared.kind.Container.TheVariants.{BlockQuote, ListItem}
 use Rattle.first_pass_grammar.specs.declared.kind.Kind.TheVariants.{Blank}
 use Rattle.first_pass_grammar.specs.Containers.{at_rest, has_columns, prefix, after}
-use Rattle.first_pass_grammar.specs.Kinds.{all_taken, is_blank_rest, quote_inside, item_at, kind_of}
+use Rattle.first_pass_grammar.specs.Kinds.{all_taken, is_blank_rest, quote_inside, item_at}
 use Rattle.first_pass_grammar.specs.Leaves.{Document}
 use Rattle.first_pass_grammar.specs.Skeleton.{BlankLine, From, Line, Inside, Blanks, OpensLeaf, OpensAs, OpensFrom, Opens, is_blank_behind, next_is_blank, end_before}
 use Rattle.first_pass_grammar.specs.Derivation.{node_of}
 use Rattle.first_pass_grammar.specs.Completion.{Frame, InContainer, InList, containers_of, AreBelow, Completes}
+use Rattle.first_pass.proofs.KindLemmas.{blank_kind}
 use Rattle.first_pass_grammar.proofs.Completions.{counts_in, completes-enter, completes-blank_line, completes-only_blank}
-use Rattle.first_pass.specs.Appends.{closed_by}
+use Rattle.first_pass_leaves.specs.OpenBlock.{closed_by}
 use Rattle.first_pass.specs.Closing.{Reading, top_body, is_item, popped_by, popped, item_finished_by, item_finished, emptied, blank_read_by, blank_read}
-use Rattle.first_pass.specs.Path.{container_of, container_at, with_container, path_in, path_of}
+use Rattle.first_pass_leaves.specs.Path.{container_of, container_at, with_container, path_in, path_of}
 use Rattle.first_pass.specs.State.{frame_of, frame_at, AreOpen, ReadyAt, ReadyBeforeLine, ReadyInItem, ReadyEmpty, ReadyWith, Ready}
 use Rattle.first_pass.proofs.OpenLemmas.{open_path, body-changed, body-other, not_changed}
 use Rattle.first_pass.proofs.PopLemmas.{pop_container}
@@ -132,17 +133,13 @@ no_item : (r : Rest) → is_blank_rest r ≡ true → item_at r ≡ None
 unfolding item_at item_of
 no_item r h = no_item_by (nat_lt (indent r) 4) r h
 
-kind_blank : (r : Rest) → is_blank_rest r ≡ true → kind_of r ≡ Blank
-unfolding kind_of
-kind_blank r h = rw h refl
-
 -- a blank line at a place
 pub opens_blank : (d : Document) (path : List Container) (p : Place) (lines : List Place) → is_blank_rest p.rest ≡ true → Opens d path p lines (OpensLeaf BlankLine Line lines)
 unfolding OpensFrom OpensAs
 opens_blank d path p lines h =
     subst (λ o. OpensFrom d path p lines o (quote_inside p) (OpensLeaf BlankLine Line lines)) (sym (no_item p.rest h))
     (subst (λ o. OpensFrom d path p lines None (option_map (at_rest p) o) (OpensLeaf BlankLine Line lines)) (sym (no_quote p.rest h))
-    (subst (λ k. OpensAs d path p lines k (OpensLeaf BlankLine Line lines)) (sym (kind_blank p.rest h)) refl))
+    (Blank, blank_kind d.options p.rest h, refl))
 
 -- inside a line that all open containers go on with
 pub ready_enter : (d : Document) (f : Forest Item) (run : Bool) (line : Place) (lines : List Place) (r : Rest) → after (path_of f) line.rest ≡ Some r → ReadyAt d f run Line (line ∷ lines) → ReadyAt d f run (Inside (at_rest line r)) lines

@@ -1,5 +1,5 @@
 -- A leaf block read at a place where no container begins.
-use Rattle.std.proofs.Common.{◌≡◌, inl, inr, ℕ, suc, ◌+◌, nat_lt, Bool, true, false, List, [], ◌++◌, length, map, drop, Option, Some, None, is_some, refl, sym, ap, subst, ◌∙◌, arith, if◌then◌else◌}
+use Rattle.std.proofs.Common.{◌≡◌, inl, inr, ℕ, suc, ◌+◌, Bool, false, List, [], ◌++◌, length, map, Option, Some, None, refl, sym, ap, subst, ◌∙◌, arith}
 use Rattle.std.specs.Option.{option_map}
 use Rattle.first_pass_items.specs.declared.item.Item.{Item}
 use Rattle.first_pass_items.specs.declared.item.ItemBody.{ItemBody}
@@ -7,7 +7,7 @@ use Rattle.first_pass_items.specs.declared.item.ItemBody.TheVariants.{BlockQuote
 use Rattle.first_pass_items.specs.declared.item.HeadingLevel.{HeadingLevel}
 use Rattle.first_pass_tree.specs.declared.tree_index.TreeIndex.{TreeIndex}
 use Rattle.first_pass_tree.specs.Forest.{Forest, IsForest, added, at_depth}
-use Rattle.first_pass_scan.specs.Lines.{blank_len, atx_level, level_number, line_len}
+use Rattle.first_pass_scan.specs.Lines.{level_number, line_len}
 use Rattle.first_pass_scan.specs.LeafLines.{hrule_len}
 use Rattle.first_pass_scan.specs.Rest.{Rest, indent}
 use Rattle.first_pass_scan.specs.Places.{Place, offset, line_end, start_of, IsPlaceOf}
@@ -17,17 +17,18 @@ use Rattle.first_pass_grammar.specs.declared.kind.Container.TheVariants.{BlockQu
 use Rattle.first_pass_grammar.specs.declared.kind.Kind.{Kind}
 use Rattle.first_pass_grammar.specs.declared.kind.Kind.TheVariants.{Blank, ThematicBreak, AtxHeading, Paragraph}
 use Rattle.first_pass_grammar.specs.Containers.{at_rest, prefix}
-use Rattle.first_pass_grammar.specs.Kinds.{unindented, is_blank_rest, quote_inside, item_at, heading_or, rule_or, kind_of}
+use Rattle.first_pass_grammar.specs.Kinds.{unindented, quote_inside, item_at, IsKind}
 use Rattle.first_pass_grammar.specs.Leaves.{Document, IsParagraph, IsHeading, heading_text_at, rule_block, heading_block, paragraph_block, marker_items}
-use Rattle.first_pass_grammar.specs.Skeleton.{BlankLine, Block, Line, Inside, LeafAt, IsLeafHere, Opening, OpensLeaf, OpensParagraph, OpensAs, OpensFrom, Opens}
+use Rattle.first_pass_grammar.specs.Skeleton.{BlankLine, Block, Line, Inside, LeafAt, IsLeafHere, Opening, OpensLeaf, OpensParagraph, OpensAs, OpensBlockAt, OpensFrom, Opens}
 use Rattle.first_pass_grammar.specs.Completion.{lines_from, Frame, containers_of, AreBelow, Completes}
 use Rattle.first_pass_grammar.proofs.Completions.{completes-leaf, completes-blank, completes-block, completes-text, counts_in}
 use Rattle.first_pass.specs.Appends.{line_end_at, AddsParagraph, AddsHeading}
 use Rattle.first_pass.specs.Closing.{Reading, remembered, top_body, is_list, list_finished, blank_read_by, blank_read}
-use Rattle.first_pass.specs.Path.{path_of}
+use Rattle.first_pass_leaves.specs.Path.{path_of}
 use Rattle.first_pass.specs.State.{AreOpen, ReadyAt, Ready}
 use Rattle.first_pass.specs.Opening.{ReadyText, ReadyLazy, ReadyLeaf}
 use Rattle.first_pass.proofs.OpenLemmas.{open_path, open_below, frame-append}
+use Rattle.first_pass.proofs.KindLemmas.{kind_says}
 use Rattle.first_pass.proofs.RuleLemmas.{rule_line}
 use Rattle.first_pass.proofs.StateLemmas.{ready_plain}
 use Rattle.first_pass.proofs.FinishLemmas.{EndsListAt, plain_by, ready_finished, path_finished}
@@ -44,93 +45,83 @@ line_end_of text p i =
     omega arith
 
 -- where no container begins, what the kind of the place says
-no_container : (d : Document) (path : List Container) (p : Place) (lines : List Place) (k : Kind) (o : Opening) → item_at p.rest ≡ None → prefix (BlockQuote None) p.rest ≡ None → kind_of p.rest ≡ k → OpensAs d path p lines k o → Opens d path p lines o
+no_container : (d : Document) (path : List Container) (p : Place) (lines : List Place) (k : Kind) (o : Opening) → item_at p.rest ≡ None → prefix (BlockQuote None) p.rest ≡ None → IsKind d.options p.rest k → OpensAs d path p lines k o → Opens d path p lines o
 unfolding OpensFrom
 no_container d path p lines k o no_item none kind opens =
     subst (λ i. OpensFrom d path p lines i (quote_inside p) o) (sym no_item)
-    (subst (λ (q : Option Rest). OpensFrom d path p lines None (option_map (at_rest p) q) o) (sym none) (subst (λ k. OpensAs d path p lines k o) (sym kind) opens))
-
-kind_by : (t u : Bool) (r : Option ℕ) (o : Option HeadingLevel) → (if t then Blank else (if u then rule_or r (heading_or o Paragraph) else Paragraph)) ≡ Blank → t ≡ true
-kind_by true u r o h = refl
-kind_by false true (Some size) o h = cc
-kind_by false true None (Some level) h = cc
-kind_by false true None None h = cc
-kind_by false false r o h = cc
-
--- a place of this kind is blank
-pub kind_blank_rest : (r : Rest) → kind_of r ≡ Blank → is_blank_rest r ≡ true
-unfolding kind_of
-kind_blank_rest r h = kind_by (is_blank_rest r) _ _ _ h
+    (subst (λ (q : Option Rest). OpensFrom d path p lines None (option_map (at_rest p) q) o) (sym none) (k, kind, opens))
 
 -- a block ends any list at the place that it says
-block_away : (b : Option ItemBody) (at : ℕ) (items : List (ℕ × Item)) (left : List Place) → EndsListAt at b (OpensLeaf (Block at items) Line left)
-block_away None at items left = tt
-block_away (Some (ListBody flags list number)) at items left = refl
-block_away (Some b) at items left = tt
+block_away : (b : Option ItemBody) (at : ℕ) (items : List (ℕ × Item)) (gap : Bool) (left : List Place) → EndsListAt at b (OpensLeaf (Block at items gap) Line left)
+block_away None at items gap left = tt
+block_away (Some (ListBody flags list number)) at items gap left = refl
+block_away (Some b) at items gap left = tt
 
 -- the items of a block behind the nodes
-with_block : (d : Document) (f : Forest Item) (frames : List Frame) (items : List (ℕ × Item)) (left : List Place) → AreOpen f.nodes f.spine frames
-    → (let os : List ℕ = map (λ (i : TreeIndex). i.0) f.spine in AreBelow (length f.nodes) os → Completes d false frames (f.nodes ++ at_depth (suc (length os)) items) os Line left → ReadyAt d (added f items) false Line left)
-with_block d f frames items left o below k =
+with_block : (d : Document) (f : Forest Item) (frames : List Frame) (items : List (ℕ × Item)) (gap : Bool) (left : List Place) → AreOpen f.nodes f.spine frames
+    → (let os : List ℕ = map (λ (i : TreeIndex). i.0) f.spine in AreBelow (length f.nodes) os → Completes d gap frames (f.nodes ++ at_depth (suc (length os)) items) os Line left → ReadyAt d (added f items) gap Line left)
+with_block d f frames items gap left o below k =
     let os : List ℕ = map (λ (i : TreeIndex). i.0) f.spine in
     record {
       frames = frames;
       are_open = open_below f.nodes (f.nodes ++ at_depth (length f.spine + 1) items) (length f.nodes) f.spine frames (λ i h. frame-append f.nodes (at_depth (length f.spine + 1) items) i h) below o;
-      completes = subst (λ z. Completes d false frames (f.nodes ++ at_depth z items) os Line left) (depth_of f.spine) k;
+      completes = subst (λ z. Completes d gap frames (f.nodes ++ at_depth z items) os Line left) (depth_of f.spine) k;
     }
 
+-- what is remembered then, with no empty item
+remembered_so : (d : Document) (new : Forest Item) (empty : Option ℕ) (blank gap : Bool) (left : List Place) → empty ≡ None → blank ≡ gap → ReadyAt d new gap Line left → Ready d (remembered new empty blank) left
+remembered_so d new empty blank gap left none same ready = ready_plain d (remembered new empty blank) left none (subst (λ t. ReadyAt d new t Line left) (sym same) ready)
+
 -- a block is added once a new block has ended what it ends
-added_block : (d : Document) (r : Reading) (new : Forest Item) (p : Place) (lines left : List Place) (at : ℕ) (items : List (ℕ × Item)) → IsForest r.tree → Opens d (path_of r.tree) p lines (OpensLeaf (Block at items) Line left)
-    → new ≡ added (list_finished at r).tree items → r.empty_item ≡ None → ReadyAt d r.tree r.blank (Inside p) lines → Ready d (remembered new (list_finished at r).empty_item (list_finished at r).blank) left
-added_block d r new p lines left at items forest opens new_is none ready =
-    let opening : Opening = OpensLeaf (Block at items) Line left in
-    let done = ready_finished d r p lines at opening forest opens tt (block_away (top_body r.tree) at items left) none ready in
+added_block : (d : Document) (r : Reading) (new : Forest Item) (p : Place) (lines left : List Place) (at : ℕ) (items : List (ℕ × Item)) (gap : Bool) → IsForest r.tree → Opens d (path_of r.tree) p lines (OpensLeaf (Block at items gap) Line left)
+    → new ≡ added (list_finished at r).tree items → r.empty_item ≡ None → ReadyAt d r.tree r.blank (Inside p) lines → ReadyAt d new gap Line left
+added_block d r new p lines left at items gap forest opens new_is none ready =
+    let opening : Opening = OpensLeaf (Block at items gap) Line left in
+    let done = ready_finished d r p lines at opening forest opens tt (block_away (top_body r.tree) at items gap left) none ready in
     let f : Forest Item = (list_finished at r).tree in
     let frames : List Frame = done.ready.0.frames in
     let os : List ℕ = map (λ (i : TreeIndex). i.0) f.spine in
     let opens' : Opens d (containers_of frames) p lines opening = subst (λ z. Opens d z p lines opening) (sym done.path ∙ open_path f.nodes f.spine frames done.ready.0.are_open) opens in
-    let k = completes-block d frames f.nodes os p lines left at items done.ready.1 opens' done.ready.0.completes in
-    let q = with_block d f frames items left done.ready.0.are_open done.ready.0.completes.below k in
-    ready_plain d (remembered new (list_finished at r).empty_item (list_finished at r).blank) left done.none
-    (subst (λ t. ReadyAt d new t Line left) (sym done.blank) (subst (λ z. ReadyAt d z false Line left) (sym new_is) q))
+    let k = completes-block d frames f.nodes os p lines left at items gap done.ready.1 opens' done.ready.0.completes in
+    subst (λ z. ReadyAt d z gap Line left) (sym new_is) (with_block d f frames items gap left done.ready.0.are_open done.ready.0.completes.below k)
 
 -- the same behind the tag of a block quote, where a new block ends nothing
-lazy_block : (d : Document) (r : Reading) (new : Forest Item) (p : Place) (lines left : List Place) (at : ℕ) (items : List (ℕ × Item)) → OpensAs d (path_of r.tree) p lines (kind_of p.rest) (OpensLeaf (Block at items) Line left)
-    → new ≡ added (list_finished at r).tree items → r.empty_item ≡ None → ReadyLazy d r p lines → Ready d (remembered new (list_finished at r).empty_item (list_finished at r).blank) left
-lazy_block d r new p lines left at items opens new_is none lazy =
+lazy_block : (d : Document) (r : Reading) (new : Forest Item) (p : Place) (lines left : List Place) (at : ℕ) (items : List (ℕ × Item)) (gap : Bool) → OpensBlockAt d (path_of r.tree) p lines (OpensLeaf (Block at items gap) Line left)
+    → new ≡ added (list_finished at r).tree items → r.empty_item ≡ None → ReadyLazy d r p lines → ReadyAt d new gap Line left
+lazy_block d r new p lines left at items gap opens new_is none lazy =
     let f : Forest Item = r.tree in
     let frames : List Frame = lazy.ready.frames in
     let os : List ℕ = map (λ (i : TreeIndex). i.0) f.spine in
     let plain = plain_by f.nodes f.spine frames lazy.ready.are_open (ap is_list lazy.quote) in
     let path = open_path f.nodes f.spine frames lazy.ready.are_open in
-    let first : IsLeafHere d (containers_of frames) (LeafAt p) lines (Block at items) Line left = record {
+    let first : IsLeafHere d (containers_of frames) (LeafAt p) lines (Block at items gap) Line left = record {
       place = p;
       behind = lines;
       begins = (refl, refl);
-      opens = subst (λ z. OpensAs d z p lines (kind_of p.rest) (OpensLeaf (Block at items) Line left)) path opens;
+      opens = subst (λ z. OpensBlockAt d z p lines (OpensLeaf (Block at items gap) Line left)) path opens;
     } in
-    let k = completes-leaf d frames f.nodes os (LeafAt p) lines left at items plain (λ path mid. refl) first lazy.ready.completes in
-    let q = with_block d f frames items left lazy.ready.are_open lazy.ready.completes.below k in
+    let k = completes-leaf d frames f.nodes os (LeafAt p) lines left at items gap plain (λ path mid. refl) first lazy.ready.completes in
+    let q = with_block d f frames items gap left lazy.ready.are_open lazy.ready.completes.below k in
     let same : list_finished at r ≡ r = finishes_nothing at r lazy.kind lazy.quote lazy.blank none in
-    subst (λ (z : Reading). Ready d (remembered new z.empty_item z.blank) left) (sym same)
-    (ready_plain d (remembered new r.empty_item r.blank) left none
-    (subst (λ t. ReadyAt d new t Line left) (sym lazy.blank) (subst (λ z. ReadyAt d z false Line left) (sym (new_is ∙ ap (λ (z : Reading). added z.tree items) same)) q)))
+    subst (λ z. ReadyAt d z gap Line left) (sym (new_is ∙ ap (λ (z : Reading). added z.tree items) same)) q
 
 -- a leaf is added at its place
-ready_added : (d : Document) (r : Reading) (new : Forest Item) (p : Place) (lines left : List Place) (at : ℕ) (items : List (ℕ × Item)) (k : Kind) → IsForest r.tree → kind_of p.rest ≡ k → OpensAs d (path_of r.tree) p lines k (OpensLeaf (Block at items) Line left)
-    → new ≡ added (list_finished at r).tree items → r.empty_item ≡ None → ReadyLeaf d r p lines → Ready d (remembered new (list_finished at r).empty_item (list_finished at r).blank) left
-ready_added d r new p lines left at items k forest kind opens new_is none (inl (no_item, no_quote, ready)) =
-    added_block d r new p lines left at items forest (no_container d (path_of r.tree) p lines k (OpensLeaf (Block at items) Line left) no_item no_quote kind opens) new_is none ready
-ready_added d r new p lines left at items k forest kind opens new_is none (inr lazy) =
-    lazy_block d r new p lines left at items (subst (λ z. OpensAs d (path_of r.tree) p lines z (OpensLeaf (Block at items) Line left)) (sym kind) opens) new_is none lazy
+pub ready_added : (d : Document) (r : Reading) (new : Forest Item) (p : Place) (lines left : List Place) (at : ℕ) (items : List (ℕ × Item)) (gap : Bool) (k : Kind) → IsForest r.tree → IsKind d.options p.rest k
+    → OpensAs d (path_of r.tree) p lines k (OpensLeaf (Block at items gap) Line left) → new ≡ added (list_finished at r).tree items → r.empty_item ≡ None → ReadyLeaf d r p lines
+    → (empty : Option ℕ) (blank : Bool) → empty ≡ None → blank ≡ gap → Ready d (remembered new empty blank) left
+ready_added d r new p lines left at items gap k forest kind opens new_is none (inl (no_item, no_quote, ready)) empty blank e b =
+    remembered_so d new empty blank gap left e b
+    (added_block d r new p lines left at items gap forest (no_container d (path_of r.tree) p lines k (OpensLeaf (Block at items gap) Line left) no_item no_quote kind opens) new_is none ready)
+ready_added d r new p lines left at items gap k forest kind opens new_is none (inr lazy) empty blank e b =
+    remembered_so d new empty blank gap left e b (lazy_block d r new p lines left at items gap (k, kind, opens) new_is none lazy)
 
 kind_blank_is : (r : Reading) (b : Option ItemBody) (kind : Option BlockQuoteKind) → b ≡ Some (BlockQuoteBody kind) → blank_read_by r b ≡ r
 kind_blank_is r b kind is = ap (blank_read_by r) is
 
 -- a blank line at the place of a leaf
-pub ready_blank_leaf : (d : Document) (r : Reading) (p : Place) (lines : List Place) → kind_of p.rest ≡ Blank → r.empty_item ≡ None → ReadyLeaf d r p lines → Ready d (blank_read r) lines
+pub ready_blank_leaf : (d : Document) (r : Reading) (p : Place) (lines : List Place) → IsKind d.options p.rest Blank → r.empty_item ≡ None → ReadyLeaf d r p lines → Ready d (blank_read r) lines
 unfolding blank_read OpensAs
-ready_blank_leaf d r p lines kind none (inl (no_item, no_quote, ready)) = ready_blank d r p lines (kind_blank_rest p.rest kind) none ready
+ready_blank_leaf d r p lines kind none (inl (no_item, no_quote, ready)) = ready_blank d r p lines (kind_says d.options p.rest Blank kind) none ready
 ready_blank_leaf d r p lines kind none (inr lazy) =
     let f : Forest Item = r.tree in
     let frames : List Frame = lazy.ready.frames in
@@ -140,7 +131,7 @@ ready_blank_leaf d r p lines kind none (inr lazy) =
       place = p;
       behind = lines;
       begins = (refl, refl);
-      opens = subst (λ z. OpensAs d (containers_of frames) p lines z (OpensLeaf BlankLine Line lines)) (sym kind) blank;
+      opens = (Blank, kind, blank);
     } in
     let counts : counts_in frames false ≡ false = quote_counts f.nodes f.spine frames lazy.kind lazy.quote lazy.ready.are_open in
     let now : ReadyAt d f false Line lines = record {
@@ -150,28 +141,30 @@ ready_blank_leaf d r p lines kind none (inr lazy) =
     } in
     subst (λ q. Ready d q lines) (sym (kind_blank_is r (top_body r.tree) lazy.kind lazy.quote)) (ready_plain d r lines none (subst (λ t. ReadyAt d f t Line lines) (sym lazy.blank) now))
 
--- behind a heading
-pub ready_heading : (d : Document) (r : Reading) (new : Forest Item) (p : Place) (at next : ℕ) (level : HeadingLevel) → IsForest r.tree → kind_of p.rest ≡ AtxHeading level
-    → at ≡ offset (unindented p) → IsPlaceOf d.text (unindented p) → AddsHeading d at level (list_finished p.line r).tree new next → r.empty_item ≡ None
-    → ReadyLeaf d r p (lines_from d.text (line_end p)) → Ready d (remembered new (list_finished p.line r).empty_item (list_finished p.line r).blank) (lines_from d.text next)
+-- a heading that was added is what opens at its place
+pub opens_heading : (d : Document) (path : List Container) (old new : Forest Item) (p : Place) (at next : ℕ) (level : HeadingLevel) → at ≡ offset (unindented p) → IsPlaceOf d.text (unindented p) → (h : AddsHeading d at level old new next)
+    → OpensAs d path p (lines_from d.text (line_end p)) (AtxHeading level) (OpensLeaf (Block p.line (heading_block at next level h.chain) false) Line (lines_from d.text next))
 unfolding OpensAs
-ready_heading d r new p at next level forest kind at_is place h none ready =
-    let lines : List Place = lines_from d.text (line_end p) in
-    let block : List (ℕ × Item) = heading_block at next level h.chain in
-    let o : Opening = OpensLeaf (Block p.line block) Line (lines_from d.text next) in
-    let next_is : next ≡ line_end p = h.end_is ∙ ap (line_end_at d.text) at_is ∙ line_end_of d.text p place in
-    let heading : OpensAs d (path_of r.tree) p lines (AtxHeading level) o = (
+opens_heading d path old new p at next level at_is place h =
+    let next_is : next ≡ line_end p = h.end_is ∙ ap (line_end_at d.text) at_is ∙ line_end_of d.text p place in (
       h.chain,
       next,
       subst (λ k. IsHeading d (heading_text_at d.text k (level_number level)) h.chain next) at_is h.line,
-      ap (λ k. OpensLeaf (Block p.line (heading_block k next level h.chain)) Line (lines_from d.text next)) at_is
-          ∙ ap (λ n. OpensLeaf (Block p.line (heading_block (offset (unindented p)) next level h.chain)) Line (lines_from d.text n)) next_is,
-    ) in
-    ready_added d r new p lines (lines_from d.text next) p.line block (AtxHeading level) forest kind heading h.tree_is none ready
+      ap (λ k. OpensLeaf (Block p.line (heading_block k next level h.chain) false) Line (lines_from d.text next)) at_is
+          ∙ ap (λ n. OpensLeaf (Block p.line (heading_block (offset (unindented p)) next level h.chain) false) Line (lines_from d.text n)) next_is,
+    )
+
+-- a thematic break
+pub opens_rule : (d : Document) (path : List Container) (p : Place) (at next size : ℕ) → at ≡ offset (unindented p) → next ≡ line_end p
+    → OpensAs d path p (lines_from d.text (line_end p)) (ThematicBreak size) (OpensLeaf (Block p.line (rule_block at size) false) Line (lines_from d.text next))
+unfolding OpensAs
+opens_rule d path p at next size at_is next_is =
+    ap (λ k. OpensLeaf (Block p.line (rule_block k size) false) Line (lines_from d.text next)) at_is
+    ∙ ap (λ n. OpensLeaf (Block p.line (rule_block (offset (unindented p)) size) false) Line (lines_from d.text n)) next_is
 
 -- a paragraph that was added, behind a task list item marker or not, is what opens at its place
 opens_paragraph : (d : Document) (path : List Container) (old new : Forest Item) (p : Place) (at next : ℕ) (marker : Option Item) → path_of old ≡ path → at ≡ offset (unindented p) → IsPlaceOf d.text (unindented p) → (a : AddsParagraph d at marker old new next)
-    → OpensParagraph d path p (lines_from d.text (line_end p)) marker (OpensLeaf (Block at (paragraph_block at next (marker_items marker ++ a.chain))) Line (lines_from d.text next))
+    → OpensParagraph d path p (lines_from d.text (line_end p)) marker (OpensLeaf (Block at (paragraph_block at next (marker_items marker ++ a.chain)) false) Line (lines_from d.text next))
 unfolding OpensParagraph
 opens_paragraph d path old new p at next marker path_is at_is place a =
     let lines : List Place = lines_from d.text (line_end p) in
@@ -185,21 +178,21 @@ opens_paragraph d path old new p at next marker path_is at_is place a =
       a.chain,
       left,
       whole,
-      ap (λ k. OpensLeaf (Block k (paragraph_block k next chain)) Line left) at_is
-          ∙ ap (λ n. OpensLeaf (Block (offset (unindented p)) (paragraph_block (offset (unindented p)) n chain)) Line left) (sym ends),
+      ap (λ k. OpensLeaf (Block k (paragraph_block k next chain) false) Line left) at_is
+          ∙ ap (λ n. OpensLeaf (Block (offset (unindented p)) (paragraph_block (offset (unindented p)) n chain) false) Line left) (sym ends),
     )
 
 -- behind a paragraph
-pub ready_paragraph : (d : Document) (r : Reading) (new : Forest Item) (p : Place) (at next : ℕ) → IsForest r.tree → kind_of p.rest ≡ Paragraph
+pub ready_paragraph : (d : Document) (r : Reading) (new : Forest Item) (p : Place) (at next : ℕ) → IsForest r.tree → IsKind d.options p.rest Paragraph
     → at ≡ offset (unindented p) → IsPlaceOf d.text (unindented p) → AddsParagraph d at None (list_finished at r).tree new next → r.empty_item ≡ None
-    → ReadyLeaf d r p (lines_from d.text (line_end p)) → Ready d (remembered new (list_finished at r).empty_item (list_finished at r).blank) (lines_from d.text next)
+    → ReadyLeaf d r p (lines_from d.text (line_end p)) → (empty : Option ℕ) (blank : Bool) → empty ≡ None → blank ≡ false → Ready d (remembered new empty blank) (lines_from d.text next)
 unfolding OpensAs
 ready_paragraph d r new p at next forest kind at_is place a none ready =
     let lines : List Place = lines_from d.text (line_end p) in
     let block : List (ℕ × Item) = paragraph_block at next a.chain in
-    let o : Opening = OpensLeaf (Block at block) Line (lines_from d.text next) in
+    let o : Opening = OpensLeaf (Block at block false) Line (lines_from d.text next) in
     let paragraph : OpensAs d (path_of r.tree) p lines Paragraph o = opens_paragraph d (path_of r.tree) (list_finished at r).tree new p at next None (path_finished at r none) at_is place a in
-    ready_added d r new p lines (lines_from d.text next) at block Paragraph forest kind paragraph a.tree_is none ready
+    ready_added d r new p lines (lines_from d.text next) at block false Paragraph forest kind paragraph a.tree_is none ready
 
 -- behind the paragraph of a task list item
 pub ready_text : (d : Document) (r : Reading) (new : Forest Item) (p : Place) (at next : ℕ) (marker : Item) → at ≡ offset (unindented p) → IsPlaceOf d.text (unindented p) → AddsParagraph d at (Some marker) r.tree new next → r.empty_item ≡ None
@@ -214,65 +207,12 @@ ready_text d r new p at next marker at_is place a none text =
     let block : List (ℕ × Item) = paragraph_block at next (marker_items (Some marker) ++ a.chain) in
     let opens = opens_paragraph d (containers_of frames) f new p at next (Some marker) (open_path f.nodes f.spine frames ready.are_open) at_is place a in
     let k = completes-text d frames f.nodes os marker p lines left at block text.plain opens ready.completes in
-    let q = with_block d f frames block left ready.are_open ready.completes.below k in
+    let q = with_block d f frames block false left ready.are_open ready.completes.below k in
     ready_plain d (remembered new r.empty_item r.blank) left none (subst (λ t. ReadyAt d new t Line left) (sym text.blank) (subst (λ z. ReadyAt d z false Line left) (sym a.tree_is) q))
 
--- a heading's number signs stand behind its indentation
-heading_level : (o : Option HeadingLevel) (level : HeadingLevel) → heading_or o Paragraph ≡ AtxHeading level → o ≡ Some level
-heading_level (Some l) level h = cc
-heading_level None level h = cc
-
-rule_level : (r : Option ℕ) (o : Option HeadingLevel) (level : HeadingLevel) → rule_or r (heading_or o Paragraph) ≡ AtxHeading level → o ≡ Some level
-rule_level (Some n) o level h = cc
-rule_level None o level h = heading_level o level h
-
-level_by : (t u : Bool) (r : Option ℕ) (o : Option HeadingLevel) (level : HeadingLevel) → (if t then Blank else (if u then rule_or r (heading_or o Paragraph) else Paragraph)) ≡ AtxHeading level
-    → o ≡ Some level
-level_by true u r o level h = cc
-level_by false true r o level h = rule_level r o level h
-level_by false false r o level h = cc
-
-pub kind_level : (text : List ℕ) (p : Place) (at : ℕ) (level : HeadingLevel) → kind_of p.rest ≡ AtxHeading level → at ≡ offset (unindented p)
-    → IsPlaceOf text (unindented p) → atx_level (drop at text) ≡ Some level
-unfolding kind_of
-kind_level text p at level kind at_is place =
-    ap (λ k. atx_level (drop k text)) at_is ∙ ap atx_level (sym place.left) ∙ level_by (is_some (blank_len p.rest.left)) (nat_lt (indent p.rest) 4) (hrule_len (unindented p).rest.left) (atx_level (unindented p).rest.left) level kind
-
--- a thematic break stands behind its indentation
-no_rule : (o : Option HeadingLevel) (size : ℕ) → heading_or o Paragraph ≡ ThematicBreak size → ⊥
-no_rule (Some l) size h = cc
-no_rule None size h = cc
-
-rule_size : (r : Option ℕ) (o : Option HeadingLevel) (size : ℕ) → rule_or r (heading_or o Paragraph) ≡ ThematicBreak size → r ≡ Some size
-rule_size (Some n) o size h = cc
-rule_size None o size h = absurd (no_rule o size h)
-
-size_by : (t u : Bool) (r : Option ℕ) (o : Option HeadingLevel) (size : ℕ) → (if t then Blank else (if u then rule_or r (heading_or o Paragraph) else Paragraph)) ≡ ThematicBreak size → r ≡ Some size
-size_by true u r o size h = cc
-size_by false true r o size h = rule_size r o size h
-size_by false false r o size h = cc
-
-kind_size : (p : Place) (size : ℕ) → kind_of p.rest ≡ ThematicBreak size → hrule_len (unindented p).rest.left ≡ Some size
-unfolding kind_of
-kind_size p size kind = size_by (is_some (blank_len p.rest.left)) (nat_lt (indent p.rest) 4) (hrule_len (unindented p).rest.left) (atx_level (unindented p).rest.left) size kind
-
--- it ends where its line ends
-pub rule_end : (p : Place) (at size : ℕ) → kind_of p.rest ≡ ThematicBreak size → at ≡ offset (unindented p) → at + size ≡ line_end p
+-- a thematic break ends where its line ends
+pub rule_end : (p : Place) (at size : ℕ) → hrule_len (unindented p).rest.left ≡ Some size → at ≡ offset (unindented p) → at + size ≡ line_end p
 rule_end p at size kind at_is =
-    let n = rule_line (unindented p).rest.left size (kind_size p size kind) in
+    let n = rule_line (unindented p).rest.left size kind in
     let e = columns_line_end (indent p.rest) p in
     omega arith
-
--- behind a thematic break
-pub ready_rule : (d : Document) (r : Reading) (new : Forest Item) (p : Place) (at next size : ℕ) → IsForest r.tree → kind_of p.rest ≡ ThematicBreak size
-    → at ≡ offset (unindented p) → next ≡ line_end p → new ≡ added (list_finished p.line r).tree (rule_block at size) → r.empty_item ≡ None
-    → ReadyLeaf d r p (lines_from d.text (line_end p)) → Ready d (remembered new (list_finished p.line r).empty_item (list_finished p.line r).blank) (lines_from d.text next)
-unfolding OpensAs
-ready_rule d r new p at next size forest kind at_is next_is new_is none ready =
-    let lines : List Place = lines_from d.text (line_end p) in
-    let block : List (ℕ × Item) = rule_block at size in
-    let o : Opening = OpensLeaf (Block p.line block) Line (lines_from d.text next) in
-    let rule : OpensAs d (path_of r.tree) p lines (ThematicBreak size) o =
-    ap (λ k. OpensLeaf (Block p.line (rule_block k size)) Line (lines_from d.text next)) at_is
-    ∙ ap (λ n. OpensLeaf (Block p.line (rule_block (offset (unindented p)) size)) Line (lines_from d.text n)) next_is in
-    ready_added d r new p lines (lines_from d.text next) p.line block (ThematicBreak size) forest kind rule new_is none ready

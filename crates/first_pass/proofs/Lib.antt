@@ -1,8 +1,9 @@
-pub mod BlockLemmas
+pub mod BlankBehind
 pub mod EnterLemmas
 pub mod FinishLemmas
-pub mod FrontLemmas
 pub mod HeadingLemmas
+pub mod KindBlocks
+pub mod KindLemmas
 pub mod LeafLemmas
 pub mod LineLemmas
 pub mod ListLemmas
@@ -14,9 +15,8 @@ pub mod OrderLemmas
 pub mod OrderParagraph
 pub mod OrderSteps
 pub mod ParagraphLemmas
-pub mod PathLemmas
-pub mod PlaceLemmas
 pub mod PopLemmas
+pub mod RawFits
 pub mod RuleLemmas
 pub mod StateLemmas
 pub mod TagLemmas

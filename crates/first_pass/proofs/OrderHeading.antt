@@ -4,12 +4,12 @@ use Rattle.std.specs.Char.{is_ascii_punctuation}
 use Rattle.std.specs.List.{prefix_len, suffix_len}
 use Rattle.std.proofs.lemmas.Bool.{cond_both, cases_Bool, cases_lt, eqb-true, eq-eqb, or_cases, ltb-true, false≢true}
 use Rattle.std.proofs.lemmas.Bool.Decides.{nat_tests}
-use Rattle.std.proofs.lemmas.List.{take_all, get_or-take, get_or_past, append-nil}
+use Rattle.std.proofs.lemmas.List.{take_all, get_or-take, get_or_past}
 use Rattle.std.proofs.lemmas.List.Sums.{suffix_len-le-length, suffix_len-take_yes, suffix_len-take_no}
 use Rattle.first_pass_items.specs.declared.item.Item.{Item}
 use Rattle.first_pass_items.specs.declared.item.HeadingLevel.{HeadingLevel}
 use Rattle.first_pass_items.specs.declared.item.ItemBody.TheVariants.{Heading as HeadingBody, Rule}
-use Rattle.first_pass_tree.specs.Forest.{Forest, block_of, added}
+use Rattle.first_pass_tree.specs.Forest.{Forest, added}
 use Rattle.first_pass_scan.specs.Lines.{is_line_end, is_number_sign, is_white, ends_line, line_len, level_number, atx_level}
 use Rattle.first_pass_scan.specs.Places.{Place, IsPlaceOf, offset, moved_bytes, line_place}
 use Rattle.first_pass_scan.proofs.LineFacts.{line_len-none, line_len-step, line_len-some, line_len-fits}
@@ -17,17 +17,14 @@ use Rattle.first_pass_scan.proofs.PlaceFacts.{line_is_place, signs_keep, white_k
 use Rattle.first_pass_scan.proofs.HeadingFacts.{atx_level-signs}
 use Rattle.first_pass_tokens.specs.Chains.{add_tokens, close_break, cut}
 use Rattle.first_pass_tokens.specs.Order.{AreInOrder}
-use Rattle.first_pass_tokens.specs.TreeTokens.{leaves}
 use Rattle.first_pass_tokens.proofs.LineLemmas.{ends_line as line_ends}
 use Rattle.first_pass_tokens.proofs.OrderLemmas.{order_bound, order_from, order_to}
 use Rattle.first_pass_tokens.proofs.CutOrder.{cut_in_order, line_none_escaped}
 use Rattle.first_pass_grammar.specs.Leaves.{Document, is_put_aside, kept_len, heading_chain, heading_text_at, heading_block, rule_block, IsHeading, content_at}
-use Rattle.first_pass_grammar.specs.Order.{Extent, extent_of, is_paragraph, laid, IsBetween, Fits, FitsBetween}
-use Rattle.first_pass_grammar.specs.Order.Row.{Empty, Node}
-use Rattle.first_pass_grammar.proofs.Orders.{row_of, row_of-laid, row_of-fits}
+use Rattle.first_pass_grammar.proofs.Orders.{block_fits}
 use Rattle.first_pass.specs.Appends.{AddsHeading, line_end_at}
 use Rattle.first_pass.specs.Ordered.{AddsBetween}
-use Rattle.first_pass.proofs.PlaceLemmas.{place_end, line_start_end}
+use Rattle.first_pass_leaves.proofs.PlaceLemmas.{place_end, line_start_end}
 
 -- the run of bytes that pass at the end of a front of a list: it is empty, or its first byte passes
 run_first : (p : ℕ → Bool) (xs : List ℕ) (n : ℕ) → n ≤ length xs → (suffix_len p (take n xs) ≡ 0) ⊎ (p (get_or xs (n - suffix_len p (take n xs)) 0) ≡ true)
@@ -206,15 +203,6 @@ heading_in_order d start chain end_of_line within h order =
           let free = line_none_escaped (content_at d start) h.tokens end_of_line h.break (start + n) h.line (small_plain (slice_index d.text (start + n)) some.2) in
           inr (omega arith, at, cut_in_order d.text start end_of_line (start + n) whole order at (omega arith) free)
     ]))
-
--- A block of a chain lies between two offsets where its item does, and the chain is in order within that.
-pub block_fits : (text : List ℕ) (from to : ℕ) (x : Item) (chain : List Item) → IsBetween text from to (extent_of x) → AreInOrder text x.start x.«end» chain → FitsBetween text from to (block_of x (leaves chain))
-unfolding laid Fits
-block_fits text from to x chain between order = (
-  Node (extent_of x) (row_of chain) Empty,
-  ap (λ (ns : List (ℕ × Extent)). (0, extent_of x) ∷ ns) (row_of-laid 1 chain ∙ sym (append-nil (laid 1 (row_of chain)))),
-  inl (between, row_of-fits text (if is_paragraph x.body then Some from else None) x.start x.«end» chain order, between.before),
-)
 
 -- A thematic break fits in its line.
 pub rule_fits : (text : List ℕ) (from ix size : ℕ) (old new : Forest Item) → new ≡ added old (rule_block ix size) → from ≤ ix → IsCharBoundary text ix → IsCharBoundary text (ix + size) → AddsBetween text from (ix + size) old new

@@ -11,6 +11,7 @@ use Rattle.first_pass_tree.proofs.Keeps.{appended-is, modified-is}
 use Rattle.first_pass_tokens.specs.Order.{AreInOrder}
 use Rattle.first_pass_tokens.specs.TreeTokens.{with_token, with_tokens, AppendsLine}
 use Rattle.first_pass_tokens.proofs.OrderLemmas.{order_bound, order_to, order_from, line_in_order}
+use Rattle.first_pass_leaves.specs.TableEntries.{no_names}
 use Rattle.first_pass_grammar.specs.Leaves.{Document, document, content_at}
 use Rattle.first_pass.specs.Appends.{text_upto}
 use Rattle.std.proofs.lemmas.Str.{IsUtf8-take, IsCharBoundary-from_take}
@@ -240,7 +241,7 @@ module _ (text : List ℕ) (e : ℕ) (utf8 : IsUtf8 text) (ends : IsCharBoundary
 
 -- the tokens of a line added, which begins at an offset of a text of which nothing counts from another on, or all
 pub ordered_line : (d : Document) (start : ℕ) (end : Option ℕ) (old new : Forest Item) (next : ℕ) (line_break : Option Item) (from : ℕ) → IsUtf8 d.text → IfSome end (λ e. (start ≤ e) × IsCharBoundary d.text e) → IsCharBoundary d.text start → IsForest old
-    → AppendsLine (content_at (document (text_upto d.text end) d.options) start) old new (next, line_break) → from ≤ start → IsOrderedTo d.text old from → IsOrderedTo d.text new next
+    → AppendsLine (content_at (document (text_upto d.text end) d.options no_names) start) old new (next, line_break) → from ≤ start → IsOrderedTo d.text old from → IsOrderedTo d.text new next
 ordered_line d start None old new next line_break from u ends boundary forest h low o =
     let l = line_in_order u boundary boundary.0 h.line in
     let tokens : AreInOrder d.text start next h.tokens = order_to d.text start _ next h.tokens l.tokens_fit l.before in

@@ -1,14 +1,16 @@
 -- The lines of a paragraph, one after the other.
-use Rattle.std.proofs.Common.{◌≡◌, ◌⊎◌, inl, inr, ℕ, zero, suc, ◌+◌, ◌<◌, ◌≤◌, Bool, true, false, List, [], ◌∷◌, length, drop, ◌^◌, if◌then◌else◌, Option, Some, None, is_some, IfSome, IsUtf8, IsCharBoundary, refl, sym, ap, subst, ◌∙◌, arith}
+use Rattle.std.proofs.Common.{◌≡◌, ◌⊎◌, inl, inr, ℕ, zero, suc, ◌+◌, ◌<◌, ◌≤◌, Bool, true, false, List, [], ◌∷◌, ◌++◌, length, drop, ◌^◌, if◌then◌else◌, Option, Some, None, is_some, IfSome, IsUtf8, IsCharBoundary, refl, sym, ap, subst, ◌∙◌, arith}
 use Rattle.std.proofs.lemmas.Bool.{cases_lt, false≢true}
 use Rattle.std.proofs.lemmas.Str.{IsCharBoundary-end}
 use Rattle.first_pass_items.specs.declared.item.Item.{Item}
 use Rattle.first_pass_items.specs.declared.option_set.Options.{Options}
-use Rattle.first_pass_tree.specs.Forest.{Forest}
+use Rattle.first_pass_tree.specs.Forest.{Forest, appended, pushed}
+use Rattle.first_pass_tree.specs.declared.tree_index.TreeIndex.{TreeIndex}
 use Rattle.first_pass_scan.specs.Lines.{line_len}
 use Rattle.first_pass_scan.specs.Places.{Place, offset, line_rest, line_place, place_at, IsPlaceOf}
 use Rattle.first_pass_scan.proofs.LineFacts.{lines_at-line, lines_at-end}
 use Rattle.first_pass_scan.proofs.PlaceFacts.{line_end_boundary}
+use Rattle.first_pass_leaves.specs.TableEntries.{no_names}
 use Rattle.first_pass_grammar.specs.declared.kind.Container.{Container}
 use Rattle.first_pass_tokens.specs.LineTokens.{IsLine, EndsLine, IsBreak}
 use Rattle.first_pass_tokens.specs.Chains.{add_tokens, close_break, is_backslash_break}
@@ -18,11 +20,12 @@ use Rattle.first_pass_grammar.specs.Containers.{after, front}
 use Rattle.first_pass_grammar.specs.Kinds.{unindented, interrupts, ends_paragraph}
 use Rattle.first_pass_grammar.specs.Leaves.{Document, document, content_at, add_break, IsParagraph}
 use Rattle.first_pass_grammar.specs.Completion.{lines_from}
-use Rattle.first_pass.specs.Appends.{line_end_at, with_child, with_closed_break, AppendsParagraph}
-use Rattle.first_pass.specs.Path.{path_of}
+use Rattle.first_pass.specs.Appends.{line_end_at, with_closed_break, AppendsParagraph}
+use Rattle.first_pass_leaves.specs.OpenBlock.{with_child}
+use Rattle.first_pass_leaves.specs.Path.{container_of, with_container, path_of}
 use Rattle.first_pass.specs.Reading.{ParagraphSoFar}
-use Rattle.first_pass.proofs.PathLemmas.{AreIn, front-end, path_of-chained}
-use Rattle.first_pass.proofs.PlaceLemmas.{text_place}
+use Rattle.first_pass_leaves.proofs.PathLemmas.{AreIn, front-end, path_in-append, path_of-chained, path_of-opened, opened_in}
+use Rattle.first_pass_leaves.proofs.PlaceLemmas.{text_place}
 
 -- At the end of the text a paragraph ends.
 interrupts-end : (whole : Bool) → interrupts whole (line_rest []) ≡ true
@@ -187,34 +190,42 @@ break_fits d ix n (Some x) small ends =
 
 -- the same source, where the text and the options are still those
 pub same_line : (t u : List ℕ) (o w : Options) (ix : ℕ) (old new : Forest Item) (answer : ℕ × Option Item) → t ≡ u → o ≡ w
-    → AppendsLine (record { options = o; text = t; start = ix }) old new answer → AppendsLine (content_at (document u w) ix) old new answer
+    → AppendsLine (record { options = o; text = t; start = ix }) old new answer → AppendsLine (content_at (document u w no_names) ix) old new answer
 same_line t u o w ix old new answer e f line = subst (λ z. AppendsLine (record { options = z; text = u; start = ix }) old new answer) f (subst (λ z. AppendsLine (record { options = o; text = z; start = ix }) old new answer) e line)
 
 pub same_end : (t u : List ℕ) (o w : Options) (ix : ℕ) (answer : ℕ × Option Item) → t ≡ u → o ≡ w
-    → EndsLine (record { options = o; text = t; start = ix }) answer → EndsLine (content_at (document u w) ix) answer
+    → EndsLine (record { options = o; text = t; start = ix }) answer → EndsLine (content_at (document u w no_names) ix) answer
 same_end t u o w ix answer e f ends = subst (λ z. EndsLine (record { options = z; text = u; start = ix }) answer) f (subst (λ z. EndsLine (record { options = o; text = z; start = ix }) answer) e ends)
 
 -- the two steps, of a text that is held by other names before and after the line is read
 pub so_far_next : (first text now_text : List ℕ) (o w : Options) (start ix n at : ℕ) (old now read new : Forest Item) (line_break : Option Item) (found : Option ℕ) (path : List Container)
-    → text ≡ first → o ≡ w → now_text ≡ text → path ≡ path_of read → AreIn (length old.nodes) old.spine → IsUtf8 first → ParagraphSoFar (document first w) start old now ix → JoinsNone old
+    → text ≡ first → o ≡ w → now_text ≡ text → path ≡ path_of read → AreIn (length old.nodes) old.spine → IsUtf8 first → ParagraphSoFar (document first w no_names) start old now ix → JoinsNone old
     → AppendsLine (record { options = o; text = text; start = ix }) now read (n, line_break) → EndsLine (record { options = o; text = text; start = ix }) (n, line_break)
     → found ≡ (if ends_paragraph path ((line_rest (drop n now_text))) then None else Some (offset (unindented (place_at n (front path (line_rest (drop n now_text))))))) → found ≡ Some at
     → IsPlaceOf now_text (unindented (place_at n (front path (line_rest (drop n now_text))))) → new ≡ with_child read line_break
-    → (ParagraphSoFar (document first w) start old new at) × (ix < at)
+    → (ParagraphSoFar (document first w no_names) start old new at) × (ix < at)
 so_far_next first text now_text o w start ix n at old now read new line_break found path same same_options kept path_is there u s apart line ends value is place new_is =
     let e : now_text ≡ first = kept ∙ same in
     let goes = goes_by _ _ _ _ (subst (λ t. found ≡ (if ends_paragraph path ((line_rest (drop n t))) then None else Some (offset (unindented (place_at n (front path (line_rest (drop n t)))))))) e value) is in
-    so_far_more path (document first w) start ix n at old now read new line_break (path_is ∙ read_path (document first w) start ix old now read (n, line_break) s apart (same_line text first o w ix now read (n, line_break) same same_options line) there) u s apart (same_line text first o w ix now read (n, line_break) same same_options line)
+    so_far_more path (document first w no_names) start ix n at old now read new line_break (path_is ∙ read_path (document first w no_names) start ix old now read (n, line_break) s apart (same_line text first o w ix now read (n, line_break) same same_options line) there) u s apart (same_line text first o w ix now read (n, line_break) same same_options line)
     (same_end text first o w ix (n, line_break) same same_options ends) goes.0 goes.1 (subst (λ t. IsPlaceOf t (unindented (place_at n (front path (line_rest (drop n t)))))) e place) new_is
 
 pub so_far_stop : (first text now_text : List ℕ) (o w : Options) (start ix n : ℕ) (old now read new : Forest Item) (line_break : Option Item) (found : Option ℕ) (path : List Container)
-    → text ≡ first → o ≡ w → now_text ≡ text → path ≡ path_of read → AreIn (length old.nodes) old.spine → IsUtf8 first → ParagraphSoFar (document first w) start old now ix → JoinsNone old
+    → text ≡ first → o ≡ w → now_text ≡ text → path ≡ path_of read → AreIn (length old.nodes) old.spine → IsUtf8 first → ParagraphSoFar (document first w no_names) start old now ix → JoinsNone old
     → AppendsLine (record { options = o; text = text; start = ix }) now read (n, line_break) → EndsLine (record { options = o; text = text; start = ix }) (n, line_break)
     → found ≡ (if ends_paragraph path ((line_rest (drop n now_text))) then None else Some (offset (unindented (place_at n (front path (line_rest (drop n now_text))))))) → found ≡ None
     → IsCharBoundary text n → new ≡ with_closed_break read line_break
-    → AppendsParagraph (document first w) start old new n
+    → AppendsParagraph (document first w no_names) start old new n
 so_far_stop first text now_text o w start ix n old now read new line_break found path same same_options kept path_is there u s apart line ends value is boundary new_is =
     let e : now_text ≡ first = kept ∙ same in
     let stops = stops_by _ _ _ (subst (λ t. found ≡ (if ends_paragraph path ((line_rest (drop n t))) then None else Some (offset (unindented (place_at n (front path (line_rest (drop n t)))))))) e value) is in
-    so_far_end path (document first w) start ix n old now read new line_break (path_is ∙ read_path (document first w) start ix old now read (n, line_break) s apart (same_line text first o w ix now read (n, line_break) same same_options line) there) s apart (same_line text first o w ix now read (n, line_break) same same_options line)
+    so_far_end path (document first w no_names) start ix n old now read new line_break (path_is ∙ read_path (document first w no_names) start ix old now read (n, line_break) s apart (same_line text first o w ix now read (n, line_break) same same_options line) there) s apart (same_line text first o w ix now read (n, line_break) same same_options line)
     (same_end text first o w ix (n, line_break) same same_options ends) stops (subst (λ t. IsCharBoundary t n) same boundary) new_is
+
+-- a paragraph just opened, with the marker of its task list item
+pub path_of-paragraph : (g p m : Forest Item) (x : Item) (ix : TreeIndex) (marker : Option Item) → container_of x.body ≡ None → p ≡ pushed (appended g x) ix → m ≡ with_child p marker → ix.0 ≡ length g.nodes
+    → AreIn (length g.nodes) g.spine → path_of m ≡ path_of g
+path_of-paragraph g p m x ix None leaf e f at a = ap path_of (f ∙ e) ∙ path_of-opened g x ix at a ∙ ap (λ c. with_container c (path_of g)) leaf
+path_of-paragraph g p m x ix (Some y) leaf e f at a =
+    ap path_of (f ∙ ap (λ q. appended q y) e) ∙ path_in-append (g.nodes ++ (length g.spine + 1, x) ∷ []) ((length (ix ∷ g.spine) + 1, y) ∷ []) (ix ∷ g.spine) (opened_in g x ix at a)
+    ∙ path_of-opened g x ix at a ∙ ap (λ c. with_container c (path_of g)) leaf

@@ -11,6 +11,7 @@ use Rattle.first_pass_tree.specs.declared.tree_index.TreeIndex.{TreeIndex}
 use Rattle.first_pass_tree.specs.Forest.{Forest, IsForest, empty_forest, with_end_at, body_at}
 use Rattle.first_pass_scan.specs.Rest.{Rest, indent}
 use Rattle.first_pass_scan.specs.Places.{Place, start_of}
+use Rattle.first_pass_grammar.specs.Names.{Names}
 use Rattle.first_pass_grammar.specs.declared.kind.Container.{Container}
 use Rattle.first_pass_grammar.specs.declared.kind.Container.TheVariants.{BlockQuote, ListItem}
 use Rattle.first_pass_grammar.specs.Containers.{prefix, after, next_goes_on}
@@ -19,22 +20,22 @@ use Rattle.first_pass_grammar.specs.Skeleton.{Line, Blanks, is_blank_behind, nex
 use Rattle.first_pass_grammar.specs.Derivation.{Derives, tight_body, tightened}
 use Rattle.first_pass_grammar.specs.Completion.{lines_from, Frame, Completes}
 use Rattle.first_pass_grammar.proofs.Completions.{completes-first, completes-end}
-use Rattle.first_pass.specs.Appends.{closed_by}
+use Rattle.first_pass_leaves.specs.OpenBlock.{closed_by}
 use Rattle.first_pass.specs.Closing.{Reading, remembered, tight_run, tight_at, tight_items, popped_by, popped_at, popped}
-use Rattle.first_pass.specs.Path.{container_of, container_at, with_container, path_in, path_of, outer}
+use Rattle.first_pass_leaves.specs.Path.{container_of, container_at, with_container, path_in, path_of, outer}
 use Rattle.first_pass.specs.State.{frame_of, frame_at, AreOpen, ReadyAt, ReadyBeforeLine, ReadyInItem, ReadyWith, NoMore, Ready}
-use Rattle.first_pass.specs.TableEntries.{no_tables}
-use Rattle.first_pass.proofs.FrontLemmas.{outer-all}
+use Rattle.first_pass_leaves.specs.TableEntries.{no_tables}
+use Rattle.first_pass_leaves.proofs.FrontLemmas.{outer-all}
 use Rattle.first_pass.proofs.OpenLemmas.{body-kept}
 use Rattle.first_pass.proofs.PopLemmas.{pop_container, pop_list}
 
 -- before the first block
-pub ready_first : (text : List ℕ) (options : Options) (tree : Forest Item) (root : TreeIndex) → root.0 ≡ 0 → tree ≡ with_end_at empty_forest root (length text) → Ready (document text options) (remembered tree None false) (lines_from text 0)
+pub ready_first : (text : List ℕ) (options : Options) (names : Names) (tree : Forest Item) (root : TreeIndex) → root.0 ≡ 0 → tree ≡ with_end_at empty_forest root (length text) → Ready (document text options names) (remembered tree None false) (lines_from text 0)
 unfolding Ready
-ready_first text options tree root top tree_is =
+ready_first text options names tree root top tree_is =
     let at_top : ℕ → TreeIndex = λ n. record { 0 = n } in
     let e : tree ≡ with_end_at empty_forest (at_top 0) (length text) = tree_is ∙ ap (λ n. with_end_at empty_forest (at_top n) (length text)) top in
-    subst (λ f. ReadyAt (document text options) f false Line (lines_from text 0)) (sym e) (record { frames = []; are_open = tt; completes = completes-first (document text options) })
+    subst (λ f. ReadyAt (document text options names) f false Line (lines_from text 0)) (sym e) (record { frames = []; are_open = tt; completes = completes-first (document text options names) })
 
 ended_by : (d : Document) (tree : Forest Item) (run : Bool) (frames : List Frame) → AreOpen tree.nodes [] frames → Completes d run frames tree.nodes [] Line [] → Derives d tree.nodes no_tables
 ended_by d tree run [] o k = completes-end d run tree.nodes k

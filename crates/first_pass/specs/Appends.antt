@@ -1,25 +1,19 @@
 -- What the leaf parsers append to the tree.
-use Rattle.std.specs.Prelude.{◌≡◌, ◌≤◌, ℕ, ◌+◌, List, [], ◌∷◌, ◌++◌, length, take, drop, Option, Some, None, false, IsCharBoundary, if◌then◌else◌}
+use Rattle.std.specs.Prelude.{◌≡◌, ◌≤◌, ℕ, ◌+◌, List, [], ◌++◌, take, drop, Option, Some, None, false, IsCharBoundary, if◌then◌else◌}
 use Rattle.first_pass_items.specs.declared.item.Item.{Item}
 use Rattle.first_pass_items.specs.declared.item.HeadingLevel.{HeadingLevel}
-use Rattle.first_pass_tree.specs.declared.tree_index.TreeIndex.{TreeIndex}
-use Rattle.first_pass_tree.specs.Forest.{Forest, appended, added, popped, with_end_at, with_text}
+use Rattle.first_pass_tree.specs.Forest.{Forest, added, with_text}
 use Rattle.first_pass_scan.specs.Lines.{line_len, level_number}
 use Rattle.first_pass_tokens.specs.Chains.{is_backslash_break}
 use Rattle.first_pass_tokens.specs.TreeTokens.{chained}
 use Rattle.first_pass_grammar.specs.Leaves.{Document, IsParagraph, IsHeading, heading_text_at, heading_block, paragraph_block, marker_items}
 use Rattle.first_pass_grammar.specs.Completion.{lines_from}
-use Rattle.first_pass.specs.Path.{path_of}
+use Rattle.first_pass_leaves.specs.Path.{path_of}
 
 -- the bytes of a text up to an offset, or all
 abbrev pub text_upto : List ℕ → Option ℕ → List ℕ
 text_upto text None = text
 text_upto text (Some e) = take e text
-
--- the tree with an item behind its nodes, if there is one
-abbrev pub with_child : Forest Item → Option Item → Forest Item
-with_child f None = f
-with_child f (Some x) = appended f x
 
 -- the tree where no line follows: the backslash of a hard break is text
 abbrev pub with_closed_break : Forest Item → Option Item → Forest Item
@@ -38,24 +32,12 @@ pub record AppendsParagraph (d : Document) (start : ℕ) (old new : Forest Item)
   pub later : line_end_at d.text start ≤ next
   pub boundary : IsCharBoundary d.text next
 
--- the node is the innermost open one, and the last node
-pub record IsJustPushed (f : Forest Item) (ix : TreeIndex) : Type 0 where
-  pub rest : List TreeIndex
-  pub innermost : f.spine ≡ ix ∷ rest
-  pub last : ix.0 + 1 ≡ length f.nodes
-  pub none : f.current ≡ None
-
 -- The chain of the heading whose text begins at an offset stands in the innermost open node, and its line ends before another.
 pub record AppendsHeading (d : Document) (start : ℕ) (old new : Forest Item) (next : ℕ) : Type 0 where
   pub chain : List Item
   pub line : IsHeading d start chain next
   pub tree_is : new ≡ chained old chain
   pub end_is : next ≡ line_end_at d.text start
-
--- the innermost open node closed, with its end
-abbrev pub closed_by : Forest Item → ℕ → List TreeIndex → Forest Item
-closed_by f e [] = f
-closed_by f e (ix ∷ rest) = with_end_at (popped f ix rest) ix e
 
 -- The paragraph whose text begins at an offset is a last child of the innermost open node, and leaves the lines from another on.
 pub record AddsParagraph (d : Document) (start : ℕ) (marker : Option Item) (old new : Forest Item) (next : ℕ) : Type 0 where

@@ -8,7 +8,7 @@ use Rattle.first_pass_items.specs.declared.item.ItemBody.TheVariants.{BlockQuote
 use Rattle.first_pass_tree.specs.declared.tree_index.TreeIndex.{TreeIndex}
 use Rattle.first_pass_tree.specs.Forest.{Forest, appended, pushed, with_body_at, body_at, depths}
 use Rattle.first_pass_grammar.specs.Derivation.{list_flags, tightened}
-use Rattle.first_pass.specs.Appends.{closed_by}
+use Rattle.first_pass_leaves.specs.OpenBlock.{closed_by}
 
 -- the tree so far; where the line of its marker ends, of the innermost item as long as it is empty; and whether a blank line that counts is in the run of
 -- them before the next line

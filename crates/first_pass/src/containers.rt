@@ -3,12 +3,13 @@
 ghost use Rattle.std.specs.Prelude.{◌≡◌, ℕ, ◌+◌, ◌<◌, ◌≤◌, List, length, drop, Some, None, true, false, MatchOption, IfOk, IfSome, OnOk, IsUtf8, IsCharBoundary};
 ghost use Rattle.first_pass_scan.specs.Rest.{after_columns};
 ghost use Rattle.first_pass_scan.specs.Places.{Place, place_at, offset, line_end, start_of, IsPlaceOf};
+ghost use Rattle.first_pass_grammar.specs.Names.{Names};
 ghost use Rattle.first_pass_grammar.specs.Leaves.{Document, document};
 ghost use Rattle.first_pass_grammar.specs.declared.kind.Container.TheVariants.{BlockQuote, ListItem};
 ghost use Rattle.first_pass_grammar.specs.Containers.{prefix, after, front};
 ghost use Rattle.first_pass_grammar.specs.Kinds.{item_at};
 ghost use Rattle.first_pass_tree.specs.declared.tree_index.TreeIndex.{TreeIndex};
-ghost use Rattle.first_pass.specs.Path.{container_of, prefix_of, path_in, path_of, outer};
+ghost use Rattle.first_pass_leaves.specs.Path.{container_of, prefix_of, path_in, path_of, outer};
 ghost use Rattle.first_pass_scan.specs.Lines.{line_len};
 ghost use Rattle.first_pass_grammar.specs.Skeleton.{Inside, task_behind, tag_behind};
 ghost use Rattle.first_pass_grammar.specs.Completion.{lines_from};
@@ -18,69 +19,19 @@ ghost use Rattle.first_pass.specs.Opening.{IsOpenedAt, ReadyIn, IsBehind, ReadyB
 ghost use Rattle.first_pass.specs.Ordered.{IsOrderedAt};
 ghost use Rattle.first_pass_grammar.specs.OpenOrder.{IsOrderedTo};
 
-use crate::indentation::scan_indentation;
 use crate::paragraph::append_item;
 use crate::pass::FirstPass;
 use bitflags::Flags;
 use first_pass_items::item::{BlockQuoteKind, Item, ItemBody};
 use first_pass_items::option_set::Options;
+pub use first_pass_leaves::containers::scan_containers;
+use first_pass_leaves::containers::scan_quote;
+use first_pass_leaves::indentation::scan_indentation;
 use first_pass_scan::line_start::LineStart;
 use first_pass_scan::lines::scan_blank_line;
 use first_pass_scan::places::{next_line, rest_of};
 use first_pass_tree::forest::Tree;
 use std::alloc::AllocError;
-
-// Takes the columns of an item's indent, or fewer where the line ends behind them, and says whether they are
-// there; takes nothing where they aren't.
-#[tactic(auto, unfolding(first_pass_grammar::specs::Containers::prefix))]
-fn takes_columns<'a>(columns: usize, line_start: &mut LineStart<'a>) -> bool
-    ensures { MatchOption (prefix (ListItem columns) line_start.old)
-        ((result ≡ false) × (line_start.new ≡ line_start.old)) (λ next. (result ≡ true) × (line_start.new ≡ next)) }
-{
-    let mut next = line_start.copy();
-    if !next.scan_space(columns) && !next.is_at_eol() {
-        return false;
-    }
-    *line_start = next;
-    true
-}
-
-// Takes the prefix by which the line goes on with a node, and says whether it does; takes nothing where it doesn't.
-#[tactic(auto, unfolding(first_pass_grammar::specs::Containers::prefix))]
-fn takes_prefix<'a>(body: ItemBody, line_start: &mut LineStart<'a>) -> bool
-    ensures { MatchOption (prefix_of (container_of body) line_start.old)
-        ((result ≡ false) × (line_start.new ≡ line_start.old)) (λ next. (result ≡ true) × (line_start.new ≡ next)) }
-{
-    match body {
-        ItemBody::BlockQuote(_) => scan_quote(line_start).is_some(),
-        ItemBody::ListItem(columns) => takes_columns(columns, line_start),
-        _ => true,
-    }
-}
-
-/// How many of the open nodes the line goes on with, the outermost first, up to the first by which it
-/// doesn't; the line start is then behind what they take (CommonMark 5). What is no container goes on with
-/// every line. Neither the options nor the flag make a difference yet.
-pub fn scan_containers<'a>(
-    tree: &Tree<Item>,
-    line_start: &mut LineStart<'a>,
-    _options: Options,
-    _gfm_blockquote: bool,
-) -> usize
-    ensures within { result ≤ length tree.now.spine }
-    ensures taken { after (path_in tree.now.nodes (outer result tree.now.spine)) line_start.old ≡ Some line_start.new }
-    ensures stops { (m : ℕ) → result < m → m ≤ length tree.now.spine → after (path_in tree.now.nodes (outer m tree.now.spine)) line_start.old ≡ None }
-    ensures front { line_start.new ≡ front (path_of tree.now) line_start.old }
-{
-    tree.is_forest();
-    let spine = tree.walk_spine();
-    for (i, ix) in spine.iter().enumerate() {
-        if !takes_prefix(tree[*ix].body, line_start) {
-            return i;
-        }
-    }
-    spine.len()
-}
 
 // What is opened at a place in a line.
 enum Opened {
@@ -138,10 +89,10 @@ impl<'a> FirstPass<'a> {
         ensures place { IfSome result (λ line_start. IsPlaceOf self.old.text.now (place_at start_ix line_start)) }
         ensures same_end { IfSome result (λ line_start. line_end (place_at start_ix line_start) ≡ start_ix + line_len (drop start_ix self.old.text.now)) }
         ensures no_empty { IfSome result (λ line_start. self.new.begin_list_item ≡ None) }
-        ensures ready { Ready (document self.old.text.now self.old.options) (remembered self.old.tree self.old.begin_list_item self.old.last_line_blank) (lines_from self.old.text.now start_ix)
+        ensures ready { (names : Names) → Ready (document self.old.text.now self.old.options names) (remembered self.old.tree self.old.begin_list_item self.old.last_line_blank) (lines_from self.old.text.now start_ix)
             → MatchOption result
-            (Ready (document self.old.text.now self.old.options) (remembered self.new.tree self.new.begin_list_item self.new.last_line_blank) (lines_from self.old.text.now (start_ix + line_len (drop start_ix self.old.text.now))))
-            (λ line_start. ReadyAt (document self.old.text.now self.old.options) self.new.tree self.new.last_line_blank (Inside (place_at start_ix line_start))
+            (Ready (document self.old.text.now self.old.options names) (remembered self.new.tree self.new.begin_list_item self.new.last_line_blank) (lines_from self.old.text.now (start_ix + line_len (drop start_ix self.old.text.now))))
+            (λ line_start. ReadyAt (document self.old.text.now self.old.options names) self.new.tree self.new.last_line_blank (Inside (place_at start_ix line_start))
             (lines_from self.old.text.now (start_ix + line_len (drop start_ix self.old.text.now)))) }
         ensures order { IsOrderedAt self.old.text.now (remembered self.old.tree self.old.begin_list_item self.old.last_line_blank) start_ix
             → MatchOption result
@@ -175,9 +126,9 @@ impl<'a> FirstPass<'a> {
         ensures place { OnOk result (IsPlaceOf self.old.text.now (place_at start_ix line_start.new)) }
         ensures same_end { OnOk result (line_end (place_at start_ix line_start.new) ≡ line_end (place_at start_ix line_start.old)) }
         ensures behind { IfOk result (λ answer. IsBehind answer self.new.begin_list_item line_start.new (line_end (place_at start_ix line_start.old))) }
-        ensures ready { IfOk result (λ answer.
-            ReadyAt (document self.old.text.now self.old.options) self.old.tree self.old.last_line_blank (Inside (place_at start_ix line_start.old)) (lines_from self.old.text.now (line_end (place_at start_ix line_start.old)))
-            → ReadyBehind (document self.old.text.now self.old.options) (remembered self.new.tree self.new.begin_list_item self.new.last_line_blank) (place_at start_ix line_start.new) (line_end (place_at start_ix line_start.old)) answer) }
+        ensures ready { IfOk result (λ answer. (names : Names) →
+            ReadyAt (document self.old.text.now self.old.options names) self.old.tree self.old.last_line_blank (Inside (place_at start_ix line_start.old)) (lines_from self.old.text.now (line_end (place_at start_ix line_start.old)))
+            → ReadyBehind (document self.old.text.now self.old.options names) (remembered self.new.tree self.new.begin_list_item self.new.last_line_blank) (place_at start_ix line_start.new) (line_end (place_at start_ix line_start.old)) answer) }
         ensures order { IfOk result (λ answer.
             IsCharBoundary self.old.text.now start_ix → IsOrderedTo self.old.text.now self.old.tree (line_or self.old.tree start_ix (offset (place_at start_ix line_start.old)))
             → OrderedBehind self.old.text.now (remembered self.new.tree self.new.begin_list_item self.new.last_line_blank) start_ix (offset (place_at start_ix line_start.new)) answer) }
@@ -209,9 +160,9 @@ impl<'a> FirstPass<'a> {
         ensures place { OnOk result (IsPlaceOf self.old.text.now (place_at start_ix line_start.new)) }
         ensures same_end { OnOk result (line_end (place_at start_ix line_start.new) ≡ line_end (place_at start_ix line_start.old)) }
         ensures opened { IfOk result (λ answer. IsOpenedAt answer self.new.begin_list_item line_start.old line_start.new (line_end (place_at start_ix line_start.old))) }
-        ensures ready { IfOk result (λ answer.
-            ReadyAt (document self.old.text.now self.old.options) self.old.tree self.old.last_line_blank (Inside (place_at start_ix line_start.old)) (lines_from self.old.text.now (line_end (place_at start_ix line_start.old)))
-            → ReadyIn (document self.old.text.now self.old.options) (remembered self.new.tree self.new.begin_list_item self.new.last_line_blank) (place_at start_ix line_start.new) (line_end (place_at start_ix line_start.old)) answer) }
+        ensures ready { IfOk result (λ answer. (names : Names) →
+            ReadyAt (document self.old.text.now self.old.options names) self.old.tree self.old.last_line_blank (Inside (place_at start_ix line_start.old)) (lines_from self.old.text.now (line_end (place_at start_ix line_start.old)))
+            → ReadyIn (document self.old.text.now self.old.options names) (remembered self.new.tree self.new.begin_list_item self.new.last_line_blank) (place_at start_ix line_start.new) (line_end (place_at start_ix line_start.old)) answer) }
         ensures order { IfOk result (λ answer.
             IsCharBoundary self.old.text.now start_ix → IsOrderedTo self.old.text.now self.old.tree (line_or self.old.tree start_ix (offset (place_at start_ix line_start.old)))
             → OrderedIn self.old.text.now (remembered self.new.tree self.new.begin_list_item self.new.last_line_blank) start_ix (offset (place_at start_ix line_start.new)) answer) }
@@ -287,21 +238,4 @@ fn scan_item<'a>(line_start: &mut LineStart<'a>) -> Option<(u8, u64, usize)>
     let item = next.scan_list_marker_with_indent(columns)?;
     *line_start = next;
     Some(item)
-}
-
-// Takes the prefix of a block quote, where it is there, and answers how many bytes of the line stand before
-// its marker; takes nothing where it isn't.
-#[tactic(auto, unfolding(first_pass_grammar::specs::Containers::prefix))]
-fn scan_quote<'a>(line_start: &mut LineStart<'a>) -> Option<usize>
-    ensures { MatchOption (prefix (BlockQuote None) line_start.old) ((result ≡ None) × (line_start.new ≡ line_start.old))
-        (λ next. (result ≡ Some (after_columns 3 line_start.old).taken) × (line_start.new ≡ next)) }
-{
-    let mut next = line_start.copy();
-    next.scan_space_upto(3);
-    let before = next.bytes_scanned();
-    if !next.scan_blockquote_marker() {
-        return None;
-    }
-    *line_start = next;
-    Some(before)
 }

@@ -3,9 +3,11 @@
 ghost use Rattle.std.specs.List.{suffix_len};
 ghost use Rattle.std.specs.Prelude.{◌≡◌, ℕ, ◌==◌, take, drop, ◌≤◌, Some, length, IfOk, OnOk, IsCharBoundary};
 ghost use Rattle.first_pass_scan.specs.Lines.{atx_level as atx_level_of, level_number as number_of};
+ghost use Rattle.first_pass_leaves.specs.TableEntries.{no_names};
 ghost use Rattle.first_pass_grammar.specs.Leaves.{document, is_put_aside, kept_len, heading_text_at};
 ghost use Rattle.first_pass.specs.Ordered.{AddsBetween};
-ghost use Rattle.first_pass.specs.Appends.{AppendsHeading, AddsHeading, IsJustPushed};
+ghost use Rattle.first_pass.specs.Appends.{AppendsHeading, AddsHeading};
+ghost use Rattle.first_pass_leaves.specs.OpenBlock.{IsJustPushed};
 
 use crate::paragraph::append_last_backslash;
 use crate::pass::FirstPass;
@@ -85,7 +87,7 @@ impl<'a> FirstPass<'a> {
         ensures allocs { OnOk result (self.new.allocs ≡ self.old.allocs) }
         ensures empty_item { OnOk result (self.new.begin_list_item ≡ self.old.begin_list_item) }
         ensures blank { OnOk result (self.new.last_line_blank ≡ self.old.last_line_blank) }
-        ensures block { IfOk result (λ next. AddsHeading (document self.old.text.now self.old.options) start atx_level self.old.tree self.new.tree next) }
+        ensures block { IfOk result (λ next. AddsHeading (document self.old.text.now self.old.options no_names) start atx_level self.old.tree self.new.tree next) }
         ensures fits { IfOk result (λ next. (from : ℕ) → from ≤ start → IsCharBoundary self.old.text.now start → AddsBetween self.old.text.now from next self.old.tree self.new.tree) }
     {
         self.tree.append(Item {
@@ -112,7 +114,7 @@ impl<'a> FirstPass<'a> {
         ensures allocs { OnOk result (self.new.allocs ≡ self.old.allocs) }
         ensures empty_item { OnOk result (self.new.begin_list_item ≡ self.old.begin_list_item) }
         ensures blank { OnOk result (self.new.last_line_blank ≡ self.old.last_line_blank) }
-        ensures line { IfOk result (λ next. AppendsHeading (document self.old.text.now self.old.options) start self.old.tree self.new.tree next) }
+        ensures line { IfOk result (λ next. AppendsHeading (document self.old.text.now self.old.options no_names) start self.old.tree self.new.tree next) }
     {
         let (next, line_break) = self.parse_line(start, None, TableParseMode::Disabled)?;
         append_last_backslash(&mut self.tree, line_break)?;

@@ -6,13 +6,14 @@ ghost use Rattle.first_pass_scan.specs.Rest.{indent};
 ghost use Rattle.first_pass_scan.specs.Markers.{is_bullet, listitem};
 ghost use Rattle.first_pass_grammar.specs.Containers.{after, front};
 ghost use Rattle.first_pass_grammar.specs.Kinds.{interrupts_with, item_interrupts, ends_paragraph, ends_tag, unindented, all_taken};
-ghost use Rattle.first_pass.specs.Path.{path_of};
+ghost use Rattle.first_pass_leaves.specs.Path.{path_of};
 
-use crate::containers::scan_containers;
-use crate::indentation::scan_indentation;
+use crate::kinds::html_kind;
 use first_pass_items::item::Item;
 use first_pass_items::option_set::Options;
-use first_pass_scan::leaf_scan::scan_hrule;
+use first_pass_leaves::containers::scan_containers;
+use first_pass_leaves::indentation::scan_indentation;
+use first_pass_scan::leaf_scan::{scan_code_fence, scan_hrule};
 use first_pass_scan::line_start::{LineStart, scan_listitem};
 use first_pass_scan::lines::{begins, scan_atx_heading, scan_blank_line, scan_eol};
 use first_pass_scan::places::rest_of;
@@ -41,9 +42,10 @@ fn is_bullet(byte: u8) -> bool
 }
 
 /// Whether `text`, what is left of a line behind its indentation of under four columns, interrupts a
-/// paragraph: its line ends, or a thematic break, an ATX heading, a block quote or a list item begins. An item interrupts where
-/// the line doesn't go on with all containers; else only a bullet or the number 1 does, and only with a rest
-/// that isn't blank (CommonMark 4.8, 4.1, 4.2, 5.1, 5.2). The tree so far makes no difference yet.
+/// paragraph: its line ends, or a thematic break, an ATX heading, a code fence, a block quote, a list item or an HTML
+/// block of the kinds 1 to 6 begins. An item interrupts where the line doesn't go on with all containers; else only a
+/// bullet or the number 1 does, and only with a rest that isn't blank (CommonMark 4.8, 4.1, 4.2, 4.5, 5.1, 5.2, 4.6).
+/// The tree so far makes no difference yet.
 pub fn scan_paragraph_interrupt_no_table(
     _alloc: Global,
     text: &str,
@@ -60,8 +62,10 @@ pub fn scan_paragraph_interrupt_no_table(
         scan_eol(bytes).is_some()
             || scan_hrule(bytes).is_some()
             || scan_atx_heading(bytes).is_some()
+            || scan_code_fence(bytes).is_some()
             || begins(b'>', bytes)
-            || interrupts_as_item(bytes, current_container),
+            || interrupts_as_item(bytes, current_container)
+            || html_kind(bytes).is_some(),
     )
 }
 

@@ -1,34 +1,110 @@
 //! What begins at a place in a line.
 
-ghost use Rattle.std.specs.Prelude.{◌≡◌};
-ghost use Rattle.first_pass_grammar.specs.Kinds.{kind_of, all_taken};
+ghost use Rattle.std.specs.Prelude.{◌≡◌, ◌+◌, ◌≤◌, min, length, drop, Some, None, IfOk, IfSome, MatchOption};
+ghost use Rattle.first_pass_scan.specs.Rest.{indent};
+ghost use Rattle.first_pass_scan.specs.Places.{place_at, IsPlaceOf};
+ghost use Rattle.first_pass_scan.specs.MetadataSearch.{IsKnownOf};
+ghost use Rattle.first_pass_grammar.specs.Kinds.{html_kind, last_kind, metadata_at, IsKind, all_taken};
 
-use crate::indentation::scan_indentation;
+use bitflags::Flags;
 use first_pass_grammar::Kind;
-use first_pass_scan::leaf_scan::scan_hrule;
+use first_pass_html::starts::{get_html_end_tag, starts_html_block_type_6};
+use first_pass_html::tags::scan_html_type_7;
+use first_pass_items::option_set::Options;
+use first_pass_leaves::indentation::scan_indentation;
+use first_pass_scan::leaf_scan::{scan_code_fence, scan_hrule};
 use first_pass_scan::line_start::LineStart;
 use first_pass_scan::lines::{scan_atx_heading, scan_blank_line};
+use first_pass_scan::metadata_search::{MetadataEnds, metadata_at};
 
-/// The kind of the block that begins at a place where no container does; takes all columns before it
-/// (CommonMark 4).
-#[tactic(auto, unfolding(first_pass_grammar::specs::Kinds::kind_of))]
-pub fn kind_at<'a>(line_start: &mut LineStart<'a>) -> Kind
-    ensures kind { result ≡ kind_of line_start.old }
+/// The HTML block of the kinds 1 to 6 that begins here, if one does (CommonMark 4.6).
+pub fn html_kind(bytes: &[u8]) -> Option<Kind>
+    ensures { result ≡ html_kind bytes.now }
+{
+    let [b'<', rest @ ..] = bytes else {
+        return None;
+    };
+    if get_html_end_tag(rest).is_some() {
+        return Some(Kind::HtmlToEnd);
+    }
+    if starts_html_block_type_6(rest) {
+        return Some(Kind::HtmlToBlank);
+    }
+    None
+}
+
+// The thematic break, the ATX heading, the fenced code block or the paragraph that begins here.
+fn last_kind(bytes: &[u8]) -> Kind
+    ensures { result ≡ last_kind bytes.now }
+{
+    if let Some(size) = scan_hrule(bytes) {
+        return Kind::ThematicBreak(size);
+    }
+    if let Some(level) = scan_atx_heading(bytes) {
+        return Kind::AtxHeading(level);
+    }
+    match scan_code_fence(bytes) {
+        Some((count, byte)) => Kind::FencedCode(count, byte),
+        None => Kind::Paragraph,
+    }
+}
+
+// The byte of the metadata block that begins at the offset `at` into the text behind so many columns, which have to
+// be none.
+fn metadata_behind(
+    text: &[u8],
+    at: usize,
+    columns: usize,
+    options: Options,
+    ends: &mut MetadataEnds,
+) -> Option<u8>
+    requires within { at ≤ length text.now }
+    requires known { IsKnownOf text.now ends.old }
+    ensures value { result ≡ metadata_at columns options (drop at text.now) }
+    ensures known { IsKnownOf text.now ends.new }
+{
+    if columns > 0 {
+        return None;
+    }
+    let yaml = options.contains(Options::ENABLE_YAML_STYLE_METADATA_BLOCKS);
+    let pluses = options.contains(Options::ENABLE_PLUSES_DELIMITED_METADATA_BLOCKS);
+    metadata_at(text, at, yaml, pluses, ends)
+}
+
+/// The kind of the block that begins at a place where no container does, in the line whose reading began at
+/// the offset `start` into the text; takes all columns before it, and says how many there were, but 4 where
+/// there were more (CommonMark 4).
+pub fn kind_at<'a>(
+    text: &str,
+    start: usize,
+    line_start: &mut LineStart<'a>,
+    options: Options,
+    ends: &mut MetadataEnds,
+) -> (Kind, usize)
+    requires place { IsPlaceOf text.now (place_at start line_start.old) }
+    requires known { IsKnownOf text.now ends.old }
+    ensures kind { IsKind options line_start.old result.0 }
+    ensures columns { result.1 ≡ min 4 (indent line_start.old) }
     ensures rest { line_start.new ≡ all_taken line_start.old }
+    ensures known { IsKnownOf text.now ends.new }
 {
     let blank = scan_blank_line(line_start.left()).is_some();
     let columns = scan_indentation(line_start);
     if blank {
-        return Kind::Blank;
+        return (Kind::Blank, columns);
     }
     if columns >= 4 {
-        return Kind::Paragraph;
+        return (Kind::IndentedCode, columns);
     }
-    if let Some(size) = scan_hrule(line_start.left()) {
-        return Kind::ThematicBreak(size);
+    let at = start + line_start.bytes_scanned();
+    if let Some(byte) = metadata_behind(text.as_bytes(), at, columns, options, ends) {
+        return (Kind::Metadata(byte), columns);
     }
-    match scan_atx_heading(line_start.left()) {
-        Some(level) => Kind::AtxHeading(level),
-        None => Kind::Paragraph,
+    if let Some(kind) = html_kind(line_start.left()) {
+        return (kind, columns);
     }
+    if scan_html_type_7(line_start.left()).is_some() {
+        return (Kind::HtmlToBlank, columns);
+    }
+    (last_kind(line_start.left()), columns)
 }

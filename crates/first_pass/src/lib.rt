@@ -4,13 +4,13 @@
 
 pub mod containers;
 mod heading;
-mod indentation;
 mod interrupt;
-pub mod items;
 mod kinds;
 pub mod list;
 mod paragraph;
 pub mod pass;
+mod raw;
 mod rule;
 
 pub use first_pass_below::{below, flank, walk};
+pub use first_pass_leaves::items;

@@ -2,9 +2,11 @@
 
 ghost use Rattle.std.specs.Prelude.{◌≡◌, ◌<◌, ◌^◌, ℕ, false, IfOk, IfSome, OnOk, IsUtf8, IsCharBoundary};
 ghost use Rattle.first_pass_tokens.specs.TreeTokens.{JoinsNone};
+ghost use Rattle.first_pass_leaves.specs.TableEntries.{no_names};
 ghost use Rattle.first_pass_grammar.specs.Leaves.{document};
 ghost use Rattle.first_pass_tree.specs.Forest.{is_text};
-ghost use Rattle.first_pass.specs.Appends.{AppendsParagraph, AddsParagraph, with_child, with_closed_break};
+ghost use Rattle.first_pass.specs.Appends.{AppendsParagraph, AddsParagraph, with_closed_break};
+ghost use Rattle.first_pass_leaves.specs.OpenBlock.{with_child};
 ghost use Rattle.first_pass.specs.Ordered.{AddsBetween, StandsBefore};
 
 use crate::interrupt::next_paragraph_text;
@@ -66,7 +68,7 @@ impl<'a> FirstPass<'a> {
         ensures allocs { OnOk result (self.new.allocs ≡ self.old.allocs) }
         ensures empty_item { OnOk result (self.new.begin_list_item ≡ self.old.begin_list_item) }
         ensures blank { OnOk result (self.new.last_line_blank ≡ self.old.last_line_blank) }
-        ensures block { IfOk result (λ next. AddsParagraph (document self.old.text.now self.old.options) start_ix tasklist_marker self.old.tree self.new.tree next) }
+        ensures block { IfOk result (λ next. AddsParagraph (document self.old.text.now self.old.options no_names) start_ix tasklist_marker self.old.tree self.new.tree next) }
         ensures fits { IfOk result (λ next. (from : ℕ) → StandsBefore self.old.text.now from start_ix tasklist_marker → AddsBetween self.old.text.now from next self.old.tree self.new.tree) }
     {
         self.tree.is_forest();
@@ -93,7 +95,7 @@ impl<'a> FirstPass<'a> {
         ensures empty_item { OnOk result (self.new.begin_list_item ≡ self.old.begin_list_item) }
         ensures blank { OnOk result (self.new.last_line_blank ≡ self.old.last_line_blank) }
         ensures utf8 { OnOk result (IsUtf8 self.old.text.now) }
-        ensures lines { IfOk result (λ next. AppendsParagraph (document self.old.text.now self.old.options) start self.old.tree self.new.tree next) }
+        ensures lines { IfOk result (λ next. AppendsParagraph (document self.old.text.now self.old.options no_names) start self.old.tree self.new.tree next) }
     {
         self.tree.is_forest();
         let mut ix = start;

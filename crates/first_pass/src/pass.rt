@@ -1,8 +1,10 @@
 //! The block pass: the lines of a text, one block after the other.
 
-ghost use Rattle.std.specs.Prelude.{◌≡◌, ◌<◌, ◌≤◌, false, [], length, None, Some, IsSome, slice_get, IfOk, IfSome, OnOk, IsUtf8, IsCharBoundary, ℕ};
+ghost use Rattle.std.specs.Prelude.{◌≡◌, ◌<◌, ◌≤◌, min, false, [], length, None, Some, IsSome, slice_get, IfOk, IfSome, OnOk, IsUtf8, IsCharBoundary, ℕ};
 ghost use Rattle.first_pass_scan.specs.Places.{place_at, offset, line_end, IsPlaceOf};
 ghost use Rattle.first_pass_below.specs.Walk.{MarksSpecial};
+ghost use Rattle.first_pass_scan.specs.MetadataSearch.{IsKnownOf};
+ghost use Rattle.first_pass_scan.proofs.KnownFacts.{known_prop};
 ghost use Rattle.first_pass_tokens.specs.LineTokens.{EndsLine};
 ghost use Rattle.first_pass_tokens.specs.TreeTokens.{AppendsLine};
 ghost use Rattle.first_pass_grammar.specs.Leaves.{document};
@@ -10,30 +12,35 @@ ghost use Rattle.first_pass_grammar.specs.declared.kind.Container.TheVariants.{B
 ghost use Rattle.first_pass_grammar.specs.Containers.{prefix};
 ghost use Rattle.first_pass_grammar.specs.Derivation.{Derives};
 ghost use Rattle.first_pass_grammar.specs.Completion.{lines_from};
-ghost use Rattle.first_pass.specs.Appends.{text_upto, closed_by};
+ghost use Rattle.first_pass.specs.Appends.{text_upto};
+ghost use Rattle.first_pass_leaves.specs.OpenBlock.{closed_by};
 ghost use Rattle.first_pass_grammar.specs.Skeleton.{Inside, Line};
 ghost use Rattle.first_pass_tree.specs.Forest.{is_text};
-ghost use Rattle.first_pass_grammar.specs.Kinds.{item_at};
+ghost use Rattle.first_pass_grammar.specs.Kinds.{item_at, IsKind, all_taken, unindented};
+ghost use Rattle.first_pass_scan.specs.Rest.{indent};
 ghost use Rattle.first_pass.specs.Closing.{remembered};
+ghost use Rattle.first_pass.specs.Adding.{AddsKind, IsMarked};
 ghost use Rattle.first_pass.specs.Opening.{ReadyText, ReadyTagged, ReadyLeaf, line_or, OrderedText};
-ghost use Rattle.first_pass.specs.Ordered.{IsOrderedAt};
+ghost use Rattle.first_pass.specs.Ordered.{IsOrderedAt, AddsBetween};
 ghost use Rattle.first_pass_grammar.specs.Order.{IsOrdered};
 ghost use Rattle.first_pass_grammar.specs.OpenOrder.{IsOrderedTo};
 ghost use Rattle.first_pass.specs.State.{Ready, ReadyAt};
-ghost use Rattle.first_pass.specs.TableEntries.{tables, no_tables};
+ghost use Rattle.first_pass_leaves.specs.TableEntries.{tables, no_tables, names_of};
+ghost use Rattle.first_pass_grammar.specs.Names.{Names, Extends};
 
 use crate::containers::Behind;
-use crate::indentation::scan_indentation;
 use crate::interrupt::lazy_leaf;
 pub use crate::interrupt::scan_paragraph_interrupt_no_table;
-use crate::items::Allocations;
 use crate::kinds::kind_at;
 use first_pass_below::flank::TableParseMode;
 use first_pass_below::walk::special_bytes;
 use first_pass_grammar::Kind;
 use first_pass_items::item::Item;
 use first_pass_items::option_set::Options;
+use first_pass_leaves::indentation::scan_indentation;
+use first_pass_leaves::items::Allocations;
 use first_pass_scan::line_start::LineStart;
+use first_pass_scan::metadata_search::MetadataEnds;
 use first_pass_scan::places::{next_line, rest_of};
 use first_pass_tokens::line::append_line;
 use first_pass_tree::forest::Tree;
@@ -54,7 +61,10 @@ pub struct FirstPass<'a> {
     pub(crate) allocs: Allocations<'a>,
     pub(crate) options: Options,
     pub(crate) lookup_table: [bool; 256],
+    // What is known of the lines that close metadata.
+    pub(crate) metadata_ends: MetadataEnds,
     ghost marks: { MarksSpecial lookup_table options },
+    ghost known: { IsKnownOf text.now metadata_ends } by { known_prop text.now metadata_ends },
 }
 
 /// The bytes of a text up to an offset, or all.
@@ -76,7 +86,7 @@ impl<'a> FirstPass<'a> {
         ensures text { IfOk result (λ pass. pass.text.now ≡ text.now) }
         ensures options { IfOk result (λ pass. pass.options ≡ options) }
         ensures tables { IfOk result (λ pass. tables pass.allocs ≡ no_tables) }
-        ensures ready { IfOk result (λ pass. Ready (document text.now options) (remembered pass.tree pass.begin_list_item pass.last_line_blank) (lines_from text.now 0)) }
+        ensures ready { IfOk result (λ pass. (names : Names) → Ready (document text.now options names) (remembered pass.tree pass.begin_list_item pass.last_line_blank) (lines_from text.now 0)) }
         ensures order { IfOk result (λ pass. IsOrderedAt text.now (remembered pass.tree pass.begin_list_item pass.last_line_blank) 0) }
     {
         // A guess at how many nodes the text will have.
@@ -93,6 +103,7 @@ impl<'a> FirstPass<'a> {
             allocs: Allocations::new(alloc),
             options,
             lookup_table: special_bytes(&options),
+            metadata_ends: MetadataEnds::new(),
         })
     }
 
@@ -107,11 +118,12 @@ impl<'a> FirstPass<'a> {
         requires boundary { IsCharBoundary self.old.text.now start_ix }
         ensures text { OnOk result (self.new.text.now ≡ self.old.text.now) }
         ensures options { OnOk result (self.new.options ≡ self.old.options) }
-        ensures allocs { OnOk result (self.new.allocs ≡ self.old.allocs) }
+        ensures names { OnOk result (Extends (names_of self.new.allocs) (names_of self.old.allocs)) }
+        ensures tables { OnOk result (tables self.new.allocs ≡ tables self.old.allocs) }
         ensures later { IfOk result (λ next. (start_ix < next) × (next ≤ length self.old.text.now)) }
         ensures boundary { IfOk result (λ next. IsCharBoundary self.old.text.now next) }
-        ensures ready { IfOk result (λ next. Ready (document self.old.text.now self.old.options) (remembered self.old.tree self.old.begin_list_item self.old.last_line_blank) (lines_from self.old.text.now start_ix)
-            → Ready (document self.old.text.now self.old.options) (remembered self.new.tree self.new.begin_list_item self.new.last_line_blank) (lines_from self.old.text.now next)) }
+        ensures ready { IfOk result (λ next. (names : Names) → Extends names (names_of self.new.allocs) → Ready (document self.old.text.now self.old.options names) (remembered self.old.tree self.old.begin_list_item self.old.last_line_blank) (lines_from self.old.text.now start_ix)
+            → Ready (document self.old.text.now self.old.options names) (remembered self.new.tree self.new.begin_list_item self.new.last_line_blank) (lines_from self.old.text.now next)) }
         ensures order { IfOk result (λ next. IsOrderedAt self.old.text.now (remembered self.old.tree self.old.begin_list_item self.old.last_line_blank) start_ix → IsOrderedAt self.old.text.now (remembered self.new.tree self.new.begin_list_item self.new.last_line_blank) next) }
     {
         let Some(mut line_start) = self.enter_line(start_ix) else {
@@ -141,11 +153,12 @@ impl<'a> FirstPass<'a> {
         requires no_empty { self.old.begin_list_item ≡ None }
         ensures text { OnOk result (self.new.text.now ≡ self.old.text.now) }
         ensures options { OnOk result (self.new.options ≡ self.old.options) }
-        ensures allocs { OnOk result (self.new.allocs ≡ self.old.allocs) }
+        ensures names { OnOk result (Extends (names_of self.new.allocs) (names_of self.old.allocs)) }
+        ensures tables { OnOk result (tables self.new.allocs ≡ tables self.old.allocs) }
         ensures later { IfOk result (λ next. start ≤ next) }
         ensures boundary { IfOk result (λ next. IsCharBoundary self.old.text.now next) }
-        ensures ready { IfOk result (λ next. ReadyTagged (document self.old.text.now self.old.options) (remembered self.old.tree self.old.begin_list_item self.old.last_line_blank) (lines_from self.old.text.now start)
-            → Ready (document self.old.text.now self.old.options) (remembered self.new.tree self.new.begin_list_item self.new.last_line_blank) (lines_from self.old.text.now next)) }
+        ensures ready { IfOk result (λ next. (names : Names) → Extends names (names_of self.new.allocs) → ReadyTagged (document self.old.text.now self.old.options names) (remembered self.old.tree self.old.begin_list_item self.old.last_line_blank) (lines_from self.old.text.now start)
+            → Ready (document self.old.text.now self.old.options names) (remembered self.new.tree self.new.begin_list_item self.new.last_line_blank) (lines_from self.old.text.now next)) }
         ensures order { IfOk result (λ next. IsOrderedTo self.old.text.now self.old.tree start → IsOrderedAt self.old.text.now (remembered self.new.tree self.new.begin_list_item self.new.last_line_blank) next) }
     {
         match lazy_leaf(self.alloc, self.text, start, &self.tree, self.options)? {
@@ -174,8 +187,8 @@ impl<'a> FirstPass<'a> {
         ensures allocs { OnOk result (self.new.allocs ≡ self.old.allocs) }
         ensures later { IfOk result (λ next. line_end (place_at start_ix line_start.entry) ≤ next) }
         ensures boundary { IfOk result (λ next. IsCharBoundary self.old.text.now next) }
-        ensures ready { IfOk result (λ next. ReadyText (document self.old.text.now self.old.options) (remembered self.old.tree self.old.begin_list_item self.old.last_line_blank) marker (place_at start_ix line_start.entry) (lines_from self.old.text.now (line_end (place_at start_ix line_start.entry)))
-            → Ready (document self.old.text.now self.old.options) (remembered self.new.tree self.new.begin_list_item self.new.last_line_blank) (lines_from self.old.text.now next)) }
+        ensures ready { IfOk result (λ next. (names : Names) → ReadyText (document self.old.text.now self.old.options names) (remembered self.old.tree self.old.begin_list_item self.old.last_line_blank) marker (place_at start_ix line_start.entry) (lines_from self.old.text.now (line_end (place_at start_ix line_start.entry)))
+            → Ready (document self.old.text.now self.old.options names) (remembered self.new.tree self.new.begin_list_item self.new.last_line_blank) (lines_from self.old.text.now next)) }
         ensures order { IfOk result (λ next. OrderedText self.old.text.now self.old.tree marker (offset (place_at start_ix line_start.entry)) → IsOrderedAt self.old.text.now (remembered self.new.tree self.new.begin_list_item self.new.last_line_blank) next) }
     {
         self.tree.is_forest();
@@ -197,39 +210,149 @@ impl<'a> FirstPass<'a> {
         requires no_empty { self.old.begin_list_item ≡ None }
         ensures text { OnOk result (self.new.text.now ≡ self.old.text.now) }
         ensures options { OnOk result (self.new.options ≡ self.old.options) }
-        ensures allocs { OnOk result (self.new.allocs ≡ self.old.allocs) }
+        ensures names { OnOk result (Extends (names_of self.new.allocs) (names_of self.old.allocs)) }
+        ensures tables { OnOk result (tables self.new.allocs ≡ tables self.old.allocs) }
         ensures later { IfOk result (λ next. line_end (place_at start_ix line_start.entry) ≤ next) }
         ensures boundary { IfOk result (λ next. IsCharBoundary self.old.text.now next) }
-        ensures ready { IfOk result (λ next.
-            ReadyLeaf (document self.old.text.now self.old.options) (remembered self.old.tree self.old.begin_list_item self.old.last_line_blank) (place_at start_ix line_start.entry) (lines_from self.old.text.now (line_end (place_at start_ix line_start.entry)))
-            → Ready (document self.old.text.now self.old.options) (remembered self.new.tree self.new.begin_list_item self.new.last_line_blank) (lines_from self.old.text.now next)) }
+        ensures ready { IfOk result (λ next. (names : Names) → Extends names (names_of self.new.allocs) →
+            ReadyLeaf (document self.old.text.now self.old.options names) (remembered self.old.tree self.old.begin_list_item self.old.last_line_blank) (place_at start_ix line_start.entry) (lines_from self.old.text.now (line_end (place_at start_ix line_start.entry)))
+            → Ready (document self.old.text.now self.old.options names) (remembered self.new.tree self.new.begin_list_item self.new.last_line_blank) (lines_from self.old.text.now next)) }
         ensures order { IfOk result (λ next. IsCharBoundary self.old.text.now start_ix → IsOrderedTo self.old.text.now self.old.tree (line_or self.old.tree start_ix (offset (place_at start_ix line_start.entry)))
             → IsOrderedAt self.old.text.now (remembered self.new.tree self.new.begin_list_item self.new.last_line_blank) next) }
     {
-        self.tree.is_forest();
+        let before = line_start.copy();
         let mut line_start = line_start;
-        let kind = kind_at(&mut line_start);
+        let (kind, columns) = self.kind_here(start_ix, &mut line_start);
         let at = start_ix + line_start.bytes_scanned();
+        let next = self.parse_kind(start_ix, before, kind, columns, at)?;
+        Ok(next)
+    }
+
+    // Reads the leaf block of a kind that begins at a place in the line whose reading began at `start_ix`, behind so
+    // many columns, at the offset `at`; answers as `parse_block`.
+    fn parse_kind(
+        &mut self,
+        start_ix: usize,
+        before: LineStart<'a>,
+        kind: Kind,
+        columns: usize,
+        at: usize,
+    ) -> Result<usize, AllocError>
+        requires utf8 { IsUtf8 self.old.text.now }
+        requires place { IsPlaceOf self.old.text.now (place_at start_ix before) }
+        requires no_empty { self.old.begin_list_item ≡ None }
+        requires kind { IsKind self.old.options before kind }
+        requires columns { columns ≡ min 4 (indent before) }
+        requires at { at ≡ offset (unindented (place_at start_ix before)) }
+        ensures text { OnOk result (self.new.text.now ≡ self.old.text.now) }
+        ensures options { OnOk result (self.new.options ≡ self.old.options) }
+        ensures names { OnOk result (Extends (names_of self.new.allocs) (names_of self.old.allocs)) }
+        ensures tables { OnOk result (tables self.new.allocs ≡ tables self.old.allocs) }
+        ensures later { IfOk result (λ next. line_end (place_at start_ix before.entry) ≤ next) }
+        ensures boundary { IfOk result (λ next. IsCharBoundary self.old.text.now next) }
+        ensures ready { IfOk result (λ next. (names : Names) → Extends names (names_of self.new.allocs) →
+            ReadyLeaf (document self.old.text.now self.old.options names) (remembered self.old.tree self.old.begin_list_item self.old.last_line_blank) (place_at start_ix before.entry) (lines_from self.old.text.now (line_end (place_at start_ix before.entry)))
+            → Ready (document self.old.text.now self.old.options names) (remembered self.new.tree self.new.begin_list_item self.new.last_line_blank) (lines_from self.old.text.now next)) }
+        ensures order { IfOk result (λ next. IsCharBoundary self.old.text.now start_ix → IsOrderedTo self.old.text.now self.old.tree (line_or self.old.tree start_ix (offset (place_at start_ix before.entry)))
+            → IsOrderedAt self.old.text.now (remembered self.new.tree self.new.begin_list_item self.new.last_line_blank) next) }
+    {
+        self.tree.is_forest();
         match kind {
             Kind::Blank => {
                 self.read_blank_line();
                 Ok(next_line(self.text.as_bytes(), at))
-            }
-            Kind::ThematicBreak(size) => {
-                self.finish_list(start_ix);
-                let next = self.parse_hrule(size, at)?;
-                Ok(next)
-            }
-            Kind::AtxHeading(level) => {
-                self.finish_list(start_ix);
-                let next = self.parse_atx_heading(at, level)?;
-                Ok(next)
             }
             Kind::Paragraph => {
                 self.finish_list(at);
                 let next = self.parse_paragraph(at, None)?;
                 Ok(next)
             }
+            Kind::HtmlToBlank => {
+                self.finish_list(start_ix);
+                self.tree.is_forest();
+                let lines = self.parse_html_to_blank(at, columns)?;
+                Ok(self.read_blank_behind(lines))
+            }
+            _ => {
+                self.finish_list(start_ix);
+                let next = self.parse_marked(start_ix, before, kind, columns, at)?;
+                Ok(next)
+            }
+        }
+    }
+
+    // The kind of the leaf block that begins at a place in the line whose reading began at `start_ix`, as `kind_at`.
+    fn kind_here(&mut self, start_ix: usize, line_start: &mut LineStart<'a>) -> (Kind, usize)
+        requires place { IsPlaceOf self.old.text.now (place_at start_ix line_start.old) }
+        ensures text { self.new.text.now ≡ self.old.text.now }
+        ensures options { self.new.options ≡ self.old.options }
+        ensures allocs { self.new.allocs ≡ self.old.allocs }
+        ensures reading { remembered self.new.tree self.new.begin_list_item self.new.last_line_blank ≡ remembered self.old.tree self.old.begin_list_item self.old.last_line_blank }
+        ensures kind { IsKind self.old.options line_start.old result.0 }
+        ensures columns { result.1 ≡ min 4 (indent line_start.old) }
+        ensures rest { line_start.new ≡ all_taken line_start.old }
+    {
+        kind_at(
+            self.text,
+            start_ix,
+            line_start,
+            self.options,
+            &mut self.metadata_ends,
+        )
+    }
+
+    // Appends the leaf block of a kind that begins at a place in the line whose reading began at `start_ix`, behind so
+    // many columns, at the offset `at`; no blank line, no paragraph and no HTML block that ends before a blank line.
+    fn parse_marked(
+        &mut self,
+        start_ix: usize,
+        before: LineStart<'a>,
+        kind: Kind,
+        columns: usize,
+        at: usize,
+    ) -> Result<usize, AllocError>
+        requires utf8 { IsUtf8 self.old.text.now }
+        requires place { IsPlaceOf self.old.text.now (place_at start_ix before) }
+        requires kind { IsKind self.old.options before kind }
+        requires marked { IsMarked kind }
+        requires columns { columns ≡ min 4 (indent before) }
+        requires at { at ≡ offset (unindented (place_at start_ix before)) }
+        requires not_blank { self.old.last_line_blank ≡ false }
+        ensures text { OnOk result (self.new.text.now ≡ self.old.text.now) }
+        ensures options { OnOk result (self.new.options ≡ self.old.options) }
+        ensures empty_item { OnOk result (self.new.begin_list_item ≡ self.old.begin_list_item) }
+        ensures names { OnOk result (Extends (names_of self.new.allocs) (names_of self.old.allocs)) }
+        ensures tables { OnOk result (tables self.new.allocs ≡ tables self.old.allocs) }
+        ensures block { IfOk result (λ next. AddsKind self.old.text.now self.old.options (names_of self.new.allocs) (place_at start_ix before.entry) kind self.new.last_line_blank self.old.tree self.new.tree next) }
+        ensures boundary { IfOk result (λ next. (line_end (place_at start_ix before.entry) ≤ next) × IsCharBoundary self.old.text.now next) }
+        ensures fits { IfOk result (λ next. (from : ℕ) → from ≤ offset (place_at start_ix before.entry) → AddsBetween self.old.text.now from next self.old.tree self.new.tree) }
+    {
+        match kind {
+            Kind::IndentedCode => {
+                let next = self.parse_code(start_ix, before)?;
+                Ok(next)
+            }
+            Kind::Metadata(byte) => {
+                let next = self.parse_metadata_block(at, byte)?;
+                Ok(next)
+            }
+            Kind::HtmlToEnd => {
+                let next = self.parse_html_to_end(at, columns)?;
+                Ok(next)
+            }
+            Kind::ThematicBreak(size) => {
+                let next = self.parse_hrule(size, at)?;
+                Ok(next)
+            }
+            Kind::AtxHeading(level) => {
+                let next = self.parse_atx_heading(at, level)?;
+                Ok(next)
+            }
+            Kind::FencedCode(count, byte) => {
+                let next = self.parse_fenced_code_block(at, columns, byte, count)?;
+                Ok(next)
+            }
+            Kind::Blank | Kind::HtmlToBlank | Kind::Paragraph => unreachable!(),
         }
     }
 
@@ -297,7 +420,7 @@ pub fn run_first_pass<'a>(
     text: &'a str,
     options: Options,
 ) -> Result<(Tree<Item>, Allocations<'a>), AllocError>
-    ensures derived { IfOk result (λ answer. Derives (document text.now options) answer.0.nodes (tables answer.1)) }
+    ensures derived { IfOk result (λ answer. Derives (document text.now options (names_of answer.1)) answer.0.nodes (tables answer.1)) }
     ensures finished { IfOk result (λ answer. answer.0.spine ≡ []) }
     ensures order { IfOk result (λ answer. IsOrdered text.now answer.0.nodes) }
 {
@@ -316,6 +439,7 @@ pub fn run_first_pass<'a>(
         allocs,
         options: _,
         lookup_table: _,
+        metadata_ends: _,
     } = pass;
     Ok((tree, allocs))
 }

@@ -12,12 +12,14 @@ use Rattle.first_pass_scan.specs.Places.{Place, lines_at, start_of}
 use Rattle.first_pass_grammar.specs.declared.kind.Container.{Container}
 use Rattle.first_pass_grammar.specs.declared.kind.Container.TheVariants.{BlockQuote, ListItem}
 use Rattle.first_pass_grammar.specs.Containers.{taken}
+use Rattle.first_pass_grammar.specs.Names.{Names}
 use Rattle.first_pass_grammar.specs.Leaves.{Document}
 use Rattle.first_pass_grammar.specs.Skeleton.{Leaf, BlankLine, Block, Head, Opener, QuoteMarker, ItemMarker, From, Line, Inside, Blanks, TextAt, MarkAt, Opening, OpensLeaf, OpensNode, OpensParagraph, Opens, Skeleton, Nil, Then, Node, Begins, Ends, behind_first, end_before, IsLeafHere, IsNodeHere, IsSequence}
 use Rattle.first_pass_grammar.specs.Lists.{joins, counts_with, run_behind, has_gap, list_end, is_loosened}
 use Rattle.first_pass_grammar.specs.Derivation.{Tables, Derives, forest_of, container_items, leaf_items, node_of, tables_of, root_of, list_flags, tight_body, tightened}
 use Rattle.first_pass_grammar.specs.Completion.{ended, flagged, reflagged, list_closed, Pending, NoList, OneList, byte_in, rendered, Frame, InContainer, InList, containers_of, is_quote, loosened, loosened_in, Finish, AreBelow, IsPlain, IsShaped, Completes}
 use Rattle.first_pass_grammar.proofs.Tightening.{eqb-same, modify-append, length-modify, list_closed-append, length-closed, list_closed-mid, closed_item}
+use Rattle.first_pass_grammar.proofs.Alike.{AlikeOpening}
 use Rattle.first_pass_grammar.proofs.Unique.{one_opening, ends_at_once}
 
 pub ended-append : (nodes more : List (ℕ × Item)) (place e : ℕ) → place < length nodes → ended (nodes ++ more) place e ≡ ended nodes place e ++ more
@@ -149,20 +151,20 @@ node_here : (d : Document) (path : List Container) (p : Place) (lines : List Pla
 node_here d path p lines head inside left opens = record { place = p; behind = lines; begins = (refl, refl); opens = opens }
 
 -- a block with no blocks in it, before which no gap is to be noted
-block_step : (d : Document) (frames : List Frame) (nodes : List (ℕ × Item)) (os : List ℕ) (from : From) (lines left : List Place) (closes : ℕ) (items forest : List (ℕ × Item)) (tables : Tables)
-    → IsPlain frames → EndsAlike (length d.text) from (behind_first from Line) → IsLeafHere d (containers_of frames) from lines (Block closes items) Line left
-    → Finish d NoList false frames (nodes ++ leaf_items (suc (length os)) false (Block closes items)) os (behind_first from Line) left forest tables → Finish d NoList false frames nodes os from lines forest tables
+block_step : (d : Document) (frames : List Frame) (nodes : List (ℕ × Item)) (os : List ℕ) (from : From) (lines left : List Place) (closes : ℕ) (items : List (ℕ × Item)) (gap : Bool) (forest : List (ℕ × Item)) (tables : Tables)
+    → IsPlain frames → EndsAlike (length d.text) from (behind_first from Line) → IsLeafHere d (containers_of frames) from lines (Block closes items gap) Line left
+    → Finish d NoList gap frames (nodes ++ leaf_items (suc (length os)) false (Block closes items gap)) os (behind_first from Line) left forest tables → Finish d NoList false frames nodes os from lines forest tables
 unfolding IsSequence forest_of run_behind has_gap rendered
-block_step d frames nodes os from lines left closes items forest tables plain alike first fin =
-    let added : List (ℕ × Item) = leaf_items (suc (length os)) false (Block closes items) in
-    extend d frames NoList NoList false false false nodes (nodes ++ added) os from (behind_first from Line) lines left forest tables (λ s. Then (Block closes items) s) plain alike
+block_step d frames nodes os from lines left closes items gap forest tables plain alike first fin =
+    let added : List (ℕ × Item) = leaf_items (suc (length os)) false (Block closes items gap) in
+    extend d frames NoList NoList false gap false nodes (nodes ++ added) os from (behind_first from Line) lines left forest tables (λ s. Then (Block closes items gap) s) plain alike
     (λ s mid seq. record {
       seq = (Line, left, first, seq);
       items = λ last. sym (append_assoc nodes added (forest_of (suc (length os)) last false None s));
       runs = refl;
       gaps = refl;
     })
-    (subst (λ z. Finish d NoList false z (nodes ++ added) os (behind_first from Line) left forest tables) (sym (loosened_in-false frames)) fin)
+    (subst (λ z. Finish d NoList gap z (nodes ++ added) os (behind_first from Line) left forest tables) (sym (loosened_in-false frames)) fin)
 
 -- a blank line, where a list may go on
 blank_step : (d : Document) (frames : List Frame) (list : Pending) (run : Bool) (nodes : List (ℕ × Item)) (os : List ℕ) (from : From) (lines left : List Place) (forest : List (ℕ × Item)) (tables : Tables)
@@ -364,19 +366,28 @@ or-false false = refl
 -- what opens ends a list of this byte, at an offset
 abbrev pub OpensAway : ℕ → ℕ → Opening → Type 0
 OpensAway byte at (OpensLeaf BlankLine there left) = ⊥
-OpensAway byte at (OpensLeaf (Block closes items) there left) = closes ≡ at
+OpensAway byte at (OpensLeaf (Block closes items gap) there left) = closes ≡ at
 OpensAway byte at (OpensNode head inside behind) = (head.closes ≡ at) × (joins (Some byte) head.opener ≡ false)
 
 -- the same of a sequence's first block
 abbrev EndsList : ℕ → ℕ → Skeleton → Type 0
 EndsList byte at Nil = ⊥
 EndsList byte at (Then BlankLine next) = ⊥
-EndsList byte at (Then (Block closes items) next) = closes ≡ at
+EndsList byte at (Then (Block closes items gap) next) = closes ≡ at
 EndsList byte at (Node head e kids next) = (head.closes ≡ at) × (joins (Some byte) head.opener ≡ false)
 
 away_leaf : (byte at : ℕ) (leaf : Leaf) (there : From) (left : List Place) (next : Skeleton) → OpensAway byte at (OpensLeaf leaf there left) → EndsList byte at (Then leaf next)
 away_leaf byte at BlankLine there left next away = away
-away_leaf byte at (Block closes items) there left next away = away
+away_leaf byte at (Block closes items gap) there left next away = away
+
+-- what is alike ends a list alike
+alike_away : (m n : Names) (byte at : ℕ) (o o' : Opening) → AlikeOpening m n o o' → OpensAway byte at o → OpensAway byte at o'
+alike_away m n byte at (OpensLeaf BlankLine there left) (OpensLeaf leaf' there' left') a away = absurd away
+alike_away m n byte at (OpensLeaf (Block closes items gap) there left) (OpensLeaf BlankLine there' left') a away = absurd a.0
+alike_away m n byte at (OpensLeaf (Block closes items gap) there left) (OpensLeaf (Block closes' items' gap') there' left') a away = sym a.0.0 ∙ away
+alike_away m n byte at (OpensLeaf leaf there left) (OpensNode head' inside' behind') a away = absurd a
+alike_away m n byte at (OpensNode head inside behind) (OpensLeaf leaf' there' left') a away = absurd a
+alike_away m n byte at (OpensNode head inside behind) (OpensNode head' inside' behind') a away = subst (λ (h : Head). (h.closes ≡ at) × (joins (Some byte) h.opener ≡ false)) a.0 away
 
 -- a first block opens at the place where the sequence goes on
 leaf_at : (d : Document) (path : List Container) (p : Place) (lines : List Place) (leaf : Leaf) (there : From) (left : List Place) → IsLeafHere d path (Inside p) lines leaf there left → Opens d path p lines (OpensLeaf leaf there left)
@@ -391,22 +402,22 @@ ends_list : (d : Document) (path : List Container) (p : Place) (lines mid : List
 unfolding IsSequence
 ends_list d path p lines mid byte at o Nil opens away seq = absurd seq.0
 ends_list d path p lines mid byte at o (Then leaf next) opens away (there, left, first, seq) =
-    away_leaf byte at leaf there left next (subst (OpensAway byte at) (one_opening d path p lines _ _ opens (leaf_at d path p lines leaf there left first)) away)
+    away_leaf byte at leaf there left next (alike_away d.names d.names byte at o (OpensLeaf leaf there left) (one_opening d d.names path p lines _ _ opens (leaf_at d path p lines leaf there left first)) away)
 ends_list d path p lines mid byte at o (Node head e kids next) opens away (inside, behind, left, first, inner, ends, seq) =
-    subst (OpensAway byte at) (one_opening d path p lines _ _ opens (node_at d path p lines head inside behind first)) away
+    alike_away d.names d.names byte at o (OpensNode head inside behind) (one_opening d d.names path p lines _ _ opens (node_at d path p lines head inside behind first)) away
 
 loose-away : (byte at : ℕ) (run : Bool) (s : Skeleton) → EndsList byte at s → is_loosened byte run s ≡ false
 unfolding is_loosened
 loose-away byte at run Nil u = absurd u
 loose-away byte at run (Then BlankLine next) u = absurd u
-loose-away byte at run (Then (Block closes items) next) u = refl
+loose-away byte at run (Then (Block closes items gap) next) u = refl
 loose-away byte at run (Node head e kids next) u = rw u.1 refl
 
 end-away : (byte at last : ℕ) (s : Skeleton) → EndsList byte at s → list_end byte last s ≡ at
 unfolding list_end
 end-away byte at last Nil u = absurd u
 end-away byte at last (Then BlankLine next) u = absurd u
-end-away byte at last (Then (Block closes items) next) u = u
+end-away byte at last (Then (Block closes items gap) next) u = u
 end-away byte at last (Node head e kids next) u = rw u.1 u.0
 
 tight_away : (opener : Opener) (depth byte : ℕ) (tight : Bool) (start e : ℕ) (kids : ℕ → Bool → List (ℕ × Item)) (next : Option (ℕ × Bool) → List (ℕ × Item)) (last : ℕ → ℕ) (loose : ℕ → Bool) → joins (Some byte) opener ≡ false
@@ -418,7 +429,7 @@ forest-away : (depth last byte at : ℕ) (tight : Bool) (s : Skeleton) → EndsL
 unfolding forest_of
 forest-away depth last byte at tight Nil u = absurd u
 forest-away depth last byte at tight (Then BlankLine next) u = absurd u
-forest-away depth last byte at tight (Then (Block closes items) next) u = refl
+forest-away depth last byte at tight (Then (Block closes items gap) next) u = refl
 forest-away depth last byte at tight (Node head e kids next) u =
     tight_away head.opener depth byte tight head.start e (λ d t. forest_of d e t None kids) (λ l. forest_of depth last false l next)
     (λ byte. list_end byte last next) (λ byte. has_gap false None false kids || is_loosened byte (run_behind false None false kids) next) u.1
@@ -427,14 +438,14 @@ gap-away : (quoted : Bool) (byte at : ℕ) (run : Bool) (s : Skeleton) → EndsL
 unfolding has_gap
 gap-away quoted byte at run Nil u = absurd u
 gap-away quoted byte at run (Then BlankLine next) u = absurd u
-gap-away quoted byte at run (Then (Block closes items) next) u = refl
+gap-away quoted byte at run (Then (Block closes items gap) next) u = refl
 gap-away quoted byte at run (Node head e kids next) u = rw u.1 refl
 
 run-away : (quoted : Bool) (byte at : ℕ) (run : Bool) (s : Skeleton) → EndsList byte at s → run_behind quoted (Some byte) run s ≡ run_behind quoted None run s
 unfolding run_behind
 run-away quoted byte at run Nil u = absurd u
 run-away quoted byte at run (Then BlankLine next) u = absurd u
-run-away quoted byte at run (Then (Block closes items) next) u = refl
+run-away quoted byte at run (Then (Block closes items gap) next) u = refl
 run-away quoted byte at run (Node head e kids next) u = refl
 
 -- a list closed before a block that ends it
@@ -462,15 +473,24 @@ close_step d frames run loose nodes o os p lines byte at opening forest tables p
 -- what opens is a block, not a blank line
 abbrev pub OpensBlock : Opening → Type 0
 OpensBlock (OpensLeaf BlankLine there left) = ⊥
-OpensBlock (OpensLeaf (Block closes items) there left) = Unit {0}
+OpensBlock (OpensLeaf (Block closes items gap) there left) = Unit {0}
 OpensBlock (OpensNode head inside behind) = Unit {0}
 
-block_noted : (quoted run : Bool) (closes : ℕ) (items : List (ℕ × Item)) (next : Skeleton)
-    → (run_behind quoted None run (Then (Block closes items) next) ≡ run_behind quoted None false (Then (Block closes items) next))
-    × (has_gap quoted None run (Then (Block closes items) next) ≡ (run || has_gap quoted None false (Then (Block closes items) next)))
+-- what is alike is a block alike
+alike_block : (m n : Names) (o o' : Opening) → AlikeOpening m n o o' → OpensBlock o → OpensBlock o'
+alike_block m n (OpensLeaf BlankLine there left) (OpensLeaf leaf' there' left') a block = absurd block
+alike_block m n (OpensLeaf (Block closes items gap) there left) (OpensLeaf BlankLine there' left') a block = absurd a.0
+alike_block m n (OpensLeaf (Block closes items gap) there left) (OpensLeaf (Block closes' items' gap') there' left') a block = tt
+alike_block m n (OpensLeaf leaf there left) (OpensNode head' inside' behind') a block = absurd a
+alike_block m n (OpensNode head inside behind) (OpensLeaf leaf' there' left') a block = absurd a
+alike_block m n (OpensNode head inside behind) (OpensNode head' inside' behind') a block = tt
+
+block_noted : (quoted run : Bool) (closes : ℕ) (items : List (ℕ × Item)) (gap : Bool) (next : Skeleton)
+    → (run_behind quoted None run (Then (Block closes items gap) next) ≡ run_behind quoted None false (Then (Block closes items gap) next))
+    × (has_gap quoted None run (Then (Block closes items gap) next) ≡ (run || has_gap quoted None false (Then (Block closes items gap) next)))
 unfolding run_behind has_gap
-block_noted quoted true closes items next = (refl, refl)
-block_noted quoted false closes items next = (refl, refl)
+block_noted quoted true closes items gap next = (refl, refl)
+block_noted quoted false closes items gap next = (refl, refl)
 
 node_noted : (quoted run : Bool) (head : Head) (e : ℕ) (kids next : Skeleton)
     → (run_behind quoted None run (Node head e kids next) ≡ run_behind quoted None false (Node head e kids next))
@@ -482,14 +502,14 @@ node_noted quoted false head e kids next = (refl, refl)
 leaf_noted : (quoted run : Bool) (leaf : Leaf) (there : From) (left : List Place) (next : Skeleton) → OpensBlock (OpensLeaf leaf there left)
     → (run_behind quoted None run (Then leaf next) ≡ run_behind quoted None false (Then leaf next)) × (has_gap quoted None run (Then leaf next) ≡ (run || has_gap quoted None false (Then leaf next)))
 leaf_noted quoted run BlankLine there left next block = absurd block
-leaf_noted quoted run (Block closes items) there left next block = block_noted quoted run closes items next
+leaf_noted quoted run (Block closes items gap) there left next block = block_noted quoted run closes items gap next
 
 gap_noted : (d : Document) (path : List Container) (p : Place) (lines mid : List Place) (o : Opening) (quoted run : Bool) (s : Skeleton) → Opens d path p lines o → OpensBlock o → IsSequence d s path (Inside p) lines mid
     → (run_behind quoted None run s ≡ run_behind quoted None false s) × (has_gap quoted None run s ≡ (run || has_gap quoted None false s))
 unfolding IsSequence
 gap_noted d path p lines mid o quoted run Nil opens block seq = absurd seq.0
 gap_noted d path p lines mid o quoted run (Then leaf next) opens block (there, left, first, seq) =
-    leaf_noted quoted run leaf there left next (subst OpensBlock (one_opening d path p lines _ _ opens (leaf_at d path p lines leaf there left first)) block)
+    leaf_noted quoted run leaf there left next (alike_block d.names d.names o (OpensLeaf leaf there left) (one_opening d d.names path p lines _ _ opens (leaf_at d path p lines leaf there left first)) block)
 gap_noted d path p lines mid o quoted run (Node head e kids next) opens block seq = node_noted quoted run head e kids next
 
 -- a gap noted before a block
@@ -679,28 +699,28 @@ completes-enter d run frames nodes os line q lines is c = record {
 }
 
 -- behind a block with no blocks in it, wherever it begins
-pub completes-leaf : (d : Document) (frames : List Frame) (nodes : List (ℕ × Item)) (os : List ℕ) (from : From) (lines left : List Place) (closes : ℕ) (items : List (ℕ × Item))
-    → IsPlain frames → EndsAlike (length d.text) from (behind_first from Line) → IsLeafHere d (containers_of frames) from lines (Block closes items) Line left
-    → Completes d false frames nodes os from lines → Completes d false frames (nodes ++ leaf_items (suc (length os)) false (Block closes items)) os (behind_first from Line) left
-completes-leaf d frames nodes os from lines left closes items plain alike first c = record {
-  below = AreBelow-more _ _ os (let k = length-append nodes (leaf_items (suc (length os)) false (Block closes items)) in omega arith) c.below;
+pub completes-leaf : (d : Document) (frames : List Frame) (nodes : List (ℕ × Item)) (os : List ℕ) (from : From) (lines left : List Place) (closes : ℕ) (items : List (ℕ × Item)) (gap : Bool)
+    → IsPlain frames → EndsAlike (length d.text) from (behind_first from Line) → IsLeafHere d (containers_of frames) from lines (Block closes items gap) Line left
+    → Completes d false frames nodes os from lines → Completes d gap frames (nodes ++ leaf_items (suc (length os)) false (Block closes items gap)) os (behind_first from Line) left
+completes-leaf d frames nodes os from lines left closes items gap plain alike first c = record {
+  below = AreBelow-more _ _ os (let k = length-append nodes (leaf_items (suc (length os)) false (Block closes items gap)) in omega arith) c.below;
   shape = c.shape;
-  whole = λ forest tables fin. c.whole forest tables (block_step d frames nodes os from lines left closes items forest tables plain alike first fin);
+  whole = λ forest tables fin. c.whole forest tables (block_step d frames nodes os from lines left closes items gap forest tables plain alike first fin);
 }
 
 -- behind a block with no blocks in it, which begins inside a line
-pub completes-block : (d : Document) (frames : List Frame) (nodes : List (ℕ × Item)) (os : List ℕ) (p : Place) (lines left : List Place) (closes : ℕ) (items : List (ℕ × Item))
-    → IsPlain frames → Opens d (containers_of frames) p lines (OpensLeaf (Block closes items) Line left)
-    → Completes d false frames nodes os (Inside p) lines → Completes d false frames (nodes ++ leaf_items (suc (length os)) false (Block closes items)) os Line left
-completes-block d frames nodes os p lines left closes items plain opens c =
-    completes-leaf d frames nodes os (Inside p) lines left closes items plain (λ path mid. refl) (leaf_here d (containers_of frames) p lines (Block closes items) Line left opens) c
+pub completes-block : (d : Document) (frames : List Frame) (nodes : List (ℕ × Item)) (os : List ℕ) (p : Place) (lines left : List Place) (closes : ℕ) (items : List (ℕ × Item)) (gap : Bool)
+    → IsPlain frames → Opens d (containers_of frames) p lines (OpensLeaf (Block closes items gap) Line left)
+    → Completes d false frames nodes os (Inside p) lines → Completes d gap frames (nodes ++ leaf_items (suc (length os)) false (Block closes items gap)) os Line left
+completes-block d frames nodes os p lines left closes items gap plain opens c =
+    completes-leaf d frames nodes os (Inside p) lines left closes items gap plain (λ path mid. refl) (leaf_here d (containers_of frames) p lines (Block closes items gap) Line left opens) c
 
 -- behind the paragraph of a task list item marker
 pub completes-text : (d : Document) (frames : List Frame) (nodes : List (ℕ × Item)) (os : List ℕ) (marker : Item) (p : Place) (lines left : List Place) (closes : ℕ) (items : List (ℕ × Item))
-    → IsPlain frames → OpensParagraph d (containers_of frames) p lines (Some marker) (OpensLeaf (Block closes items) Line left)
-    → Completes d false frames nodes os (TextAt marker p) lines → Completes d false frames (nodes ++ leaf_items (suc (length os)) false (Block closes items)) os Line left
+    → IsPlain frames → OpensParagraph d (containers_of frames) p lines (Some marker) (OpensLeaf (Block closes items false) Line left)
+    → Completes d false frames nodes os (TextAt marker p) lines → Completes d false frames (nodes ++ leaf_items (suc (length os)) false (Block closes items false)) os Line left
 completes-text d frames nodes os marker p lines left closes items plain opens c =
-    completes-leaf d frames nodes os (TextAt marker p) lines left closes items plain (λ path mid. refl) (record { place = p; behind = lines; begins = (refl, refl); opens = opens }) c
+    completes-leaf d frames nodes os (TextAt marker p) lines left closes items false plain (λ path mid. refl) (record { place = p; behind = lines; begins = (refl, refl); opens = opens }) c
 
 -- behind a task list item marker with nothing behind it on its line
 pub completes-mark : (d : Document) (frames : List Frame) (nodes : List (ℕ × Item)) (os : List ℕ) (marker : Item) (p : Place) (from : From) (lines : List Place)
@@ -708,7 +728,7 @@ pub completes-mark : (d : Document) (frames : List Frame) (nodes : List (ℕ × 
 completes-mark d frames nodes os marker p from lines plain c =
     let deep : suc (length os) + 0 ≡ suc (length os) = omega arith in
     subst (λ depth. Completes d false frames (nodes ++ (depth, marker) ∷ []) os from lines) deep
-    (completes-leaf d frames nodes os (MarkAt marker p from) lines lines p.line ((0, marker) ∷ []) plain (λ path mid. refl) (record { place = p; behind = lines; begins = (refl, refl); opens = refl }) c)
+    (completes-leaf d frames nodes os (MarkAt marker p from) lines lines p.line ((0, marker) ∷ []) false plain (λ path mid. refl) (record { place = p; behind = lines; begins = (refl, refl); opens = refl }) c)
 
 -- whether a run of blank lines counts with one more, inside what is open
 abbrev pub counts_in : List Frame → Bool → Bool

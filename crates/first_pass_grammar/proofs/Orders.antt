@@ -5,13 +5,13 @@ use Rattle.first_pass_items.specs.declared.item.Item.{Item}
 use Rattle.first_pass_items.specs.declared.item.ItemBody.{ItemBody}
 use Rattle.first_pass_items.specs.declared.item.ItemBody.TheVariants.{Paragraph as ParagraphBody}
 use Rattle.first_pass_tree.specs.declared.tree_index.TreeIndex.{TreeIndex}
-use Rattle.first_pass_tree.specs.Forest.{modify, at_depth, body_at}
+use Rattle.first_pass_tree.specs.Forest.{modify, at_depth, body_at, block_of}
 use Rattle.first_pass_tree.proofs.Blocks.{at_depth-append}
 use Rattle.first_pass_tokens.specs.Order.{AreInOrder}
 use Rattle.first_pass_tokens.specs.TreeTokens.{leaves}
 use Rattle.first_pass_tokens.proofs.OrderLemmas.{order_bound}
 use Rattle.first_pass_grammar.specs.Derivation.{tight_body, tightened}
-use Rattle.first_pass_grammar.specs.Order.{Extent, is_paragraph, is_task_marker, extent_of, extents, Row, Empty, Node, laid, IsBetween, IsLead, Fits}
+use Rattle.first_pass_grammar.specs.Order.{Extent, is_paragraph, is_task_marker, extent_of, extents, Row, Empty, Node, laid, IsBetween, IsLead, Fits, FitsBetween}
 use Rattle.first_pass_grammar.specs.OpenOrder.{laid_open, AreAt, FitsOpen}
 
 -- a row, and another behind it
@@ -257,3 +257,12 @@ row_of-fits text lead from to [] h = h
 row_of-fits text lead from to (x ∷ xs) h =
     let later = order_bound text x.«end» to xs h.4 in
     inl (record { behind = h.0; order = h.1; before = later; starts = h.2; ends = h.3 }, h.1, row_of-fits text None x.«end» to xs h.4)
+
+-- A block of a chain lies between two offsets where its item does, and the chain is in order within that.
+pub block_fits : (text : List ℕ) (from to : ℕ) (x : Item) (chain : List Item) → IsBetween text from to (extent_of x) → AreInOrder text x.start x.«end» chain → FitsBetween text from to (block_of x (leaves chain))
+unfolding laid Fits
+block_fits text from to x chain between order = (
+  Node (extent_of x) (row_of chain) Empty,
+  ap (λ (ns : List (ℕ × Extent)). (0, extent_of x) ∷ ns) (row_of-laid 1 chain ∙ sym (append-nil (laid 1 (row_of chain)))),
+  inl (between, row_of-fits text (if is_paragraph x.body then Some from else None) x.start x.«end» chain order, between.before),
+)

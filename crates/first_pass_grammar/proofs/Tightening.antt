@@ -32,8 +32,8 @@ deep_tight d e (n ∷ items) h = let t = eqb-more d (e + n.0) (omega arith) in l
 
 deep_leaf : (d e : ℕ) (tight : Bool) (leaf : Leaf) → d < e → map (tightened d) (leaf_items e tight leaf) ≡ leaf_items e tight leaf
 deep_leaf d e tight BlankLine h = refl
-deep_leaf d e true (Block closes items) h = deep_tight d e items h
-deep_leaf d e false (Block closes items) h = deep_at d e items h
+deep_leaf d e true (Block closes items gap) h = deep_tight d e items h
+deep_leaf d e false (Block closes items gap) h = deep_at d e items h
 
 deep_parts : (d : ℕ) (x : ℕ × Item) (a b : List (ℕ × Item)) → tightened d x ≡ x → map (tightened d) a ≡ a → map (tightened d) b ≡ b → map (tightened d) (x ∷ (a ++ b)) ≡ x ∷ (a ++ b)
 deep_parts d x a b hx ha hb = let e = map-append (tightened d) a b in cc
@@ -63,10 +63,10 @@ pub deep_forest : (d e last : ℕ) (tight : Bool) (list : Option (ℕ × Bool)) 
 unfolding forest_of
 deep_forest d e last tight list Nil h = refl
 deep_forest d e last tight list (Then BlankLine next) h = deep_forest d e last tight list next h
-deep_forest d e last tight list (Then (Block closes items) next) h =
-    map-append (tightened d) (leaf_items e tight (Block closes items)) (forest_of e last tight None next)
-    ∙ ap (λ z. z ++ map (tightened d) (forest_of e last tight None next)) (deep_leaf d e tight (Block closes items) h)
-    ∙ ap (λ z. leaf_items e tight (Block closes items) ++ z) (deep_forest d e last tight None next h)
+deep_forest d e last tight list (Then (Block closes items gap) next) h =
+    map-append (tightened d) (leaf_items e tight (Block closes items gap)) (forest_of e last tight None next)
+    ∙ ap (λ z. z ++ map (tightened d) (forest_of e last tight None next)) (deep_leaf d e tight (Block closes items gap) h)
+    ∙ ap (λ z. leaf_items e tight (Block closes items gap) ++ z) (deep_forest d e last tight None next h)
 deep_forest d e last tight list (Node head x kids next) h =
     deep_container d e list head.opener head.start x (λ k t. forest_of k x t None kids) (λ l. forest_of e last tight l next)
     (λ byte. list_end byte last next) (λ byte. has_gap false None false kids || is_loosened byte (run_behind false None false kids) next) h
@@ -114,7 +114,7 @@ pub tight_forest : (d last : ℕ) (list : Option (ℕ × Bool)) (s : Skeleton) �
 unfolding forest_of
 tight_forest d last list Nil = refl
 tight_forest d last list (Then BlankLine next) = tight_forest d last list next
-tight_forest d last list (Then (Block closes items) next) =
+tight_forest d last list (Then (Block closes items gap) next) =
     map-append (tightened d) (at_depth d items) (forest_of d last false None next) ∙ ap (λ z. map (tightened d) (at_depth d items) ++ z) (tight_forest d last None next)
 tight_forest d last list (Node head x kids next) =
     tight_container d list head.opener head.start x (λ k t. forest_of k x t None kids) (λ l. forest_of d last false l next) (λ l. forest_of d last true l next)

@@ -1,47 +1,60 @@
--- The grammar derives one forest from a text, and one pair of tables.
-use Rattle.std.proofs.Common.{◌≡◌, inl, inr, ℕ, true, false, List, [], ◌∷◌, length, Option, Some, None, refl, sym, ap, ◌∙◌, subst}
+-- The grammar derives one forest from a text, read through what its indices name, and one pair of tables.
+use Rattle.std.proofs.Common.{◌≡◌, inl, inr, ℕ, ◌+◌, Bool, true, false, List, [], ◌∷◌, ◌++◌, length, map, drop, Option, Some, None, IfSome, refl, sym, ap, ◌∙◌, subst, if◌then◌else◌}
 use Rattle.std.specs.Option.{option_map}
 use Rattle.first_pass_items.specs.declared.item.Item.{Item}
-use Rattle.first_pass_scan.specs.Rest.{Rest}
-use Rattle.first_pass_scan.specs.Places.{Place, offset, lines_at}
+use Rattle.first_pass_items.specs.declared.item.BlockQuoteKind.{BlockQuoteKind}
+use Rattle.first_pass_items.specs.declared.item.ItemBody.TheVariants.{Root, Rule, Heading as HeadingBody, Paragraph as ParagraphBody, IndentCodeBlock, FencedCodeBlock, MetadataBlock, HtmlBlock}
+use Rattle.first_pass_items.specs.declared.option_set.Options.{Options}
+use Rattle.first_pass_items.specs.OptionWords.{has}
+use Rattle.first_pass_scan.specs.Lines.{level_number}
+use Rattle.first_pass_scan.specs.Markers.{task_of}
+use Rattle.first_pass_scan.specs.Rest.{Rest, indent}
+use Rattle.first_pass_scan.specs.Places.{Place, offset, lines_at, start_of, moved_columns}
+use Rattle.first_pass_links.specs.Escapes.{unescaped}
 use Rattle.first_pass_tokens.specs.Chains.{add_tokens}
 use Rattle.first_pass_tokens.proofs.LineLemmas.{one_line}
 use Rattle.first_pass_grammar.specs.declared.kind.Container.{Container}
+use Rattle.first_pass_grammar.specs.declared.kind.Container.TheVariants.{BlockQuote, ListItem}
 use Rattle.first_pass_grammar.specs.declared.kind.Kind.{Kind}
-use Rattle.first_pass_grammar.specs.declared.kind.Kind.TheVariants.{Blank, ThematicBreak, AtxHeading, Paragraph}
+use Rattle.first_pass_grammar.specs.declared.kind.Kind.TheVariants.{Blank, IndentedCode, Metadata, HtmlToEnd, HtmlToBlank, ThematicBreak, AtxHeading, FencedCode, Paragraph}
+use Rattle.first_pass_grammar.specs.Names.{Names, read_nodes}
 use Rattle.first_pass_grammar.specs.Containers.{at_rest, after, front}
-use Rattle.first_pass_grammar.specs.Kinds.{unindented, is_blank_rest, quote_inside, item_at, kind_of}
-use Rattle.first_pass_grammar.specs.Leaves.{Document, add_break, IsParagraph, IsHeading}
-use Rattle.first_pass_grammar.specs.Skeleton.{Leaf, Head, opened, From, Line, Inside, LeafAt, Blanks, TextAt, MarkAt, Opening, OpensLeaf, OpensNode, OpensParagraph, OpensAs, is_blank_behind, OpensFrom, Opens, OpensAt, Skeleton, Nil, Then, Node, Begins, Ends, behind_first, end_before, IsLeafHere, IsNodeHere, IsSequence}
-use Rattle.first_pass_grammar.specs.Derivation.{Tables, forest_of, tables_of, root_of, Derives}
+use Rattle.first_pass_grammar.specs.Kinds.{unindented, is_blank_rest, quote_inside, item_at, first_kind, IsKindBy, IsKind, ends_tag}
+use Rattle.first_pass_grammar.specs.Leaves.{Document, document, add_break, IsParagraph, IsHeading, heading_text_at, heading_block, paragraph_block, marker_items}
+use Rattle.first_pass_grammar.specs.CodeBlocks.{Extent, code_lines, without_blanks, last_end, IsIndentedCode, metadata_lines, metadata_kind, IsMetadata, fenced_lines, info_string, IsFencedCode}
+use Rattle.first_pass_grammar.specs.HtmlBlocks.{until_end, until_blank, IsHtml}
+use Rattle.first_pass_grammar.specs.Skeleton.{Leaf, Block, Head, opened, From, Line, Inside, LeafAt, Blanks, TextAt, MarkAt, Opening, OpensLeaf, OpensNode, OpensParagraph, OpensExtent, OpensAs, OpensBlockAt, is_blank_behind, next_is_blank, item_head, task_by, task_behind, behind_task, task_alone, item_opening, tag_behind, behind_tag, quote_opening, OpensFrom, Opens, OpensAt, Skeleton, Nil, Then, Node, Begins, Ends, behind_first, end_before, IsLeafHere, IsNodeHere, IsSequence}
+use Rattle.first_pass_grammar.specs.Derivation.{Tables, node_of, Derives}
+use Rattle.first_pass_grammar.proofs.NoIndex.{HasNoIndex, read_alone, paragraph_free, heading_free, marked_free}
+use Rattle.first_pass_grammar.proofs.Alike.{with_names, AlikeNodes, HoldsNoIndex, AlikeOpening, Alike, code_alike, html_alike, block_alike, fence_alike, forest_alike}
 
 -- a paragraph has one chain and leaves one list of lines
-one_paragraph : (d : Document) (path : List Container) (start : ℕ) (chain : List Item) (lines : List Place) (w w' : List Item) (l l' : List Place)
-    → IsParagraph d path start chain lines w l → IsParagraph d path start chain lines w' l' → (w ≡ w') × (l ≡ l')
+one_paragraph : (d : Document) (n : Names) (path : List Container) (start : ℕ) (chain : List Item) (lines : List Place) (w w' : List Item) (l l' : List Place)
+    → IsParagraph d path start chain lines w l → IsParagraph (with_names d n) path start chain lines w' l' → (w ≡ w') × (l ≡ l')
 unfolding IsParagraph
-one_paragraph d path start chain [] w w' l l' (t, a, i, e, f) (t', a', i', e', f') =
+one_paragraph d n path start chain [] w w' l l' (t, a, i, e, f) (t', a', i', e', f') =
     let o = one_line i i' in
     let x = o.0 in
     let y = o.1 in
     (cc, cc)
-one_paragraph d path start chain (line ∷ lines) w w' l l' (t, a, i, inl (h, e, f)) (t', a', i', inl (h', e', f')) =
+one_paragraph d n path start chain (line ∷ lines) w w' l l' (t, a, i, inl (h, e, f)) (t', a', i', inl (h', e', f')) =
     let o = one_line i i' in
     let x = o.0 in
     let y = o.1 in
     (cc, cc)
-one_paragraph d path start chain (line ∷ lines) w w' l l' (t, a, i, inl (h, e, f)) (t', a', i', inr (h', more)) = let c : true ≡ false = sym h ∙ h' in (cc, cc)
-one_paragraph d path start chain (line ∷ lines) w w' l l' (t, a, i, inr (h, more)) (t', a', i', inl (h', e', f')) = let c : true ≡ false = sym h' ∙ h in (cc, cc)
-one_paragraph d path start chain (line ∷ lines) w w' l l' (t, a, i, inr (h, more)) (t', a', i', inr (h', more')) =
+one_paragraph d n path start chain (line ∷ lines) w w' l l' (t, a, i, inl (h, e, f)) (t', a', i', inr (h', more)) = let c : true ≡ false = sym h ∙ h' in (cc, cc)
+one_paragraph d n path start chain (line ∷ lines) w w' l l' (t, a, i, inr (h, more)) (t', a', i', inl (h', e', f')) = let c : true ≡ false = sym h' ∙ h in (cc, cc)
+one_paragraph d n path start chain (line ∷ lines) w w' l l' (t, a, i, inr (h, more)) (t', a', i', inr (h', more')) =
     let o = one_line i i' in
     let x = o.0 in
     let y = o.1 in
     let same : add_break a'.1 (add_tokens chain t') ≡ add_break a.1 (add_tokens chain t) = cc in
-    one_paragraph d path (offset (unindented (at_rest line (front path line.rest)))) (add_break a.1 (add_tokens chain t)) lines w w' l l' more
-    (subst (λ z. IsParagraph d path (offset (unindented (at_rest line (front path line.rest)))) z lines w' l') same more')
+    one_paragraph d n path (offset (unindented (at_rest line (front path line.rest)))) (add_break a.1 (add_tokens chain t)) lines w w' l l' more
+    (subst (λ z. IsParagraph (with_names d n) path (offset (unindented (at_rest line (front path line.rest)))) z lines w' l') same more')
 
 -- a heading has one chain and one end
-one_heading : (d : Document) (start : ℕ) (c c' : List Item) (e e' : ℕ) → IsHeading d start c e → IsHeading d start c' e' → (c ≡ c') × (e ≡ e')
-one_heading d start c c' e e' h h' =
+one_heading : (d : Document) (n : Names) (start : ℕ) (c c' : List Item) (e e' : ℕ) → IsHeading d start c e → IsHeading (with_names d n) start c' e' → (c ≡ c') × (e ≡ e')
+one_heading d n start c c' e e' h h' =
     let o = one_line h.line h'.line in
     let x = o.0 in
     let ends : e ≡ e' = ap (λ (a : ℕ × Option Item). a.0) o.1 in
@@ -50,43 +63,173 @@ one_heading d start c c' e e' h h' =
     let w = h'.chain_is in
     (cc, ends)
 
-one_paragraph_opening : (d : Document) (path : List Container) (p : Place) (lines : List Place) (marker : Option Item) (o o' : Opening) → OpensParagraph d path p lines marker o → OpensParagraph d path p lines marker o' → o ≡ o'
+-- a place is of one kind
+one_kind_by : (r : Rest) (first : Option Kind) (k k' : Kind) → IsKindBy r first k → IsKindBy r first k' → k ≡ k'
+one_kind_by r (Some first) k k' e f = e ∙ sym f
+one_kind_by r None k k' (inl (n, tag, e)) (inl (n', tag', f)) = e ∙ sym f
+one_kind_by r None k k' (inl (n, tag, e)) (inr (other, f)) = absurd (other n tag)
+one_kind_by r None k k' (inr (other, e)) (inl (n, tag, f)) = absurd (other n tag)
+one_kind_by r None k k' (inr (other, e)) (inr (other', f)) = e ∙ sym f
+
+one_kind : (options : Options) (r : Rest) (k k' : Kind) → IsKind options r k → IsKind options r k' → k ≡ k'
+one_kind options r k k' e f = one_kind_by r (first_kind options r) k k' e f
+
+-- what is said to open is alike where what it is said to be is
+alike_by : (m n : Names) (o o' x y : Opening) → o ≡ x → o' ≡ y → AlikeOpening m n x y → AlikeOpening m n o o'
+alike_by m n o o' x y e f a = subst (λ z. AlikeOpening m n z o') (sym e) (subst (λ z. AlikeOpening m n x z) (sym f) a)
+
+one_paragraph_opening : (d : Document) (n : Names) (path : List Container) (p : Place) (lines : List Place) (marker : Option Item) (o o' : Opening) → IfSome marker HasNoIndex
+    → OpensParagraph d path p lines marker o → OpensParagraph (with_names d n) path p lines marker o' → AlikeOpening d.names n o o'
 unfolding OpensParagraph
-one_paragraph_opening d path p lines marker o o' (c, l, h, f) (c', l', h', f') =
-    let s = one_paragraph d path _ [] lines c c' l l' h h' in
-    let x = s.0 in
-    let y = s.1 in
-    cc
+one_paragraph_opening d n path p lines marker o o' free (c, l, h, f) (c', l', h', f') =
+    let s = one_paragraph d n path _ [] lines c c' l l' h h' in
+    let start : ℕ = offset (unindented p) in
+    let chain : List Item = marker_items marker ++ c in
+    let same : o' ≡ OpensLeaf (Block start (paragraph_block start (start_of (length d.text) l) chain) false) Line l =
+    f' ∙ ap (λ z. OpensLeaf (Block start (paragraph_block start (start_of (length d.text) l') (marker_items marker ++ z)) false) Line l') (sym s.0)
+    ∙ ap (λ z. OpensLeaf (Block start (paragraph_block start (start_of (length d.text) z) chain) false) Line z) (sym s.1) in
+    alike_by d.names n o o' _ _ f same
+    ((refl, block_alike d.names n start (start_of (length d.text) l) ParagraphBody ParagraphBody chain chain refl (read_alone d.names n chain (marked_free marker c free (paragraph_free d path start [] lines c l tt h))), refl), refl, tt, refl)
 
--- a place has one opening
-opens_once : (d : Document) (path : List Container) (p : Place) (lines : List Place) (k : Kind) (o o' : Opening) → OpensAs d path p lines k o → OpensAs d path p lines k o' → o ≡ o'
+-- a leaf block's items read alike where they are of alike chains
+one_code : (d : Document) (n : Names) (p : Place) (further : List Place) (xs ys : List (ℕ × Item)) → IsIndentedCode d p further xs → IsIndentedCode (with_names d n) p further ys → AlikeNodes d.names n xs ys
+one_code d n p further xs ys h k =
+    ap (read_nodes d.names) h.items_are
+    ∙ block_alike d.names n (offset p) (last_end (offset p) (without_blanks (p ∷ further))) IndentCodeBlock IndentCodeBlock h.chain k.chain refl (code_alike d n [] [] (without_blanks (p ∷ further)) h.chain k.chain refl h.lines k.lines)
+    ∙ sym (ap (read_nodes n) k.items_are)
+
+one_metadata : (d : Document) (n : Names) (start byte : ℕ) (places : List Place) («end» : ℕ) (xs ys : List (ℕ × Item)) → IsMetadata d start byte places «end» xs → IsMetadata (with_names d n) start byte places «end» ys → AlikeNodes d.names n xs ys
+one_metadata d n start byte places end xs ys h k =
+    ap (read_nodes d.names) h.items_are
+    ∙ block_alike d.names n start end (MetadataBlock (metadata_kind byte)) (MetadataBlock (metadata_kind byte)) h.chain k.chain refl (code_alike d n [] [] places h.chain k.chain refl h.lines k.lines)
+    ∙ sym (ap (read_nodes n) k.items_are)
+
+one_fence : (d : Document) (n : Names) (start count : ℕ) (places : List Place) («end» : ℕ) (xs ys : List (ℕ × Item)) → IsFencedCode d start count places «end» xs → IsFencedCode (with_names d n) start count places «end» ys → AlikeNodes d.names n xs ys
+one_fence d n start count places end xs ys h k =
+    let info : List ℕ = unescaped false (info_string (drop (start + count) d.text)) in
+    ap (read_nodes d.names) h.items_are
+    ∙ block_alike d.names n start end (FencedCodeBlock h.info) (FencedCodeBlock k.info) h.chain k.chain
+    (fence_alike d.names n start end h.info k.info info (h.names.named, h.names.at, h.names.text) (k.names.named, k.names.at, k.names.text))
+    (code_alike d n [] [] places h.chain k.chain refl h.lines k.lines)
+    ∙ sym (ap (read_nodes n) k.items_are)
+
+one_html : (d : Document) (n : Names) (start columns : ℕ) (places : List Place) («end» : ℕ) (xs ys : List (ℕ × Item)) → IsHtml d start columns places «end» xs → IsHtml (with_names d n) start columns places «end» ys → AlikeNodes d.names n xs ys
+one_html d n start columns places end xs ys h k =
+    ap (read_nodes d.names) h.items_are
+    ∙ block_alike d.names n start end HtmlBlock HtmlBlock h.chain k.chain refl (html_alike d n [] [] columns places h.chain k.chain refl h.lines k.lines)
+    ∙ sym (ap (read_nodes n) k.items_are)
+
+one_extent : (m n : Names) (p : Place) (e : Extent) (A B : List (ℕ × Item) → Type 0) (o o' : Opening) → ((xs ys : List (ℕ × Item)) → A xs → B ys → AlikeNodes m n xs ys) → OpensExtent p e A o → OpensExtent p e B o' → AlikeOpening m n o o'
+one_extent m n p e A B o o' one (xs, a, f) (ys, b, g) = alike_by m n o o' _ _ f g ((refl, one xs ys a b, refl), refl, tt, refl)
+
+-- what begins at a place that is of a kind reads alike
+opens_once : (d : Document) (n : Names) (path : List Container) (p : Place) (lines : List Place) (k : Kind) (o o' : Opening) → OpensAs d path p lines k o → OpensAs (with_names d n) path p lines k o' → AlikeOpening d.names n o o'
 unfolding OpensAs
-opens_once d path p lines Blank o o' e e' = cc
-opens_once d path p lines (ThematicBreak size) o o' e e' = cc
-opens_once d path p lines (AtxHeading level) o o' (c, e, h, f) (c', e', h', f') =
-    let s = one_heading d _ c c' e e' h h' in
-    let x = s.0 in
-    let y = s.1 in
-    cc
-opens_once d path p lines Paragraph o o' e e' = one_paragraph_opening d path p lines None o o' e e'
+opens_once d n path p lines Blank o o' e f = alike_by d.names n o o' _ _ e f (tt, refl, tt, refl)
+opens_once d n path p lines IndentedCode o o' (xs, h, e) (ys, k, f) =
+    alike_by d.names n o o' _ _ e f ((refl, one_code d n (moved_columns 4 p) (code_lines path lines).0 xs ys h k, refl), refl, tt, refl)
+opens_once d n path p lines (Metadata byte) o o' e f =
+    let x : Extent = metadata_lines (length d.text) path byte lines in
+    one_extent d.names n p x (IsMetadata d (offset (unindented p)) byte x.places x.«end») (IsMetadata (with_names d n) (offset (unindented p)) byte x.places x.«end») o o'
+    (one_metadata d n (offset (unindented p)) byte x.places x.«end») e f
+opens_once d n path p lines HtmlToEnd o o' (text, is, e) (text', is', f) =
+    let found : Some text' ≡ Some text = sym is' ∙ is in
+    let same : text' ≡ text = cc in
+    let x : Extent = until_end (length d.text) path text (unindented p) lines in
+    one_extent d.names n p x (IsHtml d (offset (unindented p)) (indent p.rest) x.places x.«end») (IsHtml (with_names d n) (offset (unindented p)) (indent p.rest) x.places x.«end») o o'
+    (one_html d n (offset (unindented p)) (indent p.rest) x.places x.«end») e
+    (subst (λ (t : List ℕ). let y = until_end (length d.text) path t (unindented p) lines in OpensExtent p y (IsHtml (with_names d n) (offset (unindented p)) (indent p.rest) y.places y.«end») o') same f)
+opens_once d n path p lines HtmlToBlank o o' e f =
+    let x : Extent = until_blank (length d.text) path (unindented p) lines in
+    one_extent d.names n p x (IsHtml d (offset (unindented p)) (indent p.rest) x.places x.«end») (IsHtml (with_names d n) (offset (unindented p)) (indent p.rest) x.places x.«end») o o'
+    (one_html d n (offset (unindented p)) (indent p.rest) x.places x.«end») e f
+opens_once d n path p lines (ThematicBreak size) o o' e f =
+    let start : ℕ = offset (unindented p) in
+    alike_by d.names n o o' _ _ e f ((refl, block_alike d.names n start (start + size) Rule Rule [] [] refl refl, refl), refl, tt, refl)
+opens_once d n path p lines (AtxHeading level) o o' (c, e, h, f) (c', e', h', f') =
+    let text : ℕ = heading_text_at d.text (offset (unindented p)) (level_number level) in
+    let s = one_heading d n text c c' e e' h h' in
+    let start : ℕ = offset (unindented p) in
+    let same : o' ≡ OpensLeaf (Block p.line (heading_block start e level c) false) Line lines =
+    f' ∙ ap (λ z. OpensLeaf (Block p.line (heading_block start e' level z) false) Line lines) (sym s.0) ∙ ap (λ z. OpensLeaf (Block p.line (heading_block start z level c) false) Line lines) (sym s.1) in
+    alike_by d.names n o o' _ _ f same ((refl, block_alike d.names n start e (HeadingBody level None) (HeadingBody level None) c c refl (read_alone d.names n c (heading_free d text c e h)), refl), refl, tt, refl)
+opens_once d n path p lines (FencedCode count byte) o o' e f =
+    let x : Extent = fenced_lines (length d.text) path (indent p.rest) byte count lines in
+    one_extent d.names n p x (IsFencedCode d (offset (unindented p)) count x.places x.«end») (IsFencedCode (with_names d n) (offset (unindented p)) count x.places x.«end») o o'
+    (one_fence d n (offset (unindented p)) count x.places x.«end») e f
+opens_once d n path p lines Paragraph o o' e f = one_paragraph_opening d n path p lines None o o' tt e f
 
-opens_from : (d : Document) (path : List Container) (p : Place) (lines : List Place) (i : Option ((ℕ × ℕ × ℕ) × Rest)) (q : Option Place) (o o' : Opening) → OpensFrom d path p lines i q o → OpensFrom d path p lines i q o' → o ≡ o'
+opens_block : (d : Document) (n : Names) (path : List Container) (p : Place) (lines : List Place) (o o' : Opening) → OpensBlockAt d path p lines o → OpensBlockAt (with_names d n) path p lines o' → AlikeOpening d.names n o o'
+opens_block d n path p lines o o' (k, is, e) (k', is', f) =
+    opens_once d n path p lines k o o' e (subst (λ z. OpensAs (with_names d n) path p lines z o') (one_kind d.options p.rest k' k is' is) f)
+
+-- a container that opens, in which blocks go on where no item with an index stands
+abbrev OpensFree : Opening → Type 0
+OpensFree (OpensLeaf leaf there left) = ⊥
+OpensFree (OpensNode head inside behind) = HoldsNoIndex inside
+
+node_alike : (m n : Names) (o : Opening) → OpensFree o → AlikeOpening m n o o
+node_alike m n (OpensLeaf leaf there left) h = absurd h
+node_alike m n (OpensNode head inside behind) h = (refl, refl, h, refl)
+
+task_free : (line : ℕ) (r : Rest) (o : Option (Bool × Rest)) → IfSome (task_by line r o).0 HasNoIndex
+task_free line r None = tt
+task_free line r (Some task) = refl
+
+behind_free : (marker : Option Item) (p : Place) → IfSome marker HasNoIndex → HoldsNoIndex (behind_task marker p)
+behind_free None p h = tt
+behind_free (Some marker) p h = h
+
+alone_free : (marker : Option Item) (p : Place) (from : From) → IfSome marker HasNoIndex → HoldsNoIndex from → HoldsNoIndex (task_alone marker p from)
+alone_free None p from h k = k
+alone_free (Some marker) p from h k = (h, k)
+
+unless_opens : (t : Bool) (o o' : Opening) → OpensFree o → OpensFree o' → OpensFree (if t then o else o')
+unless_opens true o o' h k = h
+unless_opens false o o' h k = k
+
+item_free : (d : Document) (path : List Container) (p : Place) (lines : List Place) (byte number columns : ℕ) (task : Option Item × Rest) → IfSome task.0 HasNoIndex → OpensFree (item_opening d path p lines byte number columns task)
+item_free d path p lines byte number columns (marker, r) h =
+    let blanks : From = Blanks (start_of (length d.text) lines) in
+    unless_opens (is_blank_rest r) _ _
+    (unless_opens (next_is_blank (ListItem columns ∷ path) lines) (OpensNode (item_head p byte number 0) (task_alone marker (at_rest p r) blanks) lines) (OpensNode (item_head p byte number columns) (task_alone marker (at_rest p r) Line) lines)
+    (alone_free marker (at_rest p r) blanks h tt) (alone_free marker (at_rest p r) Line h tt))
+    (behind_free marker (at_rest p r) h)
+
+first_free : (t : Bool) (x y : From × List Place) → HoldsNoIndex x.0 → HoldsNoIndex y.0 → HoldsNoIndex (if◌then◌else◌ {A = From × List Place} t x y).0
+first_free true x y h k = h
+first_free false x y h k = k
+
+tag_free : (path : List Container) (lines : List Place) → HoldsNoIndex (behind_tag path lines).0
+tag_free path [] = tt
+tag_free path (line ∷ lines) = first_free (ends_tag path line.rest) (Line, line ∷ lines) (LeafAt (unindented (at_rest line (front path line.rest))), lines) tt tt
+
+quote_free : (path : List Container) (p inside : Place) (lines : List Place) (kind : Option BlockQuoteKind) → OpensFree (quote_opening path p inside lines kind)
+quote_free path p inside lines None = tt
+quote_free path p inside lines (Some kind) = tag_free (BlockQuote (Some kind) ∷ path) lines
+
+opens_from : (d : Document) (n : Names) (path : List Container) (p : Place) (lines : List Place) (i : Option ((ℕ × ℕ × ℕ) × Rest)) (q : Option Place) (o o' : Opening)
+    → OpensFrom d path p lines i q o → OpensFrom (with_names d n) path p lines i q o' → AlikeOpening d.names n o o'
 unfolding OpensFrom
-opens_from d path p lines (Some item) q o o' e e' = e ∙ sym e'
-opens_from d path p lines None (Some inside) o o' e e' = e ∙ sym e'
-opens_from d path p lines None None o o' e e' = opens_once d path p lines (kind_of p.rest) o o' e e'
+opens_from d n path p lines (Some item) q o o' e f =
+    alike_by d.names n o o' _ _ e f
+    (node_alike d.names n _ (item_free d path p lines item.0.0 item.0.1 item.0.2 (task_behind d.options p.line item.1) (task_free p.line item.1 (if has d.options 16 then task_of item.1 else None))))
+opens_from d n path p lines None (Some inside) o o' e f = alike_by d.names n o o' _ _ e f (node_alike d.names n _ (quote_free path p inside lines (tag_behind d.options inside.rest)))
+opens_from d n path p lines None None o o' e f = opens_block d n path p lines o o' e f
 
--- a place opens one thing
-pub one_opening : (d : Document) (path : List Container) (p : Place) (lines : List Place) (o o' : Opening) → Opens d path p lines o → Opens d path p lines o' → o ≡ o'
-one_opening d path p lines o o' e e' = opens_from d path p lines (item_at p.rest) (quote_inside p) o o' e e'
+-- a place opens one thing, read alike
+pub one_opening : (d : Document) (n : Names) (path : List Container) (p : Place) (lines : List Place) (o o' : Opening) → Opens d path p lines o → Opens (with_names d n) path p lines o' → AlikeOpening d.names n o o'
+one_opening d n path p lines o o' e f = opens_from d n path p lines (item_at p.rest) (quote_inside p) o o' e f
 
-opens_at : (d : Document) (path : List Container) (from : From) (p : Place) (lines : List Place) (o o' : Opening) → OpensAt d path from p lines o → OpensAt d path from p lines o' → o ≡ o'
-opens_at d path Line p lines o o' e e' = one_opening d path p lines o o' e e'
-opens_at d path (Inside q) p lines o o' e e' = one_opening d path p lines o o' e e'
-opens_at d path (LeafAt q) p lines o o' e e' = opens_once d path p lines (kind_of p.rest) o o' e e'
-opens_at d path (Blanks x) p lines o o' e e' = one_opening d path p lines o o' e e'
-opens_at d path (TextAt marker q) p lines o o' e e' = one_paragraph_opening d path p lines (Some marker) o o' e e'
-opens_at d path (MarkAt marker q from) p lines o o' e e' = e ∙ sym e'
+opens_at : (d : Document) (n : Names) (path : List Container) (from : From) (p : Place) (lines : List Place) (o o' : Opening) → HoldsNoIndex from
+    → OpensAt d path from p lines o → OpensAt (with_names d n) path from p lines o' → AlikeOpening d.names n o o'
+opens_at d n path Line p lines o o' h e f = one_opening d n path p lines o o' e f
+opens_at d n path (Inside q) p lines o o' h e f = one_opening d n path p lines o o' e f
+opens_at d n path (LeafAt q) p lines o o' h e f = opens_block d n path p lines o o' e f
+opens_at d n path (Blanks x) p lines o o' h e f = one_opening d n path p lines o o' e f
+opens_at d n path (TextAt marker q) p lines o o' h e f = one_paragraph_opening d n path p lines (Some marker) o o' h e f
+opens_at d n path (MarkAt marker q from) p lines o o' h e f =
+    alike_by d.names n o o' _ _ e f ((refl, ap (λ (z : List (Item × Option (List ℕ))). map (λ (r : Item × Option (List ℕ)). (0, r)) z) (read_alone d.names n (marker ∷ []) (h.0, tt)), refl), refl, tt, refl)
 
 -- a block begins at one place
 begins_once : (path : List Container) (from : From) (lines : List Place) (p q : Place) (a b : List Place) → Begins path from lines p a → Begins path from lines q b → (p ≡ q) × (a ≡ b)
@@ -115,25 +258,31 @@ ends_not_begins path (Blanks x) [] p a e b = b
 ends_not_begins path (Blanks x) (line ∷ lines) p a e (t, h, b) = let n : true ≡ false = sym (blank_taken line p (after path line.rest) t b) ∙ e in cc
 
 -- a first block opens as one thing
-leaf_once : (d : Document) (path : List Container) (from : From) (lines : List Place) (leaf leaf' : Leaf) (there there' : From) (left left' : List Place)
-    → IsLeafHere d path from lines leaf there left → IsLeafHere d path from lines leaf' there' left' → OpensLeaf leaf there left ≡ OpensLeaf leaf' there' left'
-leaf_once d path from lines leaf leaf' there there' left left' f g =
+leaf_once : (d : Document) (n : Names) (path : List Container) (from : From) (lines : List Place) (leaf leaf' : Leaf) (there there' : From) (left left' : List Place) → HoldsNoIndex from
+    → IsLeafHere d path from lines leaf there left → IsLeafHere (with_names d n) path from lines leaf' there' left' → AlikeOpening d.names n (OpensLeaf leaf there left) (OpensLeaf leaf' there' left')
+leaf_once d n path from lines leaf leaf' there there' left left' h f g =
     let w = begins_once path from lines f.place g.place f.behind g.behind f.begins g.begins in
-    opens_at d path from g.place g.behind _ _ (subst (λ z. OpensAt d path from g.place z (OpensLeaf leaf there left)) w.1 (subst (λ z. OpensAt d path from z f.behind (OpensLeaf leaf there left)) w.0 f.opens)) g.opens
+    opens_at d n path from g.place g.behind _ _ h (subst (λ z. OpensAt d path from g.place z (OpensLeaf leaf there left)) w.1 (subst (λ z. OpensAt d path from z f.behind (OpensLeaf leaf there left)) w.0 f.opens)) g.opens
 
-leaf_not_node : (d : Document) (path : List Container) (from : From) (lines : List Place) (leaf : Leaf) (there : From) (left : List Place) (head : Head) (inside : From) (behind : List Place)
-    → IsLeafHere d path from lines leaf there left → IsNodeHere d path from lines head inside behind → ⊥
-leaf_not_node d path from lines leaf there left head inside behind f g =
+leaf_not_node : (d : Document) (n : Names) (path : List Container) (from : From) (lines : List Place) (leaf : Leaf) (there : From) (left : List Place) (head : Head) (inside : From) (behind : List Place) → HoldsNoIndex from
+    → IsLeafHere d path from lines leaf there left → IsNodeHere (with_names d n) path from lines head inside behind → ⊥
+leaf_not_node d n path from lines leaf there left head inside behind h f g =
     let w = begins_once path from lines f.place g.place f.behind g.behind f.begins g.begins in
-    let o : OpensLeaf leaf there left ≡ OpensNode head inside behind =
-    opens_at d path from g.place g.behind _ _ (subst (λ z. OpensAt d path from g.place z (OpensLeaf leaf there left)) w.1 (subst (λ z. OpensAt d path from z f.behind (OpensLeaf leaf there left)) w.0 f.opens)) g.opens in
-    cc
+    opens_at d n path from g.place g.behind (OpensLeaf leaf there left) (OpensNode head inside behind) h
+    (subst (λ z. OpensAt d path from g.place z (OpensLeaf leaf there left)) w.1 (subst (λ z. OpensAt d path from z f.behind (OpensLeaf leaf there left)) w.0 f.opens)) g.opens
 
-node_once : (d : Document) (path : List Container) (from : From) (lines : List Place) (head head' : Head) (inside inside' : From) (behind behind' : List Place)
-    → IsNodeHere d path from lines head inside behind → IsNodeHere d path from lines head' inside' behind' → OpensNode head inside behind ≡ OpensNode head' inside' behind'
-node_once d path from lines head head' inside inside' behind behind' f g =
+node_not_leaf : (d : Document) (n : Names) (path : List Container) (from : From) (lines : List Place) (head : Head) (inside : From) (behind : List Place) (leaf : Leaf) (there : From) (left : List Place) → HoldsNoIndex from
+    → IsNodeHere d path from lines head inside behind → IsLeafHere (with_names d n) path from lines leaf there left → ⊥
+node_not_leaf d n path from lines head inside behind leaf there left h f g =
     let w = begins_once path from lines f.place g.place f.behind g.behind f.begins g.begins in
-    opens_at d path from g.place g.behind _ _ (subst (λ z. OpensAt d path from g.place z (OpensNode head inside behind)) w.1 (subst (λ z. OpensAt d path from z f.behind (OpensNode head inside behind)) w.0 f.opens)) g.opens
+    opens_at d n path from g.place g.behind (OpensNode head inside behind) (OpensLeaf leaf there left) h
+    (subst (λ z. OpensAt d path from g.place z (OpensNode head inside behind)) w.1 (subst (λ z. OpensAt d path from z f.behind (OpensNode head inside behind)) w.0 f.opens)) g.opens
+
+node_once : (d : Document) (n : Names) (path : List Container) (from : From) (lines : List Place) (head head' : Head) (inside inside' : From) (behind behind' : List Place) → HoldsNoIndex from
+    → IsNodeHere d path from lines head inside behind → IsNodeHere (with_names d n) path from lines head' inside' behind' → AlikeOpening d.names n (OpensNode head inside behind) (OpensNode head' inside' behind')
+node_once d n path from lines head head' inside inside' behind behind' h f g =
+    let w = begins_once path from lines f.place g.place f.behind g.behind f.begins g.begins in
+    opens_at d n path from g.place g.behind _ _ h (subst (λ z. OpensAt d path from g.place z (OpensNode head inside behind)) w.1 (subst (λ z. OpensAt d path from z f.behind (OpensNode head inside behind)) w.0 f.opens)) g.opens
 
 node_ends : (d : Document) (path : List Container) (from : From) (lines : List Place) (head : Head) (inside : From) (behind : List Place)
     → Ends path from lines → IsNodeHere d path from lines head inside behind → ⊥
@@ -150,40 +299,47 @@ ends_at_once d Nil path from lines left e (f, g) = (refl, g)
 ends_at_once d (Then leaf next) path from lines left e (there, mid, first, seq) = absurd (leaf_ends d path from lines leaf there mid e first)
 ends_at_once d (Node head e' kids next) path from lines left e (inside, behind, mid, first, inner, is, seq) = absurd (node_ends d path from lines head inside behind e first)
 
-pub one_sequence : (d : Document) (s t : Skeleton) (path : List Container) (from : From) (lines a b : List Place) → IsSequence d s path from lines a → IsSequence d t path from lines b → (s ≡ t) × (a ≡ b)
-unfolding IsSequence
-one_sequence d Nil Nil path from lines a b (e, f) (g, h) = (refl, cc)
-one_sequence d Nil (Then leaf next) path from lines a b (e, f) (there, mid, first, seq) = absurd (leaf_ends d path from lines leaf there mid e first)
-one_sequence d Nil (Node head x kids next) path from lines a b (e, f) (inside, behind, mid, first, inner, is, seq) = absurd (node_ends d path from lines head inside behind e first)
-one_sequence d (Then leaf next) Nil path from lines a b (there, mid, first, seq) (e, f) = absurd (leaf_ends d path from lines leaf there mid e first)
-one_sequence d (Node head x kids next) Nil path from lines a b (inside, behind, mid, first, inner, is, seq) (e, f) = absurd (node_ends d path from lines head inside behind e first)
-one_sequence d (Then leaf next) (Then leaf' next') path from lines a b (there, mid, first, seq) (there', mid', first', seq') =
-    let o = leaf_once d path from lines leaf leaf' there there' mid mid' first first' in
-    let l : leaf ≡ leaf' = cc in
-    let t : there' ≡ there = cc in
-    let m : mid' ≡ mid = cc in
-    let r = one_sequence d next next' path (behind_first from there) mid a b seq (subst (λ z. IsSequence d next' path (behind_first from there) z b) m (subst (λ z. IsSequence d next' path (behind_first from z) mid' b) t seq')) in
-    let k = r.0 in
-    (cc, r.1)
-one_sequence d (Then leaf next) (Node head x kids next') path from lines a b (there, mid, first, seq) (inside, behind, mid', first', inner, is, seq') =
-    absurd (leaf_not_node d path from lines leaf there mid head inside behind first first')
-one_sequence d (Node head x kids next) (Then leaf next') path from lines a b (inside, behind, mid', first', inner, is, seq') (there, mid, first, seq) =
-    absurd (leaf_not_node d path from lines leaf there mid head inside behind first first')
-one_sequence d (Node head x kids next) (Node head' x' kids' next') path from lines a b (inside, behind, mid, first, inner, is, seq) (inside', behind', mid', first', inner', is', seq') =
-    let o = node_once d path from lines head head' inside inside' behind behind' first first' in
-    let k : head' ≡ head = cc in
-    let i : inside' ≡ inside = cc in
-    let w : behind' ≡ behind = cc in
-    let h = one_sequence d kids kids' (opened head.opener ∷ path) inside behind mid mid' inner
-    (subst (λ (z : Head). IsSequence d kids' (opened z.opener ∷ path) inside behind mid') k (subst (λ z. IsSequence d kids' (opened head'.opener ∷ path) z behind mid') i (subst (λ z. IsSequence d kids' (opened head'.opener ∷ path) inside' z mid') w inner'))) in
-    let m : mid ≡ mid' = h.1 in
-    let r = one_sequence d next next' path (behind_first from Line) mid a b seq (subst (λ z. IsSequence d next' path (behind_first from Line) z b) (sym m) seq') in
-    let e : x ≡ x' = is ∙ ap (λ z. end_before (length d.text) path z mid) (sym i) ∙ ap (end_before (length d.text) path inside') m ∙ sym is' in
-    let u = h.0 in
-    let v = r.0 in
-    (cc, r.1)
+behind_first_free : (from there : From) → HoldsNoIndex from → HoldsNoIndex there → HoldsNoIndex (behind_first from there)
+behind_first_free (Blanks e) there h k = tt
+behind_first_free Line there h k = k
+behind_first_free (Inside p) there h k = k
+behind_first_free (LeafAt p) there h k = k
+behind_first_free (TextAt marker p) there h k = k
+behind_first_free (MarkAt marker p from) there h k = h.1
 
-pub one_forest : (d : Document) (f g : List (ℕ × Item)) (t u : Tables) → Derives d f t → Derives d g u → (f ≡ g) × (t ≡ u)
-one_forest d f g t u x y =
-    let s = (one_sequence d x.skeleton y.skeleton [] Line (lines_at 0 d.text) [] [] x.sequence y.sequence).0 in
-    (x.forest_is ∙ ap (λ z. root_of (length d.text) ∷ forest_of 1 (length d.text) false None z) s ∙ sym y.forest_is, x.tables_are ∙ ap tables_of s ∙ sym y.tables_are)
+-- two sequences from one place on are alike, and leave the same lines
+pub one_sequence : (d : Document) (n : Names) (s t : Skeleton) (path : List Container) (from : From) (lines a b : List Place) → HoldsNoIndex from
+    → IsSequence d s path from lines a → IsSequence (with_names d n) t path from lines b → Alike d.names n s t × (a ≡ b)
+unfolding IsSequence
+one_sequence d n Nil Nil path from lines a b free (e, f) (g, h) = (tt, cc)
+one_sequence d n Nil (Then leaf next) path from lines a b free (e, f) (there, mid, first, seq) = absurd (leaf_ends (with_names d n) path from lines leaf there mid e first)
+one_sequence d n Nil (Node head x kids next) path from lines a b free (e, f) (inside, behind, mid, first, inner, is, seq) = absurd (node_ends (with_names d n) path from lines head inside behind e first)
+one_sequence d n (Then leaf next) Nil path from lines a b free (there, mid, first, seq) (e, f) = absurd (leaf_ends d path from lines leaf there mid e first)
+one_sequence d n (Node head x kids next) Nil path from lines a b free (inside, behind, mid, first, inner, is, seq) (e, f) = absurd (node_ends d path from lines head inside behind e first)
+one_sequence d n (Then leaf next) (Then leaf' next') path from lines a b free (there, mid, first, seq) (there', mid', first', seq') =
+    let o = leaf_once d n path from lines leaf leaf' there there' mid mid' free first first' in
+    let r = one_sequence d n next next' path (behind_first from there) mid a b (behind_first_free from there free o.2) seq
+    (subst (λ z. IsSequence (with_names d n) next' path (behind_first from there) z b) (sym o.3) (subst (λ z. IsSequence (with_names d n) next' path (behind_first from z) mid' b) (sym o.1) seq')) in
+    ((o.0, r.0), r.1)
+one_sequence d n (Then leaf next) (Node head x kids next') path from lines a b free (there, mid, first, seq) (inside, behind, mid', first', inner, is, seq') =
+    absurd (leaf_not_node d n path from lines leaf there mid head inside behind free first first')
+one_sequence d n (Node head x kids next) (Then leaf next') path from lines a b free (inside, behind, mid', first', inner, is, seq') (there, mid, first, seq) =
+    absurd (node_not_leaf d n path from lines head inside behind leaf there mid free first' first)
+one_sequence d n (Node head x kids next) (Node head' x' kids' next') path from lines a b free (inside, behind, mid, first, inner, is, seq) (inside', behind', mid', first', inner', is', seq') =
+    let o = node_once d n path from lines head head' inside inside' behind behind' free first first' in
+    let h = one_sequence d n kids kids' (opened head.opener ∷ path) inside behind mid mid' o.2 inner
+    (subst (λ (z : Head). IsSequence (with_names d n) kids' (opened z.opener ∷ path) inside behind mid') (sym o.0)
+    (subst (λ z. IsSequence (with_names d n) kids' (opened head'.opener ∷ path) z behind mid') (sym o.1) (subst (λ z. IsSequence (with_names d n) kids' (opened head'.opener ∷ path) inside' z mid') (sym o.3) inner'))) in
+    let m : mid ≡ mid' = h.1 in
+    let r = one_sequence d n next next' path (behind_first from Line) mid a b (behind_first_free from Line free tt) seq (subst (λ z. IsSequence (with_names d n) next' path (behind_first from Line) z b) (sym m) seq') in
+    let e : x ≡ x' = is ∙ ap (λ z. end_before (length d.text) path z mid) o.1 ∙ ap (end_before (length d.text) path inside') m ∙ sym is' in
+    ((o.0, e, h.0, r.0), r.1)
+
+pub one_forest : (text : List ℕ) (options : Options) (m n : Names) (f g : List (ℕ × Item)) (t u : Tables) → Derives (document text options m) f t → Derives (document text options n) g u → (read_nodes m f ≡ read_nodes n g) × (t ≡ u)
+one_forest text options m n f g t u x y =
+    let d : Document = document text options m in
+    let s = (one_sequence d n x.skeleton y.skeleton [] Line (lines_at 0 text) [] [] tt x.sequence y.sequence).0 in
+    let root : ℕ × (Item × Option (List ℕ)) = (0, (node_of 0 (length text) Root, None)) in (
+      ap (read_nodes m) x.forest_is ∙ ap (λ z. root ∷ z) (forest_alike m n 1 (length text) false None x.skeleton y.skeleton s) ∙ sym (ap (read_nodes n) y.forest_is),
+      x.tables_are ∙ sym y.tables_are,
+    )

@@ -29,7 +29,7 @@ tightened depth n = (n.0, if n.0 == depth then record { start = n.1.start; «end
 -- the items of a leaf, put at a depth, in a tight list or not
 abbrev pub leaf_items : ℕ → Bool → Leaf → List (ℕ × Item)
 leaf_items depth tight BlankLine = []
-leaf_items depth tight (Block closes items) = if tight then map (tightened depth) (at_depth depth items) else at_depth depth items
+leaf_items depth tight (Block closes items gap) = if tight then map (tightened depth) (at_depth depth items) else at_depth depth items
 
 -- the tightness of the list that an item of this byte goes on with, where it goes on with one
 abbrev pub tight_of : Option (ℕ × Bool) → ℕ → Option Bool
@@ -54,7 +54,7 @@ container_items depth list (ItemMarker byte number columns) start «end» kids n
 unfoldable pub forest_of : ℕ → ℕ → Bool → Option (ℕ × Bool) → Skeleton → List (ℕ × Item)
 forest_of depth last tight list Nil = []
 forest_of depth last tight list (Then BlankLine next) = forest_of depth last tight list next
-forest_of depth last tight list (Then (Block closes items) next) = leaf_items depth tight (Block closes items) ++ forest_of depth last tight None next
+forest_of depth last tight list (Then (Block closes items gap) next) = leaf_items depth tight (Block closes items gap) ++ forest_of depth last tight None next
 forest_of depth last tight list (Node head e kids next) =
     container_items depth list head.opener head.start e (λ d t. forest_of d e t None kids) (λ l. forest_of depth last tight l next)
     (λ byte. list_end byte last next) (λ byte. has_gap false None false kids || is_loosened byte (run_behind false None false kids) next)

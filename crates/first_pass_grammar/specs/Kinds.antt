@@ -1,16 +1,20 @@
 -- Which kind of block begins at a place, and which lines end a paragraph before them (CommonMark 4, 5).
-use Rattle.std.specs.Prelude.{ℕ, ◌==◌, ◌&&◌, ◌||◌, not, Bool, false, List, drop, Option, Some, None, nat_lt, is_some, if◌then◌else◌}
+use Rattle.std.specs.Prelude.{◌≡◌, ◌⊎◌, ℕ, ◌==◌, ◌&&◌, ◌||◌, not, Bool, false, List, drop, Option, Some, None, nat_lt, is_some, if◌then◌else◌}
 use Rattle.first_pass_items.specs.declared.item.HeadingLevel.{HeadingLevel}
+use Rattle.first_pass_items.specs.declared.option_set.Options.{Options}
+use Rattle.first_pass_items.specs.OptionWords.{has}
+use Rattle.first_pass_html.specs.Starts.{html_end, begins_block_tag}
+use Rattle.first_pass_html.specs.Tags.{BeginsTagLine}
 use Rattle.std.specs.Option.{option_map}
 use Rattle.first_pass_scan.specs.Lines.{at_line_end, begins, blank_len, atx_level}
-use Rattle.first_pass_scan.specs.LeafLines.{hrule_len}
+use Rattle.first_pass_scan.specs.LeafLines.{hrule_len, code_fence, metadata_byte}
 use Rattle.first_pass_scan.specs.Rest.{Rest, indent, after_columns}
 use Rattle.first_pass_scan.specs.Places.{Place, offset, moved_columns}
 use Rattle.first_pass_scan.specs.Markers.{is_bullet, listitem, item_of}
 use Rattle.first_pass_grammar.specs.declared.kind.Container.{Container}
 use Rattle.first_pass_grammar.specs.declared.kind.Container.TheVariants.{BlockQuote}
 use Rattle.first_pass_grammar.specs.declared.kind.Kind.{Kind}
-use Rattle.first_pass_grammar.specs.declared.kind.Kind.TheVariants.{Blank, ThematicBreak, AtxHeading, Paragraph}
+use Rattle.first_pass_grammar.specs.declared.kind.Kind.TheVariants.{Blank, IndentedCode, Metadata, HtmlToEnd, HtmlToBlank, ThematicBreak, AtxHeading, FencedCode, Paragraph}
 use Rattle.first_pass_grammar.specs.Containers.{at_rest, prefix, after, front}
 
 -- what is left behind all columns: from the first byte on that is no space or tab
@@ -33,11 +37,51 @@ abbrev pub rule_or : Option ℕ → Kind → Kind
 rule_or (Some size) other = ThematicBreak size
 rule_or None other = other
 
--- the first that fits: a blank line (CommonMark 4.9), at under four columns a thematic break (4.1) or an ATX heading (4.2), a paragraph (4.8)
-unfoldable pub kind_of : Rest → Kind
-kind_of r =
-    if is_blank_rest r then Blank
-    else (if nat_lt (indent r) 4 then rule_or (hrule_len (all_taken r).left) (heading_or (atx_level (all_taken r).left) Paragraph) else Paragraph)
+abbrev pub fence_or : Option (ℕ × ℕ) → Kind → Kind
+fence_or (Some fence) other = FencedCode fence.0 fence.1
+fence_or None other = other
+
+abbrev pub metadata_or : Option ℕ → Option Kind → Option Kind
+metadata_or (Some byte) other = Some (Metadata byte)
+metadata_or None other = other
+
+-- an HTML block of the kinds 1 to 5 begins here, or one of the sixth kind (CommonMark 4.6)
+abbrev pub begins_html_to_end : List ℕ → Bool
+begins_html_to_end bs = begins 60 bs && is_some (html_end (drop 1 bs))
+
+abbrev pub begins_html_to_blank : List ℕ → Bool
+begins_html_to_blank bs = begins 60 bs && begins_block_tag (drop 1 bs)
+
+abbrev pub html_kind : List ℕ → Option Kind
+html_kind bs = if begins_html_to_end bs then Some HtmlToEnd else (if begins_html_to_blank bs then Some HtmlToBlank else None)
+
+-- the byte of the metadata block that begins here behind so many columns, which have to be none (this project)
+abbrev pub metadata_at : ℕ → Options → List ℕ → Option ℕ
+metadata_at columns options bs = if columns == 0 then metadata_byte (has options 128) (has options 256) bs else None
+
+-- The first of these that fits: a blank line (CommonMark 4.9); indented code, at four columns (4.4); metadata, at no columns (this project); an HTML block of
+-- the kinds 1 to 6 (4.6).
+unfoldable pub first_kind : Options → Rest → Option Kind
+first_kind options r =
+    if is_blank_rest r then Some Blank
+    else (if nat_lt (indent r) 4
+    then metadata_or (metadata_at (indent r) options (all_taken r).left) (html_kind (all_taken r).left)
+    else Some IndentedCode)
+
+-- The first of these that fits: a thematic break (CommonMark 4.1), an ATX heading (4.2), a fenced code block (4.5), a paragraph (4.8).
+abbrev pub last_kind : List ℕ → Kind
+last_kind bs = rule_or (hrule_len bs) (heading_or (atx_level bs) (fence_or (code_fence bs) Paragraph))
+
+-- Between these an HTML block of the seventh kind (CommonMark 4.6).
+abbrev pub IsKindBy : Rest → Option Kind → Kind → Type 0
+IsKindBy r (Some first) kind = kind ≡ first
+IsKindBy r None kind =
+    ((n : ℕ) × BeginsTagLine (all_taken r).left n × (kind ≡ HtmlToBlank))
+    ⊎ (((n : ℕ) → BeginsTagLine (all_taken r).left n → ⊥) × (kind ≡ last_kind (all_taken r).left))
+
+-- the kind of the block that begins where this is left of a line, and no container begins
+abbrev pub IsKind : Options → Rest → Kind → Type 0
+IsKind options r kind = IsKindBy r (first_kind options r) kind
 
 -- the place inside a block quote that begins here, where one does: what begins it is what goes on with it (CommonMark 5.1)
 abbrev pub quote_inside : Place → Option Place
@@ -58,9 +102,11 @@ item_interrupts whole bs None = false
 item_interrupts whole bs (Some m) = not whole || ((is_bullet m.1 || (m.2 == 1)) && not (is_some (blank_len (drop m.0 bs))))
 
 -- What interrupts a paragraph at under four columns, in a line that goes on with all its containers or not: the line's end, a thematic
--- break, an ATX heading, a block quote or a list item (CommonMark 4.8, 4.1, 4.2, 5.1, 5.2).
+-- break, an ATX heading, a code fence, a block quote, a list item or an HTML block of the kinds 1 to 6 (CommonMark 4.8, 4.1, 4.2, 4.5, 5.1, 5.2, 4.6).
 abbrev pub interrupts_with : Bool → List ℕ → Bool
-interrupts_with whole bs = at_line_end bs || is_some (hrule_len bs) || is_some (atx_level bs) || begins 62 bs || item_interrupts whole bs (listitem bs)
+interrupts_with whole bs =
+    at_line_end bs || is_some (hrule_len bs) || is_some (atx_level bs) || is_some (code_fence bs) || begins 62 bs || item_interrupts whole bs (listitem bs)
+    || begins_html_to_end bs || begins_html_to_blank bs
 
 -- A line ends a paragraph before it where its text interrupts the paragraph; at four columns or more only where nothing but spaces and tabs is left.
 unfoldable pub interrupts : Bool → Rest → Bool

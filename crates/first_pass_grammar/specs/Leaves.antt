@@ -14,16 +14,18 @@ use Rattle.first_pass_tokens.specs.LineTokens.{IsLine}
 use Rattle.first_pass_tokens.specs.TreeTokens.{leaves}
 use Rattle.first_pass_tokens.specs.Chains.{add_tokens, close_break, cut}
 use Rattle.first_pass_grammar.specs.declared.kind.Container.{Container}
+use Rattle.first_pass_grammar.specs.Names.{Names}
 use Rattle.first_pass_grammar.specs.Containers.{at_rest, front}
 use Rattle.first_pass_grammar.specs.Kinds.{unindented, ends_paragraph}
 
--- a text, and the options under which it is read
+-- a text, the options under which it is read, and what the indices of the tree's items name
 pub record Document : Type 0 where
   pub text : List ℕ
   pub options : Options
+  pub names : Names
 
-abbrev pub document : List ℕ → Options → Document
-document text options = record { text = text; options = options }
+abbrev pub document : List ℕ → Options → Names → Document
+document text options names = record { text = text; options = options; names = names }
 
 -- the content that begins at an offset
 abbrev pub content_at : Document → ℕ → Source

@@ -1,9 +1,13 @@
+pub mod CodeBlocks
 pub mod Completion
 pub mod Containers
 pub mod Derivation
+pub mod HtmlBlocks
 pub mod Kinds
 pub mod Leaves
 pub mod Lists
+pub mod Names
 pub mod OpenOrder
 pub mod Order
+pub mod RawLines
 pub mod Skeleton

@@ -27,14 +27,14 @@ counts_with quoted None run = run || not quoted
 unfoldable pub run_behind : Bool → Option ℕ → Bool → Skeleton → Bool
 run_behind quoted list run Nil = run
 run_behind quoted list run (Then BlankLine next) = run_behind quoted list (counts_with quoted list run) next
-run_behind quoted list run (Then (Block closes items) next) = run_behind quoted None false next
+run_behind quoted list run (Then (Block closes items gap) next) = run_behind quoted None gap next
 run_behind quoted list run (Node head e kids next) = run_behind quoted (list_byte head.opener) (run_behind (is_quote_marker head.opener) None false kids) next
 
 -- Whether a block of the sequence, a list being one, has a blank line before it that counts.
 unfoldable pub has_gap : Bool → Option ℕ → Bool → Skeleton → Bool
 has_gap quoted list run Nil = false
 has_gap quoted list run (Then BlankLine next) = has_gap quoted list (counts_with quoted list run) next
-has_gap quoted list run (Then (Block closes items) next) = run || has_gap quoted None false next
+has_gap quoted list run (Then (Block closes items gap) next) = run || has_gap quoted None gap next
 has_gap quoted list run (Node head e kids next) =
     (run && not (joins list head.opener)) || has_gap quoted (list_byte head.opener) (run_behind (is_quote_marker head.opener) None false kids) next
 
@@ -43,7 +43,7 @@ has_gap quoted list run (Node head e kids next) =
 unfoldable pub list_end : ℕ → ℕ → Skeleton → ℕ
 list_end list last Nil = last
 list_end list last (Then BlankLine next) = list_end list last next
-list_end list last (Then (Block closes items) next) = closes
+list_end list last (Then (Block closes items gap) next) = closes
 list_end list last (Node head e kids next) = if joins (Some list) head.opener then list_end list last next else head.closes
 
 -- Whether what follows an item makes its list loose: a list is loose where an item after its first, or a block directly in an item, has a blank line
@@ -51,7 +51,7 @@ list_end list last (Node head e kids next) = if joins (Some list) head.opener th
 unfoldable pub is_loosened : ℕ → Bool → Skeleton → Bool
 is_loosened list run Nil = false
 is_loosened list run (Then BlankLine next) = is_loosened list true next
-is_loosened list run (Then (Block closes items) next) = false
+is_loosened list run (Then (Block closes items gap) next) = false
 is_loosened list run (Node head e kids next) =
     if joins (Some list) head.opener
     then run || (has_gap false None false kids || is_loosened list (run_behind false None false kids) next)

@@ -1,5 +1,5 @@
 -- Sequences of blocks, and the blocks in them (CommonMark 3.1).
-use Rattle.std.specs.Prelude.{◌≡◌, ℕ, Bool, true, false, Option, Some, None, List, [], ◌∷◌, ◌++◌, length, if◌then◌else◌}
+use Rattle.std.specs.Prelude.{◌≡◌, ℕ, Bool, true, false, Option, Some, None, List, [], ◌∷◌, ◌++◌, length, drop, if◌then◌else◌}
 use Rattle.first_pass_items.specs.declared.item.Item.{Item}
 use Rattle.first_pass_items.specs.declared.item.BlockQuoteKind.{BlockQuoteKind}
 use Rattle.first_pass_items.specs.declared.item.ItemBody.TheVariants.{TaskListMarker}
@@ -7,21 +7,25 @@ use Rattle.first_pass_items.specs.declared.option_set.Options.{Options}
 use Rattle.first_pass_items.specs.OptionWords.{has}
 use Rattle.first_pass_scan.specs.Lines.{level_number}
 use Rattle.first_pass_scan.specs.Markers.{task_of, past_tag}
-use Rattle.first_pass_scan.specs.Rest.{Rest}
-use Rattle.first_pass_scan.specs.Places.{Place, place_at, offset, start_of}
+use Rattle.first_pass_scan.specs.Rest.{Rest, indent}
+use Rattle.first_pass_scan.specs.Places.{Place, place_at, offset, start_of, moved_columns}
 use Rattle.first_pass_grammar.specs.declared.kind.Container.{Container}
 use Rattle.first_pass_grammar.specs.declared.kind.Container.TheVariants.{BlockQuote, ListItem}
 use Rattle.first_pass_grammar.specs.declared.kind.Kind.{Kind}
-use Rattle.first_pass_grammar.specs.declared.kind.Kind.TheVariants.{Blank, ThematicBreak, AtxHeading, Paragraph}
+use Rattle.first_pass_grammar.specs.declared.kind.Kind.TheVariants.{Blank, IndentedCode, Metadata, HtmlToEnd, HtmlToBlank, ThematicBreak, AtxHeading, FencedCode, Paragraph}
 use Rattle.first_pass_grammar.specs.Containers.{at_rest, after, front, taken, next_goes_on}
-use Rattle.first_pass_grammar.specs.Kinds.{unindented, is_blank_rest, quote_inside, quote_start, item_at, kind_of, ends_tag}
+use Rattle.first_pass_grammar.specs.Kinds.{all_taken, unindented, is_blank_rest, quote_inside, quote_start, item_at, IsKind, ends_tag}
 use Rattle.std.specs.Option.{option_map}
+use Rattle.first_pass_html.specs.Starts.{html_end}
+use Rattle.first_pass_grammar.specs.CodeBlocks.{Extent, code_lines, last_is_blank, IsIndentedCode, metadata_lines, IsMetadata, fenced_lines, IsFencedCode}
+use Rattle.first_pass_grammar.specs.HtmlBlocks.{until_end, until_blank, IsHtml}
 use Rattle.first_pass_grammar.specs.Leaves.{Document, IsParagraph, IsHeading, heading_text_at, rule_block, heading_block, paragraph_block, marker_items}
 
--- a blank line; or a block with no blocks in it: where it ends a list before it, and its items with their depths below it
+-- a blank line; or a block with no blocks in it: where it ends a list before it, its items with their depths below it, and whether blank lines that
+-- count are at the end of what it takes
 pub data Leaf : Type 0 where
   BlankLine : Leaf
-  Block : ℕ → List (ℕ × Item) → Leaf
+  Block : ℕ → List (ℕ × Item) → Bool → Leaf
 
 -- what opens a container: the marker of a block quote, with its kind; or of a list item, its byte and number, with the item's indent (CommonMark 5.1, 5.2)
 pub data Opener : Type 0 where
@@ -60,17 +64,38 @@ pub data Opening : Type 0 where
 unfoldable pub OpensParagraph : Document → List Container → Place → List Place → Option Item → Opening → Type 0
 OpensParagraph d path p lines marker opening =
     (chain : List Item) × (left : List Place) × IsParagraph d path (offset (unindented p)) [] lines chain left
-    × (opening ≡ OpensLeaf (Block (offset (unindented p)) (paragraph_block (offset (unindented p)) (start_of (length d.text) left) (marker_items marker ++ chain))) Line left)
+    × (opening ≡ OpensLeaf (Block (offset (unindented p)) (paragraph_block (offset (unindented p)) (start_of (length d.text) left) (marker_items marker ++ chain)) false) Line left)
+
+-- What a leaf block with these lines opens, of which this holds for its items: a list before it ends at the start of its line.
+abbrev pub OpensExtent : Place → Extent → (List (ℕ × Item) → Type 0) → Opening → Type 0
+OpensExtent p e Are opening = (items : List (ℕ × Item)) × Are items × (opening ≡ OpensLeaf (Block p.line items false) Line e.left)
 
 -- What a kind opens at a place that has these lines behind it, inside the containers of the path. A list before another block than a
--- paragraph ends at the start of the block's line (this project).
+-- paragraph ends at the start of the block's line (this project). The blank lines at the end of indented code count (CommonMark 4.4, and this project).
 unfoldable pub OpensAs : Document → List Container → Place → List Place → Kind → Opening → Type 0
 OpensAs d path p lines Blank opening = opening ≡ OpensLeaf BlankLine Line lines
-OpensAs d path p lines (ThematicBreak size) opening = opening ≡ OpensLeaf (Block p.line (rule_block (offset (unindented p)) size)) Line lines
+OpensAs d path p lines IndentedCode opening =
+    (items : List (ℕ × Item)) × IsIndentedCode d (moved_columns 4 p) (code_lines path lines).0 items
+    × (opening ≡ OpensLeaf (Block p.line items (last_is_blank (code_lines path lines).0)) Line (code_lines path lines).1)
+OpensAs d path p lines (Metadata byte) opening =
+    let e = metadata_lines (length d.text) path byte lines in OpensExtent p e (IsMetadata d (offset (unindented p)) byte e.places e.«end») opening
+OpensAs d path p lines HtmlToEnd opening =
+    (text : List ℕ) × (html_end (drop 1 (all_taken p.rest).left) ≡ Some text)
+    × (let e = until_end (length d.text) path text (unindented p) lines in OpensExtent p e (IsHtml d (offset (unindented p)) (indent p.rest) e.places e.«end») opening)
+OpensAs d path p lines HtmlToBlank opening =
+    let e = until_blank (length d.text) path (unindented p) lines in OpensExtent p e (IsHtml d (offset (unindented p)) (indent p.rest) e.places e.«end») opening
+OpensAs d path p lines (ThematicBreak size) opening = opening ≡ OpensLeaf (Block p.line (rule_block (offset (unindented p)) size) false) Line lines
 OpensAs d path p lines (AtxHeading level) opening =
     (chain : List Item) × (end_of_line : ℕ) × IsHeading d (heading_text_at d.text (offset (unindented p)) (level_number level)) chain end_of_line
-    × (opening ≡ OpensLeaf (Block p.line (heading_block (offset (unindented p)) end_of_line level chain)) Line lines)
+    × (opening ≡ OpensLeaf (Block p.line (heading_block (offset (unindented p)) end_of_line level chain) false) Line lines)
+OpensAs d path p lines (FencedCode count byte) opening =
+    let e = fenced_lines (length d.text) path (indent p.rest) byte count lines in
+    OpensExtent p e (IsFencedCode d (offset (unindented p)) count e.places e.«end») opening
 OpensAs d path p lines Paragraph opening = OpensParagraph d path p lines None opening
+
+-- What a leaf opens at a place: what its kind says.
+abbrev pub OpensBlockAt : Document → List Container → Place → List Place → Opening → Type 0
+OpensBlockAt d path p lines opening = (kind : Kind) × IsKind d.options p.rest kind × OpensAs d path p lines kind opening
 
 -- the next line goes on with the path, and is blank behind what the path takes of it
 abbrev pub is_blank_behind : Option Rest → Bool
@@ -138,7 +163,7 @@ quote_opening path p inside lines (Some kind) =
 unfoldable pub OpensFrom : Document → List Container → Place → List Place → Option ((ℕ × ℕ × ℕ) × Rest) → Option Place → Opening → Type 0
 OpensFrom d path p lines (Some item) quote opening = opening ≡ item_opening d path p lines item.0.0 item.0.1 item.0.2 (task_behind d.options p.line item.1)
 OpensFrom d path p lines None (Some inside) opening = opening ≡ quote_opening path p inside lines (tag_behind d.options inside.rest)
-OpensFrom d path p lines None None opening = OpensAs d path p lines (kind_of p.rest) opening
+OpensFrom d path p lines None None opening = OpensBlockAt d path p lines opening
 
 abbrev pub Opens : Document → List Container → Place → List Place → Opening → Type 0
 Opens d path p lines opening = OpensFrom d path p lines (item_at p.rest) (quote_inside p) opening
@@ -148,10 +173,10 @@ Opens d path p lines opening = OpensFrom d path p lines (item_at p.rest) (quote_
 abbrev pub OpensAt : Document → List Container → From → Place → List Place → Opening → Type 0
 OpensAt d path Line p lines opening = Opens d path p lines opening
 OpensAt d path (Inside q) p lines opening = Opens d path p lines opening
-OpensAt d path (LeafAt q) p lines opening = OpensAs d path p lines (kind_of p.rest) opening
+OpensAt d path (LeafAt q) p lines opening = OpensBlockAt d path p lines opening
 OpensAt d path (Blanks e) p lines opening = Opens d path p lines opening
 OpensAt d path (TextAt marker q) p lines opening = OpensParagraph d path p lines (Some marker) opening
-OpensAt d path (MarkAt marker q from) p lines opening = opening ≡ OpensLeaf (Block p.line ((0, marker) ∷ [])) Line lines
+OpensAt d path (MarkAt marker q from) p lines opening = opening ≡ OpensLeaf (Block p.line ((0, marker) ∷ []) false) Line lines
 
 -- The blocks of a container, with what is in each: a first block, and those after it.
 pub data Skeleton : Type 0 where

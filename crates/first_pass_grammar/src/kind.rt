@@ -7,10 +7,20 @@ use first_pass_items::item::{BlockQuoteKind, HeadingLevel};
 pub enum Kind {
     /// A blank line (CommonMark 4.9).
     Blank,
+    /// Indented code (CommonMark 4.4).
+    IndentedCode,
+    /// A metadata block, with the byte of its marks: `-` or `+`.
+    Metadata(u8),
+    /// An HTML block that ends at a text, which its first line tells: one of the kinds 1 to 5 (CommonMark 4.6).
+    HtmlToEnd,
+    /// An HTML block that ends before a blank line: one of the kinds 6 and 7 (CommonMark 4.6).
+    HtmlToBlank,
     /// A thematic break, with how many bytes it has, its line end too (CommonMark 4.1).
     ThematicBreak(usize),
     /// An ATX heading (CommonMark 4.2).
     AtxHeading(HeadingLevel),
+    /// A fenced code block, with how many bytes its fence has, and which (CommonMark 4.5).
+    FencedCode(usize, u8),
     /// A paragraph (CommonMark 4.8).
     Paragraph,
 }

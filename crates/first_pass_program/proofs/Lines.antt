@@ -6,28 +6,29 @@ use Rattle.std.proofs.KnownBytes.{Appends-nil, Appends-trans}
 use Rattle.std.specs.Io.KnownBytes.{Appends}
 use Rattle.std.specs.List.{flat_map}
 use Rattle.first_pass_items.specs.declared.item.Item.{Item}
+use Rattle.first_pass_grammar.specs.Names.{Names}
 use Rattle.first_pass_program.specs.Printed.{node_line}
 use Rattle.first_pass_program.specs.Runs.{AppendsFront}
 
 -- with the line of the next node
-pub next_line : (nodes : List (ℕ × Item)) (i : ℕ) (d : ℕ × Item) (done held line : List ℕ) → i < length nodes → done ++ held ≡ flat_map node_line (take i nodes) → line ≡ held ++ node_line (get_or nodes i d) → done ++ line ≡ flat_map node_line (take (i + 1) nodes)
-next_line nodes i d done held line within so_far is =
-    ap (λ l. done ++ l) is ∙ sym (append_assoc done held (node_line (get_or nodes i d))) ∙ ap (λ l. l ++ node_line (get_or nodes i d)) so_far
-    ∙ flat_map_more node_line [] (take i nodes) (get_or nodes i d) ∙ ap (flat_map node_line) (sym (take_more nodes i d within))
+pub next_line : (names : Names) (nodes : List (ℕ × Item)) (i : ℕ) (d : ℕ × Item) (done held line : List ℕ) → i < length nodes → done ++ held ≡ flat_map (node_line names) (take i nodes) → line ≡ held ++ node_line names (get_or nodes i d) → done ++ line ≡ flat_map (node_line names) (take (i + 1) nodes)
+next_line names nodes i d done held line within so_far is =
+    ap (λ l. done ++ l) is ∙ sym (append_assoc done held (node_line names (get_or nodes i d))) ∙ ap (λ l. l ++ node_line names (get_or nodes i d)) so_far
+    ∙ flat_map_more (node_line names) [] (take i nodes) (get_or nodes i d) ∙ ap (flat_map (node_line names)) (sym (take_more nodes i d within))
 
 -- the lines of the first nodes and those of the others
-cut_at : (nodes : List (ℕ × Item)) (i : ℕ) → flat_map node_line nodes ≡ flat_map node_line (take i nodes) ++ flat_map node_line (drop i nodes)
-cut_at nodes i = ap (flat_map node_line) (sym (take-append-drop i nodes)) ∙ flat_map-append node_line (take i nodes) (drop i nodes)
+cut_at : (names : Names) (nodes : List (ℕ × Item)) (i : ℕ) → flat_map (node_line names) nodes ≡ flat_map (node_line names) (take i nodes) ++ flat_map (node_line names) (drop i nodes)
+cut_at names nodes i = ap (flat_map (node_line names)) (sym (take-append-drop i nodes)) ∙ flat_map-append (node_line names) (take i nodes) (drop i nodes)
 
 -- a beginning of the lines so far, of which a writer took a beginning, is one of all lines
-pub front_of_lines : (nodes : List (ℕ × Item)) (i : ℕ) (done lines : List ℕ) (old mid new : Option (List ℕ)) → done ++ lines ≡ flat_map node_line (take i nodes)
-    → Appends old mid done → AppendsFront mid new lines → AppendsFront old new (flat_map node_line nodes)
-front_of_lines nodes i done lines old mid new so_far appended front =
-    let others = flat_map node_line (drop i nodes) in
+pub front_of_lines : (names : Names) (nodes : List (ℕ × Item)) (i : ℕ) (done lines : List ℕ) (old mid new : Option (List ℕ)) → done ++ lines ≡ flat_map (node_line names) (take i nodes)
+    → Appends old mid done → AppendsFront mid new lines → AppendsFront old new (flat_map (node_line names) nodes)
+front_of_lines names nodes i done lines old mid new so_far appended front =
+    let others = flat_map (node_line names) (drop i nodes) in
     record {
       written = done ++ front.written;
       left = front.left ++ others;
-      split = cut_at nodes i ∙ ap (λ l. l ++ others) (sym so_far ∙ ap (λ l. done ++ l) front.split ∙ sym (append_assoc done front.written front.left))
+      split = cut_at names nodes i ∙ ap (λ l. l ++ others) (sym so_far ∙ ap (λ l. done ++ l) front.split ∙ sym (append_assoc done front.written front.left))
           ∙ append_assoc (done ++ front.written) front.left others;
       appended = Appends-trans old mid new done front.written appended front.appended;
     }

@@ -1,6 +1,8 @@
 -- How the nodes of a tree are printed (this project).
 use Rattle.std.specs.Prelude.{ℕ, zero, suc, ◌==◌, Bool, true, false, Some, List, [], ◌∷◌, ◌++◌, codes, decimal, encode_utf8, bit_and, if◌then◌else◌}
+use Rattle.std.specs.List.{flat_map}
 use Rattle.first_pass_items.specs.declared.item.Item.{Item}
+use Rattle.first_pass_grammar.specs.Names.{Names, text_named}
 use Rattle.first_pass_items.specs.declared.item.ListFlags.{ListFlags}
 use Rattle.first_pass_items.specs.declared.item.BlockQuoteKind.{BlockQuoteKind}
 use Rattle.first_pass_items.specs.declared.item.BlockQuoteKind.TheVariants.{Note, Tip, Important, Warning, Caution}
@@ -99,15 +101,30 @@ token_values (SynthesizeChar character) = enclosed (encode_utf8 character)
 token_values (TaskListMarker checked) = enclosed (flag_name checked)
 token_values _ = []
 
--- what a node is: its name and its values
-abbrev pub body_text : ItemBody → List ℕ
-body_text body = name_of body ++ block_values body ++ token_values body
-
 -- two spaces for each level of depth
 unfoldable pub indentation : ℕ → List ℕ
 indentation zero = []
 indentation (suc depth) = indentation depth ++ codes "  "
 
+-- a byte of a text, where a backslash, a newline and a carriage return stand as a backslash and another byte
+abbrev pub visible_byte : ℕ → List ℕ
+visible_byte b = if b == 92 then 92 ∷ 92 ∷ [] else (if b == 10 then 92 ∷ 110 ∷ [] else (if b == 13 then 92 ∷ 114 ∷ [] else b ∷ []))
+
+-- a text so
+unfoldable pub visible : List ℕ → List ℕ
+visible text = flat_map visible_byte text
+
+-- the text that an item names by its index, in parentheses where it names one
+abbrev pub named_values : Names → ItemBody → List ℕ
+named_values names (FencedCodeBlock ix) = enclosed (visible (text_named names ix))
+named_values names (SynthesizeText ix) = enclosed (visible (text_named names ix))
+named_values names _ = []
+
+-- what a node is: its name, its values and the text that it names
+abbrev pub body_text : Names → ItemBody → List ℕ
+body_text names body = name_of body ++ block_values body ++ token_values body ++ named_values names body
+
 -- the line of a node: two spaces a level of depth, what it is, and its range
-abbrev pub node_line : ℕ × Item → List ℕ
-node_line node = indentation node.0 ++ body_text node.1.body ++ codes " " ++ decimal node.1.start ++ codes ".." ++ decimal node.1.«end» ++ codes "\n"
+abbrev pub node_line : Names → ℕ × Item → List ℕ
+node_line names node =
+    indentation node.0 ++ body_text names node.1.body ++ codes " " ++ decimal node.1.start ++ codes ".." ++ decimal node.1.«end» ++ codes "\n"

@@ -4,6 +4,7 @@ use Rattle.std.specs.List.{flat_map}
 use Rattle.std.specs.Io.KnownBytes.{Keeps, Appends, Consumes, IsAtEnd}
 use Rattle.first_pass_items.specs.declared.option_set.Options.{Options}
 use Rattle.first_pass_items.specs.declared.item.Item.{Item}
+use Rattle.first_pass_grammar.specs.Names.{Names}
 use Rattle.first_pass_grammar.specs.Leaves.{document}
 use Rattle.first_pass_grammar.specs.Derivation.{Derives, Tables}
 use Rattle.first_pass_program.specs.declared.fault.BlocksFault.{BlocksFault}
@@ -21,10 +22,11 @@ pub record AppendsFront (old new : Option (List ℕ)) (text : List ℕ) : Type 0
 -- the whole output for a UTF-8 text under options: the lines of the nodes that the block grammar derives
 pub record IsPrinted (options : Options) (text output : List ℕ) : Type 0 where
   pub utf8 : IsUtf8 text
+  pub names : Names
   pub nodes : List (ℕ × Item)
   pub tables : Tables
-  pub derived : Derives (document text options) nodes tables
-  pub lines : output ≡ flat_map node_line nodes
+  pub derived : Derives (document text options names) nodes tables
+  pub lines : output ≡ flat_map (node_line names) nodes
 
 -- a reader gives this text to its end
 abbrev pub ReadsWhole : Option (List ℕ) → Option (List ℕ) → List ℕ → Type 0

@@ -2,20 +2,27 @@
 
 ghost use Rattle.std.specs.Prelude.{◌≡◌, ◌++◌, ◌∷◌, [], OnOk, codes, decimal, encode_utf8};
 ghost use Rattle.first_pass_items.specs.declared.item.ItemBody.TheVariants.{MaybeEmphasis, MaybeMath, MaybeSmartQuote, MaybeCode, List as ListBody};
-ghost use Rattle.first_pass_program.specs.Printed.{node_line, name_of, block_values, token_values, body_text, enclosed, flag_name, list_name, quote_name, metadata_name, indentation};
+ghost use Rattle.first_pass_leaves.specs.TableEntries.{names_of};
+ghost use Rattle.first_pass_program.specs.Printed.{node_line, named_values, visible, visible_byte, name_of, block_values, token_values, body_text, enclosed, flag_name, list_name, quote_name, metadata_name, indentation};
 
 use bitflags::Flags;
 use first_pass_items::item::{BlockQuoteKind, Item, ItemBody, ListFlags, MetadataBlockKind};
+use first_pass_leaves::items::Allocations;
 use first_pass_scan::lines::level_number;
 use itoa::{Buffer, Integer};
 use std::alloc::AllocError;
 
 /// Appends the line of a node: two spaces for each level of its depth, what it is, and its range.
-pub fn append_node(line: &mut Vec<u8>, depth: usize, item: Item) -> Result<(), AllocError>
-    ensures { OnOk result (line.new.items ≡ line.old.items ++ node_line (depth, item)) }
+pub fn append_node(
+    line: &mut Vec<u8>,
+    depth: usize,
+    item: Item,
+    allocs: &Allocations<'_>,
+) -> Result<(), AllocError>
+    ensures { OnOk result (line.new.items ≡ line.old.items ++ node_line (names_of allocs.now) (depth, item)) }
 {
     append_indentation(line, depth)?;
-    append_body(line, item.body)?;
+    append_body(line, item.body, allocs)?;
     line.push(b' ')?;
     append_number(line, item.start)?;
     line.extend_from_slice(b"..")?;
@@ -43,13 +50,66 @@ fn append_number<I: Integer>(line: &mut Vec<u8>, number: I) -> Result<(), AllocE
     line.extend_from_slice(digits.format(number).as_bytes())
 }
 
-/// Appends what a node is: its name and its values.
-fn append_body(line: &mut Vec<u8>, body: ItemBody) -> Result<(), AllocError>
-    ensures { OnOk result (line.new.items ≡ line.old.items ++ body_text body) }
+/// Appends what a node is: its name, its values and the text that it names.
+fn append_body(
+    line: &mut Vec<u8>,
+    body: ItemBody,
+    allocs: &Allocations<'_>,
+) -> Result<(), AllocError>
+    ensures { OnOk result (line.new.items ≡ line.old.items ++ body_text (names_of allocs.now) body) }
 {
     line.extend_from_slice(body_name(body).as_bytes())?;
     append_block_values(line, body)?;
-    append_token_values(line, body)
+    append_token_values(line, body)?;
+    append_named(line, body, allocs)
+}
+
+/// Appends the text that a node names by its index in parentheses, if it has one.
+fn append_named(
+    line: &mut Vec<u8>,
+    body: ItemBody,
+    allocs: &Allocations<'_>,
+) -> Result<(), AllocError>
+    ensures { OnOk result (line.new.items ≡ line.old.items ++ named_values (names_of allocs.now) body) }
+{
+    match body {
+        ItemBody::FencedCodeBlock(ix) => append_text(line, allocs.text_at(ix)),
+        ItemBody::SynthesizeText(ix) => append_text(line, allocs.text_at(ix)),
+        _ => Ok(()),
+    }
+}
+
+/// Appends a text in parentheses, a backslash, a newline and a carriage return in it as `\\`, `\n` and `\r`.
+fn append_text(line: &mut Vec<u8>, text: &str) -> Result<(), AllocError>
+    ensures { OnOk result (line.new.items ≡ line.old.items ++ enclosed (visible text.now)) }
+{
+    line.push(b'(')?;
+    append_visible(line, text.as_bytes())?;
+    line.push(b')')?;
+    Ok(())
+}
+
+/// Appends bytes, a backslash, a newline and a carriage return among them as `\\`, `\n` and `\r`.
+#[tactic(auto, unfolding(crate::specs::Printed::visible))]
+fn append_visible(line: &mut Vec<u8>, bytes: &[u8]) -> Result<(), AllocError>
+    ensures { OnOk result (line.new.items ≡ line.old.items ++ visible bytes.now) }
+{
+    for byte in bytes {
+        append_byte(line, *byte)?;
+    }
+    Ok(())
+}
+
+/// Appends a byte so.
+fn append_byte(line: &mut Vec<u8>, byte: u8) -> Result<(), AllocError>
+    ensures { OnOk result (line.new.items ≡ line.old.items ++ visible_byte byte) }
+{
+    match byte {
+        b'\\' => line.extend_from_slice(b"\\\\"),
+        b'\n' => line.extend_from_slice(b"\\n"),
+        b'\r' => line.extend_from_slice(b"\\r"),
+        _ => line.extend_from_slice(&[byte]),
+    }
 }
 
 /// Appends the values of a block in parentheses, if it has any.

@@ -5,6 +5,7 @@ ghost use Rattle.std.specs.List.{flat_map};
 ghost use Rattle.std.specs.Io.KnownBytes.{Appends};
 ghost use Rattle.first_pass_program.specs.declared.fault.BlocksFault.TheVariants.{BadOptions};
 ghost use Rattle.first_pass_program.specs.OptionWord.{StandFor};
+ghost use Rattle.first_pass_leaves.specs.TableEntries.{names_of};
 ghost use Rattle.first_pass_program.specs.Printed.{node_line};
 ghost use Rattle.first_pass_program.specs.Runs.{AppendsFront, IsPrinted, IsWriteFault, Leaves, LeavesText, WritesWhole};
 
@@ -16,6 +17,7 @@ use crate::printed::append_node;
 use first_pass::pass::run_first_pass;
 use first_pass_items::item::Item;
 use first_pass_items::option_set::Options;
+use first_pass_leaves::items::Allocations;
 use std::alloc::Global;
 use std::io::{Read, Write};
 use std::str;
@@ -75,23 +77,24 @@ fn print_text<W: Write>(
         Ok(text) => text,
         Err(_) => return Err(BlocksFault::NotUtf8),
     };
-    let (tree, _tables) = run_first_pass(alloc, text, options)?;
-    write_nodes(alloc, tree.nodes(), output)
+    let (tree, allocs) = run_first_pass(alloc, text, options)?;
+    write_nodes(alloc, tree.nodes(), &allocs, output)
 }
 
 /// Writes the lines of all nodes, each with its depth, in their order.
 fn write_nodes<W: Write>(
     alloc: Global,
     nodes: &[(usize, Item)],
+    allocs: &Allocations<'_>,
     output: &mut W,
 ) -> Result<(), BlocksFault>
-    ensures ok { OnOk result (Appends (W.contents output.old) (W.contents output.new) (flat_map node_line nodes.now)) }
-    ensures front { OnErr result (AppendsFront (W.contents output.old) (W.contents output.new) (flat_map node_line nodes.now)) }
+    ensures ok { OnOk result (Appends (W.contents output.old) (W.contents output.new) (flat_map (node_line (names_of allocs.now)) nodes.now)) }
+    ensures front { OnErr result (AppendsFront (W.contents output.old) (W.contents output.new) (flat_map (node_line (names_of allocs.now)) nodes.now)) }
     ensures fault { IfErr result IsWriteFault }
 {
     let mut held = Vec::new(alloc);
     for node in nodes {
-        append_node(&mut held, node.0, node.1)?;
+        append_node(&mut held, node.0, node.1, allocs)?;
         if PIECE <= held.len() {
             write_whole(output, held.as_slice())?;
             held.clear();

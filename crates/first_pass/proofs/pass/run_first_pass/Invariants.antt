@@ -1,10 +1,11 @@
 use Rattle.std.proofs.Common.{◌≡◌, ◌-◌, length, IsCharBoundary}
+use Rattle.first_pass_grammar.specs.Names.{Names, Extends}
 use Rattle.first_pass_grammar.specs.Leaves.{document}
 use Rattle.first_pass_grammar.specs.Completion.{lines_from}
 use Rattle.first_pass.specs.Closing.{remembered}
 use Rattle.first_pass.specs.Ordered.{IsOrderedAt}
 use Rattle.first_pass.specs.State.{Ready}
-use Rattle.first_pass.specs.TableEntries.{tables, no_tables}
+use Rattle.first_pass_leaves.specs.TableEntries.{tables, no_tables, names_of}
 use Rattle.first_pass.proofs.pass.run_first_pass.Given as goal
 
 -- the blocks are read up to here
@@ -14,7 +15,7 @@ invariant-loop-ix l = record {
   same_options : l.pass.options ≡ l.fn.options;
   none : tables l.pass.allocs ≡ no_tables;
   boundary : IsCharBoundary l.text l.ix;
-  ready : Ready (document l.text l.fn.options) (remembered l.pass.tree l.pass.begin_list_item l.pass.last_line_blank) (lines_from l.text l.ix);
+  ready : (names : Names) → Extends names (names_of l.pass.allocs) → Ready (document l.text l.fn.options names) (remembered l.pass.tree l.pass.begin_list_item l.pass.last_line_blank) (lines_from l.text l.ix);
   order : IsOrderedAt l.text (remembered l.pass.tree l.pass.begin_list_item l.pass.last_line_blank) l.ix;
 }
 

@@ -15,9 +15,9 @@ use Rattle.first_pass.proofs.LineLemmas.{at_line, blank_line_read, line_entered,
 use Rattle.first_pass.proofs.pass.FirstPass.enter_line.Goals as goal
 
 pub returns-then-is_some-clause-ready : goal.returns-then-is_some-clause-ready
-returns-then-is_some-clause-ready c =
+returns-then-is_some-clause-ready c = λ names.
     let self = c.args.self.now in
-    let d = document self.text.now self.options in
+    let d = document self.text.now self.options names in
     let line = c.new-line_start.ensures ∙ ap line_rest (c.rest_of.ensures.value ∙ ap (drop c.args.start_ix) c.as_bytes.ensures.value) in
     let closed : Reading = remembered c.close_containers.new.self.tree c.close_containers.new.self.begin_list_item c.close_containers.new.self.last_line_blank in
     let at = at_line d (remembered self.tree self.begin_list_item self.last_line_blank) closed c.args.start_ix c.scan_containers-kept.result c.new-line_start.result c.scan_containers-kept.new.line_start
@@ -26,9 +26,9 @@ returns-then-is_some-clause-ready c =
     λ ready. subst (λ q. Ready d q (lines_from self.text.now (c.args.start_ix + line_len (drop c.args.start_ix self.text.now)))) (sym c.read_blank_line.ensures.reading) (blank_line_read d _ closed c.args.start_ix _ at blank ready)
 
 pub returns-clause-ready : goal.returns-clause-ready
-returns-clause-ready c =
+returns-clause-ready c = λ names.
     let self = c.args.self.now in
-    let d = document self.text.now self.options in
+    let d = document self.text.now self.options names in
     let line = c.new-line_start.ensures ∙ ap line_rest (c.rest_of.ensures.value ∙ ap (drop c.args.start_ix) c.as_bytes.ensures.value) in
     let closed : Reading = remembered c.close_containers.new.self.tree c.close_containers.new.self.begin_list_item c.close_containers.new.self.last_line_blank in
     let at = at_line d (remembered self.tree self.begin_list_item self.last_line_blank) closed c.args.start_ix c.scan_containers-kept.result c.new-line_start.result c.scan_containers-kept.new.line_start

@@ -17,9 +17,9 @@ use Rattle.first_pass.specs.Closing.{Reading, remembered, is_list, begun, list_f
 use Rattle.first_pass.specs.Opening.{ReadyIn, ReadyTagged, line_or, OrderedIn}
 use Rattle.first_pass.specs.Ordered.{IsOrderedAt}
 use Rattle.first_pass_grammar.specs.OpenOrder.{IsOrderedTo}
-use Rattle.first_pass.specs.Appends.{with_child}
+use Rattle.first_pass_leaves.specs.OpenBlock.{with_child}
 use Rattle.first_pass.specs.State.{Ready, ReadyAt}
-use Rattle.first_pass.proofs.PlaceLemmas.{item_found, item_keeps, item_shorter, item_absent, markers_keep, mark_is_no_text, quote_taken, prefix_keeps, quote_prefix_shorter, place_end, read_end}
+use Rattle.first_pass_leaves.proofs.PlaceLemmas.{item_found, item_keeps, item_shorter, item_absent, markers_keep, mark_is_no_text, quote_taken, prefix_keeps, quote_prefix_shorter, place_end, read_end}
 use Rattle.first_pass.proofs.LineLemmas.{list_finished_none, list_continued_none}
 use Rattle.first_pass.proofs.OrderLemmas.{ordered_later}
 use Rattle.first_pass.proofs.OrderSteps.{offset_later, ordered_on, top_begun, ordered_item, ordered_quote, mark_stands, ordered_container, ordered_empty_item, quote_stands, place_before_end}
@@ -66,9 +66,9 @@ opened_is c =
     ∙ ap (λ n. item_opened (c.args.start_ix + n) c.in-Some.byte c.in-Some.number c.in-Some.indent (remembered c.args.self.now.tree c.args.self.now.begin_list_item c.args.self.now.last_line_blank)) c.bytes_scanned.ensures
 
 pub returns-then-is_none-clause-ready : goal.returns-then-is_none-clause-ready
-returns-then-is_none-clause-ready c =
+returns-then-is_none-clause-ready c = λ names.
     let self = c.args.self.now in
-    let d = document self.text.now self.options in
+    let d = document self.text.now self.options names in
     let p = place_at c.args.start_ix c.args.line_start.now in
     let rest : Rest = c.scan_task-marker.new.line_start in
     let item : (ℕ × ℕ × ℕ) × Rest = ((c.in-Some.byte, c.in-Some.number, c.in-Some.indent), c.scan_item.new.line_start) in
@@ -118,10 +118,10 @@ pub returns-in-Some-clause-opened : goal.returns-in-Some-clause-opened
 returns-in-Some-clause-opened c = next_is c
 
 pub returns-in-Some-clause-ready : goal.returns-in-Some-clause-ready
-returns-in-Some-clause-ready c =
+returns-in-Some-clause-ready c = λ names.
     let self = c.args.self.now in
     let text = self.text.now in
-    let d = document text self.options in
+    let d = document text self.options names in
     let p = place_at c.args.start_ix c.args.line_start.now in
     let rest : Rest = c.scan_task-marker.new.line_start in
     let marker : Option Item = c.scan_task-marker.result in
@@ -172,9 +172,9 @@ no_kind None h = refl
 no_kind (Some kind) h = cc
 
 pub returns-then-is_none-2-clause-ready : goal.returns-then-is_none-2-clause-ready
-returns-then-is_none-2-clause-ready c =
+returns-then-is_none-2-clause-ready c = λ names.
     let self = c.args.self.now in
-    let d = document self.text.now self.options in
+    let d = document self.text.now self.options names in
     let p = place_at c.args.start_ix c.args.line_start.now in
     let inside : Rest = c.scan_quote.new.line_start in
     let old : Reading = remembered self.tree self.begin_list_item self.last_line_blank in
@@ -231,9 +231,9 @@ some_kind None h = cc
 some_kind (Some kind) h = (kind, refl)
 
 pub returns-in-Some-scan_quote-clause-ready : goal.returns-in-Some-scan_quote-clause-ready
-returns-in-Some-scan_quote-clause-ready c =
+returns-in-Some-scan_quote-clause-ready c = λ names.
     let self = c.args.self.now in
-    let d = document self.text.now self.options in
+    let d = document self.text.now self.options names in
     let p = place_at c.args.start_ix c.args.line_start.now in
     let inside : Rest = c.scan_quote.new.line_start in
     let old : Reading = remembered self.tree self.begin_list_item self.last_line_blank in

@@ -1,5 +1,6 @@
 use Rattle.std.proofs.Common.{◌≡◌, length, None, IsCharBoundary}
 use Rattle.first_pass_scan.specs.Places.{place_at, offset, line_end, IsPlaceOf}
+use Rattle.first_pass_grammar.specs.Names.{Names}
 use Rattle.first_pass_grammar.specs.Leaves.{document}
 use Rattle.first_pass_grammar.specs.Skeleton.{Inside}
 use Rattle.first_pass_grammar.specs.Completion.{lines_from}
@@ -17,8 +18,8 @@ invariant-loop-marker l = record {
   place : IsPlaceOf l.initial.self.text.now (place_at l.start_ix l.line_start);
   same_end : line_end (place_at l.start_ix l.line_start) ≡ line_end (place_at l.start_ix l.fn.line_start);
   no_empty : l.self.begin_list_item ≡ None;
-  ready : ReadyAt (document l.initial.self.text.now l.initial.self.options) l.initial.self.tree l.initial.self.last_line_blank (Inside (place_at l.start_ix l.fn.line_start)) (lines_from l.initial.self.text.now (line_end (place_at l.start_ix l.fn.line_start)))
-      → ReadyAt (document l.initial.self.text.now l.initial.self.options) l.self.tree l.self.last_line_blank (Inside (place_at l.start_ix l.line_start)) (lines_from l.initial.self.text.now (line_end (place_at l.start_ix l.fn.line_start)));
+  ready : (names : Names) → ReadyAt (document l.initial.self.text.now l.initial.self.options names) l.initial.self.tree l.initial.self.last_line_blank (Inside (place_at l.start_ix l.fn.line_start)) (lines_from l.initial.self.text.now (line_end (place_at l.start_ix l.fn.line_start)))
+      → ReadyAt (document l.initial.self.text.now l.initial.self.options names) l.self.tree l.self.last_line_blank (Inside (place_at l.start_ix l.line_start)) (lines_from l.initial.self.text.now (line_end (place_at l.start_ix l.fn.line_start)));
   order : IsCharBoundary l.initial.self.text.now l.start_ix → IsOrderedTo l.initial.self.text.now l.initial.self.tree (line_or l.initial.self.tree l.start_ix (offset (place_at l.start_ix l.fn.line_start)))
       → IsOrderedTo l.initial.self.text.now l.self.tree (line_or l.self.tree l.start_ix (offset (place_at l.start_ix l.line_start)));
 }

@@ -1,6 +1,7 @@
 use Rattle.std.proofs.Common.{◌<◌, ◌≤◌, length, IsUtf8, IsCharBoundary, refl, ap, sym, ◌∙◌, subst, arith}
+use Rattle.first_pass_leaves.specs.TableEntries.{no_names}
 use Rattle.first_pass_grammar.specs.Leaves.{document}
-use Rattle.first_pass.proofs.PathLemmas.{open_are_in}
+use Rattle.first_pass_leaves.proofs.PathLemmas.{open_are_in}
 use Rattle.first_pass.proofs.ParagraphLemmas.{so_far_start, so_far_next, so_far_stop}
 use Rattle.first_pass.proofs.pass.FirstPass.paragraph_lines.Goals as goal
 
@@ -11,7 +12,7 @@ lines-init c = record {
   same_allocs = refl;
   same_item = refl;
   same_blank = refl;
-  read = so_far_start (document c.args.self.now.text.now c.args.self.now.options) c.args.start c.args.self.now.tree c.requires.boundary;
+  read = so_far_start (document c.args.self.now.text.now c.args.self.now.options no_names) c.args.start c.args.self.now.tree c.requires.boundary;
 }
 
 pub next_paragraph_text-requires : goal.next_paragraph_text-requires

@@ -2,12 +2,13 @@ use Rattle.std.proofs.Common.{◌≡◌, IsUtf8, ap, subst, ◌∙◌}
 use Rattle.first_pass_items.specs.declared.item.Item.{Item}
 use Rattle.first_pass_scan.specs.Lines.{level_number}
 use Rattle.first_pass_tokens.specs.TreeTokens.{chained}
+use Rattle.first_pass_leaves.specs.TableEntries.{no_names}
 use Rattle.first_pass_grammar.specs.Leaves.{Document, document, heading_text_at, IsHeading}
 use Rattle.first_pass.specs.Appends.{line_end_at}
 use Rattle.first_pass_tokens.proofs.OrderLemmas.{closed_line_in_order}
 use Rattle.first_pass.proofs.OrderHeading.{heading_text_boundary, heading_fits}
 use Rattle.first_pass.proofs.HeadingLemmas.{heading_line_end}
-use Rattle.first_pass.proofs.BlockLemmas.{opened_at, opened_is, just_pushed, still_open, block_place, block_named}
+use Rattle.first_pass_leaves.proofs.BlockLemmas.{opened_at, opened_is, just_pushed, still_open, block_place, block_named}
 use Rattle.first_pass.proofs.pass.FirstPass.parse_atx_heading.Goals as goal
 
 pub heading_text-requires-clause-opened : goal.heading_text-requires-clause-opened
@@ -43,7 +44,7 @@ returns-clause-block c =
     let opened = opened_is g c.append.new.self c.push.new.self x ix c.in_ok-append.ensures.ok c.in_ok-heading_ix.ensures.ok in
     let line = c.in_ok-end.ensures.line in
     let text = c.args.self.now.text.now in
-    let d : Document = document text c.args.self.now.options in
+    let d : Document = document text c.args.self.now.options no_names in
     let begins : c.heading_text_start-header_start.result ≡ heading_text_at text c.args.start (level_number c.args.atx_level) =
     c.heading_text_start-header_start.ensures.value ∙ ap (λ t. heading_text_at t c.args.start (level_number c.args.atx_level)) c.as_bytes.ensures.value in
     record {
@@ -59,4 +60,4 @@ returns-clause-fits c from behind starts =
     let u = subst IsUtf8 c.as_bytes.ensures.value c.as_bytes.ensures.utf8 in
     let h = returns-clause-block c in
     let at = heading_text_boundary text c.args.start c.args.atx_level u starts c.requires.heading in
-    heading_fits (document text c.args.self.now.options) c.args.start c.args.atx_level c.args.self.now.tree c.set_body.new.self c.in_ok-end.end u starts h (closed_line_in_order u at at.0 h.line.line) from behind
+    heading_fits (document text c.args.self.now.options no_names) c.args.start c.args.atx_level c.args.self.now.tree c.set_body.new.self c.in_ok-end.end u starts h (closed_line_in_order u at at.0 h.line.line) from behind

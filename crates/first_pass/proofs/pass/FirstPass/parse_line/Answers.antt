@@ -1,4 +1,5 @@
 use Rattle.std.proofs.Common.{◌≡◌, ◌≤◌, ℕ, List, length, Option, Some, None, IfSome, IsCharBoundary, refl, ap, subst, ◌∙◌}
+use Rattle.first_pass_leaves.specs.TableEntries.{no_names}
 use Rattle.first_pass_grammar.specs.Leaves.{document, content_at}
 use Rattle.first_pass.specs.Appends.{text_upto}
 use Rattle.first_pass_tokens.specs.TreeTokens.{AppendsLine}
@@ -11,7 +12,7 @@ returns-clause-boundary c = λ whole boundary.
     let text = c.args.self.now.text.now in
     let e : c.text_upto-bytes.result.now ≡ text = c.text_upto-bytes.ensures.value ∙ ap (text_upto text) whole in
     let ends = same_end _ _ _ c.args.self.now.options c.args.start c.in_ok-answer.answer e refl c.in_ok-answer.ensures.ends in
-    next_boundary (document text c.args.self.now.options) c.args.start c.in_ok-answer.answer.0 c.in_ok-answer.answer.1 c.text_upto-bytes.ensures.utf8 boundary ends
+    next_boundary (document text c.args.self.now.options no_names) c.args.start c.in_ok-answer.answer.0 c.in_ok-answer.answer.1 c.text_upto-bytes.ensures.utf8 boundary ends
 
 both_ends : (text : List ℕ) (start : ℕ) (end : Option ℕ) → IfSome end (λ e. (start ≤ e) × (e ≤ length text)) → IfSome end (λ e. IsCharBoundary text e) → IfSome end (λ e. (start ≤ e) × IsCharBoundary text e)
 both_ends text start None h b = tt
@@ -24,5 +25,5 @@ returns-clause-order c = λ ends boundary from low ordered.
     let old = c.args.self.now.tree in
     let new = c.append_line.new.tree in
     let answer = c.in_ok-answer.answer in
-    let h : AppendsLine (content_at (document (text_upto text c.args.end) options) c.args.start) old new answer = subst (λ t. AppendsLine (content_at (document t options) c.args.start) old new answer) c.text_upto-bytes.ensures.value c.in_ok-answer.ensures.line in
-    ordered_line (document text options) c.args.start c.args.end old new answer.0 answer.1 from c.text_upto-bytes.ensures.utf8 (both_ends text c.args.start c.args.end c.requires.end ends) boundary c.is_forest.ensures h low ordered
+    let h : AppendsLine (content_at (document (text_upto text c.args.end) options no_names) c.args.start) old new answer = subst (λ t. AppendsLine (content_at (document t options no_names) c.args.start) old new answer) c.text_upto-bytes.ensures.value c.in_ok-answer.ensures.line in
+    ordered_line (document text options no_names) c.args.start c.args.end old new answer.0 answer.1 from c.text_upto-bytes.ensures.utf8 (both_ends text c.args.start c.args.end c.requires.end ends) boundary c.is_forest.ensures h low ordered

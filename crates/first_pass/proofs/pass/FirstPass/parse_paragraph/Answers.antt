@@ -1,11 +1,14 @@
 use Rattle.std.proofs.Common.{[], ◌++◌, refl, ap, subst, ◌∙◌}
 use Rattle.first_pass_items.specs.declared.item.Item.{Item}
 use Rattle.first_pass_items.specs.declared.item.ItemBody.TheVariants.{Paragraph}
+use Rattle.first_pass_leaves.specs.TableEntries.{no_names}
 use Rattle.first_pass_grammar.specs.Leaves.{document, IsParagraph, marker_items}
 use Rattle.first_pass_grammar.specs.Completion.{lines_from}
-use Rattle.first_pass.specs.Appends.{with_child, line_end_at}
-use Rattle.first_pass.proofs.PathLemmas.{open_are_in, path_of-paragraph}
-use Rattle.first_pass.proofs.BlockLemmas.{opened_at, opened_is, marked_chain, still_open, block_closed}
+use Rattle.first_pass.specs.Appends.{line_end_at}
+use Rattle.first_pass_leaves.specs.OpenBlock.{with_child}
+use Rattle.first_pass_leaves.proofs.PathLemmas.{open_are_in}
+use Rattle.first_pass.proofs.ParagraphLemmas.{path_of-paragraph}
+use Rattle.first_pass_leaves.proofs.BlockLemmas.{opened_at, opened_is, marked_chain, still_open, block_closed}
 use Rattle.first_pass.proofs.OrderParagraph.{paragraph_fits}
 use Rattle.first_pass.proofs.pass.FirstPass.parse_paragraph.Goals as goal
 
@@ -31,7 +34,7 @@ returns-clause-block c =
     let filled = marked_chain _ c.append_item.new.tree c.paragraph_lines.new.self.tree c.args.tasklist_marker lines.chain (c.in_ok-append_item.ensures ∙ ap (λ v. with_child v c.args.tasklist_marker) opened) lines.tree_is in
     record {
       chain = lines.chain;
-      lines = subst (λ path. IsParagraph (document c.args.self.now.text.now c.args.self.now.options) path c.args.start_ix [] (lines_from c.args.self.now.text.now (line_end_at c.args.self.now.text.now c.args.start_ix)) lines.chain (lines_from c.args.self.now.text.now c.in_ok-ix.ix))
+      lines = subst (λ path. IsParagraph (document c.args.self.now.text.now c.args.self.now.options no_names) path c.args.start_ix [] (lines_from c.args.self.now.text.now (line_end_at c.args.self.now.text.now c.args.start_ix)) lines.chain (lines_from c.args.self.now.text.now c.in_ok-ix.ix))
           (path_of-paragraph g c.push.new.self c.append_item.new.tree x ix c.args.tasklist_marker refl opened c.in_ok-append_item.ensures at (open_are_in g.nodes g.spine c.is_forest.ensures.opened)) lines.lines;
       tree_is = block_closed g c.paragraph_lines.new.self.tree x (marker_items c.args.tasklist_marker ++ lines.chain) ix at filled c.close_node.new.self.tree c.in_ok-ix.ix c.close_node.ensures.tree;
       later = lines.later;
@@ -40,5 +43,5 @@ returns-clause-block c =
 
 pub returns-clause-fits : goal.returns-clause-fits
 returns-clause-fits c =
-    paragraph_fits (document c.args.self.now.text.now c.args.self.now.options) c.args.start_ix c.args.tasklist_marker c.args.self.now.tree c.close_node.new.self.tree c.in_ok-ix.ix
+    paragraph_fits (document c.args.self.now.text.now c.args.self.now.options no_names) c.args.start_ix c.args.tasklist_marker c.args.self.now.tree c.close_node.new.self.tree c.in_ok-ix.ix
     (returns-clause-block c) c.in_ok-ix.ensures.utf8 c.requires.boundary

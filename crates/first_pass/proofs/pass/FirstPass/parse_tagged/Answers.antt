@@ -7,9 +7,9 @@ use Rattle.first_pass_grammar.specs.Kinds.{ends_tag, all_taken}
 use Rattle.first_pass_grammar.specs.Leaves.{document}
 use Rattle.first_pass_grammar.specs.Completion.{lines_from}
 use Rattle.first_pass.specs.Closing.{Reading, remembered}
-use Rattle.first_pass.specs.Path.{path_of}
+use Rattle.first_pass_leaves.specs.Path.{path_of}
 use Rattle.first_pass.specs.Opening.{ReadyLazy}
-use Rattle.first_pass.proofs.PlaceLemmas.{text_place}
+use Rattle.first_pass_leaves.proofs.PlaceLemmas.{text_place}
 use Rattle.first_pass.proofs.OrderLemmas.{ordered_none}
 use Rattle.first_pass.proofs.OrderSteps.{ordered_in_line}
 use Rattle.first_pass.proofs.TagLemmas.{ready_any_line, ready_its_line}
@@ -23,17 +23,17 @@ pub returns-in-None-clause-ready : goal.returns-in-None-clause-ready
 returns-in-None-clause-ready c =
     let self = c.args.self.now in
     let old : Reading = remembered self.tree self.begin_list_item self.last_line_blank in
-    λ tagged. ready_any_line (document self.text.now self.options) old c.args.start (any_by _ _ (sym c.in-None.is ∙ c.in_ok-lazy_leaf.ensures.value)) c.requires.no_empty tagged
+    λ names more tagged. ready_any_line (document self.text.now self.options names) old c.args.start (any_by _ _ (sym c.in-None.is ∙ c.in_ok-lazy_leaf.ensures.value)) c.requires.no_empty tagged
 
 its_by : (t : Bool) (r s : Rest) → Some s ≡ (if t then None else Some r) → (t ≡ false) × (s ≡ r)
 its_by true r s h = cc
 its_by false r s h = (refl, cc)
 
 pub returns-in_ok-next-in-Some-clause-ready : goal.returns-in_ok-next-in-Some-clause-ready
-returns-in_ok-next-in-Some-clause-ready c =
+returns-in_ok-next-in-Some-clause-ready c = λ names more.
     let self = c.args.self.now in
     let text = self.text.now in
-    let d = document text self.options in
+    let d = document text self.options names in
     let at = c.args.start in
     let old : Reading = remembered self.tree self.begin_list_item self.last_line_blank in
     let behind : Rest = front (path_of self.tree) (line_rest (drop at text)) in
@@ -41,7 +41,7 @@ returns-in_ok-next-in-Some-clause-ready c =
     let ends : line_end (place_at at (all_taken behind)) ≡ at + line_len (drop at text) = (text_place text at (path_of self.tree) c.in_ok-lazy_leaf.ensures.utf8 c.requires.boundary).1 in
     λ tagged. let lazy : ReadyLazy d old (place_at at (all_taken behind)) (lines_from text (line_end (place_at at (all_taken behind)))) =
     subst (λ n. ReadyLazy d old (place_at at (all_taken behind)) (lines_from text n)) (sym ends) (ready_its_line d old at its.0 tagged) in
-    c.in_ok-next-in-Some.ensures.ready (inr (subst (λ r. ReadyLazy d old (place_at at r) (lines_from text (line_end (place_at at r)))) (sym its.1) lazy))
+    c.in_ok-next-in-Some.ensures.ready names more (inr (subst (λ r. ReadyLazy d old (place_at at r) (lines_from text (line_end (place_at at r)))) (sym its.1) lazy))
 
 pub returns-in-None-clause-order : goal.returns-in-None-clause-order
 returns-in-None-clause-order c =

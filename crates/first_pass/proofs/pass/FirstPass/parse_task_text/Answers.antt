@@ -1,12 +1,14 @@
-use Rattle.std.proofs.Common.{◌+◌, IsCharBoundary, sym, ap, subst, ◌∙◌, arith}
+use Rattle.std.proofs.Common.{◌+◌, Some, IsCharBoundary, sym, ap, subst, ◌∙◌, arith}
 use Rattle.first_pass_scan.specs.Places.{place_at}
 use Rattle.first_pass_grammar.specs.Leaves.{document}
 use Rattle.first_pass_grammar.specs.Completion.{lines_from}
 use Rattle.first_pass.specs.Appends.{line_end_at}
 use Rattle.first_pass.specs.Closing.{Reading, remembered}
 use Rattle.first_pass.specs.State.{Ready}
-use Rattle.first_pass.proofs.PlaceLemmas.{all_keep, at_read}
+use Rattle.first_pass_leaves.proofs.PlaceLemmas.{all_keep, at_read}
 use Rattle.first_pass.proofs.OrderSteps.{ordered_block, unindented_later}
+use Rattle.first_pass_leaves.specs.TableEntries.{no_names}
+use Rattle.first_pass.proofs.KindBlocks.{paragraph_named}
 use Rattle.first_pass.proofs.LeafLemmas.{line_end_of, ready_text}
 use Rattle.first_pass.proofs.pass.FirstPass.parse_task_text.Goals as goal
 
@@ -33,9 +35,9 @@ returns-clause-later c =
     omega arith
 
 pub returns-clause-ready : goal.returns-clause-ready
-returns-clause-ready c =
+returns-clause-ready c = λ names.
     let self = c.args.self.now in
-    let d = document self.text.now self.options in
+    let d = document self.text.now self.options names in
     let p = place_at c.args.start_ix c.args.line_start in
     let at = c.args.start_ix + c.bytes_scanned.result in
     let old : Reading = remembered self.tree self.begin_list_item self.last_line_blank in
@@ -45,7 +47,7 @@ returns-clause-ready c =
     let next = c.in_ok-next.next in
     λ ready. subst (λ o. Ready d (remembered new.tree o new.last_line_blank) (lines_from self.text.now next)) (sym c.in_ok-next.ensures.empty_item)
     (subst (λ b. Ready d (remembered new.tree self.begin_list_item b) (lines_from self.text.now next)) (sym c.in_ok-next.ensures.blank)
-    (ready_text d old new.tree p at next c.args.marker e i c.in_ok-next.ensures.block c.requires.no_empty ready))
+    (ready_text d old new.tree p at next c.args.marker e i (paragraph_named self.text.now self.options no_names names at (Some c.args.marker) self.tree new.tree next c.in_ok-next.ensures.block) c.requires.no_empty ready))
 
 pub returns-clause-order : goal.returns-clause-order
 returns-clause-order c =

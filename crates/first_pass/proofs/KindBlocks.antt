@@ -1,0 +1,218 @@
+-- A leaf block that was added is what its kind opens at its place.
+use Rattle.std.proofs.Common.{◌≡◌, inl, inr, ℕ, ◌+◌, ◌<◌, ◌≤◌, nat_lt, Bool, true, false, List, [], ◌∷◌, length, drop, Option, Some, None, sym, ap, subst, ◌∙◌, arith, min}
+use Rattle.std.proofs.lemmas.Bool.Decides.{nat_tests}
+use Rattle.first_pass_items.specs.declared.option_set.Options.{Options}
+use Rattle.first_pass_items.specs.declared.item.Item.{Item}
+use Rattle.first_pass_items.specs.declared.item.HeadingLevel.{HeadingLevel}
+use Rattle.first_pass_tree.specs.Forest.{Forest, IsForest, added}
+use Rattle.first_pass_scan.specs.Lines.{line_len}
+use Rattle.first_pass_scan.specs.Rest.{indent}
+use Rattle.first_pass_scan.specs.Places.{Place, offset, line_end, moved_columns, IsPlaceOf}
+use Rattle.first_pass_scan.proofs.PlaceFacts.{columns_line_end}
+use Rattle.first_pass_html.specs.Starts.{html_end}
+use Rattle.first_pass_grammar.specs.declared.kind.Container.{Container}
+use Rattle.first_pass_grammar.specs.declared.kind.Kind.{Kind}
+use Rattle.first_pass_grammar.specs.declared.kind.Kind.TheVariants.{IndentedCode, Metadata, HtmlToEnd, HtmlToBlank, ThematicBreak, AtxHeading, FencedCode}
+use Rattle.first_pass_grammar.specs.Names.{Names, Extends}
+use Rattle.first_pass_tokens.specs.Chains.{add_tokens}
+use Rattle.first_pass_grammar.specs.Containers.{at_rest, front}
+use Rattle.first_pass_grammar.specs.Kinds.{all_taken, unindented, IsKind}
+use Rattle.first_pass_grammar.specs.Leaves.{Document, document, add_break, IsParagraph, rule_block, heading_block}
+use Rattle.first_pass_grammar.specs.CodeBlocks.{Extent, code_lines, last_is_blank, IsIndentedCode, metadata_lines, IsMetadata, fenced_lines, IsFencedCode}
+use Rattle.first_pass_grammar.specs.HtmlBlocks.{until_end, until_blank, IsHtml}
+use Rattle.first_pass_grammar.specs.Skeleton.{Block, Line, OpensLeaf, OpensAs}
+use Rattle.first_pass_grammar.specs.Completion.{lines_from}
+use Rattle.first_pass_leaves.specs.Path.{path_of}
+use Rattle.first_pass_leaves.specs.TableEntries.{no_names}
+use Rattle.first_pass_leaves.specs.RawBlocks.{IsPlaceAt, behind_line_at, code_behind, AddsIndented, AddsRaw, metadata_behind, fenced_behind, html_to_end, html_to_blank}
+use Rattle.first_pass.specs.Adding.{AddsKind}
+use Rattle.first_pass.specs.Appends.{AddsHeading, AddsParagraph}
+use Rattle.first_pass.specs.Closing.{Reading, remembered, list_finished}
+use Rattle.first_pass.specs.Opening.{ReadyLeaf}
+use Rattle.first_pass.specs.State.{Ready}
+use Rattle.first_pass.proofs.FinishLemmas.{path_finished}
+use Rattle.first_pass.proofs.LeafLemmas.{line_end_of, opens_heading, opens_rule, ready_added}
+
+-- indented code
+pub code_added : (text : List ℕ) (options : Options) (names : Names) (p : Place) (old new : Forest Item) (next : ℕ) (blank : Bool) → IsPlaceOf text (moved_columns 4 p) → AddsIndented text options names (moved_columns 4 p) old new next blank
+    → AddsKind text options names p IndentedCode blank old new next
+unfolding OpensAs
+code_added text options names p old new next blank place a =
+    let q : Place = moved_columns 4 p in
+    let path : List Container = path_of old in
+    let ends : behind_line_at text (offset q) ≡ line_end p = ap (λ (bs : List ℕ). offset q + line_len bs) (sym place.left) ∙ columns_line_end 4 p in
+    let same : code_behind text path (offset q) ≡ code_lines path (lines_from text (line_end p)) = ap (λ n. code_lines path (lines_from text n)) ends in
+    record {
+      items = a.items;
+      tree_is = a.tree_is;
+      opens = λ more extends. (
+        a.items,
+        subst (λ (f : List Place × List Place). IsIndentedCode (document text options more) q f.0 a.items) same (a.is more extends),
+        ap (λ t. OpensLeaf (Block p.line a.items t) Line (lines_from text next)) (a.blank_is ∙ ap (λ (f : List Place × List Place). last_is_blank f.0) same)
+            ∙ ap (OpensLeaf (Block p.line a.items (last_is_blank (code_lines path (lines_from text (line_end p))).0)) Line) (a.left_is ∙ ap (λ (f : List Place × List Place). f.1) same),
+      );
+    }
+
+-- what is said of a block at an offset, at the place that stands there
+module _ (text : List ℕ) (options : Options) (names : Names) (p : Place) (old new : Forest Item) (at next : ℕ) (at_is : at ≡ offset (unindented p)) (place : IsPlaceOf text (unindented p)) where
+  pub ends_here : behind_line_at text at ≡ line_end p
+  ends_here = ap (behind_line_at text) at_is ∙ line_end_of text p place
+
+  pub is_here : IsPlaceAt text at (unindented p)
+  is_here = record { offset_is = sym at_is; left_is = place.left ∙ ap (λ n. drop n text) (sym at_is) }
+
+  -- metadata
+  pub metadata_added : (byte : ℕ) → (let e : Extent = metadata_behind text (path_of old) byte at in AddsRaw text options names (λ d. IsMetadata d at byte e.places e.«end») e.left old new next) → AddsKind text options names p (Metadata byte) false old new next
+  unfolding OpensAs
+  metadata_added byte a =
+      let path : List Container = path_of old in
+      let e : Extent = metadata_behind text path byte at in
+      let f : Extent = metadata_lines (length text) path byte (lines_from text (line_end p)) in
+      let same : e ≡ f = ap (λ n. metadata_lines (length text) path byte (lines_from text n)) ends_here in
+      record {
+        items = a.items;
+        tree_is = a.tree_is;
+        opens = λ more extends. (
+          a.items,
+          subst (λ n. IsMetadata (document text options more) n byte f.places f.«end» a.items) at_is (subst (λ (g : Extent). IsMetadata (document text options more) at byte g.places g.«end» a.items) same (a.are more extends)),
+          ap (OpensLeaf (Block p.line a.items false) Line) (a.left_is ∙ ap (λ (g : Extent). g.left) same),
+        );
+      }
+
+  -- a fenced code block
+  pub fenced_added : (count byte columns : ℕ) → columns ≡ indent p.rest → (let e : Extent = fenced_behind text (path_of old) columns byte count at in AddsRaw text options names (λ d. IsFencedCode d at count e.places e.«end») e.left old new next)
+      → AddsKind text options names p (FencedCode count byte) false old new next
+  unfolding OpensAs
+  fenced_added count byte columns width a =
+      let path : List Container = path_of old in
+      let e : Extent = fenced_behind text path columns byte count at in
+      let f : Extent = fenced_lines (length text) path (indent p.rest) byte count (lines_from text (line_end p)) in
+      let same : e ≡ f = ap (λ n. fenced_lines (length text) path columns byte count (lines_from text n)) ends_here ∙ ap (λ k. fenced_lines (length text) path k byte count (lines_from text (line_end p))) width in
+      record {
+        items = a.items;
+        tree_is = a.tree_is;
+        opens = λ more extends. (
+          a.items,
+          subst (λ n. IsFencedCode (document text options more) n count f.places f.«end» a.items) at_is (subst (λ (g : Extent). IsFencedCode (document text options more) at count g.places g.«end» a.items) same (a.are more extends)),
+          ap (OpensLeaf (Block p.line a.items false) Line) (a.left_is ∙ ap (λ (g : Extent). g.left) same),
+        );
+      }
+
+  -- HTML up to a text
+  pub html_end_added : (tag : List ℕ) (columns : ℕ) → html_end (drop 1 (all_taken p.rest).left) ≡ Some tag → columns ≡ indent p.rest
+      → (let e : Extent = html_to_end text (path_of old) tag (unindented p) in AddsRaw text options names (λ d. IsHtml d at columns e.places e.«end») e.left old new next) → AddsKind text options names p HtmlToEnd false old new next
+  unfolding OpensAs
+  html_end_added tag columns tag_is width a =
+      let path : List Container = path_of old in
+      let e : Extent = html_to_end text path tag (unindented p) in
+      let f : Extent = until_end (length text) path tag (unindented p) (lines_from text (line_end p)) in
+      let same : e ≡ f = ap (λ n. until_end (length text) path tag (unindented p) (lines_from text n)) (line_end_of text p place) in
+      record {
+        items = a.items;
+        tree_is = a.tree_is;
+        opens = λ more extends. (
+          tag,
+          tag_is,
+          (
+            a.items,
+            subst (λ k. IsHtml (document text options more) (offset (unindented p)) k f.places f.«end» a.items) width
+                (subst (λ n. IsHtml (document text options more) n columns f.places f.«end» a.items) at_is (subst (λ (g : Extent). IsHtml (document text options more) at columns g.places g.«end» a.items) same (a.are more extends))),
+            ap (OpensLeaf (Block p.line a.items false) Line) (a.left_is ∙ ap (λ (g : Extent). g.left) same),
+          ),
+        );
+      }
+
+  -- HTML up to a blank line
+  pub html_blank_added : (columns : ℕ) → columns ≡ indent p.rest
+      → (let e : Extent = html_to_blank text (path_of old) (unindented p) in AddsRaw text options names (λ d. IsHtml d at columns e.places e.«end») e.left old new next) → AddsKind text options names p HtmlToBlank false old new next
+  unfolding OpensAs
+  html_blank_added columns width a =
+      let path : List Container = path_of old in
+      let e : Extent = html_to_blank text path (unindented p) in
+      let f : Extent = until_blank (length text) path (unindented p) (lines_from text (line_end p)) in
+      let same : e ≡ f = ap (λ n. until_blank (length text) path (unindented p) (lines_from text n)) (line_end_of text p place) in
+      record {
+        items = a.items;
+        tree_is = a.tree_is;
+        opens = λ more extends. (
+          a.items,
+          subst (λ k. IsHtml (document text options more) (offset (unindented p)) k f.places f.«end» a.items) width
+              (subst (λ n. IsHtml (document text options more) n columns f.places f.«end» a.items) at_is (subst (λ (g : Extent). IsHtml (document text options more) at columns g.places g.«end» a.items) same (a.are more extends))),
+          ap (OpensLeaf (Block p.line a.items false) Line) (a.left_is ∙ ap (λ (g : Extent). g.left) same),
+        );
+      }
+
+  -- a thematic break
+  pub rule_added : (size : ℕ) → next ≡ line_end p → new ≡ added old (rule_block at size) → AddsKind text options names p (ThematicBreak size) false old new next
+  rule_added size next_is new_is = record {
+    items = rule_block at size;
+    tree_is = new_is;
+    opens = λ more extends. opens_rule (document text options more) (path_of old) p at next size at_is next_is;
+  }
+
+  -- an ATX heading, whose chain names nothing
+  heading_named : (more : Names) (level : HeadingLevel) → AddsHeading (document text options no_names) at level old new next → AddsHeading (document text options more) at level old new next
+  heading_named more level h = record {
+    chain = h.chain;
+    line = record { tokens = h.line.tokens; break = h.line.break; line = h.line.line; chain_is = h.line.chain_is };
+    tree_is = h.tree_is;
+    end_is = h.end_is;
+  }
+
+  pub heading_added : (level : HeadingLevel) → AddsHeading (document text options no_names) at level old new next → AddsKind text options names p (AtxHeading level) false old new next
+  unfolding heading_named
+  heading_added level h = record {
+    items = heading_block at next level h.chain;
+    tree_is = h.tree_is;
+    opens = λ more extends. opens_heading (document text options more) (path_of old) old new p at next level at_is place (heading_named more level h);
+  }
+
+-- a paragraph's chain names nothing
+paragraph_lines : (text : List ℕ) (options : Options) (m n : Names) (path : List Container) (start : ℕ) (chain : List Item) (lines : List Place) (whole : List Item) (left : List Place)
+    → IsParagraph (document text options m) path start chain lines whole left → IsParagraph (document text options n) path start chain lines whole left
+unfolding IsParagraph
+paragraph_lines text options m n path start chain [] whole left h = h
+paragraph_lines text options m n path start chain (line ∷ lines) whole left (t, a, i, inl x) = (t, a, i, inl x)
+paragraph_lines text options m n path start chain (line ∷ lines) whole left (t, a, i, inr (h, more)) = (t, a, i, inr (h, paragraph_lines text options m n path (offset (unindented (at_rest line (front path line.rest)))) (add_break a.1 (add_tokens chain t)) lines whole left more))
+
+pub paragraph_named : (text : List ℕ) (options : Options) (m n : Names) (start : ℕ) (marker : Option Item) (old new : Forest Item) (next : ℕ) → AddsParagraph (document text options m) start marker old new next → AddsParagraph (document text options n) start marker old new next
+paragraph_named text options m n start marker old new next a = record {
+  chain = a.chain;
+  lines = paragraph_lines text options m n _ _ _ _ _ _ a.lines;
+  tree_is = a.tree_is;
+  later = a.later;
+  boundary = a.boundary;
+}
+
+-- behind a leaf block of a kind
+pub ready_kind : (text : List ℕ) (options : Options) (own names : Names) (r : Reading) (new : Forest Item) (p : Place) (kind : Kind) (gap : Bool) (next : ℕ) → IsForest r.tree → IsKind options p.rest kind → Extends names own
+    → AddsKind text options own p kind gap (list_finished p.line r).tree new next → r.empty_item ≡ None → ReadyLeaf (document text options names) r p (lines_from text (line_end p))
+    → (empty : Option ℕ) (blank : Bool) → empty ≡ None → blank ≡ gap → Ready (document text options names) (remembered new empty blank) (lines_from text next)
+ready_kind text options own names r new p kind gap next forest is extends a none ready empty blank e b =
+    let d : Document = document text options names in
+    let lines : List Place = lines_from text (line_end p) in
+    let left : List Place = lines_from text next in
+    ready_added d r new p lines left p.line a.items gap kind forest is
+    (subst (λ path. OpensAs d path p lines kind (OpensLeaf (Block p.line a.items gap) Line left)) (path_finished p.line r none) (a.opens names extends)) a.tree_is none ready empty blank e b
+
+-- the same of a kind that is this one, and blank lines or none at its end
+pub adds_so : (text : List ℕ) (options : Options) (names : Names) (p : Place) (k kind : Kind) (gap blank : Bool) (old new : Forest Item) (next : ℕ) → kind ≡ k → blank ≡ gap → AddsKind text options names p k gap old new next → AddsKind text options names p kind blank old new next
+adds_so text options names p k kind gap blank old new next is same a =
+    subst (λ z. AddsKind text options names p z blank old new next) (sym is) (subst (λ g. AddsKind text options names p k g old new next) (sym same) a)
+
+-- columns under four that were counted
+pub columns_are : (n m : ℕ) → n ≡ min 4 m → nat_lt m 4 ≡ true → (n ≡ m) × (n ≤ 3)
+columns_are n m is few = let low : m < 4 = grind (arith, nat_tests, few) in (omega arith, omega arith)
+
+-- what was said of a text, options and a tree that are these
+pub adds_moved : (t text : List ℕ) (o options : Options) (names : Names) (p : Place) (kind : Kind) (gap : Bool) (f old new : Forest Item) (next : ℕ) → t ≡ text → o ≡ options → f ≡ old → AddsKind t o names p kind gap f new next → AddsKind text options names p kind gap old new next
+adds_moved t text o options names p kind gap f old new next a b e h =
+    subst (λ z. AddsKind text options names p kind gap z new next) e (subst (λ z. AddsKind text z names p kind gap f new next) b (subst (λ z. AddsKind z o names p kind gap f new next) a h))
+
+-- an HTML block up to a blank line, at a place
+abbrev pub AddsHtml : List ℕ → Options → Names → ℕ → ℕ → Place → Forest Item → Forest Item → ℕ → Type 0
+AddsHtml text options names start columns p old new next = let e : Extent = html_to_blank text (path_of old) p in AddsRaw text options names (λ d. IsHtml d start columns e.places e.«end») e.left old new next
+
+pub html_moved : (t text : List ℕ) (o options : Options) (names : Names) (start columns : ℕ) (p : Place) (f old new : Forest Item) (next : ℕ) → t ≡ text → o ≡ options → f ≡ old → AddsHtml t o names start columns p f new next → AddsHtml text options names start columns p old new next
+html_moved t text o options names start columns p f old new next a b e h =
+    subst (λ z. AddsHtml text options names start columns p z new next) e (subst (λ z. AddsHtml text z names start columns p f new next) b (subst (λ z. AddsHtml z o names start columns p f new next) a h))

@@ -1,0 +1,95 @@
+-- Raw leaf blocks fit where they stand.
+use Rattle.std.proofs.Common.{◌≡◌, ℕ, ◌≤◌, Bool, true, List, ◌∷◌, length, drop, Some, IsUtf8, IsCharBoundary, refl, sym, ap, subst, ◌∙◌, arith}
+use Rattle.first_pass_items.specs.declared.option_set.Options.{Options}
+use Rattle.first_pass_items.specs.declared.item.Item.{Item}
+use Rattle.first_pass_tree.specs.Forest.{Forest}
+use Rattle.first_pass_scan.specs.Lines.{is_content}
+use Rattle.first_pass_scan.specs.LeafLines.{code_fence}
+use Rattle.first_pass_scan.specs.Places.{Place, offset, start_of, IsPlaceOf}
+use Rattle.first_pass_scan.proofs.PlaceFacts.{start_of-lines}
+use Rattle.first_pass_grammar.specs.Names.{Names}
+use Rattle.first_pass_grammar.specs.Leaves.{document}
+use Rattle.first_pass_grammar.specs.CodeBlocks.{Extent, IsFencedCode, IsMetadata}
+use Rattle.first_pass_grammar.specs.HtmlBlocks.{IsHtml}
+use Rattle.first_pass_leaves.specs.Path.{path_of}
+use Rattle.first_pass_leaves.specs.RawBlocks.{IsPlaceAt, code_behind, AddsIndented, AddsRaw, metadata_behind, fenced_behind, html_to_end, html_to_blank}
+use Rattle.first_pass_leaves.proofs.NameLemmas.{extends_none}
+use Rattle.first_pass_leaves.proofs.IndentedLemmas.{first_at, first_is}
+use Rattle.first_pass_leaves.proofs.RawOrder.{IsPlaced, fence_plain, ends_before_next, kept_last, indented_fits, fenced_fits, metadata_fits, html_fits, indented_behind_placed, fenced_behind_placed, metadata_behind_placed, to_end_placed, to_blank_placed, fenced_behind_before, metadata_behind_before, to_end_before}
+use Rattle.first_pass.specs.Ordered.{AddsBetween}
+
+-- a place at an offset between characters
+place_of : (text : List ℕ) (start : ℕ) (p : Place) → IsCharBoundary text start → IsPlaceAt text start p → IsPlaceOf text p
+place_of text start p b i = record {
+  left = i.left_is ∙ ap (λ n. drop n text) (sym i.offset_is);
+  within = (let w = b.0 in let e = i.offset_is in omega arith);
+  boundary = subst (IsCharBoundary text) (sym i.offset_is) b;
+}
+
+module _ (text : List ℕ) (options : Options) (names : Names) (old new : Forest Item) (start next : ℕ) (u : IsUtf8 text) (b : IsCharBoundary text start) (within : next ≤ length text) where
+  pub fenced_between : (columns byte count : ℕ) → code_fence (drop start text) ≡ Some (count, byte)
+      → (let e : Extent = fenced_behind text (path_of old) columns byte count start in AddsRaw text options names (λ d. IsFencedCode d start count e.places e.«end») e.left old new next)
+      → (from : ℕ) → from ≤ start → AddsBetween text from next old new
+  fenced_between columns byte count fence a from low =
+      let e : Extent = fenced_behind text (path_of old) columns byte count start in
+      let before = ends_before_next text e next within a.left_is (fenced_behind_before text u (path_of old) columns byte count start (fence_plain (drop start text) (count, byte) fence) b) in
+      record {
+        items = a.items;
+        tree_is = a.tree_is;
+        fits = fenced_fits (document text options names) start count e a.items u (a.are names (extends_none names)) b (fenced_behind_placed text u (path_of old) columns byte count start b) from next low before;
+      }
+
+  pub metadata_between : (byte : ℕ) → is_content byte ≡ true → (let e : Extent = metadata_behind text (path_of old) byte start in AddsRaw text options names (λ d. IsMetadata d start byte e.places e.«end») e.left old new next)
+      → (from : ℕ) → from ≤ start → AddsBetween text from next old new
+  metadata_between byte plain a from low =
+      let e : Extent = metadata_behind text (path_of old) byte start in
+      let before = ends_before_next text e next within a.left_is (metadata_behind_before text u (path_of old) byte start plain b) in
+      record {
+        items = a.items;
+        tree_is = a.tree_is;
+        fits = metadata_fits (document text options names) start byte e a.items u (a.are names (extends_none names)) b (metadata_behind_placed text u (path_of old) byte start b) from next low before;
+      }
+
+  pub to_end_between : (tag : List ℕ) (columns : ℕ) → ((p : Place) → IsPlaceAt text start p → let e : Extent = html_to_end text (path_of old) tag p in AddsRaw text options names (λ d. IsHtml d start columns e.places e.«end») e.left old new next)
+      → (from : ℕ) → from ≤ start → AddsBetween text from next old new
+  to_end_between tag columns adds from low =
+      let p : Place = first_at text start 0 in
+      let i = first_is text start 0 in
+      let a = adds p i in
+      let e : Extent = html_to_end text (path_of old) tag p in
+      let before = ends_before_next text e next within a.left_is (to_end_before text u (path_of old) tag p) in
+      record {
+        items = a.items;
+        tree_is = a.tree_is;
+        fits = html_fits (document text options names) start columns e a.items u (a.are names (extends_none names)) b (subst (λ n. IsPlaced text n e) i.offset_is (to_end_placed text u (path_of old) tag p (place_of text start p b i))) from next low before;
+      }
+
+  pub to_blank_between : (columns : ℕ) (p : Place) → IsPlaceAt text start p → (let e : Extent = html_to_blank text (path_of old) p in AddsRaw text options names (λ d. IsHtml d start columns e.places e.«end») e.left old new next)
+      → (from : ℕ) → from ≤ start → AddsBetween text from (html_to_blank text (path_of old) p).«end» old new
+  to_blank_between columns p i a from low =
+      let e : Extent = html_to_blank text (path_of old) p in
+      record {
+        items = a.items;
+        tree_is = a.tree_is;
+        fits = html_fits (document text options names) start columns e a.items u (a.are names (extends_none names)) b (subst (λ n. IsPlaced text n e) i.offset_is (to_blank_placed text u (path_of old) p (place_of text start p b i))) from e.«end» low (omega arith);
+      }
+
+  -- where it ends is between characters
+  pub to_blank_ends : (p : Place) → IsPlaceAt text start p → IsCharBoundary text (html_to_blank text (path_of old) p).«end»
+  to_blank_ends p i = (to_blank_placed text u (path_of old) p (place_of text start p b i)).boundary
+
+  pub indented_between : (owed : ℕ) (blank : Bool) → ((p : Place) → IsPlaceAt text start p → p.rest.owed ≡ owed → AddsIndented text options names p old new next blank) → (from : ℕ) → from ≤ start → AddsBetween text from next old new
+  indented_between owed blank adds from low =
+      let p : Place = first_at text start owed in
+      let i = first_is text start owed in
+      let a = adds p i refl in
+      let all = code_behind text (path_of old) (offset p) in
+      let placed = indented_behind_placed text u (path_of old) p (place_of text start p b i) in
+      let ends : start_of (length text) all.1 ≡ next = ap (start_of (length text)) (sym a.left_is) ∙ start_of-lines text next within in
+      let last = kept_last text (offset p) (start_of (length text) all.1) (p ∷ all.0) placed in
+      let low' = i.offset_is in
+      record {
+        items = a.items;
+        tree_is = a.tree_is;
+        fits = indented_fits (document text options names) p all.0 a.items (start_of (length text) all.1) u (a.is names (extends_none names)) placed from next (omega arith) (omega arith);
+      }

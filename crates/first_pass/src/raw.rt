@@ -1,0 +1,355 @@
+//! Leaf blocks whose lines are raw: code, metadata and HTML.
+
+ghost use Rattle.std.specs.Prelude.{◌≡◌, ◌≤◌, ◌<◌, ℕ, Some, true, false, nat_lt, max, List, length, drop, IfOk, OnOk, IsUtf8, IsCharBoundary};
+ghost use Rattle.first_pass_scan.specs.Lines.{is_blank_line, is_content};
+ghost use Rattle.first_pass_scan.specs.LeafLines.{code_fence};
+ghost use Rattle.first_pass_scan.specs.Rest.{indent};
+ghost use Rattle.first_pass_scan.specs.Places.{Place, place_at, offset, line_end, IsPlaceOf};
+ghost use Rattle.first_pass_html.specs.Starts.{html_end};
+ghost use Rattle.first_pass_grammar.specs.declared.kind.Kind.TheVariants.{IndentedCode};
+ghost use Rattle.first_pass_grammar.specs.Names.{Extends};
+ghost use Rattle.first_pass_grammar.specs.Kinds.{is_blank_rest, begins_html_to_end};
+ghost use Rattle.first_pass_grammar.specs.CodeBlocks.{IsFencedCode, IsMetadata};
+ghost use Rattle.first_pass_grammar.specs.HtmlBlocks.{IsHtml};
+ghost use Rattle.first_pass_leaves.specs.Path.{path_of};
+ghost use Rattle.first_pass_leaves.specs.TableEntries.{tables, names_of};
+ghost use Rattle.first_pass_leaves.specs.RawBlocks.{AppendsCode, AppendsHtml, IsPlaceAt, AddsIndented, AddsRaw, behind_line_at, fenced_behind, metadata_behind, html_to_end, html_to_blank};
+ghost use Rattle.first_pass.specs.Adding.{AddsKind, behind_blank, with_blank};
+ghost use Rattle.first_pass.specs.Closing.{remembered};
+ghost use Rattle.first_pass.specs.Ordered.{AddsBetween};
+
+use crate::pass::FirstPass;
+use first_pass_html::starts::get_html_end_tag;
+use first_pass_leaves::fenced_code::Fence;
+use first_pass_leaves::open_block::BlockLines;
+use first_pass_leaves::{fenced_code, html_block, indented_code, metadata_block, raw_line};
+use first_pass_scan::line_start::LineStart;
+use first_pass_scan::places::{next_line, rest_of};
+use std::alloc::AllocError;
+use std::cmp::max;
+
+impl<'a> FirstPass<'a> {
+    /// Appends a raw line of code or metadata to the innermost open node: the columns that are owed before it, at
+    /// most 3, and its bytes from the offset `start` up to `end`, without a `\r` before a `\n` at their end.
+    pub fn append_code_text(
+        &mut self,
+        remaining_space: usize,
+        start: usize,
+        end: usize,
+    ) -> Result<(), AllocError>
+        requires owed { remaining_space ≤ 3 }
+        requires order { start ≤ end }
+        requires within { end ≤ length self.old.text.now }
+        ensures text { OnOk result (self.new.text.now ≡ self.old.text.now) }
+        ensures options { OnOk result (self.new.options ≡ self.old.options) }
+        ensures empty_item { OnOk result (self.new.begin_list_item ≡ self.old.begin_list_item) }
+        ensures names { OnOk result (Extends (names_of self.new.allocs) (names_of self.old.allocs)) }
+        ensures tables { OnOk result (tables self.new.allocs ≡ tables self.old.allocs) }
+        ensures blank { OnOk result (self.new.last_line_blank ≡ self.old.last_line_blank) }
+        ensures line { OnOk result (AppendsCode self.old.text.now (names_of self.new.allocs) remaining_space start end self.old.tree self.new.tree) }
+    {
+        raw_line::append_code_text(
+            &mut self.tree,
+            &mut self.allocs,
+            self.text,
+            remaining_space,
+            start,
+            end,
+        )
+    }
+
+    /// Appends a raw line of HTML to the innermost open node: the columns that are owed before it, at most 3, and its
+    /// bytes from the offset `start` up to `end`, without a `\r` before a `\n` at their end.
+    pub fn append_html_line(
+        &mut self,
+        remaining_space: usize,
+        start: usize,
+        end: usize,
+    ) -> Result<(), AllocError>
+        requires owed { remaining_space ≤ 3 }
+        requires order { start ≤ end }
+        requires within { end ≤ length self.old.text.now }
+        ensures text { OnOk result (self.new.text.now ≡ self.old.text.now) }
+        ensures options { OnOk result (self.new.options ≡ self.old.options) }
+        ensures empty_item { OnOk result (self.new.begin_list_item ≡ self.old.begin_list_item) }
+        ensures names { OnOk result (Extends (names_of self.new.allocs) (names_of self.old.allocs)) }
+        ensures tables { OnOk result (tables self.new.allocs ≡ tables self.old.allocs) }
+        ensures blank { OnOk result (self.new.last_line_blank ≡ self.old.last_line_blank) }
+        ensures line { OnOk result (AppendsHtml self.old.text.now (names_of self.new.allocs) remaining_space start end self.old.tree self.new.tree) }
+    {
+        raw_line::append_html_line(
+            &mut self.tree,
+            &mut self.allocs,
+            self.text,
+            remaining_space,
+            start,
+            end,
+        )
+    }
+
+    /// Appends the indented code whose first line's text begins at the offset `start_ix`, behind its four columns,
+    /// with so many columns owed there, and answers the offset at which the line begins that is not read, or the
+    /// text's length. Blank lines at its end are read, but are no part of it; they count (CommonMark 4.4).
+    pub fn parse_indented_code_block(
+        &mut self,
+        start_ix: usize,
+        remaining_space: usize,
+    ) -> Result<usize, AllocError>
+        requires boundary { IsCharBoundary self.old.text.now start_ix }
+        requires owed { remaining_space ≤ 3 }
+        requires code { is_blank_line (drop start_ix self.old.text.now) ≡ false }
+        ensures text { OnOk result (self.new.text.now ≡ self.old.text.now) }
+        ensures options { OnOk result (self.new.options ≡ self.old.options) }
+        ensures empty_item { OnOk result (self.new.begin_list_item ≡ self.old.begin_list_item) }
+        ensures names { OnOk result (Extends (names_of self.new.allocs) (names_of self.old.allocs)) }
+        ensures tables { OnOk result (tables self.new.allocs ≡ tables self.old.allocs) }
+        ensures block { IfOk result (λ next. (p : Place) → IsPlaceAt self.old.text.now start_ix p → p.rest.owed ≡ remaining_space
+            → AddsIndented self.old.text.now self.old.options (names_of self.new.allocs) p self.old.tree self.new.tree next self.new.last_line_blank) }
+        ensures boundary { IfOk result (λ next. (behind_line_at self.old.text.now start_ix ≤ next) × IsCharBoundary self.old.text.now next) }
+        ensures fits { IfOk result (λ next. (from : ℕ) → from ≤ start_ix → AddsBetween self.old.text.now from next self.old.tree self.new.tree) }
+    {
+        let (next, blank) = indented_code::parse_indented_code_block(
+            &mut self.tree,
+            &mut self.allocs,
+            self.text,
+            self.options,
+            start_ix,
+            remaining_space,
+        )?;
+        self.last_line_blank = blank;
+        Ok(next)
+    }
+
+    // The same behind the columns of a place in the line whose reading began at `start_ix`.
+    pub(crate) fn parse_code(
+        &mut self,
+        start_ix: usize,
+        before: LineStart<'a>,
+    ) -> Result<usize, AllocError>
+        requires utf8 { IsUtf8 self.old.text.now }
+        requires place { IsPlaceOf self.old.text.now (place_at start_ix before) }
+        requires code { (is_blank_rest before ≡ false) × (nat_lt (indent before) 4 ≡ false) }
+        ensures text { OnOk result (self.new.text.now ≡ self.old.text.now) }
+        ensures options { OnOk result (self.new.options ≡ self.old.options) }
+        ensures empty_item { OnOk result (self.new.begin_list_item ≡ self.old.begin_list_item) }
+        ensures names { OnOk result (Extends (names_of self.new.allocs) (names_of self.old.allocs)) }
+        ensures tables { OnOk result (tables self.new.allocs ≡ tables self.old.allocs) }
+        ensures block { IfOk result (λ next. AddsKind self.old.text.now self.old.options (names_of self.new.allocs) (place_at start_ix before.entry) IndentedCode self.new.last_line_blank self.old.tree self.new.tree next) }
+        ensures boundary { IfOk result (λ next. (line_end (place_at start_ix before.entry) ≤ next) × IsCharBoundary self.old.text.now next) }
+        ensures fits { IfOk result (λ next. (from : ℕ) → from ≤ offset (place_at start_ix before.entry) → AddsBetween self.old.text.now from next self.old.tree self.new.tree) }
+    {
+        let mut line_start = before;
+        line_start.scan_space_upto(4);
+        let at = start_ix + line_start.bytes_scanned();
+        let next = self.parse_indented_code_block(at, line_start.remaining_space())?;
+        Ok(next)
+    }
+
+    /// Appends the fenced code block whose fence of `n_fence_char` bytes, each `fence_ch`, begins at the offset
+    /// `start_ix` behind `indent` columns, and answers the offset at which the line begins that is not read, or the
+    /// text's length (CommonMark 4.5).
+    pub fn parse_fenced_code_block(
+        &mut self,
+        start_ix: usize,
+        indent: usize,
+        fence_ch: u8,
+        n_fence_char: usize,
+    ) -> Result<usize, AllocError>
+        requires boundary { IsCharBoundary self.old.text.now start_ix }
+        requires fence { code_fence (drop start_ix self.old.text.now) ≡ Some (n_fence_char, fence_ch) }
+        ensures text { OnOk result (self.new.text.now ≡ self.old.text.now) }
+        ensures options { OnOk result (self.new.options ≡ self.old.options) }
+        ensures empty_item { OnOk result (self.new.begin_list_item ≡ self.old.begin_list_item) }
+        ensures names { OnOk result (Extends (names_of self.new.allocs) (names_of self.old.allocs)) }
+        ensures tables { OnOk result (tables self.new.allocs ≡ tables self.old.allocs) }
+        ensures blank { OnOk result (self.new.last_line_blank ≡ self.old.last_line_blank) }
+        ensures block { IfOk result (λ next. let e = fenced_behind self.old.text.now (path_of self.old.tree) indent fence_ch n_fence_char start_ix in
+            AddsRaw self.old.text.now self.old.options (names_of self.new.allocs) (λ d. IsFencedCode d start_ix n_fence_char e.places e.«end») e.left self.old.tree self.new.tree next) }
+        ensures boundary { IfOk result (λ next. (behind_line_at self.old.text.now start_ix ≤ next) × IsCharBoundary self.old.text.now next) }
+        ensures fits { IfOk result (λ next. (from : ℕ) → from ≤ start_ix → AddsBetween self.old.text.now from next self.old.tree self.new.tree) }
+    {
+        let fence = Fence {
+            indent,
+            byte: fence_ch,
+            count: n_fence_char,
+        };
+        let next = fenced_code::parse_fenced_code_block(
+            self.alloc,
+            &mut self.tree,
+            &mut self.allocs,
+            self.text,
+            self.options,
+            start_ix,
+            fence,
+        )?;
+        Ok(next)
+    }
+
+    /// Appends the metadata block that begins at the offset `start_ix` with three of `metadata_block_ch`, `-` or `+`,
+    /// and answers the offset at which the line begins that is not read, or the text's length.
+    pub fn parse_metadata_block(
+        &mut self,
+        start_ix: usize,
+        metadata_block_ch: u8,
+    ) -> Result<usize, AllocError>
+        requires boundary { IsCharBoundary self.old.text.now start_ix }
+        requires byte { is_content metadata_block_ch ≡ true }
+        ensures text { OnOk result (self.new.text.now ≡ self.old.text.now) }
+        ensures options { OnOk result (self.new.options ≡ self.old.options) }
+        ensures empty_item { OnOk result (self.new.begin_list_item ≡ self.old.begin_list_item) }
+        ensures names { OnOk result (Extends (names_of self.new.allocs) (names_of self.old.allocs)) }
+        ensures tables { OnOk result (tables self.new.allocs ≡ tables self.old.allocs) }
+        ensures blank { OnOk result (self.new.last_line_blank ≡ self.old.last_line_blank) }
+        ensures block { IfOk result (λ next. let e = metadata_behind self.old.text.now (path_of self.old.tree) metadata_block_ch start_ix in
+            AddsRaw self.old.text.now self.old.options (names_of self.new.allocs) (λ d. IsMetadata d start_ix metadata_block_ch e.places e.«end») e.left self.old.tree self.new.tree next) }
+        ensures boundary { IfOk result (λ next. (behind_line_at self.old.text.now start_ix ≤ next) × IsCharBoundary self.old.text.now next) }
+        ensures fits { IfOk result (λ next. (from : ℕ) → from ≤ start_ix → AddsBetween self.old.text.now from next self.old.tree self.new.tree) }
+    {
+        let next = metadata_block::parse_metadata_block(
+            &mut self.tree,
+            &mut self.allocs,
+            self.text,
+            self.options,
+            start_ix,
+            metadata_block_ch,
+        )?;
+        Ok(next)
+    }
+
+    /// Appends the HTML block of the kinds 1 to 5 that begins at the offset `start_ix` behind `indent` columns, or
+    /// behind `remaining_space` owed ones where these are more, and goes on to the line that holds `html_end_tag`.
+    /// Answers the offset at which the line begins that is not read, or the text's length (CommonMark 4.6).
+    pub fn parse_html_block_type_1_to_5(
+        &mut self,
+        start_ix: usize,
+        html_end_tag: &str,
+        remaining_space: usize,
+        indent: usize,
+    ) -> Result<usize, AllocError>
+        requires boundary { IsCharBoundary self.old.text.now start_ix }
+        requires owed { remaining_space ≤ 3 }
+        requires indent { indent ≤ 3 }
+        ensures text { OnOk result (self.new.text.now ≡ self.old.text.now) }
+        ensures options { OnOk result (self.new.options ≡ self.old.options) }
+        ensures empty_item { OnOk result (self.new.begin_list_item ≡ self.old.begin_list_item) }
+        ensures names { OnOk result (Extends (names_of self.new.allocs) (names_of self.old.allocs)) }
+        ensures tables { OnOk result (tables self.new.allocs ≡ tables self.old.allocs) }
+        ensures blank { OnOk result (self.new.last_line_blank ≡ self.old.last_line_blank) }
+        ensures block { IfOk result (λ next. (p : Place) → IsPlaceAt self.old.text.now start_ix p → let e = html_to_end self.old.text.now (path_of self.old.tree) html_end_tag.now p in
+            AddsRaw self.old.text.now self.old.options (names_of self.new.allocs) (λ d. IsHtml d start_ix (max remaining_space indent) e.places e.«end») e.left self.old.tree self.new.tree next) }
+        ensures boundary { IfOk result (λ next. (behind_line_at self.old.text.now start_ix ≤ next) × IsCharBoundary self.old.text.now next) }
+        ensures fits { IfOk result (λ next. (from : ℕ) → from ≤ start_ix → AddsBetween self.old.text.now from next self.old.tree self.new.tree) }
+    {
+        let next = html_block::parse_html_block_type_1_to_5(
+            &mut self.tree,
+            &mut self.allocs,
+            self.text,
+            self.options,
+            start_ix,
+            html_end_tag,
+            max(remaining_space, indent),
+        )?;
+        Ok(next)
+    }
+
+    // The same where its first line tells the text that ends it.
+    pub(crate) fn parse_html_to_end(
+        &mut self,
+        start_ix: usize,
+        columns: usize,
+    ) -> Result<usize, AllocError>
+        requires boundary { IsCharBoundary self.old.text.now start_ix }
+        requires columns { columns ≤ 3 }
+        requires html { begins_html_to_end (drop start_ix self.old.text.now) ≡ true }
+        ensures text { OnOk result (self.new.text.now ≡ self.old.text.now) }
+        ensures options { OnOk result (self.new.options ≡ self.old.options) }
+        ensures empty_item { OnOk result (self.new.begin_list_item ≡ self.old.begin_list_item) }
+        ensures names { OnOk result (Extends (names_of self.new.allocs) (names_of self.old.allocs)) }
+        ensures tables { OnOk result (tables self.new.allocs ≡ tables self.old.allocs) }
+        ensures blank { OnOk result (self.new.last_line_blank ≡ self.old.last_line_blank) }
+        ensures block { IfOk result (λ next. (tag : List ℕ) → html_end (drop 1 (drop start_ix self.old.text.now)) ≡ Some tag → (p : Place) → IsPlaceAt self.old.text.now start_ix p → let e = html_to_end self.old.text.now (path_of self.old.tree) tag p in
+            AddsRaw self.old.text.now self.old.options (names_of self.new.allocs) (λ d. IsHtml d start_ix columns e.places e.«end») e.left self.old.tree self.new.tree next) }
+        ensures boundary { IfOk result (λ next. (behind_line_at self.old.text.now start_ix ≤ next) × IsCharBoundary self.old.text.now next) }
+        ensures fits { IfOk result (λ next. (from : ℕ) → from ≤ start_ix → AddsBetween self.old.text.now from next self.old.tree self.new.tree) }
+    {
+        let tag = get_html_end_tag(rest_of(self.text.as_bytes(), start_ix + 1)).unwrap();
+        let next = self.parse_html_block_type_1_to_5(start_ix, tag, 0, columns)?;
+        Ok(next)
+    }
+
+    /// Appends the HTML block of the kinds 6 and 7 that begins at the offset `start_ix` behind `indent` columns, or
+    /// behind `remaining_space` owed ones where these are more, and goes on to a blank line. Answers the offset at
+    /// which the line begins that is not read, or the text's length (CommonMark 4.6).
+    pub fn parse_html_block_type_6_or_7(
+        &mut self,
+        start_ix: usize,
+        remaining_space: usize,
+        indent: usize,
+    ) -> Result<usize, AllocError>
+        requires boundary { IsCharBoundary self.old.text.now start_ix }
+        requires owed { remaining_space ≤ 3 }
+        requires indent { indent ≤ 3 }
+        ensures text { OnOk result (self.new.text.now ≡ self.old.text.now) }
+        ensures options { OnOk result (self.new.options ≡ self.old.options) }
+        ensures empty_item { OnOk result (self.new.begin_list_item ≡ self.old.begin_list_item) }
+        ensures names { OnOk result (Extends (names_of self.new.allocs) (names_of self.old.allocs)) }
+        ensures tables { OnOk result (tables self.new.allocs ≡ tables self.old.allocs) }
+        ensures blank { OnOk result (self.new.last_line_blank ≡ self.old.last_line_blank) }
+        ensures block { IfOk result (λ next. (p : Place) → IsPlaceAt self.old.text.now start_ix p → let e = html_to_blank self.old.text.now (path_of self.old.tree) p in
+            AddsRaw self.old.text.now self.old.options (names_of self.new.allocs) (λ d. IsHtml d start_ix (max remaining_space indent) e.places e.«end») e.left self.old.tree self.new.tree next) }
+        ensures boundary { IfOk result (λ next. (behind_line_at self.old.text.now start_ix ≤ next) × IsCharBoundary self.old.text.now next) }
+        ensures fits { IfOk result (λ next. (p : Place) → IsPlaceAt self.old.text.now start_ix p → (from : ℕ) → from ≤ start_ix → AddsBetween self.old.text.now from (html_to_blank self.old.text.now (path_of self.old.tree) p).«end» self.old.tree self.new.tree) }
+    {
+        let lines = self.parse_html_to_blank(start_ix, max(remaining_space, indent))?;
+        Ok(lines.next)
+    }
+
+    // The same, with where the block ends.
+    pub(crate) fn parse_html_to_blank(
+        &mut self,
+        start_ix: usize,
+        columns: usize,
+    ) -> Result<BlockLines, AllocError>
+        requires boundary { IsCharBoundary self.old.text.now start_ix }
+        requires columns { columns ≤ 3 }
+        ensures text { OnOk result (self.new.text.now ≡ self.old.text.now) }
+        ensures options { OnOk result (self.new.options ≡ self.old.options) }
+        ensures empty_item { OnOk result (self.new.begin_list_item ≡ self.old.begin_list_item) }
+        ensures names { OnOk result (Extends (names_of self.new.allocs) (names_of self.old.allocs)) }
+        ensures tables { OnOk result (tables self.new.allocs ≡ tables self.old.allocs) }
+        ensures blank { OnOk result (self.new.last_line_blank ≡ self.old.last_line_blank) }
+        ensures block { IfOk result (λ lines. (p : Place) → IsPlaceAt self.old.text.now start_ix p → let e = html_to_blank self.old.text.now (path_of self.old.tree) p in
+            AddsRaw self.old.text.now self.old.options (names_of self.new.allocs) (λ d. IsHtml d start_ix columns e.places e.«end») e.left self.old.tree self.new.tree lines.next) }
+        ensures end { IfOk result (λ lines. (p : Place) → IsPlaceAt self.old.text.now start_ix p → lines.«end» ≡ (html_to_blank self.old.text.now (path_of self.old.tree) p).«end») }
+        ensures boundary { IfOk result (λ lines. (behind_line_at self.old.text.now start_ix ≤ lines.next) × IsCharBoundary self.old.text.now lines.next) }
+        ensures fits { IfOk result (λ lines. (from : ℕ) → from ≤ start_ix → AddsBetween self.old.text.now from lines.«end» self.old.tree self.new.tree) }
+        ensures within { IfOk result (λ lines. (lines.«end» ≤ length self.old.text.now) × IsCharBoundary self.old.text.now lines.«end») }
+    {
+        let lines = html_block::parse_html_block_type_6_or_7(
+            &mut self.tree,
+            &mut self.allocs,
+            self.text,
+            self.options,
+            start_ix,
+            columns,
+        )?;
+        Ok(lines)
+    }
+
+    // Reads the blank line too behind whose containers an HTML block ends, if it ends there; answers the offset at which
+    // the line begins that is not read, or the text's length.
+    pub(crate) fn read_blank_behind(&mut self, lines: BlockLines) -> usize
+        requires { lines.«end» ≤ length self.old.text.now }
+        ensures text { self.new.text.now ≡ self.old.text.now }
+        ensures options { self.new.options ≡ self.old.options }
+        ensures allocs { self.new.allocs ≡ self.old.allocs }
+        ensures reading { remembered self.new.tree self.new.begin_list_item self.new.last_line_blank ≡ with_blank lines.«end» lines.next (remembered self.old.tree self.old.begin_list_item self.old.last_line_blank) }
+        ensures next { result ≡ behind_blank self.old.text.now lines.«end» lines.next }
+    {
+        if lines.next < lines.end {
+            self.read_blank_line();
+            return next_line(self.text.as_bytes(), lines.end);
+        }
+        lines.next
+    }
+}

@@ -1,0 +1,349 @@
+-- Items that read alike: they differ at most in indices that name one text.
+use Rattle.std.proofs.Common.{◌≡◌, ℕ, zero, suc, ◌+◌, ◌-◌, ◌==◌, ◌&&◌, ◌||◌, not, Bool, true, false, nat_lt, List, [], ◌∷◌, ◌++◌, map, slice_get, Option, Some, None, refl, sym, ap, ◌∙◌, subst, if◌then◌else◌}
+use Rattle.std.specs.Option.{option_map}
+use Rattle.std.proofs.lemmas.List.{map-append}
+use Rattle.first_pass_items.specs.CowText.{text_of}
+use Rattle.first_pass_items.specs.declared.item.CowIndex.{CowIndex}
+use Rattle.first_pass_items.specs.declared.item.Item.{Item}
+use Rattle.first_pass_items.specs.declared.item.ItemBody.{ItemBody}
+use Rattle.first_pass_items.specs.declared.item.ItemBody.TheVariants.{SynthesizeText, FencedCodeBlock, Paragraph, BlockQuote as BlockQuoteBody, List as ListBody, ListItem as ListItemBody}
+use Rattle.first_pass_tree.specs.Forest.{at_depth, is_text}
+use Rattle.first_pass_scan.specs.Places.{Place, offset, line_end}
+use Rattle.first_pass_tokens.specs.TreeTokens.{leaves}
+use Rattle.first_pass_tokens.specs.Chains.{text_token, touches, add_token, add_tokens}
+use Rattle.first_pass_grammar.specs.Names.{Names, NamesText, index_of, kind_alone, read, read_nodes}
+use Rattle.first_pass_grammar.specs.Leaves.{Document, document, block_with}
+use Rattle.first_pass_grammar.specs.RawLines.{AreColumns, ends_with_both, range_text, code_texts, AreCodeLines, html_item, html_items, AreHtmlLines, spaces}
+use Rattle.first_pass_grammar.specs.Skeleton.{Leaf, BlankLine, Block, Head, Opener, QuoteMarker, ItemMarker, From, Line, Inside, LeafAt, Blanks, TextAt, MarkAt, Opening, OpensLeaf, OpensNode, Skeleton, Nil, Then, Node}
+use Rattle.first_pass_grammar.specs.Lists.{list_byte, joins, is_quote_marker, counts_with, run_behind, has_gap, list_end, is_loosened}
+use Rattle.first_pass_grammar.specs.Derivation.{node_of, list_flags, tight_body, tightened, leaf_items, tight_of, list_item, container_items, forest_of}
+use Rattle.first_pass_grammar.proofs.NoIndex.{HasNoIndex, HaveNoIndex, read_alone, both_free, unless_free}
+
+-- the same document, where indices name other texts
+abbrev pub with_names : Document → Names → Document
+with_names d n = document d.text d.options n
+
+-- chains, and nodes, that read alike
+abbrev pub AlikeChains : Names → Names → List Item → List Item → Type 0
+AlikeChains m n xs ys = map (read m) xs ≡ map (read n) ys
+
+abbrev pub AlikeNodes : Names → Names → List (ℕ × Item) → List (ℕ × Item) → Type 0
+AlikeNodes m n xs ys = read_nodes m xs ≡ read_nodes n ys
+
+-- leaf blocks, openings and skeletons that are one but for nodes that read alike
+abbrev pub AlikeLeaf : Names → Names → Leaf → Leaf → Type 0
+AlikeLeaf m n BlankLine BlankLine = Unit {0}
+AlikeLeaf m n BlankLine (Block closes items gap) = ⊥
+AlikeLeaf m n (Block closes items gap) BlankLine = ⊥
+AlikeLeaf m n (Block closes items gap) (Block closes' items' gap') = (closes ≡ closes') × AlikeNodes m n items items' × (gap ≡ gap')
+
+-- where blocks go on stands no item that has an index
+abbrev pub HoldsNoIndex : From → Type 0
+HoldsNoIndex Line = Unit {0}
+HoldsNoIndex (Inside p) = Unit {0}
+HoldsNoIndex (LeafAt p) = Unit {0}
+HoldsNoIndex (Blanks e) = Unit {0}
+HoldsNoIndex (TextAt marker p) = HasNoIndex marker
+HoldsNoIndex (MarkAt marker p from) = HasNoIndex marker × HoldsNoIndex from
+
+abbrev pub AlikeOpening : Names → Names → Opening → Opening → Type 0
+AlikeOpening m n (OpensLeaf leaf there left) (OpensLeaf leaf' there' left') = AlikeLeaf m n leaf leaf' × (there ≡ there') × HoldsNoIndex there × (left ≡ left')
+AlikeOpening m n (OpensLeaf leaf there left) (OpensNode head' inside' behind') = ⊥
+AlikeOpening m n (OpensNode head inside behind) (OpensLeaf leaf' there' left') = ⊥
+AlikeOpening m n (OpensNode head inside behind) (OpensNode head' inside' behind') = (head ≡ head') × (inside ≡ inside') × HoldsNoIndex inside × (behind ≡ behind')
+
+abbrev pub Alike : Names → Names → Skeleton → Skeleton → Type 0
+Alike m n Nil Nil = Unit {0}
+Alike m n Nil (Then leaf' next') = ⊥
+Alike m n Nil (Node head' e' kids' next') = ⊥
+Alike m n (Then leaf next) Nil = ⊥
+Alike m n (Then leaf next) (Then leaf' next') = AlikeLeaf m n leaf leaf' × Alike m n next next'
+Alike m n (Then leaf next) (Node head' e' kids' next') = ⊥
+Alike m n (Node head e kids next) Nil = ⊥
+Alike m n (Node head e kids next) (Then leaf' next') = ⊥
+Alike m n (Node head e kids next) (Node head' e' kids' next') = (head ≡ head') × (e ≡ e') × Alike m n kids kids' × Alike m n next next'
+
+-- one chain behind another
+chains_append : (m n : Names) (xs xs' ys ys' : List Item) → AlikeChains m n xs xs' → AlikeChains m n ys ys' → AlikeChains m n (xs ++ ys) (xs' ++ ys')
+chains_append m n xs xs' ys ys' h k = let a = map-append (read m) xs ys in let b = map-append (read n) xs' ys' in cc
+
+nodes_append : (m n : Names) (xs xs' ys ys' : List (ℕ × Item)) → AlikeNodes m n xs xs' → AlikeNodes m n ys ys' → AlikeNodes m n (xs ++ ys) (xs' ++ ys')
+nodes_append m n xs xs' ys ys' h k =
+    let a : read_nodes m (xs ++ ys) ≡ read_nodes m xs ++ read_nodes m ys = map-append (λ (x : ℕ × Item). (x.0, read m x.1)) xs ys in
+    let b : read_nodes n (xs' ++ ys') ≡ read_nodes n xs' ++ read_nodes n ys' = map-append (λ (x : ℕ × Item). (x.0, read n x.1)) xs' ys' in
+    cc
+
+-- a chain that was read, with one more item that was read: what is read of a chain and an item that are joined
+abbrev join_read : List (Item × Option (List ℕ)) → Item × Option (List ℕ) → List (Item × Option (List ℕ))
+join_read [] y = y ∷ []
+join_read (x ∷ []) y = if touches x.0 y.0 then (record { start = x.0.start; «end» = y.0.«end»; body = x.0.body }, x.1) ∷ [] else x ∷ y ∷ []
+join_read (x ∷ z ∷ zs) y = x ∷ join_read (z ∷ zs) y
+
+abbrev join_reads : List (Item × Option (List ℕ)) → List (Item × Option (List ℕ)) → List (Item × Option (List ℕ))
+join_reads chain [] = chain
+join_reads chain (x ∷ xs) = join_reads (join_read chain x) xs
+
+text_alone : (b : ItemBody) → is_text (kind_alone b) ≡ is_text b
+text_alone (SynthesizeText ix) = refl
+text_alone (FencedCodeBlock ix) = refl
+text_alone b = refl
+
+touches_read : (m : Names) (x y : Item) → touches (read m x).0 (read m y).0 ≡ touches x y
+touches_read m x y = rw (text_alone x.body, text_alone y.body) refl
+
+read_joined : (m : Names) (t : Bool) (x y : Item)
+    → map (read m) (if t then record x { «end» = y.«end» } ∷ [] else x ∷ y ∷ [])
+    ≡ (if t then (record { start = (read m x).0.start; «end» = (read m y).0.«end»; body = (read m x).0.body }, (read m x).1) ∷ [] else read m x ∷ read m y ∷ [])
+read_joined m true x y = refl
+read_joined m false x y = refl
+
+read_token : (m : Names) (chain : List Item) (y : Item) → map (read m) (add_token chain y) ≡ join_read (map (read m) chain) (read m y)
+read_token m [] y = refl
+read_token m (x ∷ []) y =
+    read_joined m (touches x y) x y
+    ∙ ap (λ (t : Bool). if t then (record { start = (read m x).0.start; «end» = (read m y).0.«end»; body = (read m x).0.body }, (read m x).1) ∷ [] else read m x ∷ read m y ∷ []) (sym (touches_read m x y))
+read_token m (x ∷ z ∷ zs) y = ap (λ r. read m x ∷ r) (read_token m (z ∷ zs) y)
+
+read_tokens : (m : Names) (chain tokens : List Item) → map (read m) (add_tokens chain tokens) ≡ join_reads (map (read m) chain) (map (read m) tokens)
+read_tokens m chain [] = refl
+read_tokens m chain (x ∷ xs) = read_tokens m (add_token chain x) xs ∙ ap (λ z. join_reads z (map (read m) xs)) (read_token m chain x)
+
+tokens_alike : (m n : Names) (chain chain' tokens tokens' : List Item) → AlikeChains m n chain chain' → AlikeChains m n tokens tokens' → AlikeChains m n (add_tokens chain tokens) (add_tokens chain' tokens')
+tokens_alike m n chain chain' tokens tokens' h k = let a = read_tokens m chain tokens in let b = read_tokens n chain' tokens' in cc
+
+-- what an index names
+named_text : (names : Names) (ix : CowIndex) (text : List ℕ) → NamesText names ix text → option_map text_of (slice_get names.texts ix.0) ≡ Some text
+named_text names ix text (named, at, is) = rw at (ap (λ z. Some z) is)
+
+-- Columns read alike, and so do the raw lines of code and of HTML.
+columns_alike : (m n : Names) (owed at : ℕ) (xs ys : List Item) → AreColumns m owed at xs → AreColumns n owed at ys → AlikeChains m n xs ys
+columns_alike m n zero at xs ys h k = let e : xs ≡ [] = h in let f : ys ≡ [] = k in cc
+columns_alike m n (suc owed) at xs ys (i, names, e) (j, names', f) =
+    let a = named_text m i (spaces (suc owed)) names in
+    let b = named_text n j (spaces (suc owed)) names' in
+    let z : Item = record { start = at; «end» = at; body = SynthesizeText (record { 0 = 0 }) } in
+    ap (map (read m)) e ∙ ap (λ (t : Option (List ℕ)). (z, t) ∷ []) (a ∙ sym b) ∙ sym (ap (map (read n)) f)
+
+range_free : (from to : ℕ) → HaveNoIndex (range_text from to)
+range_free from to = unless_free (nat_lt from to) (text_token from to false ∷ []) [] (refl, tt) tt
+
+code_free : (text : List ℕ) (from to : ℕ) → HaveNoIndex (code_texts text from to)
+unfolding code_texts
+code_free text from to =
+    unless_free (ends_with_both text from to) (range_text from (to - 2) ++ range_text (to - 1) to) (range_text from to)
+    (both_free (range_text from (to - 2)) (range_text (to - 1) to) (range_free from (to - 2)) (range_free (to - 1) to)) (range_free from to)
+
+html_free : (text : List ℕ) (from to : ℕ) → HaveNoIndex (html_items text from to)
+unfolding html_items
+html_free text from to = unless_free (ends_with_both text from to) (html_item from (to - 2) ∷ html_item (to - 1) to ∷ []) (html_item from to ∷ []) (refl, (refl, tt)) (refl, tt)
+
+-- columns with items behind them that have no index
+raw_alike : (m n : Names) (owed at : ℕ) (more xs ys : List Item) → HaveNoIndex more
+    → (columns : List Item) × AreColumns m owed at columns × (xs ≡ columns ++ more) → (columns : List Item) × AreColumns n owed at columns × (ys ≡ columns ++ more) → AlikeChains m n xs ys
+raw_alike m n owed at more xs ys free (c, h, e) (c', k, f) =
+    ap (map (read m)) e ∙ chains_append m n c c' more more (columns_alike m n owed at c c' h k) (read_alone m n more free) ∙ sym (ap (map (read n)) f)
+
+pub code_alike : (d : Document) (n : Names) (chain chain' : List Item) (places : List Place) (w w' : List Item)
+    → AlikeChains d.names n chain chain' → AreCodeLines d chain places w → AreCodeLines (with_names d n) chain' places w' → AlikeChains d.names n w w'
+unfolding AreCodeLines
+code_alike d n chain chain' [] w w' a e f = ap (map (read d.names)) e ∙ a ∙ sym (ap (map (read n)) f)
+code_alike d n chain chain' (p ∷ ps) w w' a (line, is, more) (line', is', more') =
+    code_alike d n (add_tokens chain line) (add_tokens chain' line') ps w w'
+    (tokens_alike d.names n chain chain' line line' a (raw_alike d.names n p.rest.owed (offset p) (code_texts d.text (offset p) (line_end p)) line line' (code_free d.text (offset p) (line_end p)) is is'))
+    more more'
+
+pub html_alike : (d : Document) (n : Names) (chain chain' : List Item) (owed : ℕ) (places : List Place) (w w' : List Item)
+    → AlikeChains d.names n chain chain' → AreHtmlLines d chain owed places w → AreHtmlLines (with_names d n) chain' owed places w' → AlikeChains d.names n w w'
+unfolding AreHtmlLines
+html_alike d n chain chain' owed [] w w' a e f = ap (map (read d.names)) e ∙ a ∙ sym (ap (map (read n)) f)
+html_alike d n chain chain' owed (p ∷ []) w w' a (line, is, e) (line', is', f) =
+    ap (map (read d.names)) e
+    ∙ chains_append d.names n chain chain' line line' a (raw_alike d.names n owed (offset p) (html_items d.text (offset p) (line_end p)) line line' (html_free d.text (offset p) (line_end p)) is is')
+    ∙ sym (ap (map (read n)) f)
+html_alike d n chain chain' owed (p ∷ q ∷ ps) w w' a (line, is, more) (line', is', more') =
+    html_alike d n (chain ++ line) (chain' ++ line') q.rest.owed (q ∷ ps) w w'
+    (chains_append d.names n chain chain' line line' a (raw_alike d.names n owed (offset p) (html_items d.text (offset p) (line_end p)) line line' (html_free d.text (offset p) (line_end p)) is is'))
+    more more'
+
+-- blocks with chains that read alike
+read_below : (m : Names) (chain : List Item) → read_nodes m (at_depth 1 (leaves chain)) ≡ map (λ (z : Item × Option (List ℕ)). (1, z)) (map (read m) chain)
+read_below m [] = refl
+read_below m (x ∷ xs) = ap (λ z. (1, read m x) ∷ z) (read_below m xs)
+
+pub block_alike : (m n : Names) (start «end» : ℕ) (body body' : ItemBody) (chain chain' : List Item) → read m (node_of start «end» body) ≡ read n (node_of start «end» body')
+    → AlikeChains m n chain chain' → AlikeNodes m n (block_with start «end» body chain) (block_with start «end» body' chain')
+block_alike m n start end body body' chain chain' h k =
+    ap (λ z. (0, z) ∷ read_nodes m (at_depth 1 (leaves chain))) h
+    ∙ ap (λ z. (0, read n (node_of start end body')) ∷ z) (read_below m chain ∙ ap (map (λ (z : Item × Option (List ℕ)). (1, z))) k ∙ sym (read_below n chain'))
+
+pub fence_alike : (m n : Names) (start «end» : ℕ) (i j : CowIndex) (info : List ℕ) → NamesText m i info → NamesText n j info → read m (node_of start «end» (FencedCodeBlock i)) ≡ read n (node_of start «end» (FencedCodeBlock j))
+fence_alike m n start end i j info h k =
+    let z : Item = node_of start end (FencedCodeBlock (record { 0 = 0 })) in ap (λ (t : Option (List ℕ)). (z, t)) (named_text m i info h ∙ sym (named_text n j info k))
+
+-- Making a paragraph tight leaves an item's index as it is.
+tight_alone : (b : ItemBody) → kind_alone (tight_body b) ≡ tight_body (kind_alone b)
+tight_alone Paragraph = refl
+tight_alone (SynthesizeText ix) = refl
+tight_alone (FencedCodeBlock ix) = refl
+tight_alone b = refl
+
+tight_index : (b : ItemBody) → index_of (tight_body b) ≡ index_of b
+tight_index Paragraph = refl
+tight_index b = refl
+
+-- a node read, made tight
+abbrev tight_read : ℕ → ℕ × (Item × Option (List ℕ)) → ℕ × (Item × Option (List ℕ))
+tight_read depth x = (x.0, if x.0 == depth then (node_of x.1.0.start x.1.0.«end» (tight_body x.1.0.body), x.1.1) else x.1)
+
+read_tight_by : (m : Names) (t : Bool) (x : Item) → read m (if t then node_of x.start x.«end» (tight_body x.body) else x) ≡ (if t then (node_of x.start x.«end» (tight_body (read m x).0.body), (read m x).1) else read m x)
+read_tight_by m true x = rw (tight_alone x.body, tight_index x.body) refl
+read_tight_by m false x = refl
+
+read_tight : (m : Names) (depth : ℕ) (nodes : List (ℕ × Item)) → read_nodes m (map (tightened depth) nodes) ≡ map (tight_read depth) (read_nodes m nodes)
+read_tight m depth [] = refl
+read_tight m depth (x ∷ nodes) = let a = read_tight_by m (x.0 == depth) x.1 in let b = read_tight m depth nodes in ap (λ z. (x.0, z) ∷ read_nodes m (map (tightened depth) nodes)) a ∙ ap (λ z. tight_read depth (x.0, read m x.1) ∷ z) b
+
+read_at_depth : (m : Names) (depth : ℕ) (nodes : List (ℕ × Item)) → read_nodes m (at_depth depth nodes) ≡ at_depth depth (read_nodes m nodes)
+read_at_depth m depth [] = refl
+read_at_depth m depth (x ∷ nodes) = ap (λ z. (depth + x.0, read m x.1) ∷ z) (read_at_depth m depth nodes)
+
+deep_alike : (m n : Names) (depth : ℕ) (items items' : List (ℕ × Item)) → AlikeNodes m n items items' → AlikeNodes m n (at_depth depth items) (at_depth depth items')
+deep_alike m n depth items items' h = read_at_depth m depth items ∙ ap (at_depth depth) h ∙ sym (read_at_depth n depth items')
+
+leaf_alike : (m n : Names) (depth closes closes' : ℕ) (tight : Bool) (items items' : List (ℕ × Item)) (gap gap' : Bool) → AlikeNodes m n items items'
+    → AlikeNodes m n (leaf_items depth tight (Block closes items gap)) (leaf_items depth tight (Block closes' items' gap'))
+leaf_alike m n depth closes closes' true items items' gap gap' h =
+    read_tight m depth (at_depth depth items) ∙ ap (map (tight_read depth)) (deep_alike m n depth items items' h) ∙ sym (read_tight n depth (at_depth depth items'))
+leaf_alike m n depth closes closes' false items items' gap gap' h = deep_alike m n depth items items' h
+
+-- containers around what reads alike
+item_alike : (m n : Names) (depth : ℕ) (t : Option Bool) (start «end» byte number columns : ℕ) (kids kids' : ℕ → Bool → List (ℕ × Item)) (next next' : Option (ℕ × Bool) → List (ℕ × Item)) (last : ℕ) (loose : Bool)
+    → ((d : ℕ) (tight : Bool) → AlikeNodes m n (kids d tight) (kids' d tight)) → ((l : Option (ℕ × Bool)) → AlikeNodes m n (next l) (next' l))
+    → AlikeNodes m n (list_item depth t start «end» byte number columns kids next last loose) (list_item depth t start «end» byte number columns kids' next' last loose)
+item_alike m n depth (Some tight) start end byte number columns kids kids' next next' last loose k l =
+    let x : ℕ × (Item × Option (List ℕ)) = (suc depth, (node_of start end (ListItemBody columns), None)) in
+    ap (λ z. x ∷ z) (nodes_append m n (kids (suc (suc depth)) tight) (kids' (suc (suc depth)) tight) (next (Some (byte, tight))) (next' (Some (byte, tight))) (k (suc (suc depth)) tight) (l (Some (byte, tight))))
+item_alike m n depth None start end byte number columns kids kids' next next' last loose k l =
+    let y : ℕ × (Item × Option (List ℕ)) = (depth, (node_of start last (ListBody (list_flags (not loose)) byte number), None)) in
+    let x : ℕ × (Item × Option (List ℕ)) = (suc depth, (node_of start end (ListItemBody columns), None)) in
+    ap (λ z. y ∷ x ∷ z)
+    (nodes_append m n (kids (suc (suc depth)) (not loose)) (kids' (suc (suc depth)) (not loose)) (next (Some (byte, not loose))) (next' (Some (byte, not loose))) (k (suc (suc depth)) (not loose)) (l (Some (byte, not loose))))
+
+container_alike : (m n : Names) (depth : ℕ) (list : Option (ℕ × Bool)) (opener : Opener) (start «end» : ℕ) (kids kids' : ℕ → Bool → List (ℕ × Item)) (next next' : Option (ℕ × Bool) → List (ℕ × Item)) (last last' : ℕ → ℕ) (loose loose' : ℕ → Bool)
+    → ((d : ℕ) (tight : Bool) → AlikeNodes m n (kids d tight) (kids' d tight)) → ((l : Option (ℕ × Bool)) → AlikeNodes m n (next l) (next' l))
+    → ((byte : ℕ) → last byte ≡ last' byte) → ((byte : ℕ) → loose byte ≡ loose' byte)
+    → AlikeNodes m n (container_items depth list opener start «end» kids next last loose) (container_items depth list opener start «end» kids' next' last' loose')
+container_alike m n depth list (QuoteMarker kind) start end kids kids' next next' last last' loose loose' k l same alike =
+    let x : ℕ × (Item × Option (List ℕ)) = (depth, (node_of start end (BlockQuoteBody kind), None)) in
+    ap (λ z. x ∷ z) (nodes_append m n (kids (suc depth) false) (kids' (suc depth) false) (next None) (next' None) (k (suc depth) false) (l None))
+container_alike m n depth list (ItemMarker byte number columns) start end kids kids' next next' last last' loose loose' k l same alike =
+    item_alike m n depth (tight_of list byte) start end byte number columns kids kids' next next' (last byte) (loose byte) k l
+    ∙ ap (λ z. read_nodes n (list_item depth (tight_of list byte) start end byte number columns kids' next' z (loose byte))) (same byte)
+    ∙ ap (λ z. read_nodes n (list_item depth (tight_of list byte) start end byte number columns kids' next' (last' byte) z)) (alike byte)
+
+-- Skeletons that are alike have the same runs of blank lines, the same gaps, and lists that end and are loose alike.
+run_alike : (m n : Names) (quoted : Bool) (list : Option ℕ) (run : Bool) (s t : Skeleton) → Alike m n s t → run_behind quoted list run s ≡ run_behind quoted list run t
+unfolding run_behind
+run_alike m n quoted list run Nil Nil a = refl
+run_alike m n quoted list run Nil (Then leaf' next') a = absurd a
+run_alike m n quoted list run Nil (Node head' e' kids' next') a = absurd a
+run_alike m n quoted list run (Then leaf next) Nil a = absurd a
+run_alike m n quoted list run (Then leaf next) (Node head' e' kids' next') a = absurd a
+run_alike m n quoted list run (Node head e kids next) Nil a = absurd a
+run_alike m n quoted list run (Node head e kids next) (Then leaf' next') a = absurd a
+run_alike m n quoted list run (Then BlankLine next) (Then BlankLine next') a = run_alike m n quoted list (counts_with quoted list run) next next' a.1
+run_alike m n quoted list run (Then BlankLine next) (Then (Block closes' items' gap') next') a = absurd a.0
+run_alike m n quoted list run (Then (Block closes items gap) next) (Then BlankLine next') a = absurd a.0
+run_alike m n quoted list run (Then (Block closes items gap) next) (Then (Block closes' items' gap') next') a =
+    run_alike m n quoted None gap next next' a.1 ∙ ap (λ z. run_behind quoted None z next') a.0.2
+run_alike m n quoted list run (Node head e kids next) (Node head' e' kids' next') a =
+    run_alike m n quoted (list_byte head.opener) (run_behind (is_quote_marker head.opener) None false kids) next next' a.3
+    ∙ ap (λ z. run_behind quoted (list_byte head.opener) z next') (run_alike m n (is_quote_marker head.opener) None false kids kids' a.2)
+    ∙ ap (λ (h : Head). run_behind quoted (list_byte h.opener) (run_behind (is_quote_marker h.opener) None false kids') next') a.0
+
+gap_alike : (m n : Names) (quoted : Bool) (list : Option ℕ) (run : Bool) (s t : Skeleton) → Alike m n s t → has_gap quoted list run s ≡ has_gap quoted list run t
+unfolding has_gap
+gap_alike m n quoted list run Nil Nil a = refl
+gap_alike m n quoted list run Nil (Then leaf' next') a = absurd a
+gap_alike m n quoted list run Nil (Node head' e' kids' next') a = absurd a
+gap_alike m n quoted list run (Then leaf next) Nil a = absurd a
+gap_alike m n quoted list run (Then leaf next) (Node head' e' kids' next') a = absurd a
+gap_alike m n quoted list run (Node head e kids next) Nil a = absurd a
+gap_alike m n quoted list run (Node head e kids next) (Then leaf' next') a = absurd a
+gap_alike m n quoted list run (Then BlankLine next) (Then BlankLine next') a = gap_alike m n quoted list (counts_with quoted list run) next next' a.1
+gap_alike m n quoted list run (Then BlankLine next) (Then (Block closes' items' gap') next') a = absurd a.0
+gap_alike m n quoted list run (Then (Block closes items gap) next) (Then BlankLine next') a = absurd a.0
+gap_alike m n quoted list run (Then (Block closes items gap) next) (Then (Block closes' items' gap') next') a =
+    ap (λ z. run || z) (gap_alike m n quoted None gap next next' a.1 ∙ ap (λ z. has_gap quoted None z next') a.0.2)
+gap_alike m n quoted list run (Node head e kids next) (Node head' e' kids' next') a =
+    let opener : Opener = head.opener in
+    ap (λ z. (run && not (joins list opener)) || z)
+    (gap_alike m n quoted (list_byte opener) (run_behind (is_quote_marker opener) None false kids) next next' a.3
+    ∙ ap (λ z. has_gap quoted (list_byte opener) z next') (run_alike m n (is_quote_marker opener) None false kids kids' a.2))
+    ∙ ap (λ (h : Head). (run && not (joins list h.opener)) || has_gap quoted (list_byte h.opener) (run_behind (is_quote_marker h.opener) None false kids') next') a.0
+
+end_alike : (m n : Names) (list last : ℕ) (s t : Skeleton) → Alike m n s t → list_end list last s ≡ list_end list last t
+unfolding list_end
+end_alike m n list last Nil Nil a = refl
+end_alike m n list last Nil (Then leaf' next') a = absurd a
+end_alike m n list last Nil (Node head' e' kids' next') a = absurd a
+end_alike m n list last (Then leaf next) Nil a = absurd a
+end_alike m n list last (Then leaf next) (Node head' e' kids' next') a = absurd a
+end_alike m n list last (Node head e kids next) Nil a = absurd a
+end_alike m n list last (Node head e kids next) (Then leaf' next') a = absurd a
+end_alike m n list last (Then BlankLine next) (Then BlankLine next') a = end_alike m n list last next next' a.1
+end_alike m n list last (Then BlankLine next) (Then (Block closes' items' gap') next') a = absurd a.0
+end_alike m n list last (Then (Block closes items gap) next) (Then BlankLine next') a = absurd a.0
+end_alike m n list last (Then (Block closes items gap) next) (Then (Block closes' items' gap') next') a = a.0.0
+end_alike m n list last (Node head e kids next) (Node head' e' kids' next') a =
+    ap (λ z. if joins (Some list) head.opener then z else head.closes) (end_alike m n list last next next' a.3)
+    ∙ ap (λ (h : Head). if joins (Some list) h.opener then list_end list last next' else h.closes) a.0
+
+inside_alike : (m n : Names) (list : ℕ) (kids kids' next next' : Skeleton) → Alike m n kids kids' → ((run : Bool) → is_loosened list run next ≡ is_loosened list run next')
+    → (has_gap false None false kids || is_loosened list (run_behind false None false kids) next) ≡ (has_gap false None false kids' || is_loosened list (run_behind false None false kids') next')
+inside_alike m n list kids kids' next next' a b =
+    ap (λ z. z || is_loosened list (run_behind false None false kids) next) (gap_alike m n false None false kids kids' a)
+    ∙ ap (λ z. has_gap false None false kids' || z) (b (run_behind false None false kids) ∙ ap (λ z. is_loosened list z next') (run_alike m n false None false kids kids' a))
+
+loose_alike : (m n : Names) (list : ℕ) (run : Bool) (s t : Skeleton) → Alike m n s t → is_loosened list run s ≡ is_loosened list run t
+unfolding is_loosened
+loose_alike m n list run Nil Nil a = refl
+loose_alike m n list run Nil (Then leaf' next') a = absurd a
+loose_alike m n list run Nil (Node head' e' kids' next') a = absurd a
+loose_alike m n list run (Then leaf next) Nil a = absurd a
+loose_alike m n list run (Then leaf next) (Node head' e' kids' next') a = absurd a
+loose_alike m n list run (Node head e kids next) Nil a = absurd a
+loose_alike m n list run (Node head e kids next) (Then leaf' next') a = absurd a
+loose_alike m n list run (Then BlankLine next) (Then BlankLine next') a = loose_alike m n list true next next' a.1
+loose_alike m n list run (Then BlankLine next) (Then (Block closes' items' gap') next') a = absurd a.0
+loose_alike m n list run (Then (Block closes items gap) next) (Then BlankLine next') a = absurd a.0
+loose_alike m n list run (Then (Block closes items gap) next) (Then (Block closes' items' gap') next') a = refl
+loose_alike m n list run (Node head e kids next) (Node head' e' kids' next') a =
+    ap (λ z. if joins (Some list) head.opener then run || z else false)
+    (inside_alike m n list kids kids' next next' a.2 (λ r. loose_alike m n list r next next' a.3))
+    ∙ ap (λ (h : Head). if joins (Some list) h.opener then run || (has_gap false None false kids' || is_loosened list (run_behind false None false kids') next') else false) a.0
+
+-- the items of alike skeletons read alike
+pub forest_alike : (m n : Names) (depth last : ℕ) (tight : Bool) (list : Option (ℕ × Bool)) (s t : Skeleton) → Alike m n s t → AlikeNodes m n (forest_of depth last tight list s) (forest_of depth last tight list t)
+unfolding forest_of
+forest_alike m n depth last tight list Nil Nil a = refl
+forest_alike m n depth last tight list Nil (Then leaf' next') a = absurd a
+forest_alike m n depth last tight list Nil (Node head' e' kids' next') a = absurd a
+forest_alike m n depth last tight list (Then leaf next) Nil a = absurd a
+forest_alike m n depth last tight list (Then leaf next) (Node head' e' kids' next') a = absurd a
+forest_alike m n depth last tight list (Node head e kids next) Nil a = absurd a
+forest_alike m n depth last tight list (Node head e kids next) (Then leaf' next') a = absurd a
+forest_alike m n depth last tight list (Then BlankLine next) (Then BlankLine next') a = forest_alike m n depth last tight list next next' a.1
+forest_alike m n depth last tight list (Then BlankLine next) (Then (Block closes' items' gap') next') a = absurd a.0
+forest_alike m n depth last tight list (Then (Block closes items gap) next) (Then BlankLine next') a = absurd a.0
+forest_alike m n depth last tight list (Then (Block closes items gap) next) (Then (Block closes' items' gap') next') a =
+    nodes_append m n (leaf_items depth tight (Block closes items gap)) (leaf_items depth tight (Block closes' items' gap')) (forest_of depth last tight None next) (forest_of depth last tight None next')
+    (leaf_alike m n depth closes closes' tight items items' gap gap' a.0.1) (forest_alike m n depth last tight None next next' a.1)
+forest_alike m n depth last tight list (Node head e kids next) (Node head' e' kids' next') a =
+    subst (λ (h : Head). read_nodes m (forest_of depth last tight list (Node head e kids next)) ≡ read_nodes n (forest_of depth last tight list (Node h e' kids' next'))) a.0
+    (subst (λ (x : ℕ). read_nodes m (forest_of depth last tight list (Node head e kids next)) ≡ read_nodes n (forest_of depth last tight list (Node head x kids' next'))) a.1
+    (container_alike m n depth list head.opener head.start e (λ d t. forest_of d e t None kids) (λ d t. forest_of d e t None kids') (λ l. forest_of depth last tight l next) (λ l. forest_of depth last tight l next')
+    (λ byte. list_end byte last next) (λ byte. list_end byte last next')
+    (λ byte. has_gap false None false kids || is_loosened byte (run_behind false None false kids) next) (λ byte. has_gap false None false kids' || is_loosened byte (run_behind false None false kids') next')
+    (λ d t. forest_alike m n d e t None kids kids' a.2) (λ l. forest_alike m n depth last tight l next next' a.3)
+    (λ byte. end_alike m n byte last next next' a.3) (λ byte. inside_alike m n byte kids kids' next next' a.2 (λ r. loose_alike m n byte r next next' a.3))))

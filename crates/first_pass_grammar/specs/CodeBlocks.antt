@@ -1,0 +1,145 @@
+-- Code blocks and metadata: which lines they take (CommonMark 4.4, 4.5, and this project).
+use Rattle.std.specs.Prelude.{◌≡◌, ℕ, ◌+◌, ◌-◌, Bool, false, nat_lt, List, [], ◌∷◌, length, take, drop, slice_get, Option, Some, None, if◌then◌else◌}
+use Rattle.std.specs.List.{prefix_len, suffix_len}
+use Rattle.std.specs.Option.{option_map, option_and_then}
+use Rattle.first_pass_items.specs.declared.cow_str.CowStr.{CowStr}
+use Rattle.first_pass_items.specs.CowText.{text_of}
+use Rattle.first_pass_items.specs.declared.item.CowIndex.{CowIndex}
+use Rattle.first_pass_items.specs.declared.item.Item.{Item}
+use Rattle.first_pass_items.specs.declared.item.MetadataBlockKind.{MetadataBlockKind}
+use Rattle.first_pass_items.specs.declared.item.MetadataBlockKind.TheVariants.{YamlStyle, PlusesStyle}
+use Rattle.first_pass_items.specs.declared.item.ItemBody.TheVariants.{IndentCodeBlock, FencedCodeBlock, MetadataBlock}
+use Rattle.first_pass_scan.specs.Lines.{is_white, is_ascii_white, line_len}
+use Rattle.first_pass_scan.specs.LeafLines.{closing_fence_len, closing_metadata_len}
+use Rattle.first_pass_scan.specs.Rest.{indent}
+use Rattle.first_pass_scan.specs.Places.{Place, offset, line_end, moved_columns}
+use Rattle.first_pass_links.specs.Escapes.{unescaped}
+use Rattle.first_pass_links.specs.Texts.{Borrows}
+use Rattle.first_pass_grammar.specs.declared.kind.Container.{Container}
+use Rattle.first_pass_grammar.specs.Names.{Names}
+use Rattle.first_pass_grammar.specs.Containers.{has_columns, taken}
+use Rattle.first_pass_grammar.specs.Kinds.{all_taken, unindented, is_blank_rest}
+use Rattle.first_pass_grammar.specs.Leaves.{Document, block_with}
+use Rattle.first_pass_grammar.specs.RawLines.{AreCodeLines}
+
+-- The raw lines of a leaf block, as the places at which their texts begin; where the block ends; and the lines that it leaves.
+pub record Extent : Type 0 where
+  pub places : List Place
+  pub «end» : ℕ
+  pub left : List Place
+
+-- the same with a raw line before them
+abbrev pub with_line : Place → Extent → Extent
+with_line p e = record { places = p ∷ e.places; «end» = e.«end»; left = e.left }
+
+-- a block that has no more lines and ends at an offset
+abbrev pub ends_at : ℕ → List Place → Extent
+ends_at e lines = record { places = []; «end» = e; left = lines }
+
+-- Where the text of a line begins by which indented code goes on: behind what the containers take of it, and four columns, or fewer and then the end of
+-- the line (CommonMark 4.4).
+abbrev pub code_place : List Container → Place → Option Place
+code_place path line = option_and_then (λ (q : Place). if has_columns 4 q.rest then Some (moved_columns 4 q) else None) (taken path line)
+
+-- the places of the lines that go on with indented code, and what they leave
+abbrev pub code_by : List Place → List Place → Option Place → List Place × List Place → List Place × List Place
+code_by line lines None further = ([], lines)
+code_by line lines (Some p) further = (p ∷ further.0, further.1)
+
+unfoldable pub code_lines : List Container → List Place → List Place × List Place
+code_lines path [] = ([], [])
+code_lines path (line ∷ lines) = code_by lines (line ∷ lines) (code_place path line) (code_lines path lines)
+
+-- lines without those at their end that are blank
+abbrev pub unless_blank : Place → List Place → List Place
+unless_blank p [] = if is_blank_rest p.rest then [] else p ∷ []
+unless_blank p (q ∷ qs) = p ∷ q ∷ qs
+
+unfoldable pub without_blanks : List Place → List Place
+without_blanks [] = []
+without_blanks (p ∷ ps) = unless_blank p (without_blanks ps)
+
+-- the last of these lines is blank
+unfoldable pub last_is_blank : List Place → Bool
+last_is_blank [] = false
+last_is_blank (p ∷ []) = is_blank_rest p.rest
+last_is_blank (p ∷ q ∷ ps) = last_is_blank (q ∷ ps)
+
+-- where the last of these lines ends, or an offset where there is none
+unfoldable pub last_end : ℕ → List Place → ℕ
+last_end e [] = e
+last_end e (p ∷ ps) = last_end (line_end p) ps
+
+-- Indented code whose first line's text begins at a place behind its four columns, of which these further lines go on with it: the blank lines at its end
+-- are no part of it (CommonMark 4.4).
+pub record IsIndentedCode (d : Document) (p : Place) (further : List Place) (items : List (ℕ × Item)) : Type 0 where
+  pub chain : List Item
+  pub lines : AreCodeLines d [] (without_blanks (p ∷ further)) chain
+  pub items_are : items ≡ block_with (offset p) (last_end (offset p) (without_blanks (p ∷ further))) IndentCodeBlock chain
+
+-- where a closing fence ends that a line is from a place on, at under four columns: so many of a byte at least; the end of the text closes too
+-- (CommonMark 4.5)
+abbrev pub closing_fence_end : ℕ → ℕ → Place → Option ℕ
+closing_fence_end byte count p = if nat_lt (indent p.rest) 4 then option_map (λ n. offset (unindented p) + n) (closing_fence_len byte count (all_taken p.rest).left) else None
+
+-- The lines of a fenced code block behind its opening fence, which stood at so many columns and has so many of a byte, in a text of n bytes: up to the
+-- closing fence, or to a line that doesn't go on with the containers. Of each line as many columns are taken as the fence stood at (CommonMark 4.5).
+abbrev pub fenced_line : ℕ → Place → Option ℕ → List Place → Extent → Extent
+fenced_line columns q None lines further = with_line (moved_columns columns q) further
+fenced_line columns q (Some e) lines further = ends_at e lines
+
+abbrev pub fenced_by : ℕ → ℕ → ℕ → Place → List Place → Option Place → Extent → Extent
+fenced_by columns byte count line lines None further = ends_at line.line (line ∷ lines)
+fenced_by columns byte count line lines (Some q) further = fenced_line columns q (closing_fence_end byte count q) lines further
+
+unfoldable pub fenced_lines : ℕ → List Container → ℕ → ℕ → ℕ → List Place → Extent
+fenced_lines n path columns byte count [] = ends_at n []
+fenced_lines n path columns byte count (line ∷ lines) = fenced_by columns byte count line lines (taken path line) (fenced_lines n path columns byte count lines)
+
+-- what is left of a line's bytes from here on without the white space at both ends (CommonMark 4.5)
+abbrev pub trimmed : List ℕ → List ℕ
+trimmed line = take (length line - suffix_len is_ascii_white line) line
+
+-- the info string of a code fence that ends before these bytes (CommonMark 4.5)
+unfoldable pub info_string : List ℕ → List ℕ
+info_string bs = let text = drop (prefix_len is_white bs) bs in trimmed (take (line_len text) text)
+
+-- the index names an info string without its escapes and references; where these change nothing it is borrowed from the text (CommonMark 4.5, and this
+-- project)
+pub record NamesInfo (names : Names) (ix : CowIndex) (info : List ℕ) : Type 0 where
+  pub named : CowStr
+  pub at : slice_get names.texts ix.0 ≡ Some named
+  pub text : text_of named ≡ unescaped false info
+  pub borrowed : unescaped false info ≡ info → Borrows info named
+
+-- The fenced code block whose fence of so many bytes begins at an offset, with these raw lines and this end.
+pub record IsFencedCode (d : Document) (start count : ℕ) (places : List Place) («end» : ℕ) (items : List (ℕ × Item)) : Type 0 where
+  pub chain : List Item
+  pub info : CowIndex
+  pub names : NamesInfo d.names info (info_string (drop (start + count) d.text))
+  pub lines : AreCodeLines d [] places chain
+  pub items_are : items ≡ block_with start «end» (FencedCodeBlock info) chain
+
+-- The lines of a metadata block of this byte behind its first, in a text of n bytes: up to its closing line, which is sought in the whole of each line; or
+-- to a line that doesn't go on with the containers (this project).
+abbrev pub metadata_line : Place → Place → Option ℕ → List Place → Extent → Extent
+metadata_line line q None lines further = with_line q further
+metadata_line line q (Some n) lines further = ends_at (line.line + n) lines
+
+abbrev pub metadata_by : ℕ → Place → List Place → Option Place → Extent → Extent
+metadata_by byte line lines None further = ends_at line.line (line ∷ lines)
+metadata_by byte line lines (Some q) further = metadata_line line q (closing_metadata_len byte line.rest.left) lines further
+
+unfoldable pub metadata_lines : ℕ → List Container → ℕ → List Place → Extent
+metadata_lines n path byte [] = ends_at n []
+metadata_lines n path byte (line ∷ lines) = metadata_by byte line lines (taken path line) (metadata_lines n path byte lines)
+
+-- the marks `---` or `+++`, by their byte
+abbrev pub metadata_kind : ℕ → MetadataBlockKind
+metadata_kind byte = if nat_lt byte 45 then PlusesStyle else YamlStyle
+
+-- The metadata block of this byte that begins at an offset, with these raw lines and this end.
+pub record IsMetadata (d : Document) (start byte : ℕ) (places : List Place) («end» : ℕ) (items : List (ℕ × Item)) : Type 0 where
+  pub chain : List Item
+  pub lines : AreCodeLines d [] places chain
+  pub items_are : items ≡ block_with start «end» (MetadataBlock (metadata_kind byte)) chain

@@ -1,0 +1,12 @@
+pub mod BlockLemmas
+pub mod CodeLineLemmas
+pub mod FencedLemmas
+pub mod FrontLemmas
+pub mod HtmlLemmas
+pub mod IndentedLemmas
+pub mod MetadataLemmas
+pub mod NameLemmas
+pub mod PathLemmas
+pub mod PlaceLemmas
+pub mod RawLineLemmas
+pub mod RawOrder

@@ -1,0 +1,4 @@
+pub mod OpenBlock
+pub mod Path
+pub mod RawBlocks
+pub mod TableEntries
