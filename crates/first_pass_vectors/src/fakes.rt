@@ -5,6 +5,7 @@ use first_pass_program::run::blocks_run;
 use std::alloc::{AllocError, Global};
 use std::io;
 use std::io::{ErrorKind, Read, Write};
+use std::process::Abort;
 use std::test::Fail;
 
 /// A reader of bytes that gives at most `step` of them at a time, and fails at the read of that number.
@@ -94,4 +95,20 @@ pub fn print(alloc: Global, bits: &str, text: &str) -> Result<String, Fail> {
     let answer = run(alloc, &words[..given], &mut source, &mut sink)?;
     answer.ok().ok_or("no fault")?;
     Ok(String::from_utf8_lossy(alloc, sink.bytes.as_slice())?)
+}
+
+/// Asserts what is printed for each text: its option bits (none where they are empty), the text, what is wanted.
+pub fn assert_printed(
+    rt: &impl Abort,
+    alloc: Global,
+    texts: &[(&str, &str, &str)],
+) -> Result<(), Fail> {
+    for (bits, text, want) in texts {
+        let printed = print(alloc, bits, text)?;
+        assert!(rt;
+            printed.as_str() == *want,
+            "options {bits:?}, text {text:?}: {printed}"
+        );
+    }
+    Ok(())
 }

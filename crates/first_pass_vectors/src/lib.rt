@@ -12,6 +12,8 @@ mod faults;
 #[cfg(test)]
 mod lists;
 #[cfg(test)]
+mod raw;
+#[cfg(test)]
 mod tags;
 #[cfg(test)]
 mod tasks;

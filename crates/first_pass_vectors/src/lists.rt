@@ -1,6 +1,6 @@
 //! Lists, and what is printed for them.
 
-use crate::fakes::print;
+use crate::fakes::assert_printed;
 use std::test::Fail;
 
 // Lists and what is in them: the option bits (none where it is empty), the text, and what is printed.
@@ -262,7 +262,7 @@ const MIXED: &[(&str, &str, &str)] = &[
     (
         "",
         "    - a",
-        "Root 0..7\n  Paragraph 4..7\n    Text 4..7\n",
+        "Root 0..7\n  IndentCodeBlock 4..7\n    Text 4..7\n",
     ),
     (
         "",
@@ -591,48 +591,20 @@ const LISTS: &[(&str, &str, &str)] = &[
 
 #[test]
 fn lists_are_printed(rt: HostRuntime) -> Result<(), Fail> {
-    for (bits, text, want) in TEXTS {
-        let printed = print(rt.alloc(), bits, text)?;
-        assert!(rt;
-            printed.as_str() == *want,
-            "options {bits:?}, text {text:?}: {printed}"
-        );
-    }
-    Ok(())
+    assert_printed(&rt, rt.alloc(), TEXTS)
 }
 
 #[test]
 fn mixed_lists_are_printed(rt: HostRuntime) -> Result<(), Fail> {
-    for (bits, text, want) in MIXED {
-        let printed = print(rt.alloc(), bits, text)?;
-        assert!(rt;
-            printed.as_str() == *want,
-            "options {bits:?}, text {text:?}: {printed}"
-        );
-    }
-    Ok(())
+    assert_printed(&rt, rt.alloc(), MIXED)
 }
 
 #[test]
 fn items_of_the_standard_are_printed(rt: HostRuntime) -> Result<(), Fail> {
-    for (bits, text, want) in ITEMS {
-        let printed = print(rt.alloc(), bits, text)?;
-        assert!(rt;
-            printed.as_str() == *want,
-            "options {bits:?}, text {text:?}: {printed}"
-        );
-    }
-    Ok(())
+    assert_printed(&rt, rt.alloc(), ITEMS)
 }
 
 #[test]
 fn lists_of_the_standard_are_printed(rt: HostRuntime) -> Result<(), Fail> {
-    for (bits, text, want) in LISTS {
-        let printed = print(rt.alloc(), bits, text)?;
-        assert!(rt;
-            printed.as_str() == *want,
-            "options {bits:?}, text {text:?}: {printed}"
-        );
-    }
-    Ok(())
+    assert_printed(&rt, rt.alloc(), LISTS)
 }

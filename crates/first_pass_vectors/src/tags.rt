@@ -1,6 +1,6 @@
 //! Block quotes with tags, and what is printed for them.
 
-use crate::fakes::print;
+use crate::fakes::assert_printed;
 use std::test::Fail;
 
 // Tags of block quotes: the option bits (none where it is empty), the text, and what is printed.
@@ -99,12 +99,5 @@ const TEXTS: &[(&str, &str, &str)] = &[
 
 #[test]
 fn tagged_quotes_are_printed(rt: HostRuntime) -> Result<(), Fail> {
-    for (bits, text, want) in TEXTS {
-        let printed = print(rt.alloc(), bits, text)?;
-        assert!(rt;
-            printed.as_str() == *want,
-            "options {bits:?}, text {text:?}: {printed}"
-        );
-    }
-    Ok(())
+    assert_printed(&rt, rt.alloc(), TEXTS)
 }

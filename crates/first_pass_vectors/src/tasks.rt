@@ -1,6 +1,6 @@
 //! Task list items, and what is printed for them.
 
-use crate::fakes::print;
+use crate::fakes::assert_printed;
 use std::test::Fail;
 
 // Task list items: the option bits (none where it is empty), the text, and what is printed; the last two
@@ -120,12 +120,5 @@ const TEXTS: &[(&str, &str, &str)] = &[
 
 #[test]
 fn task_items_are_printed(rt: HostRuntime) -> Result<(), Fail> {
-    for (bits, text, want) in TEXTS {
-        let printed = print(rt.alloc(), bits, text)?;
-        assert!(rt;
-            printed.as_str() == *want,
-            "options {bits:?}, text {text:?}: {printed}"
-        );
-    }
-    Ok(())
+    assert_printed(&rt, rt.alloc(), TEXTS)
 }

@@ -1,6 +1,6 @@
 //! Texts, options and what is printed for them.
 
-use crate::fakes::print;
+use crate::fakes::assert_printed;
 use std::test::Fail;
 
 /// The option bits (none where it is empty), the text, and what is printed.
@@ -24,7 +24,7 @@ const TEXTS: &[(&str, &str, &str)] = &[
     (
         "",
         "    > a",
-        "Root 0..7\n  Paragraph 4..7\n    Text 4..7\n",
+        "Root 0..7\n  IndentCodeBlock 4..7\n    Text 4..7\n",
     ),
     ("", ">\n", "Root 0..2\n  BlockQuote 0..2\n"),
     (
@@ -157,7 +157,7 @@ const TEXTS: &[(&str, &str, &str)] = &[
     (
         "",
         "    ***",
-        "Root 0..7\n  Paragraph 4..7\n    Text 4..7\n",
+        "Root 0..7\n  IndentCodeBlock 4..7\n    Text 4..7\n",
     ),
     (
         "",
@@ -215,12 +215,5 @@ const TEXTS: &[(&str, &str, &str)] = &[
 
 #[test]
 fn texts_are_printed(rt: HostRuntime) -> Result<(), Fail> {
-    for (bits, text, want) in TEXTS {
-        let printed = print(rt.alloc(), bits, text)?;
-        assert!(rt;
-            printed.as_str() == *want,
-            "options {bits:?}, text {text:?}: {printed}"
-        );
-    }
-    Ok(())
+    assert_printed(&rt, rt.alloc(), TEXTS)
 }
