@@ -9,3 +9,6 @@ pub mod RuleFacts
 pub mod TableFacts
 pub mod HeadingFacts
 pub mod MetadataFacts
+pub mod PlainFacts
+pub mod LaneLemmas
+pub mod SpaceFacts

@@ -5,3 +5,5 @@ pub mod LeafLines
 pub mod Markers
 pub mod TableHead
 pub mod MetadataSearch
+pub mod Plain
+pub mod Lanes

@@ -2,6 +2,7 @@
 //! block, delimiter rows of tables, and what is left of a line by columns, with the markers there.
 #![tactic(auto)]
 
+pub mod lanes;
 pub mod leaf_scan;
 pub mod line_start;
 pub mod lines;

@@ -5,10 +5,12 @@ ghost use Rattle.first_pass_scan.specs.Lines.{at_line_end, is_blank_line};
 ghost use Rattle.first_pass_scan.specs.LeafLines.{hrule_len};
 ghost use Rattle.first_pass_scan.specs.Rest.{next_column, after_columns, indent, past_bytes, past_quote};
 ghost use Rattle.first_pass_scan.specs.Places.{line_rest};
+ghost use Rattle.first_pass_scan.specs.Plain.{begins_plain, begins_inert};
 ghost use Rattle.first_pass_scan.specs.Markers.{list_marker, content_indent as content_after, behind_marker, behind_colon, item_of, listitem, definition_of, task_box, task_of, past_tag};
 
+use crate::lanes::{LANES, space_run};
 use crate::leaf_scan::{scan_hrule, scan_rule_free};
-use crate::lines::{scan_blank_line, scan_eol};
+use crate::lines::{is_inert_front, is_plain_front, scan_blank_line, scan_eol};
 use crate::markers::{scan_list_marker, scan_tag_line, scan_task_box};
 use crate::places::rest_of;
 use first_pass_items::item::BlockQuoteKind;
@@ -98,17 +100,36 @@ impl<'a> LineStart<'a> {
         scan_eol(rest_of(self.bytes, self.at)).is_some()
     }
 
+    /// Whether a letter or a character past ASCII is next, and no column is owed: then no white space is
+    /// here, and no block begins but a paragraph.
+    #[inline(always)]
+    pub fn is_at_plain(&self) -> bool
+        ensures owed { result ≡ true → self.now.owed ≡ 0 }
+        ensures plain { result ≡ true → begins_plain self.now.left ≡ true }
+    {
+        self.owed == 0 && is_plain_front(rest_of(self.bytes, self.at))
+    }
+
+    /// Whether no column is owed, and a byte is next that is no space or tab, and with which no container begins.
+    #[inline(always)]
+    pub fn is_at_inert(&self) -> bool
+        ensures owed { result ≡ true → self.now.owed ≡ 0 }
+        ensures inert { result ≡ true → begins_inert self.now.left ≡ true }
+    {
+        self.owed == 0 && is_inert_front(rest_of(self.bytes, self.at))
+    }
+
     /// Takes as many columns of spaces and tabs as there are, up to `n`, and says how many.
     /// CommonMark 2.2.
+    #[inline(always)]
     pub fn scan_space_upto(&mut self, n: usize) -> usize
         ensures rest { self.new ≡ after_columns n self.old }
         ensures value { result ≡ min n (indent self.old) }
     {
-        let mut taken = 0;
-        while taken < n && self.take_column() {
-            taken += 1;
+        if self.take_spaces(n) {
+            return n;
         }
-        taken
+        self.take_columns(n)
     }
 
     /// Takes as many columns as there are, up to `n`, and says whether all `n` were there.
@@ -121,6 +142,7 @@ impl<'a> LineStart<'a> {
     }
 
     /// Takes all columns, the owed ones too. CommonMark 2.2.
+    #[inline(always)]
     pub fn scan_all_space(&mut self)
         ensures { self.new ≡ after_columns (indent self.old) self.old }
     {
@@ -285,6 +307,9 @@ impl<'a> LineStart<'a> {
         requires { width < 2 ^ 62 }
         ensures { let content = content_after width self.old in (result ≡ content.0) × (self.new ≡ content.1) }
     {
+        if self.is_at_plain() {
+            return width;
+        }
         if self.is_blank_line() {
             return width;
         }
@@ -299,6 +324,7 @@ impl<'a> LineStart<'a> {
 
     // Takes the columns behind an item's marker that ends `width` columns in, and says how many columns
     // in its content begins. `None` where neither a column nor the end of the line follows it.
+    #[inline(always)]
     #[tactic(auto, unfolding(crate::specs::Markers::behind_marker))]
     fn scan_behind_marker(&mut self, width: usize) -> Option<usize>
         requires { width < 2 ^ 61 }
@@ -320,6 +346,33 @@ impl<'a> LineStart<'a> {
             return width;
         }
         self.scan_content_indent(width + 1)
+    }
+
+    // Takes `n` spaces where they are next and no column is owed, and says so; else takes nothing. One look at
+    // 16 bytes, without a loop whose end is hard to predict.
+    #[inline(always)]
+    fn take_spaces(&mut self, n: usize) -> bool
+        ensures yes { result ≡ true → (self.new ≡ after_columns n self.old) × (n ≤ indent self.old) }
+        ensures no { result ≡ false → self.new ≡ self.old }
+    {
+        let rest = rest_of(self.bytes, self.at);
+        if self.owed != 0 || rest.len() < LANES || space_run(rest) < n {
+            return false;
+        }
+        self.skip(n);
+        true
+    }
+
+    // Takes as many columns as there are, up to `n`, one at a time, and says how many.
+    fn take_columns(&mut self, n: usize) -> usize
+        ensures rest { self.new ≡ after_columns n self.old }
+        ensures value { result ≡ min n (indent self.old) }
+    {
+        let mut taken = 0;
+        while taken < n && self.take_column() {
+            taken += 1;
+        }
+        taken
     }
 
     // Takes one column, if there is one.

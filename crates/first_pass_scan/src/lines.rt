@@ -3,6 +3,7 @@
 ghost use Rattle.std.specs.List.{prefix_len};
 ghost use Rattle.std.specs.Prelude.{◌≡◌, ◌<◌, ◌≤◌, length, true, IfSome};
 ghost use Rattle.first_pass_scan.specs.Lines.{is_line_end, is_white, is_blank, is_ascii_white, begins, is_content, is_number_sign, eol_len, blank_len, line_len, level_number as number_of, level_of, atx_level};
+ghost use Rattle.first_pass_scan.specs.Plain.{begins_plain, begins_inert};
 
 use first_pass_items::item::HeadingLevel;
 use memchr::memchr2;
@@ -43,6 +44,34 @@ pub fn begins(byte: u8, bytes: &[u8]) -> bool
     match bytes {
         [] => false,
         [first, ..] => *first == byte,
+    }
+}
+
+/// Whether a letter or a byte of a character past ASCII stands first: with such a byte no block begins but
+/// a paragraph.
+#[inline(always)]
+#[tactic(auto, unfolding(crate::specs::Plain::is_plain))]
+pub fn is_plain_front(bytes: &[u8]) -> bool
+    ensures { result ≡ begins_plain bytes.now }
+{
+    match bytes {
+        [] => false,
+        [byte, ..] => byte.is_ascii_alphabetic() || *byte >= 128,
+    }
+}
+
+/// Whether a byte stands first that is no space or tab, and with which no container begins.
+#[inline(always)]
+#[tactic(auto, unfolding(crate::specs::Plain::is_inert))]
+pub fn is_inert_front(bytes: &[u8]) -> bool
+    ensures { result ≡ begins_inert bytes.now }
+{
+    match bytes {
+        [] => false,
+        [byte, ..] => !matches!(
+            *byte,
+            b'\t' | b' ' | b'*' | b'+' | b'-' | b'>' | b'0'..=b'9'
+        ),
     }
 }
 
@@ -102,6 +131,9 @@ pub fn scan_nextline(bytes: &[u8]) -> usize
     ensures value { result ≡ line_len bytes.now }
     ensures within { result ≤ length bytes.now }
 {
+    if let [b'\n', ..] = bytes {
+        return 1;
+    }
     let content = content_len(bytes);
     match scan_eol(&bytes[content..]) {
         Some(end) => content + end,

@@ -1,0 +1,146 @@
+-- With a plain byte no line end, marker, break, heading or fence begins, and with an inert byte no column and no container.
+use Rattle.std.proofs.Common.{◌≡◌, inl, inr, ℕ, zero, suc, ◌&&◌, if◌then◌else◌, ◌+◌, ◌==◌, ◌||◌, not, Bool, true, false, true≢false, List, [], ◌∷◌, Option, None, refl, sym, ap, ◌∙◌, arith}
+use Rattle.std.proofs.lemmas.Bool.{cases_eq, ne_eqb}
+use Rattle.std.proofs.lemmas.Bool.Decides.{nat_tests}
+use Rattle.std.specs.Char.{is_ascii_digit}
+use Rattle.first_pass_scan.specs.Rest.{Rest, column_of_byte, next_column, columns_of, after_columns, indent, past_quote_byte, past_quote}
+use Rattle.first_pass_scan.specs.Lines.{is_white, begins, eol_len, blank_len, atx_level}
+use Rattle.first_pass_scan.specs.LeafLines.{hrule_len, code_fence, metadata_byte}
+use Rattle.first_pass_scan.specs.Markers.{content_indent, item_by, list_marker, listitem, item_of}
+use Rattle.first_pass_scan.specs.Plain.{is_plain, begins_plain, is_inert, begins_inert}
+
+-- a byte of which a test holds is none of which it doesn't
+isnt : (test : ℕ → Bool) (b c : ℕ) → test b ≡ true → test c ≡ false → b == c ≡ false
+isnt test b c h k = elim (cases_eq b c) [
+  | inl same ↦ absurd (true≢false (sym h ∙ ap test same ∙ k))
+  | inr other ↦ ne_eqb b c other
+]
+
+-- a plain byte is inert
+plain_inert : (b : ℕ) → is_plain b ≡ true → is_inert b ≡ true
+unfolding is_plain is_inert
+plain_inert b h = grind (arith, nat_tests, h)
+
+begins_both : (bs : List ℕ) → begins_plain bs ≡ true → begins_inert bs ≡ true
+begins_both [] h = h
+begins_both (b ∷ bs) h = plain_inert b h
+
+isnt_white : (b : ℕ) → is_plain b ≡ true → is_white b ≡ false
+unfolding is_plain
+isnt_white b h = rw (isnt is_plain b 9 h refl) (rw (isnt is_plain b 11 h refl) (rw (isnt is_plain b 12 h refl) (rw (isnt is_plain b 32 h refl) refl)))
+
+pub plain_begins : (c : ℕ) (bs : List ℕ) → begins_plain bs ≡ true → is_plain c ≡ false → begins c bs ≡ false
+plain_begins c [] h k = refl
+plain_begins c (b ∷ bs) h k = isnt is_plain b c h k
+
+pub plain_eol : (bs : List ℕ) → begins_plain bs ≡ true → eol_len bs ≡ None
+unfolding is_plain
+plain_eol [] h = absurd (true≢false (sym h))
+plain_eol (b ∷ bs) h = rw (isnt is_plain b 10 h refl) (rw (isnt is_plain b 13 h refl) refl)
+
+pub plain_blank : (bs : List ℕ) → begins_plain bs ≡ true → blank_len bs ≡ None
+unfolding is_plain
+plain_blank [] h = absurd (true≢false (sym h))
+plain_blank (b ∷ bs) h = rw (isnt_white b h) (rw (isnt is_plain b 10 h refl) (rw (isnt is_plain b 13 h refl) refl))
+
+pub plain_hrule : (bs : List ℕ) → begins_plain bs ≡ true → hrule_len bs ≡ None
+unfolding hrule_len is_plain
+plain_hrule [] h = absurd (true≢false (sym h))
+plain_hrule (b ∷ bs) h = rw (isnt is_plain b 45 h refl) (rw (isnt is_plain b 95 h refl) (rw (isnt is_plain b 42 h refl) refl))
+
+pub plain_atx : (bs : List ℕ) → begins_plain bs ≡ true → atx_level bs ≡ None
+unfolding atx_level is_plain
+plain_atx [] h = absurd (true≢false (sym h))
+plain_atx (b ∷ bs) h =
+    rw (isnt is_plain b 35 h refl) (rw (isnt is_plain b 10 h refl) (rw (isnt is_plain b 13 h refl) (rw (isnt is_plain b 32 h refl) (rw (isnt is_plain b 9 h refl) refl))))
+
+pub plain_fence : (bs : List ℕ) → begins_plain bs ≡ true → code_fence bs ≡ None
+unfolding code_fence is_plain
+plain_fence [] h = absurd (true≢false (sym h))
+plain_fence (b ∷ bs) h = rw (isnt is_plain b 96 h refl) (rw (isnt is_plain b 126 h refl) refl)
+
+and_none : (yaml : Bool) (t : Bool) (x y : Option ℕ) → t ≡ false → (if yaml && t then x else y) ≡ y
+and_none true t x y e = rw e refl
+and_none false t x y e = refl
+
+pub plain_metadata : (yaml pluses : Bool) (bs : List ℕ) → begins_plain bs ≡ true → metadata_byte yaml pluses bs ≡ None
+unfolding metadata_byte is_plain
+plain_metadata yaml pluses bs h =
+    and_none yaml (begins 45 bs) _ _ (plain_begins 45 bs h refl) ∙ and_none pluses (begins 43 bs) _ _ (plain_begins 43 bs h refl)
+
+-- the last of the tests that hold of no inert byte
+last_off : (p q r s t u v : Bool) → not (p || q || r || s || t || u || v) ≡ true → v ≡ false
+last_off true q r s t u v h = absurd (true≢false (sym h))
+last_off false true r s t u v h = absurd (true≢false (sym h))
+last_off false false true s t u v h = absurd (true≢false (sym h))
+last_off false false false true t u v h = absurd (true≢false (sym h))
+last_off false false false false true u v h = absurd (true≢false (sym h))
+last_off false false false false false true v h = absurd (true≢false (sym h))
+last_off false false false false false false true h = absurd (true≢false (sym h))
+last_off false false false false false false false h = refl
+
+inert_digit : (b : ℕ) → is_inert b ≡ true → is_ascii_digit b ≡ false
+unfolding is_inert
+inert_digit b h = last_off (b == 9) (b == 32) (b == 42) (b == 43) (b == 45) (b == 62) (is_ascii_digit b) h
+
+-- no column is there
+inert_columns : (bs : List ℕ) (column : ℕ) → begins_inert bs ≡ true → columns_of bs column ≡ 0
+unfolding is_inert
+inert_columns [] column h = refl
+inert_columns (b ∷ bs) column h = rw (isnt is_inert b 32 h refl) (rw (isnt is_inert b 9 h refl) refl)
+
+pub inert_indent : (r : Rest) → r.owed ≡ 0 → begins_inert r.left ≡ true → indent r ≡ 0
+inert_indent r o h = let n = inert_columns r.left r.column h in omega arith
+
+inert_byte : (r : Rest) (bs : List ℕ) → begins_inert bs ≡ true → column_of_byte r bs ≡ None
+unfolding is_inert
+inert_byte r [] h = refl
+inert_byte r (b ∷ bs) h = rw (isnt is_inert b 32 h refl) (rw (isnt is_inert b 9 h refl) refl)
+
+after_none : (k : ℕ) (r : Rest) → next_column r ≡ None → after_columns k r ≡ r
+after_none zero r e = refl
+after_none (suc k) r e = rw e refl
+
+-- so taking columns takes nothing
+pub inert_after : (k : ℕ) (r : Rest) → r.owed ≡ 0 → begins_inert r.left ≡ true → after_columns k r ≡ r
+inert_after k r o h = after_none k r (rw o (inert_byte r r.left h))
+
+pub plain_indent : (r : Rest) → r.owed ≡ 0 → begins_plain r.left ≡ true → indent r ≡ 0
+plain_indent r o h = inert_indent r o (begins_both r.left h)
+
+pub plain_after : (k : ℕ) (r : Rest) → r.owed ≡ 0 → begins_plain r.left ≡ true → after_columns k r ≡ r
+plain_after k r o h = inert_after k r o (begins_both r.left h)
+
+-- no container begins
+inert_quote_byte : (r : Rest) (bs : List ℕ) → begins_inert bs ≡ true → past_quote_byte r bs ≡ None
+unfolding is_inert
+inert_quote_byte r [] h = refl
+inert_quote_byte r (b ∷ bs) h = rw (isnt is_inert b 62 h refl) refl
+
+pub inert_quote : (r : Rest) → r.owed ≡ 0 → begins_inert r.left ≡ true → past_quote r ≡ None
+inert_quote r o h = rw o (inert_quote_byte r r.left h)
+
+inert_marker : (bs : List ℕ) → begins_inert bs ≡ true → list_marker bs ≡ None
+unfolding list_marker is_inert
+inert_marker [] h = absurd (true≢false (sym h))
+inert_marker (b ∷ bs) h =
+    rw (isnt is_inert b 45 h refl) (rw (isnt is_inert b 43 h refl) (rw (isnt is_inert b 42 h refl) (rw (inert_digit b h) refl)))
+
+item_none : (t : Bool) (n : ℕ) (r : Rest) → (if t then item_by n r None else None) ≡ None
+item_none true n r = refl
+item_none false n r = refl
+
+pub inert_item : (n : ℕ) (r : Rest) → r.owed ≡ 0 → begins_inert r.left ≡ true → item_of n r ≡ None
+unfolding item_of
+inert_item n r o h = rw (inert_marker r.left h) (item_none _ n r)
+
+pub plain_listitem : (bs : List ℕ) → begins_plain bs ≡ true → listitem bs ≡ None
+unfolding listitem
+plain_listitem bs h = rw (inert_marker bs (begins_both bs h)) refl
+
+-- an item's content that begins with a plain byte begins here
+pub plain_content : (n : ℕ) (r : Rest) → r.owed ≡ 0 → begins_plain r.left ≡ true → content_indent n r ≡ (n, r)
+unfolding content_indent
+plain_content n r o h =
+    let same : n + 0 ≡ n = omega arith in
+    rw (plain_blank r.left h) (rw (plain_indent r o h) (ap (λ (k : ℕ). (k, r)) same))

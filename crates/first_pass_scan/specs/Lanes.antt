@@ -1,0 +1,15 @@
+-- What is found by a look at 16 bytes at once.
+use Rattle.std.specs.Prelude.{◌≡◌, ℕ, ◌+◌, ◌<◌, ◌≤◌, ◌==◌, Bool, true, false, List, slice_index, if◌then◌else◌}
+use Rattle.std.specs.Int.{w64, trailing_zeros}
+
+-- the place of the lowest bit that is set, or n (this project)
+abbrev pub first_set : ℕ → ℕ → ℕ
+first_set mask n = if mask == 0 then n else trailing_zeros w64 mask
+
+-- of the n bytes from a place on the first r pass the test, and the next one, if it is among the n, fails it (this project)
+abbrev pub IsRunIn : (ℕ → Bool) → List ℕ → ℕ → ℕ → ℕ → Type 0
+IsRunIn test bytes at n r = (r ≤ n) × ((k : ℕ) → at ≤ k → k < at + r → test (slice_index bytes k) ≡ true) × (r < n → test (slice_index bytes (at + r)) ≡ false)
+
+-- a space (this project)
+abbrev pub is_space : ℕ → Bool
+is_space b = b == 32
