@@ -1,9 +1,11 @@
 -- Facts on the bytes at which a token may begin.
-use Rattle.std.proofs.Common.{◌≡◌, ◌⊎◌, inl, inr, ℕ, ◌<◌, ◌≤◌, Bool, true, false, true≢false, ◌==◌, ◌||◌, List, length, slice_index, sym, refl, ◌∙◌, arith}
-use Rattle.std.proofs.lemmas.Bool.{cases_lt}
+use Rattle.std.proofs.Common.{◌≡◌, ◌⊎◌, inl, inr, ℕ, ◌<◌, ◌≤◌, Bool, true, false, true≢false, ◌==◌, ◌&&◌, ◌||◌, List, ap, length, slice_index, sym, refl, ◌∙◌, arith}
+use Rattle.std.proofs.lemmas.Bool.{cases_lt, cases_eq, ne_eqb}
+use Rattle.std.proofs.lemmas.Bool.Decides.{nat_tests}
 use Rattle.first_pass_items.specs.declared.option_set.Options.{Options}
 use Rattle.first_pass_scan.specs.Lines.{is_line_end}
-use Rattle.first_pass_below.specs.Walk.{begins_token, is_special, MarksSpecial, is_marked, IsNextMarked, NoneMarkedFrom}
+use Rattle.first_pass_items.specs.OptionWords.{has}
+use Rattle.first_pass_below.specs.Walk.{begins_token, is_special, MarksSpecial, is_marked, IsNextMarked, NoneMarkedFrom, is_word_byte, SparesWords}
 
 -- what the table of the special bytes marks
 pub marked_special : (options : Options) (lut : List Bool) (bytes : List ℕ) (k : ℕ) → MarksSpecial lut options → slice_index bytes k < 256 → is_marked lut bytes k ≡ is_special options (slice_index bytes k)
@@ -52,3 +54,31 @@ plain_begins options b h = or_left (begins_token b) _ h
 
 pub plain_content : (options : Options) (b : ℕ) → is_special options b ≡ false → is_line_end b ≡ false
 plain_content options b h = or_two (b == 10) (b == 13) _ (plain_begins options b h)
+
+-- a letter or a space is none of these bytes, so the table of the special bytes marks none
+isnt_word : (b c : ℕ) → is_word_byte b ≡ true → is_word_byte c ≡ false → b == c ≡ false
+isnt_word b c h k = elim (cases_eq b c) [
+  | inl same ↦ absurd (true≢false (sym h ∙ ap is_word_byte same ∙ k))
+  | inr other ↦ ne_eqb b c other
+]
+
+and_off : (t u : Bool) → u ≡ false → (t && u) ≡ false
+and_off true u e = e
+and_off false u e = refl
+
+or_off : (t u : Bool) → t ≡ false → u ≡ false → t || u ≡ false
+or_off t u e f = rw e f
+
+word_small : (b : ℕ) → is_word_byte b ≡ true → b < 256
+word_small b h = grind (arith, nat_tests, h)
+
+word_plain : (options : Options) (b : ℕ) → is_word_byte b ≡ true → is_special options b ≡ false
+unfolding is_special
+word_plain options b h =
+    or_off _ _ (rw (isnt_word b 10 h refl) (rw (isnt_word b 13 h refl) (rw (isnt_word b 33 h refl) (rw (isnt_word b 38 h refl) (rw (isnt_word b 42 h refl) (rw (isnt_word b 60 h refl) (rw (isnt_word b 91 h refl) (rw (isnt_word b 92 h refl) (rw (isnt_word b 93 h refl) (rw (isnt_word b 95 h refl) (rw (isnt_word b 96 h refl) (refl))))))))))))
+    (or_off _ _ (and_off (has options 2) _ (isnt_word b 124 h refl))
+    (or_off _ _ (or_off _ _ (and_off (has options 8 || has options 16384) _ (isnt_word b 126 h refl)) (and_off (has options 8192) _ (isnt_word b 94 h refl)))
+    (or_off _ _ (and_off (has options 1024) _ (rw (isnt_word b 36 h refl) (rw (isnt_word b 123 h refl) (rw (isnt_word b 125 h refl) (refl))))) (and_off (has options 32) _ (rw (isnt_word b 34 h refl) (rw (isnt_word b 39 h refl) (rw (isnt_word b 45 h refl) (rw (isnt_word b 46 h refl) (refl)))))))))
+
+pub spares_words : (options : Options) (lut : List Bool) → MarksSpecial lut options → SparesWords lut
+spares_words options lut m b h = m b (word_small b h) ∙ word_plain options b h

@@ -1,6 +1,7 @@
 -- The bytes at which a token may begin, the next of them, and a walk over them.
 use Rattle.std.specs.Prelude.{◌≡◌, ℕ, ◌+◌, ◌<◌, ◌≤◌, ◌==◌, ◌&&◌, ◌||◌, ◌⊎◌, Bool, true, false, List, [], ◌∷◌, length, slice_index, Option, None}
 use Rattle.std.specs.List.{slice_index_or, list_any}
+use Rattle.std.specs.Char.{is_ascii_alphabetic}
 use Rattle.first_pass_items.specs.declared.option_set.Options.{Options}
 use Rattle.first_pass_items.specs.OptionWords.{has}
 use Rattle.first_pass_below.specs.declared.walk.LoopInstruction.{LoopInstruction}
@@ -53,6 +54,14 @@ pub record IsNextMarked (lut : List Bool) (bytes : List ℕ) (ix j : ℕ) : Type
 -- no place from ix on is marked (this project)
 abbrev pub NoneMarkedFrom : List Bool → List ℕ → ℕ → Type 0
 NoneMarkedFrom lut bytes ix = (k : ℕ) → ix ≤ k → k < length bytes → is_marked lut bytes k ≡ false
+
+-- a letter or a space (this project)
+abbrev pub is_word_byte : ℕ → Bool
+is_word_byte b = is_ascii_alphabetic b || b == 32
+
+-- the table marks no letter and no space (this project)
+abbrev pub SparesWords : List Bool → Type 0
+SparesWords lut = (b : ℕ) → is_word_byte b ≡ true → slice_index_or lut b false ≡ false
 
 -- Where step f k b i g says that the closure f, called at the place k with the byte b, may answer i and be g then:
 -- the walk from ix calls it at the next marked place, from behind what that call skips at the next one again, and so on, once for each of the skips.

@@ -1,10 +1,13 @@
 //! The walk over the bytes at which a token may begin.
 
-ghost use Rattle.std.specs.Prelude.{◌≡◌, IfSome, IfNone};
-ghost use Rattle.first_pass_below.specs.Walk.{is_special as is_special_byte, MarksSpecial, IsNextMarked, NoneMarkedFrom, IsWalk};
+ghost use Rattle.std.specs.Prelude.{◌≡◌, ◌+◌, ◌≤◌, length, IfSome, IfNone};
+ghost use Rattle.first_pass_below.specs.Walk.{is_special as is_special_byte, MarksSpecial, IsNextMarked, NoneMarkedFrom, IsWalk, is_word_byte, SparesWords};
+ghost use Rattle.first_pass_scan.specs.Lanes.{IsRunIn};
 
 use bitflags::Flags;
 use first_pass_items::option_set::Options;
+use first_pass_scan::lanes::{LANES, first_set};
+use std::simd::prelude::*;
 
 /// What a walk does after a call at a place.
 #[derive(Drop)]
@@ -39,6 +42,38 @@ pub fn next_special(lut: &[bool; 256], bytes: &[u8], ix: usize) -> Option<usize>
         }
     }
     None
+}
+
+/// As `next_special`, 16 bytes at a time, where the table marks no letter and no space.
+pub fn next_special_in_words(lut: &[bool; 256], bytes: &[u8], ix: usize) -> Option<usize>
+    requires { SparesWords lut.now }
+    ensures found { IfSome result (λ j. IsNextMarked lut.now bytes.now ix j) }
+    ensures none { IfNone result (NoneMarkedFrom lut.now bytes.now ix) }
+{
+    let mut next = ix;
+    while next < bytes.len() && bytes.len() - next >= LANES {
+        let run = word_run(bytes, next);
+        next += run;
+        if run < LANES {
+            if lut[bytes[next] as usize] {
+                return Some(next);
+            }
+            next += 1;
+        }
+    }
+    next_special(lut, bytes, next)
+}
+
+// How many of the 16 bytes from an offset on are letters or spaces, up to the first that is neither.
+#[inline(always)]
+fn word_run(bytes: &[u8], at: usize) -> usize
+    requires { at + 16 ≤ length bytes.now }
+    ensures { IsRunIn is_word_byte bytes.now at 16 result }
+{
+    let lanes = u8x16::from_slice(&bytes[at..]);
+    let from_a = (lanes | u8x16::splat(0x20)) - u8x16::splat(b'a');
+    let stops = from_a.simd_ge(u8x16::splat(26)) & lanes.simd_ne(u8x16::splat(b' '));
+    first_set(stops.to_bitmask())
 }
 
 /// Calls the closure at the least place at or behind the offset `ix` of `bytes` whose byte the table

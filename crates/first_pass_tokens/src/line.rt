@@ -9,7 +9,7 @@ ghost use Rattle.first_pass_tokens.specs.TreeTokens.{AppendsLine};
 ghost use Rattle.first_pass_tokens.specs.Pending.{source, pending_after, tree_after};
 
 use crate::pieces::{Piece, piece_len, special_piece};
-use first_pass_below::walk::next_special;
+use first_pass_below::walk::next_special_in_words;
 use first_pass_items::item::{Item, ItemBody};
 use first_pass_items::option_set::Options;
 use first_pass_scan::lines::{is_line_end, is_white};
@@ -23,6 +23,7 @@ use std::alloc::AllocError;
 /// Answers the offset behind the line's line end, and the line break there (CommonMark 6.7, 6.8), which
 /// is not appended; `None` where the text ends without a line end. A backslash before ASCII punctuation
 /// is dropped (2.4), and white space at the content's end is in no text. The error is want of memory.
+#[inline(always)]
 pub fn append_line(
     text: &[u8],
     start: usize,
@@ -43,7 +44,7 @@ pub fn append_line(
         escaped: false,
     };
     let mut from = start;
-    while let Some(at) = next_special(lut, text, from) {
+    while let Some(at) = next_special_in_words(lut, text, from) {
         if is_line_end(text[at]) {
             return end_line(text, content, at, pending, tree);
         }
@@ -93,6 +94,7 @@ fn append_piece(
 }
 
 // Ends a line: appends the last text, and answers where the line ends, and its break.
+#[inline(always)]
 #[tactic(auto, unfolding(crate::specs::LineTokens::text_end, crate::specs::LineTokens::line_break))]
 fn end_line(
     text: &[u8],

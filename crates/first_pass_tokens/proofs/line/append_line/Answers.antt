@@ -2,6 +2,7 @@ use Rattle.std.proofs.Common.{◌+◌, length, sym, ◌∙◌, ap, arith}
 use Rattle.first_pass_tokens.specs.Pieces.{Source}
 use Rattle.first_pass_tokens.proofs.LineLemmas.{ends_line-if}
 use Rattle.first_pass_tokens.proofs.SoFar.{IsRead, read_upto, read_piece, read_ended, piece_special, runs_on, ended_by_byte, ended_by_text}
+use Rattle.first_pass_below.proofs.WalkFacts.{spares_words}
 use Rattle.first_pass_tokens.proofs.line.append_line.Goals as goal
 use Rattle.first_pass_tokens.proofs.line.append_line.Goals.{In_default, In-Some}
 
@@ -53,3 +54,6 @@ returns-clause-ends c =
     let z : Source = record { options = c.args.options; text = c.args.text.now; start = c.args.start } in
     ends_line-if z c.args.tree.now c.end_line-2.new.tree c.end_line-2.result c.requires.within
     (read_ended z _ _ _ _ (length c.args.text.now) c.end_line-2.result (upto_end (goal.at.returns-clause-ends c).In_default) (ended_by_text z) c.end_line-2.ensures.tree c.end_line-2.ensures.answer)
+
+pub next_special_in_words-requires : goal.next_special_in_words-requires
+next_special_in_words-requires c = spares_words c.args.options c.args.lut.now c.requires.marks
