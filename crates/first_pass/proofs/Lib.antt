@@ -22,3 +22,4 @@ pub mod StateLemmas
 pub mod TagLemmas
 pub mod TightLemmas
 pub mod WithinLemmas
+pub mod PlainKinds

@@ -230,6 +230,9 @@ fn scan_item<'a>(line_start: &mut LineStart<'a>) -> Option<(u8, u64, usize)>
     ensures { MatchOption (item_at line_start.old) ((result ≡ None) × (line_start.new ≡ line_start.old))
         (λ item. (result ≡ Some item.0) × (line_start.new ≡ item.1)) }
 {
+    if line_start.is_at_inert() {
+        return None;
+    }
     let mut next = line_start.copy();
     let columns = scan_indentation(&mut next);
     if columns >= 4 {

@@ -15,7 +15,7 @@ use first_pass_leaves::containers::scan_containers;
 use first_pass_leaves::indentation::scan_indentation;
 use first_pass_scan::leaf_scan::{scan_code_fence, scan_hrule};
 use first_pass_scan::line_start::{LineStart, scan_listitem};
-use first_pass_scan::lines::{begins, scan_atx_heading, scan_blank_line, scan_eol};
+use first_pass_scan::lines::{begins, is_plain_front, scan_atx_heading, scan_blank_line, scan_eol};
 use first_pass_scan::places::rest_of;
 use first_pass_tree::forest::Tree;
 use std::alloc::{AllocError, Global};
@@ -58,6 +58,9 @@ pub fn scan_paragraph_interrupt_no_table(
     ensures { IfOk result (λ yes. yes ≡ interrupts_with current_container text.now) }
 {
     let bytes = text.as_bytes();
+    if is_plain_front(bytes) {
+        return Ok(false);
+    }
     Ok(
         scan_eol(bytes).is_some()
             || scan_hrule(bytes).is_some()

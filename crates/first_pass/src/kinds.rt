@@ -88,6 +88,9 @@ pub fn kind_at<'a>(
     ensures rest { line_start.new ≡ all_taken line_start.old }
     ensures known { IsKnownOf text.now ends.new }
 {
+    if line_start.is_at_plain() {
+        return (Kind::Paragraph, 0);
+    }
     let blank = scan_blank_line(line_start.left()).is_some();
     let columns = scan_indentation(line_start);
     if blank {

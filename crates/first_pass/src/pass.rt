@@ -89,8 +89,8 @@ impl<'a> FirstPass<'a> {
         ensures ready { IfOk result (λ pass. (names : Names) → Ready (document text.now options names) (remembered pass.tree pass.begin_list_item pass.last_line_blank) (lines_from text.now 0)) }
         ensures order { IfOk result (λ pass. IsOrderedAt text.now (remembered pass.tree pass.begin_list_item pass.last_line_blank) 0) }
     {
-        // A guess at how many nodes the text will have.
-        let capacity = max(128, text.len() / 32);
+        // A guess at how many nodes the text will have: pages of it that are never reached cost nothing.
+        let capacity = max(128, text.len() / 12);
         let mut tree = Tree::with_capacity(alloc, capacity)?;
         let root = tree.root();
         tree.set_end(root, text.len());
@@ -230,6 +230,7 @@ impl<'a> FirstPass<'a> {
 
     // Reads the leaf block of a kind that begins at a place in the line whose reading began at `start_ix`, behind so
     // many columns, at the offset `at`; answers as `parse_block`.
+    #[inline(always)]
     fn parse_kind(
         &mut self,
         start_ix: usize,
@@ -282,6 +283,7 @@ impl<'a> FirstPass<'a> {
     }
 
     // The kind of the leaf block that begins at a place in the line whose reading began at `start_ix`, as `kind_at`.
+    #[inline(always)]
     fn kind_here(&mut self, start_ix: usize, line_start: &mut LineStart<'a>) -> (Kind, usize)
         requires place { IsPlaceOf self.old.text.now (place_at start_ix line_start.old) }
         ensures text { self.new.text.now ≡ self.old.text.now }
@@ -361,6 +363,7 @@ impl<'a> FirstPass<'a> {
     ///
     /// Answers the offset behind the line's end, and its break, which is not appended; `None` where the
     /// text ends without a line end (CommonMark 2.4, 6.7, 6.8). No mode makes a difference yet.
+    #[inline(always)]
     pub fn parse_line(
         &mut self,
         start: usize,

@@ -10,3 +10,4 @@ pub mod PathLemmas
 pub mod PlaceLemmas
 pub mod RawLineLemmas
 pub mod RawOrder
+pub mod PlainLemmas

@@ -8,10 +8,14 @@ use first_pass_scan::line_start::LineStart;
 
 /// Takes all columns of indentation of the line, and says how many there were, but 4 where there were
 /// more (CommonMark 2.2).
+#[inline(always)]
 pub fn scan_indentation<'a>(line_start: &mut LineStart<'a>) -> usize
     ensures columns { result ≡ min 4 (indent line_start.old) }
     ensures rest { line_start.new ≡ all_taken line_start.old }
 {
+    if line_start.is_at_inert() {
+        return 0;
+    }
     let columns = line_start.scan_space_upto(4);
     line_start.scan_all_space();
     columns

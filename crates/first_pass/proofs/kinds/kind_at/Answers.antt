@@ -3,7 +3,21 @@ use Rattle.first_pass_scan.specs.Lines.{blank_len}
 use Rattle.first_pass_scan.specs.Rest.{Rest}
 use Rattle.first_pass_grammar.specs.Kinds.{all_taken, html_kind, last_kind, IsKind}
 use Rattle.first_pass.proofs.KindLemmas.{many_columns, blank_kind, code_kind, behind_columns, found_early, tag_found, tag_absent, metadata_here, html_here, tag_here, last_here}
+use Rattle.first_pass_leaves.proofs.PlainLemmas.{plain_all, plain_few}
+use Rattle.first_pass.proofs.PlainKinds.{plain_kind}
 use Rattle.first_pass.proofs.kinds.kind_at.Goals as goal
+
+pub returns-then-is_at_plain-clause-kind : goal.returns-then-is_at_plain-clause-kind
+returns-then-is_at_plain-clause-kind c =
+    plain_kind c.args.options c.args.line_start.now (c.is_at_plain.ensures.owed c.if-is_at_plain.true) (c.is_at_plain.ensures.plain c.if-is_at_plain.true)
+
+pub returns-then-is_at_plain-clause-columns : goal.returns-then-is_at_plain-clause-columns
+returns-then-is_at_plain-clause-columns c =
+    plain_few c.args.line_start.now (c.is_at_plain.ensures.owed c.if-is_at_plain.true) (c.is_at_plain.ensures.plain c.if-is_at_plain.true)
+
+pub returns-then-is_at_plain-clause-rest : goal.returns-then-is_at_plain-clause-rest
+returns-then-is_at_plain-clause-rest c =
+    sym (plain_all c.args.line_start.now (c.is_at_plain.ensures.owed c.if-is_at_plain.true) (c.is_at_plain.ensures.plain c.if-is_at_plain.true))
 
 pub returns-then-blank-clause-kind : goal.returns-then-blank-clause-kind
 returns-then-blank-clause-kind c =
