@@ -27,7 +27,8 @@ use Rattle.first_pass_leaves.specs.TableEntries.{no_names}
 use Rattle.first_pass_leaves.specs.RawBlocks.{IsPlaceAt, behind_line_at, code_behind, AddsIndented, AddsRaw, metadata_behind, fenced_behind, html_to_end, html_to_blank}
 use Rattle.first_pass.specs.Adding.{AddsKind}
 use Rattle.first_pass.specs.Appends.{AddsHeading, AddsParagraph}
-use Rattle.first_pass.specs.Closing.{Reading, remembered, list_finished}
+use Rattle.first_pass_lists.specs.Closing.{remembered, list_finished}
+use Rattle.first_pass_lists.specs.declared.reading.Reading.{Reading}
 use Rattle.first_pass.specs.Opening.{ReadyLeaf}
 use Rattle.first_pass.specs.State.{Ready}
 use Rattle.first_pass.proofs.FinishLemmas.{path_finished}

@@ -23,7 +23,8 @@ use Rattle.first_pass_grammar.specs.Skeleton.{BlankLine, Block, Line, Inside, Le
 use Rattle.first_pass_grammar.specs.Completion.{lines_from, Frame, containers_of, AreBelow, Completes}
 use Rattle.first_pass_grammar.proofs.Completions.{completes-leaf, completes-blank, completes-block, completes-text, counts_in}
 use Rattle.first_pass.specs.Appends.{line_end_at, AddsParagraph, AddsHeading}
-use Rattle.first_pass.specs.Closing.{Reading, remembered, top_body, is_list, list_finished, blank_read_by, blank_read}
+use Rattle.first_pass_lists.specs.Closing.{remembered, top_body, is_list, list_finished, blank_read_by, blank_read}
+use Rattle.first_pass_lists.specs.declared.reading.Reading.{Reading}
 use Rattle.first_pass_leaves.specs.Path.{path_of}
 use Rattle.first_pass.specs.State.{AreOpen, ReadyAt, Ready}
 use Rattle.first_pass.specs.Opening.{ReadyText, ReadyLazy, ReadyLeaf}

@@ -20,6 +20,4 @@ pub mod RawFits
 pub mod RuleLemmas
 pub mod StateLemmas
 pub mod TagLemmas
-pub mod TightLemmas
-pub mod WithinLemmas
 pub mod PlainKinds

@@ -24,14 +24,15 @@ use Rattle.first_pass_grammar.specs.Completion.{lines_from, Frame, InContainer, 
 use Rattle.first_pass_grammar.proofs.Tightening.{modify-append, length-modify}
 use Rattle.first_pass_grammar.proofs.Completions.{AreBelow-more, completes-mark, completes-quote, completes-list, completes-item, completes-reflag_list}
 use Rattle.first_pass_leaves.specs.OpenBlock.{with_child}
-use Rattle.first_pass.specs.Closing.{Reading, loosened_by, loosened_at, top_body, is_list_of, item_finished_by, item_finished, list_finished, loosened_top, list_kept, begun, list_continued, emptied}
+use Rattle.first_pass_lists.specs.Closing.{remembered, loosened_by, loosened_at, top_body, is_list_of, item_finished_by, item_finished, list_finished, loosened_top, list_kept, begun, list_continued, emptied}
+use Rattle.first_pass_lists.specs.declared.reading.Reading.{Reading}
 use Rattle.first_pass_leaves.specs.Path.{container_of, with_container, path_in, path_of}
-use Rattle.first_pass.specs.declared.containers.Opened.TheVariants.{Container as OneContainer}
-use Rattle.first_pass.specs.Opening.{IsOpenedAt, ReadyIn, ReadyTagged}
+use Rattle.first_pass.specs.Opening.{task_text, IsOpenedAt, ReadyIn, ReadyTagged}
 use Rattle.first_pass.specs.State.{frame_of, AreOpen, ReadyAt, ReadyBeforeLine, ReadyInItem, ReadyEmpty, Ready}
 use Rattle.first_pass_leaves.proofs.PathLemmas.{get_front}
 use Rattle.first_pass.proofs.EnterLemmas.{path_below}
-use Rattle.first_pass.proofs.OpenLemmas.{open_path, open_below, frame-append, get_end, body-other}
+use Rattle.first_pass.proofs.OpenLemmas.{open_path, open_below, frame-append, get_end}
+use Rattle.first_pass_lists.proofs.BodyLemmas.{body-other}
 use Rattle.first_pass.proofs.ListLemmas.{open_flags}
 use Rattle.first_pass.proofs.FinishLemmas.{EndsListAt, ready_finished, loose_is, loose_frame, loosened_spine}
 
@@ -426,10 +427,10 @@ ready_empty_item d r p lines item marker rest e forest is task blank e_is none r
     empty_by d r p lines item marker rest e (next_is_blank (ListItem item.0.2 ∷ path_of r.tree) lines) refl forest is task blank e_is none ready
 
 -- what is opened where more of the line is left
-pub opened_behind : (marker : Option Item) (empty : Option ℕ) (old new : Rest) (e : ℕ) → ((x : Item) → marker ≡ Some x → is_text x.body ≡ false) → length new.left < length old.left → empty ≡ None → IsOpenedAt (OneContainer marker) empty old new e
+pub opened_behind : (marker : Option Item) (empty : Option ℕ) (old new : Rest) (e : ℕ) → ((x : Item) → marker ≡ Some x → is_text x.body ≡ false) → length new.left < length old.left → empty ≡ None → IsOpenedAt (task_text marker) empty old new e
 opened_behind None empty old new e mark less none = (less, none)
 opened_behind (Some x) empty old new e mark less none = (mark x refl, none)
 
-pub ready_behind : (d : Document) (r : Reading) (p : Place) (e : ℕ) (marker : Option Item) → (r.blank ≡ false) × (now : ReadyAt d r.tree false (behind_task marker p) (lines_from d.text e)) × IsPlain now.frames → ReadyIn d r p e (OneContainer marker)
+pub ready_behind : (d : Document) (r : Reading) (p : Place) (e : ℕ) (marker : Option Item) → (r.blank ≡ false) × (now : ReadyAt d r.tree false (behind_task marker p) (lines_from d.text e)) × IsPlain now.frames → ReadyIn d r p e (task_text marker)
 ready_behind d r p e None (blank, ready, plain) = subst (λ t. ReadyAt d r.tree t (Inside p) (lines_from d.text e)) (sym blank) ready
 ready_behind d r p e (Some x) (blank, ready, plain) = record { blank = blank; ready = ready; plain = plain }

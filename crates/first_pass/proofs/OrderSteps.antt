@@ -18,10 +18,10 @@ use Rattle.first_pass_grammar.specs.Kinds.{all_taken, unindented}
 use Rattle.first_pass_grammar.specs.Skeleton.{task_by, task_behind}
 use Rattle.first_pass_grammar.specs.Derivation.{node_of}
 use Rattle.first_pass_grammar.specs.OpenOrder.{IsOrderedTo}
-use Rattle.first_pass.specs.declared.containers.Opened.TheVariants.{Container as OneContainer}
 use Rattle.first_pass_leaves.specs.OpenBlock.{with_child}
-use Rattle.first_pass.specs.Closing.{Reading, remembered, top_body, is_list, is_item, item_finished_by, item_finished, list_finished, begun, list_continued}
-use Rattle.first_pass.specs.Opening.{line_or, OrderedIn}
+use Rattle.first_pass_lists.specs.Closing.{remembered, top_body, is_list, is_item, item_finished_by, item_finished, list_finished, begun, list_continued}
+use Rattle.first_pass_lists.specs.declared.reading.Reading.{Reading}
+use Rattle.first_pass.specs.Opening.{task_text, line_or, OrderedIn}
 use Rattle.first_pass.specs.Ordered.{reached, IsOrderedAt, AddsBetween, StandsBefore}
 use Rattle.first_pass_leaves.proofs.PathLemmas.{get_front}
 use Rattle.first_pass.proofs.OpenLemmas.{get_end}
@@ -132,7 +132,7 @@ mark_stands text options line r s from marker x u i low is rest some =
 
 -- an item with something behind its markers
 pub ordered_container : (text : List ℕ) (q : Reading) (line start at : ℕ) (marker : Option Item) → is_list (top_body q.tree) ≡ false → start ≤ at → at ≤ length text → IsOrderedTo text q.tree start
-    → ((x : Item) → marker ≡ Some x → StandsBefore text start at (Some x)) → OrderedIn text q line at (OneContainer marker)
+    → ((x : Item) → marker ≡ Some x → StandsBefore text start at (Some x)) → OrderedIn text q line at (task_text marker)
 ordered_container text q line start at None none low high o stands = ordered_on text q.tree line start at none low high o
 ordered_container text q line start at (Some x) none low high o stands = record { from = start; ordered = o; stands = stands x refl }
 

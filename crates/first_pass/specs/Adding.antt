@@ -12,7 +12,8 @@ use Rattle.first_pass_grammar.specs.Skeleton.{Block, Line, OpensLeaf, OpensAs}
 use Rattle.first_pass_grammar.specs.Completion.{lines_from}
 use Rattle.first_pass_leaves.specs.Path.{path_of}
 use Rattle.first_pass.specs.Appends.{line_end_at}
-use Rattle.first_pass.specs.Closing.{Reading, blank_read}
+use Rattle.first_pass_lists.specs.Closing.{blank_read}
+use Rattle.first_pass_lists.specs.declared.reading.Reading.{Reading}
 
 -- A leaf block of a kind, which begins at a place, is a last child of the innermost open node, whatever more is named: with this end of a list before it,
 -- with or without blank lines at its end, and the lines from an offset on left.

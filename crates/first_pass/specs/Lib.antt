@@ -1,6 +1,5 @@
 pub mod Adding
 pub mod Appends
-pub mod Closing
 pub mod Opening
 pub mod Ordered
 pub mod Reading

@@ -12,23 +12,14 @@ use Rattle.first_pass_grammar.specs.Kinds.{item_at}
 use Rattle.first_pass_grammar.specs.Leaves.{Document}
 use Rattle.first_pass_grammar.specs.Skeleton.{From, Inside, LeafAt, TextAt, behind_tag}
 use Rattle.first_pass_grammar.specs.Completion.{lines_from, IsPlain}
-use Rattle.first_pass.specs.declared.containers.Opened.{Opened}
-use Rattle.first_pass.specs.declared.containers.Opened.TheVariants.{Nothing, Container as OneContainer, EmptyItem, TaggedQuote}
 use Rattle.first_pass.specs.declared.containers.Behind.{Behind}
 use Rattle.first_pass.specs.declared.containers.Behind.TheVariants.{Leaf as BehindLeaf, TaskText, NextLine, Tag}
-use Rattle.first_pass.specs.Closing.{Reading, top_body, is_list}
+use Rattle.first_pass_lists.specs.Closing.{top_body, is_list}
+use Rattle.first_pass_lists.specs.declared.reading.Reading.{Reading}
 use Rattle.first_pass_leaves.specs.Path.{path_of}
 use Rattle.first_pass_items.specs.declared.item.BlockQuoteKind.{BlockQuoteKind}
 use Rattle.first_pass_items.specs.declared.item.ItemBody.TheVariants.{BlockQuote as BlockQuoteBody}
 use Rattle.first_pass.specs.State.{Ready, ReadyAt}
-
--- where nothing is opened no container begins; else a part of the line is taken, or the whole line
-abbrev pub IsOpenedAt : Opened → Option ℕ → Rest → Rest → ℕ → Type 0
-IsOpenedAt Nothing empty old new e = (item_at new ≡ None) × (prefix (BlockQuote None) new ≡ None) × (empty ≡ None) × (new ≡ old)
-IsOpenedAt (OneContainer None) empty old new e = (length new.left < length old.left) × (empty ≡ None)
-IsOpenedAt (OneContainer (Some marker)) empty old new e = (is_text marker.body ≡ false) × (empty ≡ None)
-IsOpenedAt (EmptyItem next) empty old new e = next ≡ e
-IsOpenedAt (TaggedQuote next) empty old new e = (next ≡ e) × (empty ≡ None)
 
 -- a task list item marker is remembered, with its paragraph at a place in the line, in what is no list
 pub record ReadyText (d : Document) (r : Reading) (marker : Item) (p : Place) (lines : List Place) : Type 0 where
@@ -55,14 +46,6 @@ ReadyLazy d r p lines = ReadyInQuote d r (LeafAt p) lines
 abbrev pub ReadyLeaf : Document → Reading → Place → List Place → Type 0
 ReadyLeaf d r p lines = ((item_at p.rest ≡ None) × (prefix (BlockQuote None) p.rest ≡ None) × ReadyAt d r.tree r.blank (Inside p) lines) ⊎ ReadyLazy d r p lines
 
--- what the pass remembers then goes on at a place in the line, or behind the line, which ends at an offset
-abbrev pub ReadyIn : Document → Reading → Place → ℕ → Opened → Type 0
-ReadyIn d r p e Nothing = ReadyAt d r.tree r.blank (Inside p) (lines_from d.text e)
-ReadyIn d r p e (OneContainer None) = ReadyAt d r.tree r.blank (Inside p) (lines_from d.text e)
-ReadyIn d r p e (OneContainer (Some marker)) = ReadyText d r marker p (lines_from d.text e)
-ReadyIn d r p e (EmptyItem next) = Ready d r (lines_from d.text next)
-ReadyIn d r p e (TaggedQuote next) = ReadyTagged d r (lines_from d.text next)
-
 -- behind the containers no other begins, nor an empty item; a task list item marker is no text; or the whole line is taken, in an item or a block quote
 abbrev pub IsBehind : Behind → Option ℕ → Rest → ℕ → Type 0
 IsBehind BehindLeaf empty r e = (item_at r ≡ None) × (prefix (BlockQuote None) r ≡ None) × (empty ≡ None)
@@ -70,11 +53,27 @@ IsBehind (TaskText marker) empty r e = (is_text marker.body ≡ false) × (empty
 IsBehind (NextLine next) empty r e = next ≡ e
 IsBehind (Tag next) empty r e = (next ≡ e) × (empty ≡ None)
 
+-- the text of a task, where an item is one
+abbrev pub task_text : Option Item → Option Behind
+task_text None = None
+task_text (Some marker) = Some (TaskText marker)
+
+-- a container was opened, and a part of the line taken; or it is known what is behind the containers
+abbrev pub IsOpenedAt : Option Behind → Option ℕ → Rest → Rest → ℕ → Type 0
+IsOpenedAt None empty old new e = (length new.left < length old.left) × (empty ≡ None)
+IsOpenedAt (Some behind) empty old new e = IsBehind behind empty new e
+
+-- what the pass remembers goes on at a place in the line, or behind the line, which ends at an offset
 abbrev pub ReadyBehind : Document → Reading → Place → ℕ → Behind → Type 0
 ReadyBehind d r p e BehindLeaf = ReadyAt d r.tree r.blank (Inside p) (lines_from d.text e)
 ReadyBehind d r p e (TaskText marker) = ReadyText d r marker p (lines_from d.text e)
 ReadyBehind d r p e (NextLine next) = Ready d r (lines_from d.text next)
 ReadyBehind d r p e (Tag next) = ReadyTagged d r (lines_from d.text next)
+
+-- the same where a container was opened, or it is known what is behind the containers
+abbrev pub ReadyIn : Document → Reading → Place → ℕ → Option Behind → Type 0
+ReadyIn d r p e None = ReadyAt d r.tree r.blank (Inside p) (lines_from d.text e)
+ReadyIn d r p e (Some behind) = ReadyBehind d r p e behind
 
 -- a list that is innermost is in order up to the line's beginning, and what else is up to a place in the line
 abbrev pub line_or : Forest Item → ℕ → ℕ → ℕ
@@ -87,15 +86,13 @@ pub record OrderedText (text : List ℕ) (f : Forest Item) (marker : Item) (at :
   pub stands : StandsBefore text from at (Some marker)
 
 -- how far what the pass remembers is in order, in a line that begins at an offset and whose reading has come to another, or behind it
-abbrev pub OrderedIn : List ℕ → Reading → ℕ → ℕ → Opened → Type 0
-OrderedIn text r line at Nothing = IsOrderedTo text r.tree (line_or r.tree line at)
-OrderedIn text r line at (OneContainer None) = IsOrderedTo text r.tree (line_or r.tree line at)
-OrderedIn text r line at (OneContainer (Some marker)) = OrderedText text r.tree marker at
-OrderedIn text r line at (EmptyItem next) = IsOrderedAt text r next
-OrderedIn text r line at (TaggedQuote next) = IsOrderedTo text r.tree next
-
 abbrev pub OrderedBehind : List ℕ → Reading → ℕ → ℕ → Behind → Type 0
 OrderedBehind text r line at BehindLeaf = IsOrderedTo text r.tree (line_or r.tree line at)
 OrderedBehind text r line at (TaskText marker) = OrderedText text r.tree marker at
 OrderedBehind text r line at (NextLine next) = IsOrderedAt text r next
 OrderedBehind text r line at (Tag next) = IsOrderedTo text r.tree next
+
+-- the same where a container was opened, or it is known what is behind the containers
+abbrev pub OrderedIn : List ℕ → Reading → ℕ → ℕ → Option Behind → Type 0
+OrderedIn text r line at None = IsOrderedTo text r.tree (line_or r.tree line at)
+OrderedIn text r line at (Some behind) = OrderedBehind text r line at behind

@@ -4,7 +4,8 @@ use Rattle.first_pass_items.specs.declared.item.Item.{Item}
 use Rattle.first_pass_tree.specs.Forest.{Forest, added}
 use Rattle.first_pass_grammar.specs.Order.{extent_of, is_task_marker, IsBetween, FitsBetween}
 use Rattle.first_pass_grammar.specs.OpenOrder.{IsOrderedTo}
-use Rattle.first_pass.specs.Closing.{Reading, top_body, is_item}
+use Rattle.first_pass_lists.specs.Closing.{top_body, is_item}
+use Rattle.first_pass_lists.specs.declared.reading.Reading.{Reading}
 
 -- up to an offset, but with an empty item up to the end of its marker's line
 abbrev pub reached : Option ℕ → ℕ → ℕ

@@ -11,7 +11,8 @@ use Rattle.first_pass_grammar.specs.declared.kind.Container.TheVariants.{BlockQu
 use Rattle.first_pass_grammar.specs.Leaves.{Document}
 use Rattle.first_pass_grammar.specs.Skeleton.{From, Line, Blanks, Ends, next_is_blank}
 use Rattle.first_pass_grammar.specs.Completion.{Frame, InContainer, InList, Completes}
-use Rattle.first_pass.specs.Closing.{Reading, emptied}
+use Rattle.first_pass_lists.specs.Closing.{emptied}
+use Rattle.first_pass_lists.specs.declared.reading.Reading.{Reading}
 use Rattle.first_pass_leaves.specs.Path.{path_in, path_of, outer}
 
 -- a list that is tight so far, or isn't

@@ -2,6 +2,7 @@
 
 ghost use Rattle.std.specs.List.{suffix_len};
 ghost use Rattle.std.specs.Prelude.{◌≡◌, ℕ, ◌==◌, take, drop, ◌≤◌, Some, length, IfOk, OnOk, IsCharBoundary};
+ghost use Rattle.first_pass_below.specs.Walk.{MarksSpecial};
 ghost use Rattle.first_pass_scan.specs.Lines.{atx_level as atx_level_of, level_number as number_of};
 ghost use Rattle.first_pass_leaves.specs.TableEntries.{no_names};
 ghost use Rattle.first_pass_grammar.specs.Leaves.{document, is_put_aside, kept_len, heading_text_at};
@@ -10,11 +11,13 @@ ghost use Rattle.first_pass.specs.Appends.{AppendsHeading, AddsHeading};
 ghost use Rattle.first_pass_leaves.specs.OpenBlock.{IsJustPushed};
 
 use crate::paragraph::append_last_backslash;
-use crate::pass::FirstPass;
-use first_pass_below::flank::TableParseMode;
 use first_pass_items::item::{HeadingLevel, Item, ItemBody};
+use first_pass_leaves::open_block::close_block;
+use first_pass_leaves::source::Source;
 use first_pass_scan::lines::{level_number, scan_whitespace_no_nl};
 use first_pass_scan::places::rest_of;
+use first_pass_tokens::line::append_line;
+use first_pass_tree::forest::Tree;
 use first_pass_tree::tree_index::TreeIndex;
 use std::alloc::AllocError;
 
@@ -72,59 +75,57 @@ fn kept_len(text: &[u8]) -> usize
     }
 }
 
-impl<'a> FirstPass<'a> {
-    /// Appends the ATX heading of this level that begins at the offset `start` into the text, and
-    /// answers the offset at which its line ends (CommonMark 4.2).
-    pub fn parse_atx_heading(
-        &mut self,
-        start: usize,
-        atx_level: HeadingLevel,
-    ) -> Result<usize, AllocError>
-        requires within { start ≤ length self.old.text.now }
-        requires heading { atx_level_of (drop start self.old.text.now) ≡ Some atx_level }
-        ensures text { OnOk result (self.new.text.now ≡ self.old.text.now) }
-        ensures options { OnOk result (self.new.options ≡ self.old.options) }
-        ensures allocs { OnOk result (self.new.allocs ≡ self.old.allocs) }
-        ensures empty_item { OnOk result (self.new.begin_list_item ≡ self.old.begin_list_item) }
-        ensures blank { OnOk result (self.new.last_line_blank ≡ self.old.last_line_blank) }
-        ensures block { IfOk result (λ next. AddsHeading (document self.old.text.now self.old.options no_names) start atx_level self.old.tree self.new.tree next) }
-        ensures fits { IfOk result (λ next. (from : ℕ) → from ≤ start → IsCharBoundary self.old.text.now start → AddsBetween self.old.text.now from next self.old.tree self.new.tree) }
-    {
-        self.tree.append(Item {
-            start,
-            end: 0,
-            body: ItemBody::default(),
-        })?;
-        let heading_ix = self.tree.push()?;
-        let header_start = heading_text_start(self.text.as_bytes(), start, atx_level);
-        let end = self.heading_text(header_start, heading_ix)?;
-        self.close_node(end);
-        self.tree
-            .set_body(heading_ix, ItemBody::Heading(atx_level, None));
-        Ok(end)
-    }
+/// Appends the ATX heading of this level that begins at the offset `start` into the text to the innermost open node
+/// of the tree, and answers the offset at which its line ends (CommonMark 4.2). The table is that of the special
+/// bytes.
+pub fn parse_atx_heading(
+    source: Source<'_>,
+    lut: &[bool; 256],
+    tree: &mut Tree<Item>,
+    start: usize,
+    atx_level: HeadingLevel,
+) -> Result<usize, AllocError>
+    requires within { start ≤ length source.text.now }
+    requires marks { MarksSpecial lut.now source.options }
+    requires heading { atx_level_of (drop start source.text.now) ≡ Some atx_level }
+    ensures block { IfOk result (λ next. AddsHeading (document source.entry.text.now source.entry.options no_names) start atx_level tree.old tree.new next) }
+    ensures fits { IfOk result (λ next. (from : ℕ) → from ≤ start → IsCharBoundary source.entry.text.now start → AddsBetween source.entry.text.now from next tree.old tree.new) }
+{
+    tree.append(Item {
+        start,
+        end: 0,
+        body: ItemBody::Heading(atx_level, None),
+    })?;
+    let heading_ix = tree.push()?;
+    let header_start = heading_text_start(source.text.as_bytes(), start, atx_level);
+    let end = heading_text(source, lut, tree, header_start, heading_ix)?;
+    close_block(tree, end);
+    Ok(end)
+}
 
-    // Appends the chain of the heading whose text begins at `start` to `node_ix`, the innermost open node,
-    // which was just opened, and answers where its line ends.
-    fn heading_text(&mut self, start: usize, node_ix: TreeIndex) -> Result<usize, AllocError>
-        requires within { start ≤ length self.old.text.now }
-        requires opened { IsJustPushed self.old.tree node_ix }
-        ensures text { OnOk result (self.new.text.now ≡ self.old.text.now) }
-        ensures options { OnOk result (self.new.options ≡ self.old.options) }
-        ensures allocs { OnOk result (self.new.allocs ≡ self.old.allocs) }
-        ensures empty_item { OnOk result (self.new.begin_list_item ≡ self.old.begin_list_item) }
-        ensures blank { OnOk result (self.new.last_line_blank ≡ self.old.last_line_blank) }
-        ensures line { IfOk result (λ next. AppendsHeading (document self.old.text.now self.old.options no_names) start self.old.tree self.new.tree next) }
-    {
-        let (next, line_break) = self.parse_line(start, None, TableParseMode::Disabled)?;
-        append_last_backslash(&mut self.tree, line_break)?;
-        let line = rest_of(self.text.as_bytes(), start);
-        let kept = kept_len(front_of(line, next - start));
-        if kept == 0 {
-            self.tree.drop_children(node_ix);
-            return Ok(next);
-        }
-        self.tree.truncate_siblings(start + kept);
-        Ok(next)
+// Appends the chain of the heading whose text begins at `start` to `node_ix`, the innermost open node, which was
+// just opened, and answers where its line ends.
+fn heading_text(
+    source: Source<'_>,
+    lut: &[bool; 256],
+    tree: &mut Tree<Item>,
+    start: usize,
+    node_ix: TreeIndex,
+) -> Result<usize, AllocError>
+    requires within { start ≤ length source.text.now }
+    requires marks { MarksSpecial lut.now source.options }
+    requires opened { IsJustPushed tree.old node_ix }
+    ensures line { IfOk result (λ next. AppendsHeading (document source.entry.text.now source.entry.options no_names) start tree.old tree.new next) }
+{
+    let bytes = source.text.as_bytes();
+    let (next, line_break) = append_line(bytes, start, source.options, lut, tree)?;
+    append_last_backslash(tree, line_break)?;
+    let line = rest_of(bytes, start);
+    let kept = kept_len(front_of(line, next - start));
+    if kept == 0 {
+        tree.drop_children(node_ix);
+        return Ok(next);
     }
+    tree.truncate_siblings(start + kept);
+    Ok(next)
 }

@@ -10,9 +10,9 @@ ghost use Rattle.first_pass_leaves.specs.Path.{path_of};
 
 use crate::kinds::html_kind;
 use first_pass_items::item::Item;
-use first_pass_items::option_set::Options;
 use first_pass_leaves::containers::scan_containers;
 use first_pass_leaves::indentation::scan_indentation;
+use first_pass_leaves::source::Source;
 use first_pass_scan::leaf_scan::{scan_code_fence, scan_hrule};
 use first_pass_scan::line_start::{LineStart, scan_listitem};
 use first_pass_scan::lines::{begins, is_plain_front, scan_atx_heading, scan_blank_line, scan_eol};
@@ -75,19 +75,18 @@ pub fn scan_paragraph_interrupt_no_table(
 // Whether the line that begins at `start` goes on with all open containers; the columns of indentation, but
 // 4 where there are more, behind what it takes for them; and what is left behind those columns.
 fn scan_prefixes<'a>(
-    text: &'a str,
+    source: Source<'a>,
     start: usize,
     tree: &Tree<Item>,
-    options: Options,
 ) -> (bool, usize, LineStart<'a>)
-    requires { IsCharBoundary text.now start }
-    ensures whole { result.0 ≡ is_some (after (path_of tree.now) (line_rest (drop start text.now))) }
-    ensures columns { result.1 ≡ min 4 (indent (front (path_of tree.now) (line_rest (drop start text.now)))) }
-    ensures behind { result.2 ≡ all_taken (front (path_of tree.now) (line_rest (drop start text.now))) }
-    ensures place { IsPlaceOf text.now (unindented (place_at start (front (path_of tree.now) (line_rest (drop start text.now))))) }
+    requires { IsCharBoundary source.text.now start }
+    ensures whole { result.0 ≡ is_some (after (path_of tree.now) (line_rest (drop start source.entry.text.now))) }
+    ensures columns { result.1 ≡ min 4 (indent (front (path_of tree.now) (line_rest (drop start source.entry.text.now)))) }
+    ensures behind { result.2 ≡ all_taken (front (path_of tree.now) (line_rest (drop start source.entry.text.now))) }
+    ensures place { IsPlaceOf source.entry.text.now (unindented (place_at start (front (path_of tree.now) (line_rest (drop start source.entry.text.now))))) }
 {
-    let mut line_start = LineStart::new(rest_of(text.as_bytes(), start));
-    let kept = scan_containers(tree, &mut line_start, options, false);
+    let mut line_start = LineStart::new(rest_of(source.text.as_bytes(), start));
+    let kept = scan_containers(tree, &mut line_start, source.options, false);
     let columns = scan_indentation(&mut line_start);
     (kept == tree.spine_len(), columns, line_start)
 }
@@ -98,23 +97,22 @@ fn scan_prefixes<'a>(
 #[tactic(auto, unfolding(first_pass_grammar::specs::Kinds::interrupts))]
 pub fn next_paragraph_text(
     alloc: Global,
-    text: &str,
+    source: Source<'_>,
     start: usize,
     tree: &Tree<Item>,
-    options: Options,
 ) -> Result<Option<usize>, AllocError>
-    requires { IsCharBoundary text.now start }
-    ensures value { IfOk result (λ next. next ≡ (if ends_paragraph (path_of tree.now) (line_rest (drop start text.now))
-        then None else Some (offset (unindented (place_at start (front (path_of tree.now) (line_rest (drop start text.now)))))))) }
-    ensures place { OnOk result (IsPlaceOf text.now (unindented (place_at start (front (path_of tree.now) (line_rest (drop start text.now)))))) }
-    ensures utf8 { IsUtf8 text.now }
+    requires { IsCharBoundary source.text.now start }
+    ensures value { IfOk result (λ next. next ≡ (if ends_paragraph (path_of tree.now) (line_rest (drop start source.entry.text.now))
+        then None else Some (offset (unindented (place_at start (front (path_of tree.now) (line_rest (drop start source.entry.text.now)))))))) }
+    ensures place { OnOk result (IsPlaceOf source.entry.text.now (unindented (place_at start (front (path_of tree.now) (line_rest (drop start source.entry.text.now)))))) }
+    ensures utf8 { IsUtf8 source.entry.text.now }
 {
-    let (whole, columns, line_start) = scan_prefixes(text, start, tree, options);
+    let (whole, columns, line_start) = scan_prefixes(source, start, tree);
     let at = start + line_start.bytes_scanned();
     let interrupted = if columns < 4 {
-        scan_paragraph_interrupt_no_table(alloc, &text[at..], whole, false, false, tree, 0)?
+        scan_paragraph_interrupt_no_table(alloc, &source.text[at..], whole, false, false, tree, 0)?
     } else {
-        scan_eol(rest_of(text.as_bytes(), at)).is_some()
+        scan_eol(rest_of(source.text.as_bytes(), at)).is_some()
     };
     if interrupted { Ok(None) } else { Ok(Some(at)) }
 }
@@ -124,22 +122,21 @@ pub fn next_paragraph_text(
 #[tactic(auto, unfolding(first_pass_grammar::specs::Kinds::interrupts))]
 pub(crate) fn lazy_leaf<'a>(
     alloc: Global,
-    text: &'a str,
+    source: Source<'a>,
     start: usize,
     tree: &Tree<Item>,
-    options: Options,
 ) -> Result<Option<LineStart<'a>>, AllocError>
-    requires { IsCharBoundary text.now start }
-    ensures value { IfOk result (λ leaf. leaf ≡ (if ends_tag (path_of tree.now) (line_rest (drop start text.now))
-        then None else Some (all_taken (front (path_of tree.now) (line_rest (drop start text.now)))))) }
-    ensures place { OnOk result (IsPlaceOf text.now (unindented (place_at start (front (path_of tree.now) (line_rest (drop start text.now)))))) }
-    ensures utf8 { IsUtf8 text.now }
+    requires { IsCharBoundary source.text.now start }
+    ensures value { IfOk result (λ leaf. leaf ≡ (if ends_tag (path_of tree.now) (line_rest (drop start source.entry.text.now))
+        then None else Some (all_taken (front (path_of tree.now) (line_rest (drop start source.entry.text.now)))))) }
+    ensures place { OnOk result (IsPlaceOf source.entry.text.now (unindented (place_at start (front (path_of tree.now) (line_rest (drop start source.entry.text.now)))))) }
+    ensures utf8 { IsUtf8 source.entry.text.now }
 {
-    let (whole, columns, line_start) = scan_prefixes(text, start, tree, options);
+    let (whole, columns, line_start) = scan_prefixes(source, start, tree);
     if columns >= 4 {
         return Ok(Some(line_start));
     }
-    let rest = &text[start + line_start.bytes_scanned()..];
+    let rest = &source.text[start + line_start.bytes_scanned()..];
     if scan_paragraph_interrupt_no_table(alloc, rest, whole, false, false, tree, 0)? {
         return Ok(None);
     }

@@ -12,6 +12,7 @@ use first_pass_html::starts::{get_html_end_tag, starts_html_block_type_6};
 use first_pass_html::tags::scan_html_type_7;
 use first_pass_items::option_set::Options;
 use first_pass_leaves::indentation::scan_indentation;
+use first_pass_leaves::source::Source;
 use first_pass_scan::leaf_scan::{scan_code_fence, scan_hrule};
 use first_pass_scan::line_start::LineStart;
 use first_pass_scan::lines::{scan_atx_heading, scan_blank_line};
@@ -75,18 +76,17 @@ fn metadata_behind(
 /// the offset `start` into the text; takes all columns before it, and says how many there were, but 4 where
 /// there were more (CommonMark 4).
 pub fn kind_at<'a>(
-    text: &str,
+    source: Source<'_>,
     start: usize,
     line_start: &mut LineStart<'a>,
-    options: Options,
     ends: &mut MetadataEnds,
 ) -> (Kind, usize)
-    requires place { IsPlaceOf text.now (place_at start line_start.old) }
-    requires known { IsKnownOf text.now ends.old }
-    ensures kind { IsKind options line_start.old result.0 }
+    requires place { IsPlaceOf source.text.now (place_at start line_start.old) }
+    requires known { IsKnownOf source.text.now ends.old }
+    ensures kind { IsKind source.entry.options line_start.old result.0 }
     ensures columns { result.1 ≡ min 4 (indent line_start.old) }
     ensures rest { line_start.new ≡ all_taken line_start.old }
-    ensures known { IsKnownOf text.now ends.new }
+    ensures known { IsKnownOf source.entry.text.now ends.new }
 {
     if line_start.is_at_plain() {
         return (Kind::Paragraph, 0);
@@ -99,8 +99,9 @@ pub fn kind_at<'a>(
     if columns >= 4 {
         return (Kind::IndentedCode, columns);
     }
+    let bytes = source.text.as_bytes();
     let at = start + line_start.bytes_scanned();
-    if let Some(byte) = metadata_behind(text.as_bytes(), at, columns, options, ends) {
+    if let Some(byte) = metadata_behind(bytes, at, columns, source.options, ends) {
         return (Kind::Metadata(byte), columns);
     }
     if let Some(kind) = html_kind(line_start.left()) {

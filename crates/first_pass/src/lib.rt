@@ -6,6 +6,7 @@ pub mod containers;
 mod heading;
 mod interrupt;
 mod kinds;
+mod leaf;
 pub mod list;
 mod paragraph;
 pub mod pass;

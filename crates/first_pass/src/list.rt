@@ -1,285 +1,56 @@
-//! Lists and their items: how they go on, become loose and are closed (CommonMark 5.2, 5.3).
+//! Lists and their items, as calls of the pass: how they go on, become loose and are closed (CommonMark 5.2, 5.3).
 
-ghost use Rattle.std.specs.Prelude.{◌≡◌, ◌<◌, ◌≤◌, ℕ, length, None, IsSome, IsCharBoundary, slice_get, slice_index, OnOk};
-ghost use Rattle.first_pass.specs.Closing.{with_tight_node, tight_items, loosened_at, top_body, is_item, is_list_of, remembered, popped, item_finished, list_left, gap_noted, list_finished, list_kept, list_continued, begun, blank_read};
+ghost use Rattle.std.specs.Prelude.{◌≡◌, ◌≤◌, ℕ, length, IsSome, IsCharBoundary, slice_get, OnOk};
+ghost use Rattle.first_pass_lists.specs.Closing.{popped, item_finished, list_finished, list_continued};
 ghost use Rattle.first_pass.specs.Ordered.{IsOrderedAt};
-ghost use Rattle.first_pass_tree.specs.Forest.{depths};
-ghost use Rattle.first_pass_items.specs.declared.item.ItemBody.TheVariants.{BlockQuote as BlockQuoteBody, ListItem as ListItemBody};
 
 use crate::pass::FirstPass;
-use bitflags::Flags;
-use first_pass_items::item::{BlockQuoteKind, Item, ItemBody, ListFlags};
-use first_pass_tree::forest::Tree;
-use first_pass_tree::tree_index::TreeIndex;
+pub use first_pass_lists::list::surgerize_tight_list;
 use std::alloc::AllocError;
-
-/// How deep the node at a place stands.
-fn depth_at(tree: &Tree<Item>, at: usize) -> usize
-    requires { at < length tree.now.nodes }
-    ensures { result ≡ slice_index (depths tree.now.nodes) at }
-{
-    tree.nodes()[at].0
-}
-
-/// Makes a paragraph tight that stands directly in an item of a list of depth `list_depth`; another node
-/// stays (CommonMark 5.3).
-fn tighten(tree: &mut Tree<Item>, list_depth: usize, ix: TreeIndex)
-    requires within { ix.0 < length tree.old.nodes }
-    requires deeper { list_depth < slice_index (depths tree.old.nodes) ix.0 }
-    ensures { tree.new ≡ with_tight_node tree.old list_depth ix }
-{
-    if depth_at(tree, ix.0) - list_depth != 2 {
-        return;
-    }
-    if let ItemBody::Paragraph = tree[ix].body {
-        tree.set_body(ix, ItemBody::TightParagraph);
-    }
-}
-
-/// Makes the paragraphs tight that stand directly in the items of the list `list_ix` (CommonMark 5.3).
-pub fn surgerize_tight_list(tree: &mut Tree<Item>, list_ix: TreeIndex)
-    requires { list_ix.0 < length tree.old.nodes }
-    ensures { tree.new ≡ tight_items tree.old list_ix }
-{
-    let count = tree.node_count();
-    let list_depth = depth_at(tree, list_ix.0);
-    let mut at = list_ix.0 + 1;
-    while at < count && list_depth < depth_at(tree, at) {
-        tighten(tree, list_depth, TreeIndex(at));
-        at += 1;
-    }
-}
-
-/// Makes a list loose; another node stays.
-fn loosen(tree: &mut Tree<Item>, ix: TreeIndex)
-    requires { ix.0 < length tree.old.nodes }
-    ensures { tree.new ≡ loosened_at tree.old ix }
-{
-    if let ItemBody::List(_, byte, number) = tree[ix].body {
-        tree.set_body(ix, ItemBody::List(ListFlags::empty(), byte, number));
-    }
-}
 
 impl<'a> FirstPass<'a> {
     /// Closes the innermost open node, of which there has to be one, at the offset `ix`. The paragraphs of
     /// a list become tight, unless it is loose (CommonMark 5.3).
-    #[tactic(auto, using(crate::proofs::WithinLemmas::closed_within), unfolding(crate::specs::Closing::popped))]
     pub fn pop(&mut self, ix: usize)
-        requires { IsSome (slice_get self.old.tree.spine 0) }
-        ensures text { self.new.text.now ≡ self.old.text.now }
-        ensures options { self.new.options ≡ self.old.options }
+        requires { IsSome (slice_get self.old.reading.tree.spine 0) }
+        ensures source { self.new.source ≡ self.old.source }
         ensures allocs { self.new.allocs ≡ self.old.allocs }
-        ensures reading { remembered self.new.tree self.new.begin_list_item self.new.last_line_blank ≡ popped ix (remembered self.old.tree self.old.begin_list_item self.old.last_line_blank) }
-        ensures order { (at : ℕ) → at ≤ ix → ix ≤ length self.old.text.now → IsCharBoundary self.old.text.now ix → IsOrderedAt self.old.text.now (remembered self.old.tree self.old.begin_list_item self.old.last_line_blank) at → IsOrderedAt self.old.text.now (remembered self.new.tree self.new.begin_list_item self.new.last_line_blank) ix }
+        ensures reading { self.new.reading ≡ popped ix self.old.reading }
+        ensures order { (at : ℕ) → at ≤ ix → ix ≤ length self.old.source.text.now → IsCharBoundary self.old.source.text.now ix → IsOrderedAt self.old.source.text.now self.old.reading at → IsOrderedAt self.old.source.text.now self.new.reading ix }
     {
-        self.tree.is_forest();
-        let cur_ix = self.close_node(ix);
-        match self.tree[cur_ix].body {
-            ItemBody::List(flags, _, _) if flags.contains(ListFlags::IS_TIGHT) => {
-                surgerize_tight_list(&mut self.tree, cur_ix);
-            }
-            ItemBody::ListItem(_) => self.begin_list_item = None,
-            _ => {}
-        }
+        self.reading.pop(ix);
     }
 
     /// Closes the innermost open node, if it is an item that began with two blank lines, behind the line of
     /// its marker (CommonMark 5.2). No item is empty then.
-    #[tactic(auto, using(crate::proofs::WithinLemmas::item_is_open), unfolding(crate::specs::Closing::item_finished))]
     pub fn finish_empty_list_item(&mut self)
-        ensures text { self.new.text.now ≡ self.old.text.now }
-        ensures options { self.new.options ≡ self.old.options }
+        ensures source { self.new.source ≡ self.old.source }
         ensures allocs { self.new.allocs ≡ self.old.allocs }
-        ensures reading { remembered self.new.tree self.new.begin_list_item self.new.last_line_blank ≡ item_finished (remembered self.old.tree self.old.begin_list_item self.old.last_line_blank) }
-        ensures order { (at : ℕ) → IsOrderedAt self.old.text.now (remembered self.old.tree self.old.begin_list_item self.old.last_line_blank) at → IsOrderedAt self.old.text.now (remembered self.new.tree self.new.begin_list_item self.new.last_line_blank) at }
+        ensures reading { self.new.reading ≡ item_finished self.old.reading }
+        ensures order { (at : ℕ) → IsOrderedAt self.old.source.text.now self.old.reading at → IsOrderedAt self.old.source.text.now self.new.reading at }
     {
-        if let Some(marker_end) = self.begin_list_item {
-            if self.last_line_blank && self.is_in_item() {
-                self.pop(marker_end);
-            }
-        }
-        self.begin_list_item = None;
-    }
-
-    // Whether the innermost open node is an item.
-    #[tactic(auto, using(crate::proofs::WithinLemmas::top_within))]
-    fn is_in_item(&self) -> bool
-        ensures { result ≡ is_item (top_body self.now.tree) }
-    {
-        let Some(ix) = self.tree.peek_up() else {
-            return false;
-        };
-        self.tree.is_forest();
-        matches!(self.tree[ix].body, ItemBody::ListItem(_))
+        self.reading.finish_empty_list_item();
     }
 
     /// Closes what a new block ends: an empty item, and the list that is then innermost, at the offset
     /// `ix`. Where a blank line stands before the block, the list becomes loose in whose item it stands.
-    #[tactic(auto, unfolding(crate::specs::Closing::list_finished))]
     pub fn finish_list(&mut self, ix: usize)
-        ensures text { self.new.text.now ≡ self.old.text.now }
-        ensures options { self.new.options ≡ self.old.options }
+        ensures source { self.new.source ≡ self.old.source }
         ensures allocs { self.new.allocs ≡ self.old.allocs }
-        ensures reading { remembered self.new.tree self.new.begin_list_item self.new.last_line_blank ≡ list_finished ix (remembered self.old.tree self.old.begin_list_item self.old.last_line_blank) }
-        ensures order { (at : ℕ) → at ≤ ix → ix ≤ length self.old.text.now → IsCharBoundary self.old.text.now ix → IsOrderedAt self.old.text.now (remembered self.old.tree self.old.begin_list_item self.old.last_line_blank) at → IsOrderedAt self.old.text.now (remembered self.new.tree self.new.begin_list_item self.new.last_line_blank) ix }
+        ensures reading { self.new.reading ≡ list_finished ix self.old.reading }
+        ensures order { (at : ℕ) → at ≤ ix → ix ≤ length self.old.source.text.now → IsCharBoundary self.old.source.text.now ix → IsOrderedAt self.old.source.text.now self.old.reading at → IsOrderedAt self.old.source.text.now self.new.reading ix }
     {
-        self.finish_empty_list_item();
-        self.leave_list(ix);
-        self.note_gap();
-    }
-
-    // Closes the innermost open node, if it is a list, at the offset `ix`.
-    #[tactic(auto, using(crate::proofs::WithinLemmas::top_within))]
-    fn leave_list(&mut self, ix: usize)
-        ensures text { self.new.text.now ≡ self.old.text.now }
-        ensures options { self.new.options ≡ self.old.options }
-        ensures allocs { self.new.allocs ≡ self.old.allocs }
-        ensures reading { remembered self.new.tree self.new.begin_list_item self.new.last_line_blank ≡ list_left ix (remembered self.old.tree self.old.begin_list_item self.old.last_line_blank) }
-    {
-        self.tree.is_forest();
-        if let Some(list_ix) = self.tree.peek_up() {
-            if matches!(self.tree[list_ix].body, ItemBody::List(_, _, _)) {
-                self.pop(ix);
-            }
-        }
-    }
-
-    // Where a blank line stands before a block, makes the list loose in whose item the block stands.
-    #[tactic(auto, using(crate::proofs::WithinLemmas::second_within))]
-    fn note_gap(&mut self)
-        ensures text { self.new.text.now ≡ self.old.text.now }
-        ensures options { self.new.options ≡ self.old.options }
-        ensures allocs { self.new.allocs ≡ self.old.allocs }
-        ensures reading { remembered self.new.tree self.new.begin_list_item self.new.last_line_blank ≡ gap_noted (remembered self.old.tree self.old.begin_list_item self.old.last_line_blank) }
-    {
-        if self.last_line_blank {
-            self.tree.is_forest();
-            if let Some(list_ix) = self.tree.peek_grandparent() {
-                loosen(&mut self.tree, list_ix);
-            }
-            self.last_line_blank = false;
-        }
-    }
-
-    // Reads a blank line: where an item was empty, it takes blank lines alone from then on.
-    #[tactic(auto, using(crate::proofs::WithinLemmas::top_within), unfolding(crate::specs::Closing::blank_read))]
-    pub(crate) fn read_blank_line(&mut self)
-        ensures text { self.new.text.now ≡ self.old.text.now }
-        ensures options { self.new.options ≡ self.old.options }
-        ensures allocs { self.new.allocs ≡ self.old.allocs }
-        ensures reading { remembered self.new.tree self.new.begin_list_item self.new.last_line_blank ≡ blank_read (remembered self.old.tree self.old.begin_list_item self.old.last_line_blank) }
-    {
-        self.tree.is_forest();
-        if let Some(ix) = self.tree.peek_up() {
-            match self.tree[ix].body {
-                ItemBody::BlockQuote(_) => return,
-                ItemBody::ListItem(_) if self.begin_list_item.is_some() => {
-                    self.tree.set_body(ix, ItemBody::ListItem(0));
-                }
-                _ => {}
-            }
-        }
-        self.last_line_blank = true;
+        self.reading.finish_list(ix);
     }
 
     /// Goes on with the list that is innermost, where its byte is `ch`: it is loose if a blank line stands
     /// before. Else a list with that byte and the number `index` is opened at the offset `start`.
-    #[tactic(auto, unfolding(crate::specs::Closing::list_continued))]
     pub fn continue_list(&mut self, start: usize, ch: u8, index: u64) -> Result<(), AllocError>
-        ensures text { OnOk result (self.new.text.now ≡ self.old.text.now) }
-        ensures options { OnOk result (self.new.options ≡ self.old.options) }
+        ensures source { OnOk result (self.new.source ≡ self.old.source) }
         ensures allocs { OnOk result (self.new.allocs ≡ self.old.allocs) }
-        ensures reading { OnOk result (remembered self.new.tree self.new.begin_list_item self.new.last_line_blank ≡ list_continued start ch index (remembered self.old.tree self.old.begin_list_item self.old.last_line_blank)) }
-        ensures order { OnOk result ((at : ℕ) → at ≤ start → start ≤ length self.old.text.now → IsCharBoundary self.old.text.now start → IsOrderedAt self.old.text.now (remembered self.old.tree self.old.begin_list_item self.old.last_line_blank) at → IsOrderedAt self.old.text.now (remembered self.new.tree self.new.begin_list_item self.new.last_line_blank) start) }
+        ensures reading { OnOk result (self.new.reading ≡ list_continued start ch index self.old.reading) }
+        ensures order { OnOk result ((at : ℕ) → at ≤ start → start ≤ length self.old.source.text.now → IsCharBoundary self.old.source.text.now start → IsOrderedAt self.old.source.text.now self.old.reading at → IsOrderedAt self.old.source.text.now self.new.reading start) }
     {
-        self.finish_empty_list_item();
-        if self.is_in_list_of(ch) {
-            self.keep_list();
-            return Ok(());
-        }
-        self.finish_list(start);
-        self.open_node(start, ItemBody::List(ListFlags::IS_TIGHT, ch, index))?;
-        Ok(())
-    }
-
-    // Whether the innermost open node is a list with the byte `ch`.
-    #[tactic(auto, using(crate::proofs::WithinLemmas::top_within))]
-    fn is_in_list_of(&self, ch: u8) -> bool
-        ensures { result ≡ is_list_of ch (top_body self.now.tree) }
-    {
-        let Some(ix) = self.tree.peek_up() else {
-            return false;
-        };
-        self.tree.is_forest();
-        if let ItemBody::List(_, byte, _) = self.tree[ix].body {
-            return byte == ch;
-        }
-        false
-    }
-
-    // Goes on with the innermost open node, a list: a blank line before makes it loose.
-    #[tactic(auto, using(crate::proofs::WithinLemmas::top_within))]
-    fn keep_list(&mut self)
-        ensures text { self.new.text.now ≡ self.old.text.now }
-        ensures options { self.new.options ≡ self.old.options }
-        ensures allocs { self.new.allocs ≡ self.old.allocs }
-        ensures reading { remembered self.new.tree self.new.begin_list_item self.new.last_line_blank ≡ list_kept (remembered self.old.tree self.old.begin_list_item self.old.last_line_blank) }
-    {
-        if self.last_line_blank {
-            self.tree.is_forest();
-            if let Some(list_ix) = self.tree.peek_up() {
-                loosen(&mut self.tree, list_ix);
-            }
-            self.last_line_blank = false;
-        }
-    }
-
-    // Opens an item that starts at the offset `start`, in the list that goes on or in a new one.
-    pub(crate) fn open_item(
-        &mut self,
-        start: usize,
-        byte: u8,
-        number: u64,
-        indent: usize,
-    ) -> Result<(), AllocError>
-        ensures text { OnOk result (self.new.text.now ≡ self.old.text.now) }
-        ensures options { OnOk result (self.new.options ≡ self.old.options) }
-        ensures allocs { OnOk result (self.new.allocs ≡ self.old.allocs) }
-        ensures reading { OnOk result (remembered self.new.tree self.new.begin_list_item self.new.last_line_blank ≡ begun start (ListItemBody indent) (list_continued start byte number (remembered self.old.tree self.old.begin_list_item self.old.last_line_blank))) }
-    {
-        self.continue_list(start, byte, number)?;
-        self.open_node(start, ItemBody::ListItem(indent))
-    }
-
-    // Opens a block quote of a kind at the offset `start`, in the line that begins at `line`.
-    pub(crate) fn open_quote(
-        &mut self,
-        line: usize,
-        start: usize,
-        kind: Option<BlockQuoteKind>,
-    ) -> Result<(), AllocError>
-        ensures text { OnOk result (self.new.text.now ≡ self.old.text.now) }
-        ensures options { OnOk result (self.new.options ≡ self.old.options) }
-        ensures allocs { OnOk result (self.new.allocs ≡ self.old.allocs) }
-        ensures reading { OnOk result (remembered self.new.tree self.new.begin_list_item self.new.last_line_blank ≡ begun start (BlockQuoteBody kind) (list_finished line (remembered self.old.tree self.old.begin_list_item self.old.last_line_blank))) }
-    {
-        self.finish_list(line);
-        self.open_node(start, ItemBody::BlockQuote(kind))
-    }
-
-    // Opens a node at the offset `start`, as a last child of the innermost open one.
-    fn open_node(&mut self, start: usize, body: ItemBody) -> Result<(), AllocError>
-        ensures text { OnOk result (self.new.text.now ≡ self.old.text.now) }
-        ensures options { OnOk result (self.new.options ≡ self.old.options) }
-        ensures allocs { OnOk result (self.new.allocs ≡ self.old.allocs) }
-        ensures reading { OnOk result (remembered self.new.tree self.new.begin_list_item self.new.last_line_blank ≡ begun start body (remembered self.old.tree self.old.begin_list_item self.old.last_line_blank)) }
-    {
-        self.tree.append(Item {
-            start,
-            end: 0,
-            body,
-        })?;
-        self.tree.push()?;
-        Ok(())
+        self.reading.continue_list(start, ch, index)
     }
 }

@@ -18,9 +18,9 @@ ghost use Rattle.first_pass_grammar.specs.Skeleton.{Inside, Line};
 ghost use Rattle.first_pass_tree.specs.Forest.{is_text};
 ghost use Rattle.first_pass_grammar.specs.Kinds.{item_at, IsKind, all_taken, unindented};
 ghost use Rattle.first_pass_scan.specs.Rest.{indent};
-ghost use Rattle.first_pass.specs.Closing.{remembered};
 ghost use Rattle.first_pass.specs.Adding.{AddsKind, IsMarked};
 ghost use Rattle.first_pass.specs.Opening.{ReadyText, ReadyTagged, ReadyLeaf, line_or, OrderedText};
+ghost use Rattle.first_pass_lists.specs.Closing.{with_tree};
 ghost use Rattle.first_pass.specs.Ordered.{IsOrderedAt, AddsBetween};
 ghost use Rattle.first_pass_grammar.specs.Order.{IsOrdered};
 ghost use Rattle.first_pass_grammar.specs.OpenOrder.{IsOrderedTo};
@@ -28,10 +28,11 @@ ghost use Rattle.first_pass.specs.State.{Ready, ReadyAt};
 ghost use Rattle.first_pass_leaves.specs.TableEntries.{tables, no_tables, names_of};
 ghost use Rattle.first_pass_grammar.specs.Names.{Names, Extends};
 
-use crate::containers::Behind;
+use crate::containers::{Behind, close_containers, enter_line, open_containers};
 use crate::interrupt::lazy_leaf;
 pub use crate::interrupt::scan_paragraph_interrupt_no_table;
 use crate::kinds::kind_at;
+use crate::raw::read_blank_behind;
 use first_pass_below::flank::TableParseMode;
 use first_pass_below::walk::special_bytes;
 use first_pass_grammar::Kind;
@@ -39,6 +40,8 @@ use first_pass_items::item::Item;
 use first_pass_items::option_set::Options;
 use first_pass_leaves::indentation::scan_indentation;
 use first_pass_leaves::items::Allocations;
+use first_pass_leaves::source::Source;
+use first_pass_lists::reading::Reading;
 use first_pass_scan::line_start::LineStart;
 use first_pass_scan::metadata_search::MetadataEnds;
 use first_pass_scan::places::{next_line, rest_of};
@@ -52,19 +55,14 @@ use std::cmp::max;
 #[derive(Drop)]
 pub struct FirstPass<'a> {
     pub(crate) alloc: Global,
-    pub(crate) text: &'a str,
-    pub(crate) tree: Tree<Item>,
-    // Where the line of its marker ends, of the innermost item as long as that is empty.
-    pub(crate) begin_list_item: Option<usize>,
-    // Whether a blank line that counts is in the run of them before the next line.
-    pub(crate) last_line_blank: bool,
+    pub(crate) source: Source<'a>,
+    pub(crate) reading: Reading,
     pub(crate) allocs: Allocations<'a>,
-    pub(crate) options: Options,
     pub(crate) lookup_table: [bool; 256],
     // What is known of the lines that close metadata.
     pub(crate) metadata_ends: MetadataEnds,
-    ghost marks: { MarksSpecial lookup_table options },
-    ghost known: { IsKnownOf text.now metadata_ends } by { known_prop text.now metadata_ends },
+    ghost marks: { MarksSpecial lookup_table source.options },
+    ghost known: { IsKnownOf source.text.now metadata_ends } by { known_prop source.text.now metadata_ends },
 }
 
 /// The bytes of a text up to an offset, or all.
@@ -83,11 +81,11 @@ fn text_upto(text: &str, end: Option<usize>) -> &[u8]
 impl<'a> FirstPass<'a> {
     /// A pass over `text` that has read nothing yet.
     pub fn new(alloc: Global, text: &'a str, options: Options) -> Result<FirstPass<'a>, AllocError>
-        ensures text { IfOk result (λ pass. pass.text.now ≡ text.now) }
-        ensures options { IfOk result (λ pass. pass.options ≡ options) }
+        ensures text { IfOk result (λ pass. pass.source.text.now ≡ text.now) }
+        ensures options { IfOk result (λ pass. pass.source.options ≡ options) }
         ensures tables { IfOk result (λ pass. tables pass.allocs ≡ no_tables) }
-        ensures ready { IfOk result (λ pass. (names : Names) → Ready (document text.now options names) (remembered pass.tree pass.begin_list_item pass.last_line_blank) (lines_from text.now 0)) }
-        ensures order { IfOk result (λ pass. IsOrderedAt text.now (remembered pass.tree pass.begin_list_item pass.last_line_blank) 0) }
+        ensures ready { IfOk result (λ pass. (names : Names) → Ready (document text.now options names) pass.reading (lines_from text.now 0)) }
+        ensures order { IfOk result (λ pass. IsOrderedAt text.now pass.reading 0) }
     {
         // A guess at how many nodes the text will have: pages of it that are never reached cost nothing.
         let capacity = max(128, text.len() / 12);
@@ -96,12 +94,13 @@ impl<'a> FirstPass<'a> {
         tree.set_end(root, text.len());
         Ok(FirstPass {
             alloc,
-            text,
-            tree,
-            begin_list_item: None,
-            last_line_blank: false,
+            source: Source { text, options },
+            reading: Reading {
+                tree,
+                empty_item: None,
+                blank: false,
+            },
             allocs: Allocations::new(alloc),
-            options,
             lookup_table: special_bytes(&options),
             metadata_ends: MetadataEnds::new(),
         })
@@ -114,22 +113,21 @@ impl<'a> FirstPass<'a> {
     /// Where the nodes so far begin a derivation of the text that goes on at `start_ix`, they begin one
     /// then that goes on at the answer.
     pub fn parse_block(&mut self, start_ix: usize) -> Result<usize, AllocError>
-        requires within { start_ix < length self.old.text.now }
-        requires boundary { IsCharBoundary self.old.text.now start_ix }
-        ensures text { OnOk result (self.new.text.now ≡ self.old.text.now) }
-        ensures options { OnOk result (self.new.options ≡ self.old.options) }
+        requires within { start_ix < length self.old.source.text.now }
+        requires boundary { IsCharBoundary self.old.source.text.now start_ix }
+        ensures source { OnOk result (self.new.source ≡ self.old.source) }
         ensures names { OnOk result (Extends (names_of self.new.allocs) (names_of self.old.allocs)) }
         ensures tables { OnOk result (tables self.new.allocs ≡ tables self.old.allocs) }
-        ensures later { IfOk result (λ next. (start_ix < next) × (next ≤ length self.old.text.now)) }
-        ensures boundary { IfOk result (λ next. IsCharBoundary self.old.text.now next) }
-        ensures ready { IfOk result (λ next. (names : Names) → Extends names (names_of self.new.allocs) → Ready (document self.old.text.now self.old.options names) (remembered self.old.tree self.old.begin_list_item self.old.last_line_blank) (lines_from self.old.text.now start_ix)
-            → Ready (document self.old.text.now self.old.options names) (remembered self.new.tree self.new.begin_list_item self.new.last_line_blank) (lines_from self.old.text.now next)) }
-        ensures order { IfOk result (λ next. IsOrderedAt self.old.text.now (remembered self.old.tree self.old.begin_list_item self.old.last_line_blank) start_ix → IsOrderedAt self.old.text.now (remembered self.new.tree self.new.begin_list_item self.new.last_line_blank) next) }
+        ensures later { IfOk result (λ next. (start_ix < next) × (next ≤ length self.old.source.text.now)) }
+        ensures boundary { IfOk result (λ next. IsCharBoundary self.old.source.text.now next) }
+        ensures ready { IfOk result (λ next. (names : Names) → Extends names (names_of self.new.allocs) → Ready (document self.old.source.text.now self.old.source.options names) self.old.reading (lines_from self.old.source.text.now start_ix)
+            → Ready (document self.old.source.text.now self.old.source.options names) self.new.reading (lines_from self.old.source.text.now next)) }
+        ensures order { IfOk result (λ next. IsOrderedAt self.old.source.text.now self.old.reading start_ix → IsOrderedAt self.old.source.text.now self.new.reading next) }
     {
-        let Some(mut line_start) = self.enter_line(start_ix) else {
-            return Ok(next_line(self.text.as_bytes(), start_ix));
+        let Some(mut line_start) = enter_line(&mut self.reading, self.source, start_ix) else {
+            return Ok(next_line(self.source.text.as_bytes(), start_ix));
         };
-        match self.open_containers(start_ix, &mut line_start)? {
+        match open_containers(&mut self.reading, self.source, start_ix, &mut line_start)? {
             Behind::Leaf => {
                 let next = self.parse_leaf(start_ix, line_start)?;
                 Ok(next)
@@ -149,19 +147,18 @@ impl<'a> FirstPass<'a> {
     // Reads the line that begins at `start`, behind the tag of the block quote that is innermost, where it
     // belongs to that quote; answers as `parse_block`, or `start` where the line is read as any other.
     fn parse_tagged(&mut self, start: usize) -> Result<usize, AllocError>
-        requires boundary { IsCharBoundary self.old.text.now start }
-        requires no_empty { self.old.begin_list_item ≡ None }
-        ensures text { OnOk result (self.new.text.now ≡ self.old.text.now) }
-        ensures options { OnOk result (self.new.options ≡ self.old.options) }
+        requires boundary { IsCharBoundary self.old.source.text.now start }
+        requires no_empty { self.old.reading.empty_item ≡ None }
+        ensures source { OnOk result (self.new.source ≡ self.old.source) }
         ensures names { OnOk result (Extends (names_of self.new.allocs) (names_of self.old.allocs)) }
         ensures tables { OnOk result (tables self.new.allocs ≡ tables self.old.allocs) }
         ensures later { IfOk result (λ next. start ≤ next) }
-        ensures boundary { IfOk result (λ next. IsCharBoundary self.old.text.now next) }
-        ensures ready { IfOk result (λ next. (names : Names) → Extends names (names_of self.new.allocs) → ReadyTagged (document self.old.text.now self.old.options names) (remembered self.old.tree self.old.begin_list_item self.old.last_line_blank) (lines_from self.old.text.now start)
-            → Ready (document self.old.text.now self.old.options names) (remembered self.new.tree self.new.begin_list_item self.new.last_line_blank) (lines_from self.old.text.now next)) }
-        ensures order { IfOk result (λ next. IsOrderedTo self.old.text.now self.old.tree start → IsOrderedAt self.old.text.now (remembered self.new.tree self.new.begin_list_item self.new.last_line_blank) next) }
+        ensures boundary { IfOk result (λ next. IsCharBoundary self.old.source.text.now next) }
+        ensures ready { IfOk result (λ next. (names : Names) → Extends names (names_of self.new.allocs) → ReadyTagged (document self.old.source.text.now self.old.source.options names) self.old.reading (lines_from self.old.source.text.now start)
+            → Ready (document self.old.source.text.now self.old.source.options names) self.new.reading (lines_from self.old.source.text.now next)) }
+        ensures order { IfOk result (λ next. IsOrderedTo self.old.source.text.now self.old.reading.tree start → IsOrderedAt self.old.source.text.now self.new.reading next) }
     {
-        match lazy_leaf(self.alloc, self.text, start, &self.tree, self.options)? {
+        match lazy_leaf(self.alloc, self.source, start, &self.reading.tree)? {
             None => Ok(start),
             Some(line_start) => {
                 let next = self.parse_leaf(start, line_start)?;
@@ -178,20 +175,19 @@ impl<'a> FirstPass<'a> {
         line_start: LineStart<'a>,
         marker: Item,
     ) -> Result<usize, AllocError>
-        requires utf8 { IsUtf8 self.old.text.now }
-        requires place { IsPlaceOf self.old.text.now (place_at start_ix line_start) }
+        requires utf8 { IsUtf8 self.old.source.text.now }
+        requires place { IsPlaceOf self.old.source.text.now (place_at start_ix line_start) }
         requires marker { is_text marker.body ≡ false }
-        requires no_empty { self.old.begin_list_item ≡ None }
-        ensures text { OnOk result (self.new.text.now ≡ self.old.text.now) }
-        ensures options { OnOk result (self.new.options ≡ self.old.options) }
+        requires no_empty { self.old.reading.empty_item ≡ None }
+        ensures source { OnOk result (self.new.source ≡ self.old.source) }
         ensures allocs { OnOk result (self.new.allocs ≡ self.old.allocs) }
         ensures later { IfOk result (λ next. line_end (place_at start_ix line_start.entry) ≤ next) }
-        ensures boundary { IfOk result (λ next. IsCharBoundary self.old.text.now next) }
-        ensures ready { IfOk result (λ next. (names : Names) → ReadyText (document self.old.text.now self.old.options names) (remembered self.old.tree self.old.begin_list_item self.old.last_line_blank) marker (place_at start_ix line_start.entry) (lines_from self.old.text.now (line_end (place_at start_ix line_start.entry)))
-            → Ready (document self.old.text.now self.old.options names) (remembered self.new.tree self.new.begin_list_item self.new.last_line_blank) (lines_from self.old.text.now next)) }
-        ensures order { IfOk result (λ next. OrderedText self.old.text.now self.old.tree marker (offset (place_at start_ix line_start.entry)) → IsOrderedAt self.old.text.now (remembered self.new.tree self.new.begin_list_item self.new.last_line_blank) next) }
+        ensures boundary { IfOk result (λ next. IsCharBoundary self.old.source.text.now next) }
+        ensures ready { IfOk result (λ next. (names : Names) → ReadyText (document self.old.source.text.now self.old.source.options names) self.old.reading marker (place_at start_ix line_start.entry) (lines_from self.old.source.text.now (line_end (place_at start_ix line_start.entry)))
+            → Ready (document self.old.source.text.now self.old.source.options names) self.new.reading (lines_from self.old.source.text.now next)) }
+        ensures order { IfOk result (λ next. OrderedText self.old.source.text.now self.old.reading.tree marker (offset (place_at start_ix line_start.entry)) → IsOrderedAt self.old.source.text.now self.new.reading next) }
     {
-        self.tree.is_forest();
+        self.source.is_short();
         let mut line_start = line_start;
         scan_indentation(&mut line_start);
         let next = self.parse_paragraph(start_ix + line_start.bytes_scanned(), Some(marker))?;
@@ -205,24 +201,29 @@ impl<'a> FirstPass<'a> {
         start_ix: usize,
         line_start: LineStart<'a>,
     ) -> Result<usize, AllocError>
-        requires utf8 { IsUtf8 self.old.text.now }
-        requires place { IsPlaceOf self.old.text.now (place_at start_ix line_start) }
-        requires no_empty { self.old.begin_list_item ≡ None }
-        ensures text { OnOk result (self.new.text.now ≡ self.old.text.now) }
-        ensures options { OnOk result (self.new.options ≡ self.old.options) }
+        requires utf8 { IsUtf8 self.old.source.text.now }
+        requires place { IsPlaceOf self.old.source.text.now (place_at start_ix line_start) }
+        requires no_empty { self.old.reading.empty_item ≡ None }
+        ensures source { OnOk result (self.new.source ≡ self.old.source) }
         ensures names { OnOk result (Extends (names_of self.new.allocs) (names_of self.old.allocs)) }
         ensures tables { OnOk result (tables self.new.allocs ≡ tables self.old.allocs) }
         ensures later { IfOk result (λ next. line_end (place_at start_ix line_start.entry) ≤ next) }
-        ensures boundary { IfOk result (λ next. IsCharBoundary self.old.text.now next) }
+        ensures boundary { IfOk result (λ next. IsCharBoundary self.old.source.text.now next) }
         ensures ready { IfOk result (λ next. (names : Names) → Extends names (names_of self.new.allocs) →
-            ReadyLeaf (document self.old.text.now self.old.options names) (remembered self.old.tree self.old.begin_list_item self.old.last_line_blank) (place_at start_ix line_start.entry) (lines_from self.old.text.now (line_end (place_at start_ix line_start.entry)))
-            → Ready (document self.old.text.now self.old.options names) (remembered self.new.tree self.new.begin_list_item self.new.last_line_blank) (lines_from self.old.text.now next)) }
-        ensures order { IfOk result (λ next. IsCharBoundary self.old.text.now start_ix → IsOrderedTo self.old.text.now self.old.tree (line_or self.old.tree start_ix (offset (place_at start_ix line_start.entry)))
-            → IsOrderedAt self.old.text.now (remembered self.new.tree self.new.begin_list_item self.new.last_line_blank) next) }
+            ReadyLeaf (document self.old.source.text.now self.old.source.options names) self.old.reading (place_at start_ix line_start.entry) (lines_from self.old.source.text.now (line_end (place_at start_ix line_start.entry)))
+            → Ready (document self.old.source.text.now self.old.source.options names) self.new.reading (lines_from self.old.source.text.now next)) }
+        ensures order { IfOk result (λ next. IsCharBoundary self.old.source.text.now start_ix → IsOrderedTo self.old.source.text.now self.old.reading.tree (line_or self.old.reading.tree start_ix (offset (place_at start_ix line_start.entry)))
+            → IsOrderedAt self.old.source.text.now self.new.reading next) }
     {
+        self.source.is_short();
         let before = line_start.copy();
         let mut line_start = line_start;
-        let (kind, columns) = self.kind_here(start_ix, &mut line_start);
+        let (kind, columns) = kind_at(
+            self.source,
+            start_ix,
+            &mut line_start,
+            &mut self.metadata_ends,
+        );
         let at = start_ix + line_start.bytes_scanned();
         let next = self.parse_kind(start_ix, before, kind, columns, at)?;
         Ok(next)
@@ -239,68 +240,46 @@ impl<'a> FirstPass<'a> {
         columns: usize,
         at: usize,
     ) -> Result<usize, AllocError>
-        requires utf8 { IsUtf8 self.old.text.now }
-        requires place { IsPlaceOf self.old.text.now (place_at start_ix before) }
-        requires no_empty { self.old.begin_list_item ≡ None }
-        requires kind { IsKind self.old.options before kind }
+        requires utf8 { IsUtf8 self.old.source.text.now }
+        requires place { IsPlaceOf self.old.source.text.now (place_at start_ix before) }
+        requires no_empty { self.old.reading.empty_item ≡ None }
+        requires kind { IsKind self.old.source.options before kind }
         requires columns { columns ≡ min 4 (indent before) }
         requires at { at ≡ offset (unindented (place_at start_ix before)) }
-        ensures text { OnOk result (self.new.text.now ≡ self.old.text.now) }
-        ensures options { OnOk result (self.new.options ≡ self.old.options) }
+        ensures source { OnOk result (self.new.source ≡ self.old.source) }
         ensures names { OnOk result (Extends (names_of self.new.allocs) (names_of self.old.allocs)) }
         ensures tables { OnOk result (tables self.new.allocs ≡ tables self.old.allocs) }
         ensures later { IfOk result (λ next. line_end (place_at start_ix before.entry) ≤ next) }
-        ensures boundary { IfOk result (λ next. IsCharBoundary self.old.text.now next) }
+        ensures boundary { IfOk result (λ next. IsCharBoundary self.old.source.text.now next) }
         ensures ready { IfOk result (λ next. (names : Names) → Extends names (names_of self.new.allocs) →
-            ReadyLeaf (document self.old.text.now self.old.options names) (remembered self.old.tree self.old.begin_list_item self.old.last_line_blank) (place_at start_ix before.entry) (lines_from self.old.text.now (line_end (place_at start_ix before.entry)))
-            → Ready (document self.old.text.now self.old.options names) (remembered self.new.tree self.new.begin_list_item self.new.last_line_blank) (lines_from self.old.text.now next)) }
-        ensures order { IfOk result (λ next. IsCharBoundary self.old.text.now start_ix → IsOrderedTo self.old.text.now self.old.tree (line_or self.old.tree start_ix (offset (place_at start_ix before.entry)))
-            → IsOrderedAt self.old.text.now (remembered self.new.tree self.new.begin_list_item self.new.last_line_blank) next) }
+            ReadyLeaf (document self.old.source.text.now self.old.source.options names) self.old.reading (place_at start_ix before.entry) (lines_from self.old.source.text.now (line_end (place_at start_ix before.entry)))
+            → Ready (document self.old.source.text.now self.old.source.options names) self.new.reading (lines_from self.old.source.text.now next)) }
+        ensures order { IfOk result (λ next. IsCharBoundary self.old.source.text.now start_ix → IsOrderedTo self.old.source.text.now self.old.reading.tree (line_or self.old.reading.tree start_ix (offset (place_at start_ix before.entry)))
+            → IsOrderedAt self.old.source.text.now self.new.reading next) }
     {
-        self.tree.is_forest();
+        self.reading.tree.is_forest();
         match kind {
             Kind::Blank => {
-                self.read_blank_line();
-                Ok(next_line(self.text.as_bytes(), at))
+                self.reading.read_blank_line();
+                Ok(next_line(self.source.text.as_bytes(), at))
             }
             Kind::Paragraph => {
-                self.finish_list(at);
+                self.reading.finish_list(at);
                 let next = self.parse_paragraph(at, None)?;
                 Ok(next)
             }
             Kind::HtmlToBlank => {
-                self.finish_list(start_ix);
-                self.tree.is_forest();
+                self.reading.finish_list(start_ix);
+                self.reading.tree.is_forest();
                 let lines = self.parse_html_to_blank(at, columns)?;
-                Ok(self.read_blank_behind(lines))
+                Ok(read_blank_behind(&mut self.reading, self.source, lines))
             }
             _ => {
-                self.finish_list(start_ix);
+                self.reading.finish_list(start_ix);
                 let next = self.parse_marked(start_ix, before, kind, columns, at)?;
                 Ok(next)
             }
         }
-    }
-
-    // The kind of the leaf block that begins at a place in the line whose reading began at `start_ix`, as `kind_at`.
-    #[inline(always)]
-    fn kind_here(&mut self, start_ix: usize, line_start: &mut LineStart<'a>) -> (Kind, usize)
-        requires place { IsPlaceOf self.old.text.now (place_at start_ix line_start.old) }
-        ensures text { self.new.text.now ≡ self.old.text.now }
-        ensures options { self.new.options ≡ self.old.options }
-        ensures allocs { self.new.allocs ≡ self.old.allocs }
-        ensures reading { remembered self.new.tree self.new.begin_list_item self.new.last_line_blank ≡ remembered self.old.tree self.old.begin_list_item self.old.last_line_blank }
-        ensures kind { IsKind self.old.options line_start.old result.0 }
-        ensures columns { result.1 ≡ min 4 (indent line_start.old) }
-        ensures rest { line_start.new ≡ all_taken line_start.old }
-    {
-        kind_at(
-            self.text,
-            start_ix,
-            line_start,
-            self.options,
-            &mut self.metadata_ends,
-        )
     }
 
     // Appends the leaf block of a kind that begins at a place in the line whose reading began at `start_ix`, behind so
@@ -313,21 +292,20 @@ impl<'a> FirstPass<'a> {
         columns: usize,
         at: usize,
     ) -> Result<usize, AllocError>
-        requires utf8 { IsUtf8 self.old.text.now }
-        requires place { IsPlaceOf self.old.text.now (place_at start_ix before) }
-        requires kind { IsKind self.old.options before kind }
+        requires utf8 { IsUtf8 self.old.source.text.now }
+        requires place { IsPlaceOf self.old.source.text.now (place_at start_ix before) }
+        requires kind { IsKind self.old.source.options before kind }
         requires marked { IsMarked kind }
         requires columns { columns ≡ min 4 (indent before) }
         requires at { at ≡ offset (unindented (place_at start_ix before)) }
-        requires not_blank { self.old.last_line_blank ≡ false }
-        ensures text { OnOk result (self.new.text.now ≡ self.old.text.now) }
-        ensures options { OnOk result (self.new.options ≡ self.old.options) }
-        ensures empty_item { OnOk result (self.new.begin_list_item ≡ self.old.begin_list_item) }
+        requires not_blank { self.old.reading.blank ≡ false }
+        ensures source { OnOk result (self.new.source ≡ self.old.source) }
+        ensures empty_item { OnOk result (self.new.reading.empty_item ≡ self.old.reading.empty_item) }
         ensures names { OnOk result (Extends (names_of self.new.allocs) (names_of self.old.allocs)) }
         ensures tables { OnOk result (tables self.new.allocs ≡ tables self.old.allocs) }
-        ensures block { IfOk result (λ next. AddsKind self.old.text.now self.old.options (names_of self.new.allocs) (place_at start_ix before.entry) kind self.new.last_line_blank self.old.tree self.new.tree next) }
-        ensures boundary { IfOk result (λ next. (line_end (place_at start_ix before.entry) ≤ next) × IsCharBoundary self.old.text.now next) }
-        ensures fits { IfOk result (λ next. (from : ℕ) → from ≤ offset (place_at start_ix before.entry) → AddsBetween self.old.text.now from next self.old.tree self.new.tree) }
+        ensures block { IfOk result (λ next. AddsKind self.old.source.text.now self.old.source.options (names_of self.new.allocs) (place_at start_ix before.entry) kind self.new.reading.blank self.old.reading.tree self.new.reading.tree next) }
+        ensures boundary { IfOk result (λ next. (line_end (place_at start_ix before.entry) ≤ next) × IsCharBoundary self.old.source.text.now next) }
+        ensures fits { IfOk result (λ next. (from : ℕ) → from ≤ offset (place_at start_ix before.entry) → AddsBetween self.old.source.text.now from next self.old.reading.tree self.new.reading.tree) }
     {
         match kind {
             Kind::IndentedCode => {
@@ -370,48 +348,29 @@ impl<'a> FirstPass<'a> {
         end: Option<usize>,
         _mode: TableParseMode,
     ) -> Result<(usize, Option<Item>), AllocError>
-        requires start { start ≤ length self.old.text.now }
-        requires end { IfSome end (λ e. (start ≤ e) × (e ≤ length self.old.text.now)) }
-        ensures text { OnOk result (self.new.text.now ≡ self.old.text.now) }
-        ensures options { OnOk result (self.new.options ≡ self.old.options) }
+        requires start { start ≤ length self.old.source.text.now }
+        requires end { IfSome end (λ e. (start ≤ e) × (e ≤ length self.old.source.text.now)) }
+        ensures source { OnOk result (self.new.source ≡ self.old.source) }
         ensures allocs { OnOk result (self.new.allocs ≡ self.old.allocs) }
-        ensures empty_item { OnOk result (self.new.begin_list_item ≡ self.old.begin_list_item) }
-        ensures blank { OnOk result (self.new.last_line_blank ≡ self.old.last_line_blank) }
+        ensures reading { OnOk result (self.new.reading ≡ with_tree self.old.reading self.new.reading.tree) }
         ensures line { IfOk result (λ answer. AppendsLine
-            (record { options = self.old.options; text = text_upto self.old.text.now end; start = start }) self.old.tree self.new.tree answer) }
+            (record { options = self.old.source.options; text = text_upto self.old.source.text.now end; start = start }) self.old.reading.tree self.new.reading.tree answer) }
         ensures ends { IfOk result (λ answer. EndsLine
-            (record { options = self.old.options; text = text_upto self.old.text.now end; start = start }) answer) }
-        ensures boundary { IfOk result (λ answer. end ≡ None → IsCharBoundary self.old.text.now start → IsCharBoundary self.old.text.now answer.0) }
-        ensures order { IfOk result (λ answer. IfSome end (λ e. IsCharBoundary self.old.text.now e) → IsCharBoundary self.old.text.now start → (from : ℕ) → from ≤ start
-            → IsOrderedTo self.old.text.now self.old.tree from → IsOrderedTo self.old.text.now self.new.tree answer.0) }
+            (record { options = self.old.source.options; text = text_upto self.old.source.text.now end; start = start }) answer) }
+        ensures boundary { IfOk result (λ answer. end ≡ None → IsCharBoundary self.old.source.text.now start → IsCharBoundary self.old.source.text.now answer.0) }
+        ensures order { IfOk result (λ answer. IfSome end (λ e. IsCharBoundary self.old.source.text.now e) → IsCharBoundary self.old.source.text.now start → (from : ℕ) → from ≤ start
+            → IsOrderedTo self.old.source.text.now self.old.reading.tree from → IsOrderedTo self.old.source.text.now self.new.reading.tree answer.0) }
     {
-        self.tree.is_forest();
-        let bytes = text_upto(self.text, end);
+        self.reading.tree.is_forest();
+        let bytes = text_upto(self.source.text, end);
         let answer = append_line(
             bytes,
             start,
-            self.options,
+            self.source.options,
             &self.lookup_table,
-            &mut self.tree,
+            &mut self.reading.tree,
         )?;
         Ok(answer)
-    }
-
-    // Closes the innermost open node, of which there has to be one, at the offset `ix`, and answers its place.
-    pub(crate) fn close_node(&mut self, ix: usize) -> TreeIndex
-        requires { IsSome (slice_get self.old.tree.spine 0) }
-        ensures text { self.new.text.now ≡ self.old.text.now }
-        ensures options { self.new.options ≡ self.old.options }
-        ensures allocs { self.new.allocs ≡ self.old.allocs }
-        ensures empty_item { self.new.begin_list_item ≡ self.old.begin_list_item }
-        ensures blank { self.new.last_line_blank ≡ self.old.last_line_blank }
-        ensures node { slice_get self.old.tree.spine 0 ≡ Some result }
-        ensures tree { self.new.tree ≡ closed_by self.old.tree ix self.old.tree.spine }
-    {
-        self.tree.is_forest();
-        let cur_ix = self.tree.pop().unwrap();
-        self.tree.set_end(cur_ix, ix);
-        cur_ix
     }
 }
 
@@ -432,17 +391,15 @@ pub fn run_first_pass<'a>(
     while ix < text.len() {
         ix = pass.parse_block(ix)?;
     }
-    pass.close_containers(0, text.len());
+    close_containers(&mut pass.reading, 0, text.len());
     let FirstPass {
         alloc: _,
-        text: _,
-        tree,
-        begin_list_item: _,
-        last_line_blank: _,
+        source: _,
+        reading,
         allocs,
-        options: _,
         lookup_table: _,
         metadata_ends: _,
     } = pass;
+    let Reading { tree, .. } = reading;
     Ok((tree, allocs))
 }

@@ -15,13 +15,15 @@ ghost use Rattle.first_pass_leaves.specs.Path.{path_of};
 ghost use Rattle.first_pass_leaves.specs.TableEntries.{tables, names_of};
 ghost use Rattle.first_pass_leaves.specs.RawBlocks.{AppendsCode, AppendsHtml, IsPlaceAt, AddsIndented, AddsRaw, behind_line_at, fenced_behind, metadata_behind, html_to_end, html_to_blank};
 ghost use Rattle.first_pass.specs.Adding.{AddsKind, behind_blank, with_blank};
-ghost use Rattle.first_pass.specs.Closing.{remembered};
+ghost use Rattle.first_pass_lists.specs.Closing.{with_tree};
 ghost use Rattle.first_pass.specs.Ordered.{AddsBetween};
 
 use crate::pass::FirstPass;
 use first_pass_html::starts::get_html_end_tag;
 use first_pass_leaves::fenced_code::Fence;
 use first_pass_leaves::open_block::BlockLines;
+use first_pass_leaves::source::Source;
+use first_pass_lists::reading::Reading;
 use first_pass_leaves::{fenced_code, html_block, indented_code, metadata_block, raw_line};
 use first_pass_scan::line_start::LineStart;
 use first_pass_scan::places::{next_line, rest_of};
@@ -39,19 +41,17 @@ impl<'a> FirstPass<'a> {
     ) -> Result<(), AllocError>
         requires owed { remaining_space ≤ 3 }
         requires order { start ≤ end }
-        requires within { end ≤ length self.old.text.now }
-        ensures text { OnOk result (self.new.text.now ≡ self.old.text.now) }
-        ensures options { OnOk result (self.new.options ≡ self.old.options) }
-        ensures empty_item { OnOk result (self.new.begin_list_item ≡ self.old.begin_list_item) }
+        requires within { end ≤ length self.old.source.text.now }
+        ensures source { OnOk result (self.new.source ≡ self.old.source) }
         ensures names { OnOk result (Extends (names_of self.new.allocs) (names_of self.old.allocs)) }
         ensures tables { OnOk result (tables self.new.allocs ≡ tables self.old.allocs) }
-        ensures blank { OnOk result (self.new.last_line_blank ≡ self.old.last_line_blank) }
-        ensures line { OnOk result (AppendsCode self.old.text.now (names_of self.new.allocs) remaining_space start end self.old.tree self.new.tree) }
+        ensures reading { OnOk result (self.new.reading ≡ with_tree self.old.reading self.new.reading.tree) }
+        ensures line { OnOk result (AppendsCode self.old.source.text.now (names_of self.new.allocs) remaining_space start end self.old.reading.tree self.new.reading.tree) }
     {
         raw_line::append_code_text(
-            &mut self.tree,
+            &mut self.reading.tree,
             &mut self.allocs,
-            self.text,
+            self.source.text,
             remaining_space,
             start,
             end,
@@ -68,19 +68,17 @@ impl<'a> FirstPass<'a> {
     ) -> Result<(), AllocError>
         requires owed { remaining_space ≤ 3 }
         requires order { start ≤ end }
-        requires within { end ≤ length self.old.text.now }
-        ensures text { OnOk result (self.new.text.now ≡ self.old.text.now) }
-        ensures options { OnOk result (self.new.options ≡ self.old.options) }
-        ensures empty_item { OnOk result (self.new.begin_list_item ≡ self.old.begin_list_item) }
+        requires within { end ≤ length self.old.source.text.now }
+        ensures source { OnOk result (self.new.source ≡ self.old.source) }
         ensures names { OnOk result (Extends (names_of self.new.allocs) (names_of self.old.allocs)) }
         ensures tables { OnOk result (tables self.new.allocs ≡ tables self.old.allocs) }
-        ensures blank { OnOk result (self.new.last_line_blank ≡ self.old.last_line_blank) }
-        ensures line { OnOk result (AppendsHtml self.old.text.now (names_of self.new.allocs) remaining_space start end self.old.tree self.new.tree) }
+        ensures reading { OnOk result (self.new.reading ≡ with_tree self.old.reading self.new.reading.tree) }
+        ensures line { OnOk result (AppendsHtml self.old.source.text.now (names_of self.new.allocs) remaining_space start end self.old.reading.tree self.new.reading.tree) }
     {
         raw_line::append_html_line(
-            &mut self.tree,
+            &mut self.reading.tree,
             &mut self.allocs,
-            self.text,
+            self.source.text,
             remaining_space,
             start,
             end,
@@ -95,28 +93,27 @@ impl<'a> FirstPass<'a> {
         start_ix: usize,
         remaining_space: usize,
     ) -> Result<usize, AllocError>
-        requires boundary { IsCharBoundary self.old.text.now start_ix }
+        requires boundary { IsCharBoundary self.old.source.text.now start_ix }
         requires owed { remaining_space ≤ 3 }
-        requires code { is_blank_line (drop start_ix self.old.text.now) ≡ false }
-        ensures text { OnOk result (self.new.text.now ≡ self.old.text.now) }
-        ensures options { OnOk result (self.new.options ≡ self.old.options) }
-        ensures empty_item { OnOk result (self.new.begin_list_item ≡ self.old.begin_list_item) }
+        requires code { is_blank_line (drop start_ix self.old.source.text.now) ≡ false }
+        ensures source { OnOk result (self.new.source ≡ self.old.source) }
+        ensures empty_item { OnOk result (self.new.reading.empty_item ≡ self.old.reading.empty_item) }
         ensures names { OnOk result (Extends (names_of self.new.allocs) (names_of self.old.allocs)) }
         ensures tables { OnOk result (tables self.new.allocs ≡ tables self.old.allocs) }
-        ensures block { IfOk result (λ next. (p : Place) → IsPlaceAt self.old.text.now start_ix p → p.rest.owed ≡ remaining_space
-            → AddsIndented self.old.text.now self.old.options (names_of self.new.allocs) p self.old.tree self.new.tree next self.new.last_line_blank) }
-        ensures boundary { IfOk result (λ next. (behind_line_at self.old.text.now start_ix ≤ next) × IsCharBoundary self.old.text.now next) }
-        ensures fits { IfOk result (λ next. (from : ℕ) → from ≤ start_ix → AddsBetween self.old.text.now from next self.old.tree self.new.tree) }
+        ensures block { IfOk result (λ next. (p : Place) → IsPlaceAt self.old.source.text.now start_ix p → p.rest.owed ≡ remaining_space
+            → AddsIndented self.old.source.text.now self.old.source.options (names_of self.new.allocs) p self.old.reading.tree self.new.reading.tree next self.new.reading.blank) }
+        ensures boundary { IfOk result (λ next. (behind_line_at self.old.source.text.now start_ix ≤ next) × IsCharBoundary self.old.source.text.now next) }
+        ensures fits { IfOk result (λ next. (from : ℕ) → from ≤ start_ix → AddsBetween self.old.source.text.now from next self.old.reading.tree self.new.reading.tree) }
     {
         let (next, blank) = indented_code::parse_indented_code_block(
-            &mut self.tree,
+            &mut self.reading.tree,
             &mut self.allocs,
-            self.text,
-            self.options,
+            self.source.text,
+            self.source.options,
             start_ix,
             remaining_space,
         )?;
-        self.last_line_blank = blank;
+        self.reading.blank = blank;
         Ok(next)
     }
 
@@ -126,18 +123,18 @@ impl<'a> FirstPass<'a> {
         start_ix: usize,
         before: LineStart<'a>,
     ) -> Result<usize, AllocError>
-        requires utf8 { IsUtf8 self.old.text.now }
-        requires place { IsPlaceOf self.old.text.now (place_at start_ix before) }
+        requires utf8 { IsUtf8 self.old.source.text.now }
+        requires place { IsPlaceOf self.old.source.text.now (place_at start_ix before) }
         requires code { (is_blank_rest before ≡ false) × (nat_lt (indent before) 4 ≡ false) }
-        ensures text { OnOk result (self.new.text.now ≡ self.old.text.now) }
-        ensures options { OnOk result (self.new.options ≡ self.old.options) }
-        ensures empty_item { OnOk result (self.new.begin_list_item ≡ self.old.begin_list_item) }
+        ensures source { OnOk result (self.new.source ≡ self.old.source) }
+        ensures empty_item { OnOk result (self.new.reading.empty_item ≡ self.old.reading.empty_item) }
         ensures names { OnOk result (Extends (names_of self.new.allocs) (names_of self.old.allocs)) }
         ensures tables { OnOk result (tables self.new.allocs ≡ tables self.old.allocs) }
-        ensures block { IfOk result (λ next. AddsKind self.old.text.now self.old.options (names_of self.new.allocs) (place_at start_ix before.entry) IndentedCode self.new.last_line_blank self.old.tree self.new.tree next) }
-        ensures boundary { IfOk result (λ next. (line_end (place_at start_ix before.entry) ≤ next) × IsCharBoundary self.old.text.now next) }
-        ensures fits { IfOk result (λ next. (from : ℕ) → from ≤ offset (place_at start_ix before.entry) → AddsBetween self.old.text.now from next self.old.tree self.new.tree) }
+        ensures block { IfOk result (λ next. AddsKind self.old.source.text.now self.old.source.options (names_of self.new.allocs) (place_at start_ix before.entry) IndentedCode self.new.reading.blank self.old.reading.tree self.new.reading.tree next) }
+        ensures boundary { IfOk result (λ next. (line_end (place_at start_ix before.entry) ≤ next) × IsCharBoundary self.old.source.text.now next) }
+        ensures fits { IfOk result (λ next. (from : ℕ) → from ≤ offset (place_at start_ix before.entry) → AddsBetween self.old.source.text.now from next self.old.reading.tree self.new.reading.tree) }
     {
+        self.source.is_short();
         let mut line_start = before;
         line_start.scan_space_upto(4);
         let at = start_ix + line_start.bytes_scanned();
@@ -155,18 +152,16 @@ impl<'a> FirstPass<'a> {
         fence_ch: u8,
         n_fence_char: usize,
     ) -> Result<usize, AllocError>
-        requires boundary { IsCharBoundary self.old.text.now start_ix }
-        requires fence { code_fence (drop start_ix self.old.text.now) ≡ Some (n_fence_char, fence_ch) }
-        ensures text { OnOk result (self.new.text.now ≡ self.old.text.now) }
-        ensures options { OnOk result (self.new.options ≡ self.old.options) }
-        ensures empty_item { OnOk result (self.new.begin_list_item ≡ self.old.begin_list_item) }
+        requires boundary { IsCharBoundary self.old.source.text.now start_ix }
+        requires fence { code_fence (drop start_ix self.old.source.text.now) ≡ Some (n_fence_char, fence_ch) }
+        ensures source { OnOk result (self.new.source ≡ self.old.source) }
         ensures names { OnOk result (Extends (names_of self.new.allocs) (names_of self.old.allocs)) }
         ensures tables { OnOk result (tables self.new.allocs ≡ tables self.old.allocs) }
-        ensures blank { OnOk result (self.new.last_line_blank ≡ self.old.last_line_blank) }
-        ensures block { IfOk result (λ next. let e = fenced_behind self.old.text.now (path_of self.old.tree) indent fence_ch n_fence_char start_ix in
-            AddsRaw self.old.text.now self.old.options (names_of self.new.allocs) (λ d. IsFencedCode d start_ix n_fence_char e.places e.«end») e.left self.old.tree self.new.tree next) }
-        ensures boundary { IfOk result (λ next. (behind_line_at self.old.text.now start_ix ≤ next) × IsCharBoundary self.old.text.now next) }
-        ensures fits { IfOk result (λ next. (from : ℕ) → from ≤ start_ix → AddsBetween self.old.text.now from next self.old.tree self.new.tree) }
+        ensures reading { OnOk result (self.new.reading ≡ with_tree self.old.reading self.new.reading.tree) }
+        ensures block { IfOk result (λ next. let e = fenced_behind self.old.source.text.now (path_of self.old.reading.tree) indent fence_ch n_fence_char start_ix in
+            AddsRaw self.old.source.text.now self.old.source.options (names_of self.new.allocs) (λ d. IsFencedCode d start_ix n_fence_char e.places e.«end») e.left self.old.reading.tree self.new.reading.tree next) }
+        ensures boundary { IfOk result (λ next. (behind_line_at self.old.source.text.now start_ix ≤ next) × IsCharBoundary self.old.source.text.now next) }
+        ensures fits { IfOk result (λ next. (from : ℕ) → from ≤ start_ix → AddsBetween self.old.source.text.now from next self.old.reading.tree self.new.reading.tree) }
     {
         let fence = Fence {
             indent,
@@ -175,10 +170,10 @@ impl<'a> FirstPass<'a> {
         };
         let next = fenced_code::parse_fenced_code_block(
             self.alloc,
-            &mut self.tree,
+            &mut self.reading.tree,
             &mut self.allocs,
-            self.text,
-            self.options,
+            self.source.text,
+            self.source.options,
             start_ix,
             fence,
         )?;
@@ -192,24 +187,22 @@ impl<'a> FirstPass<'a> {
         start_ix: usize,
         metadata_block_ch: u8,
     ) -> Result<usize, AllocError>
-        requires boundary { IsCharBoundary self.old.text.now start_ix }
+        requires boundary { IsCharBoundary self.old.source.text.now start_ix }
         requires byte { is_content metadata_block_ch ≡ true }
-        ensures text { OnOk result (self.new.text.now ≡ self.old.text.now) }
-        ensures options { OnOk result (self.new.options ≡ self.old.options) }
-        ensures empty_item { OnOk result (self.new.begin_list_item ≡ self.old.begin_list_item) }
+        ensures source { OnOk result (self.new.source ≡ self.old.source) }
         ensures names { OnOk result (Extends (names_of self.new.allocs) (names_of self.old.allocs)) }
         ensures tables { OnOk result (tables self.new.allocs ≡ tables self.old.allocs) }
-        ensures blank { OnOk result (self.new.last_line_blank ≡ self.old.last_line_blank) }
-        ensures block { IfOk result (λ next. let e = metadata_behind self.old.text.now (path_of self.old.tree) metadata_block_ch start_ix in
-            AddsRaw self.old.text.now self.old.options (names_of self.new.allocs) (λ d. IsMetadata d start_ix metadata_block_ch e.places e.«end») e.left self.old.tree self.new.tree next) }
-        ensures boundary { IfOk result (λ next. (behind_line_at self.old.text.now start_ix ≤ next) × IsCharBoundary self.old.text.now next) }
-        ensures fits { IfOk result (λ next. (from : ℕ) → from ≤ start_ix → AddsBetween self.old.text.now from next self.old.tree self.new.tree) }
+        ensures reading { OnOk result (self.new.reading ≡ with_tree self.old.reading self.new.reading.tree) }
+        ensures block { IfOk result (λ next. let e = metadata_behind self.old.source.text.now (path_of self.old.reading.tree) metadata_block_ch start_ix in
+            AddsRaw self.old.source.text.now self.old.source.options (names_of self.new.allocs) (λ d. IsMetadata d start_ix metadata_block_ch e.places e.«end») e.left self.old.reading.tree self.new.reading.tree next) }
+        ensures boundary { IfOk result (λ next. (behind_line_at self.old.source.text.now start_ix ≤ next) × IsCharBoundary self.old.source.text.now next) }
+        ensures fits { IfOk result (λ next. (from : ℕ) → from ≤ start_ix → AddsBetween self.old.source.text.now from next self.old.reading.tree self.new.reading.tree) }
     {
         let next = metadata_block::parse_metadata_block(
-            &mut self.tree,
+            &mut self.reading.tree,
             &mut self.allocs,
-            self.text,
-            self.options,
+            self.source.text,
+            self.source.options,
             start_ix,
             metadata_block_ch,
         )?;
@@ -226,25 +219,23 @@ impl<'a> FirstPass<'a> {
         remaining_space: usize,
         indent: usize,
     ) -> Result<usize, AllocError>
-        requires boundary { IsCharBoundary self.old.text.now start_ix }
+        requires boundary { IsCharBoundary self.old.source.text.now start_ix }
         requires owed { remaining_space ≤ 3 }
         requires indent { indent ≤ 3 }
-        ensures text { OnOk result (self.new.text.now ≡ self.old.text.now) }
-        ensures options { OnOk result (self.new.options ≡ self.old.options) }
-        ensures empty_item { OnOk result (self.new.begin_list_item ≡ self.old.begin_list_item) }
+        ensures source { OnOk result (self.new.source ≡ self.old.source) }
         ensures names { OnOk result (Extends (names_of self.new.allocs) (names_of self.old.allocs)) }
         ensures tables { OnOk result (tables self.new.allocs ≡ tables self.old.allocs) }
-        ensures blank { OnOk result (self.new.last_line_blank ≡ self.old.last_line_blank) }
-        ensures block { IfOk result (λ next. (p : Place) → IsPlaceAt self.old.text.now start_ix p → let e = html_to_end self.old.text.now (path_of self.old.tree) html_end_tag.now p in
-            AddsRaw self.old.text.now self.old.options (names_of self.new.allocs) (λ d. IsHtml d start_ix (max remaining_space indent) e.places e.«end») e.left self.old.tree self.new.tree next) }
-        ensures boundary { IfOk result (λ next. (behind_line_at self.old.text.now start_ix ≤ next) × IsCharBoundary self.old.text.now next) }
-        ensures fits { IfOk result (λ next. (from : ℕ) → from ≤ start_ix → AddsBetween self.old.text.now from next self.old.tree self.new.tree) }
+        ensures reading { OnOk result (self.new.reading ≡ with_tree self.old.reading self.new.reading.tree) }
+        ensures block { IfOk result (λ next. (p : Place) → IsPlaceAt self.old.source.text.now start_ix p → let e = html_to_end self.old.source.text.now (path_of self.old.reading.tree) html_end_tag.now p in
+            AddsRaw self.old.source.text.now self.old.source.options (names_of self.new.allocs) (λ d. IsHtml d start_ix (max remaining_space indent) e.places e.«end») e.left self.old.reading.tree self.new.reading.tree next) }
+        ensures boundary { IfOk result (λ next. (behind_line_at self.old.source.text.now start_ix ≤ next) × IsCharBoundary self.old.source.text.now next) }
+        ensures fits { IfOk result (λ next. (from : ℕ) → from ≤ start_ix → AddsBetween self.old.source.text.now from next self.old.reading.tree self.new.reading.tree) }
     {
         let next = html_block::parse_html_block_type_1_to_5(
-            &mut self.tree,
+            &mut self.reading.tree,
             &mut self.allocs,
-            self.text,
-            self.options,
+            self.source.text,
+            self.source.options,
             start_ix,
             html_end_tag,
             max(remaining_space, indent),
@@ -258,21 +249,19 @@ impl<'a> FirstPass<'a> {
         start_ix: usize,
         columns: usize,
     ) -> Result<usize, AllocError>
-        requires boundary { IsCharBoundary self.old.text.now start_ix }
+        requires boundary { IsCharBoundary self.old.source.text.now start_ix }
         requires columns { columns ≤ 3 }
-        requires html { begins_html_to_end (drop start_ix self.old.text.now) ≡ true }
-        ensures text { OnOk result (self.new.text.now ≡ self.old.text.now) }
-        ensures options { OnOk result (self.new.options ≡ self.old.options) }
-        ensures empty_item { OnOk result (self.new.begin_list_item ≡ self.old.begin_list_item) }
+        requires html { begins_html_to_end (drop start_ix self.old.source.text.now) ≡ true }
+        ensures source { OnOk result (self.new.source ≡ self.old.source) }
         ensures names { OnOk result (Extends (names_of self.new.allocs) (names_of self.old.allocs)) }
         ensures tables { OnOk result (tables self.new.allocs ≡ tables self.old.allocs) }
-        ensures blank { OnOk result (self.new.last_line_blank ≡ self.old.last_line_blank) }
-        ensures block { IfOk result (λ next. (tag : List ℕ) → html_end (drop 1 (drop start_ix self.old.text.now)) ≡ Some tag → (p : Place) → IsPlaceAt self.old.text.now start_ix p → let e = html_to_end self.old.text.now (path_of self.old.tree) tag p in
-            AddsRaw self.old.text.now self.old.options (names_of self.new.allocs) (λ d. IsHtml d start_ix columns e.places e.«end») e.left self.old.tree self.new.tree next) }
-        ensures boundary { IfOk result (λ next. (behind_line_at self.old.text.now start_ix ≤ next) × IsCharBoundary self.old.text.now next) }
-        ensures fits { IfOk result (λ next. (from : ℕ) → from ≤ start_ix → AddsBetween self.old.text.now from next self.old.tree self.new.tree) }
+        ensures reading { OnOk result (self.new.reading ≡ with_tree self.old.reading self.new.reading.tree) }
+        ensures block { IfOk result (λ next. (tag : List ℕ) → html_end (drop 1 (drop start_ix self.old.source.text.now)) ≡ Some tag → (p : Place) → IsPlaceAt self.old.source.text.now start_ix p → let e = html_to_end self.old.source.text.now (path_of self.old.reading.tree) tag p in
+            AddsRaw self.old.source.text.now self.old.source.options (names_of self.new.allocs) (λ d. IsHtml d start_ix columns e.places e.«end») e.left self.old.reading.tree self.new.reading.tree next) }
+        ensures boundary { IfOk result (λ next. (behind_line_at self.old.source.text.now start_ix ≤ next) × IsCharBoundary self.old.source.text.now next) }
+        ensures fits { IfOk result (λ next. (from : ℕ) → from ≤ start_ix → AddsBetween self.old.source.text.now from next self.old.reading.tree self.new.reading.tree) }
     {
-        let tag = get_html_end_tag(rest_of(self.text.as_bytes(), start_ix + 1)).unwrap();
+        let tag = get_html_end_tag(rest_of(self.source.text.as_bytes(), start_ix + 1)).unwrap();
         let next = self.parse_html_block_type_1_to_5(start_ix, tag, 0, columns)?;
         Ok(next)
     }
@@ -286,19 +275,17 @@ impl<'a> FirstPass<'a> {
         remaining_space: usize,
         indent: usize,
     ) -> Result<usize, AllocError>
-        requires boundary { IsCharBoundary self.old.text.now start_ix }
+        requires boundary { IsCharBoundary self.old.source.text.now start_ix }
         requires owed { remaining_space ≤ 3 }
         requires indent { indent ≤ 3 }
-        ensures text { OnOk result (self.new.text.now ≡ self.old.text.now) }
-        ensures options { OnOk result (self.new.options ≡ self.old.options) }
-        ensures empty_item { OnOk result (self.new.begin_list_item ≡ self.old.begin_list_item) }
+        ensures source { OnOk result (self.new.source ≡ self.old.source) }
         ensures names { OnOk result (Extends (names_of self.new.allocs) (names_of self.old.allocs)) }
         ensures tables { OnOk result (tables self.new.allocs ≡ tables self.old.allocs) }
-        ensures blank { OnOk result (self.new.last_line_blank ≡ self.old.last_line_blank) }
-        ensures block { IfOk result (λ next. (p : Place) → IsPlaceAt self.old.text.now start_ix p → let e = html_to_blank self.old.text.now (path_of self.old.tree) p in
-            AddsRaw self.old.text.now self.old.options (names_of self.new.allocs) (λ d. IsHtml d start_ix (max remaining_space indent) e.places e.«end») e.left self.old.tree self.new.tree next) }
-        ensures boundary { IfOk result (λ next. (behind_line_at self.old.text.now start_ix ≤ next) × IsCharBoundary self.old.text.now next) }
-        ensures fits { IfOk result (λ next. (p : Place) → IsPlaceAt self.old.text.now start_ix p → (from : ℕ) → from ≤ start_ix → AddsBetween self.old.text.now from (html_to_blank self.old.text.now (path_of self.old.tree) p).«end» self.old.tree self.new.tree) }
+        ensures reading { OnOk result (self.new.reading ≡ with_tree self.old.reading self.new.reading.tree) }
+        ensures block { IfOk result (λ next. (p : Place) → IsPlaceAt self.old.source.text.now start_ix p → let e = html_to_blank self.old.source.text.now (path_of self.old.reading.tree) p in
+            AddsRaw self.old.source.text.now self.old.source.options (names_of self.new.allocs) (λ d. IsHtml d start_ix (max remaining_space indent) e.places e.«end») e.left self.old.reading.tree self.new.reading.tree next) }
+        ensures boundary { IfOk result (λ next. (behind_line_at self.old.source.text.now start_ix ≤ next) × IsCharBoundary self.old.source.text.now next) }
+        ensures fits { IfOk result (λ next. (p : Place) → IsPlaceAt self.old.source.text.now start_ix p → (from : ℕ) → from ≤ start_ix → AddsBetween self.old.source.text.now from (html_to_blank self.old.source.text.now (path_of self.old.reading.tree) p).«end» self.old.reading.tree self.new.reading.tree) }
     {
         let lines = self.parse_html_to_blank(start_ix, max(remaining_space, indent))?;
         Ok(lines.next)
@@ -310,46 +297,45 @@ impl<'a> FirstPass<'a> {
         start_ix: usize,
         columns: usize,
     ) -> Result<BlockLines, AllocError>
-        requires boundary { IsCharBoundary self.old.text.now start_ix }
+        requires boundary { IsCharBoundary self.old.source.text.now start_ix }
         requires columns { columns ≤ 3 }
-        ensures text { OnOk result (self.new.text.now ≡ self.old.text.now) }
-        ensures options { OnOk result (self.new.options ≡ self.old.options) }
-        ensures empty_item { OnOk result (self.new.begin_list_item ≡ self.old.begin_list_item) }
+        ensures source { OnOk result (self.new.source ≡ self.old.source) }
         ensures names { OnOk result (Extends (names_of self.new.allocs) (names_of self.old.allocs)) }
         ensures tables { OnOk result (tables self.new.allocs ≡ tables self.old.allocs) }
-        ensures blank { OnOk result (self.new.last_line_blank ≡ self.old.last_line_blank) }
-        ensures block { IfOk result (λ lines. (p : Place) → IsPlaceAt self.old.text.now start_ix p → let e = html_to_blank self.old.text.now (path_of self.old.tree) p in
-            AddsRaw self.old.text.now self.old.options (names_of self.new.allocs) (λ d. IsHtml d start_ix columns e.places e.«end») e.left self.old.tree self.new.tree lines.next) }
-        ensures end { IfOk result (λ lines. (p : Place) → IsPlaceAt self.old.text.now start_ix p → lines.«end» ≡ (html_to_blank self.old.text.now (path_of self.old.tree) p).«end») }
-        ensures boundary { IfOk result (λ lines. (behind_line_at self.old.text.now start_ix ≤ lines.next) × IsCharBoundary self.old.text.now lines.next) }
-        ensures fits { IfOk result (λ lines. (from : ℕ) → from ≤ start_ix → AddsBetween self.old.text.now from lines.«end» self.old.tree self.new.tree) }
-        ensures within { IfOk result (λ lines. (lines.«end» ≤ length self.old.text.now) × IsCharBoundary self.old.text.now lines.«end») }
+        ensures reading { OnOk result (self.new.reading ≡ with_tree self.old.reading self.new.reading.tree) }
+        ensures block { IfOk result (λ lines. (p : Place) → IsPlaceAt self.old.source.text.now start_ix p → let e = html_to_blank self.old.source.text.now (path_of self.old.reading.tree) p in
+            AddsRaw self.old.source.text.now self.old.source.options (names_of self.new.allocs) (λ d. IsHtml d start_ix columns e.places e.«end») e.left self.old.reading.tree self.new.reading.tree lines.next) }
+        ensures end { IfOk result (λ lines. (p : Place) → IsPlaceAt self.old.source.text.now start_ix p → lines.«end» ≡ (html_to_blank self.old.source.text.now (path_of self.old.reading.tree) p).«end») }
+        ensures boundary { IfOk result (λ lines. (behind_line_at self.old.source.text.now start_ix ≤ lines.next) × IsCharBoundary self.old.source.text.now lines.next) }
+        ensures fits { IfOk result (λ lines. (from : ℕ) → from ≤ start_ix → AddsBetween self.old.source.text.now from lines.«end» self.old.reading.tree self.new.reading.tree) }
+        ensures within { IfOk result (λ lines. (lines.«end» ≤ length self.old.source.text.now) × IsCharBoundary self.old.source.text.now lines.«end») }
     {
         let lines = html_block::parse_html_block_type_6_or_7(
-            &mut self.tree,
+            &mut self.reading.tree,
             &mut self.allocs,
-            self.text,
-            self.options,
+            self.source.text,
+            self.source.options,
             start_ix,
             columns,
         )?;
         Ok(lines)
     }
+}
 
-    // Reads the blank line too behind whose containers an HTML block ends, if it ends there; answers the offset at which
-    // the line begins that is not read, or the text's length.
-    pub(crate) fn read_blank_behind(&mut self, lines: BlockLines) -> usize
-        requires { lines.«end» ≤ length self.old.text.now }
-        ensures text { self.new.text.now ≡ self.old.text.now }
-        ensures options { self.new.options ≡ self.old.options }
-        ensures allocs { self.new.allocs ≡ self.old.allocs }
-        ensures reading { remembered self.new.tree self.new.begin_list_item self.new.last_line_blank ≡ with_blank lines.«end» lines.next (remembered self.old.tree self.old.begin_list_item self.old.last_line_blank) }
-        ensures next { result ≡ behind_blank self.old.text.now lines.«end» lines.next }
-    {
-        if lines.next < lines.end {
-            self.read_blank_line();
-            return next_line(self.text.as_bytes(), lines.end);
-        }
-        lines.next
+// Reads the blank line too behind whose containers an HTML block ends, if it ends there; answers the offset at which
+// the line begins that is not read, or the text's length.
+pub(crate) fn read_blank_behind(
+    reading: &mut Reading,
+    source: Source<'_>,
+    lines: BlockLines,
+) -> usize
+    requires { lines.«end» ≤ length source.text.now }
+    ensures reading { reading.new ≡ with_blank lines.«end» lines.next reading.old }
+    ensures next { result ≡ behind_blank source.entry.text.now lines.«end» lines.next }
+{
+    if lines.next < lines.end {
+        reading.read_blank_line();
+        return next_line(source.text.as_bytes(), lines.end);
     }
+    lines.next
 }

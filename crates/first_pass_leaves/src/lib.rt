@@ -11,3 +11,4 @@ pub mod items;
 pub mod metadata_block;
 pub mod open_block;
 pub mod raw_line;
+pub mod source;

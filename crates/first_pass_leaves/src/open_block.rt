@@ -25,7 +25,7 @@ pub struct BlockLines {
 }
 
 /// Appends a block that starts at an offset, and opens it.
-pub(crate) fn open_block(
+pub fn open_block(
     tree: &mut Tree<Item>,
     start: usize,
     body: ItemBody,
@@ -42,7 +42,7 @@ pub(crate) fn open_block(
 }
 
 /// Closes the innermost open node, of which there has to be one, at an offset.
-pub(crate) fn close_block(tree: &mut Tree<Item>, end: usize)
+pub fn close_block(tree: &mut Tree<Item>, end: usize)
     requires { IsSome (slice_get tree.old.spine 0) }
     ensures { tree.new ≡ closed_by tree.old end tree.old.spine }
 {
@@ -53,7 +53,7 @@ pub(crate) fn close_block(tree: &mut Tree<Item>, end: usize)
 
 /// What is left of the line that begins at the offset `start` behind what all open containers take of it;
 /// `None` where it doesn't go on with all of them (CommonMark 5).
-pub(crate) fn go_on<'a>(
+pub fn go_on<'a>(
     text: &'a str,
     start: usize,
     tree: &Tree<Item>,

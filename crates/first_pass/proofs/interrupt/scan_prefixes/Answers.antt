@@ -1,4 +1,4 @@
-use Rattle.std.proofs.Common.{min, ap, ◌∙◌}
+use Rattle.std.proofs.Common.{min, ap, ◌∙◌, IsUtf8, subst}
 use Rattle.first_pass_scan.specs.Rest.{indent}
 use Rattle.first_pass_grammar.specs.Kinds.{all_taken}
 use Rattle.first_pass_leaves.specs.Path.{path_of}
@@ -16,4 +16,4 @@ returns-clause-behind c =
     c.scan_indentation-columns.ensures.rest ∙ ap all_taken line
 
 pub returns-clause-place : goal.returns-clause-place
-returns-clause-place c = (text_place c.args.text.now c.args.start (path_of c.args.tree.now) c.utf8.text c.requires).0
+returns-clause-place c = (text_place c.args.source.text.now c.args.start (path_of c.args.tree.now) (subst IsUtf8 c.as_bytes.ensures.value c.as_bytes.ensures.utf8) c.requires).0

@@ -5,7 +5,8 @@ use Rattle.first_pass_grammar.specs.Leaves.{document}
 use Rattle.first_pass_items.specs.declared.option_set.Options.{Options}
 use Rattle.first_pass_grammar.specs.Completion.{lines_from}
 use Rattle.first_pass_grammar.specs.Derivation.{Derives}
-use Rattle.first_pass.specs.Closing.{Reading, remembered}
+use Rattle.first_pass_lists.specs.declared.reading.Reading.{Reading}
+use Rattle.first_pass_leaves.specs.declared.source.Source.{Source}
 use Rattle.first_pass.specs.Ordered.{reached, IsOrderedAt}
 use Rattle.first_pass.specs.State.{Ready}
 use Rattle.first_pass_leaves.specs.TableEntries.{tables, names_of}
@@ -35,11 +36,11 @@ loop-ix-preserved c =
     let pass = c.loop-ix.pass in
     let new = c.parse_block.new.self in
     let next = c.in_ok-ix.ix in
-    let before : Reading = remembered pass.tree pass.begin_list_item pass.last_line_blank in
-    let behind : Reading = remembered new.tree new.begin_list_item new.last_line_blank in
+    let before : Reading = pass.reading in
+    let behind : Reading = new.reading in
     record {
-      same_text = e.text ∙ i.same_text;
-      same_options = e.options ∙ i.same_options;
+      same_text = ap (λ (z : Source). z.text.now) e.source ∙ i.same_text;
+      same_options = ap (λ (z : Source). z.options) e.source ∙ i.same_options;
       none = e.tables ∙ i.none;
       boundary = subst (λ t. IsCharBoundary t next) i.same_text e.boundary;
       ready = λ names more.
@@ -49,19 +50,19 @@ loop-ix-preserved c =
     }
 
 -- At the end of the text all containers are closed.
-all_closed : (c : goal.After-close_containers) → c.close_containers.new.self.tree.spine ≡ []
-all_closed c = c.close_containers.ensures.spine ∙ outer-none c.loop-ix.pass.tree.spine
+all_closed : (c : goal.After-close_containers) → c.close_containers.new.reading.tree.spine ≡ []
+all_closed c = c.close_containers.ensures.spine ∙ outer-none c.loop-ix.pass.reading.tree.spine
 
 pub returns-clause-derived : goal.returns-clause-derived
 returns-clause-derived c =
-    let names = names_of c.close_containers.new.self.allocs in
+    let names = names_of c.loop-ix.pass.allocs in
     let d = document c.args.text.now c.args.options names in
     let i = c.loop-ix.invariant in
-    let now = remembered c.close_containers.new.self.tree c.close_containers.new.self.begin_list_item c.close_containers.new.self.last_line_blank in
-    let none = ap tables c.close_containers.ensures.allocs ∙ i.none in
-    let here = subst (Ready d (remembered c.loop-ix.pass.tree c.loop-ix.pass.begin_list_item c.loop-ix.pass.last_line_blank)) (lines_at-end c.args.text.now c.loop-ix.ix c.loop-ix-test.false) (i.ready names (extends_equal _ _ (ap names_of c.close_containers.ensures.allocs))) in
+    let now = c.close_containers.new.reading in
+    let none = i.none in
+    let here = subst (Ready d c.loop-ix.pass.reading) (lines_at-end c.args.text.now c.loop-ix.ix c.loop-ix-test.false) (i.ready names (extends_equal _ _ refl)) in
     let closed : Ready d now [] = c.close_containers.ensures.ready d [] refl (λ m low high. tt) here in
-    subst (Derives d c.close_containers.new.self.tree.nodes) (sym none) (ready_finish d now (all_closed c) closed)
+    subst (Derives d c.close_containers.new.reading.tree.nodes) (sym none) (ready_finish d now (all_closed c) closed)
 
 pub returns-clause-finished : goal.returns-clause-finished
 returns-clause-finished c = all_closed c
@@ -72,12 +73,11 @@ returns-clause-order c =
     let i = c.loop-ix.invariant in
     let n = length text in
     let last = IsCharBoundary-end text in
-    let now : Reading = remembered c.close_containers.new.self.tree c.close_containers.new.self.begin_list_item c.close_containers.new.self.last_line_blank in
-    let read : Reading = remembered c.loop-ix.pass.tree c.loop-ix.pass.begin_list_item c.loop-ix.pass.last_line_blank in
+    let now : Reading = c.close_containers.new.reading in
+    let read : Reading = c.loop-ix.pass.reading in
     let past = c.loop-ix-test.false in
     let within = i.order.within in
     let same : c.loop-ix.ix ≡ n = omega arith in
-    let closes : n ≤ n → IsCharBoundary text n → IsOrderedAt text read n → IsOrderedAt text now n =
-    subst (λ t. n ≤ length t → IsCharBoundary t n → IsOrderedAt t read n → IsOrderedAt t now n) i.same_text c.close_containers.ensures.order in
+    let closes = c.close_containers.ensures.order text in
     let here : IsOrderedAt text now n = closes (omega arith) last (subst (IsOrderedAt text read) same i.order) in
     ordered_whole text now.tree (reached now.empty_item n) (all_closed c) here.ordered

@@ -2,7 +2,6 @@ use Rattle.std.proofs.Common.{◌≡◌, ◌-◌, length, IsCharBoundary}
 use Rattle.first_pass_grammar.specs.Names.{Names, Extends}
 use Rattle.first_pass_grammar.specs.Leaves.{document}
 use Rattle.first_pass_grammar.specs.Completion.{lines_from}
-use Rattle.first_pass.specs.Closing.{remembered}
 use Rattle.first_pass.specs.Ordered.{IsOrderedAt}
 use Rattle.first_pass.specs.State.{Ready}
 use Rattle.first_pass_leaves.specs.TableEntries.{tables, no_tables, names_of}
@@ -11,12 +10,12 @@ use Rattle.first_pass.proofs.pass.run_first_pass.Given as goal
 -- the blocks are read up to here
 abbrev pub invariant-loop-ix : goal.invariant-loop-ix
 invariant-loop-ix l = record {
-  same_text : l.pass.text.now ≡ l.text;
-  same_options : l.pass.options ≡ l.fn.options;
+  same_text : l.pass.source.text.now ≡ l.text;
+  same_options : l.pass.source.options ≡ l.fn.options;
   none : tables l.pass.allocs ≡ no_tables;
   boundary : IsCharBoundary l.text l.ix;
-  ready : (names : Names) → Extends names (names_of l.pass.allocs) → Ready (document l.text l.fn.options names) (remembered l.pass.tree l.pass.begin_list_item l.pass.last_line_blank) (lines_from l.text l.ix);
-  order : IsOrderedAt l.text (remembered l.pass.tree l.pass.begin_list_item l.pass.last_line_blank) l.ix;
+  ready : (names : Names) → Extends names (names_of l.pass.allocs) → Ready (document l.text l.fn.options names) l.pass.reading (lines_from l.text l.ix);
+  order : IsOrderedAt l.text l.pass.reading l.ix;
 }
 
 abbrev pub decreases-loop-ix : goal.decreases-loop-ix

@@ -1,6 +1,6 @@
 use Rattle.std.proofs.Common.{length, None, false, refl, ap, ◌∙◌, arith}
+use Rattle.first_pass_lists.specs.Closing.{remembered}
 use Rattle.first_pass_tree.specs.Forest.{with_end_at}
-use Rattle.first_pass.specs.Closing.{remembered}
 use Rattle.first_pass.proofs.OrderLemmas.{ordered_none, ordered_first}
 use Rattle.first_pass.proofs.StateLemmas.{ready_first}
 use Rattle.first_pass.proofs.pass.FirstPass.new.Goals as goal

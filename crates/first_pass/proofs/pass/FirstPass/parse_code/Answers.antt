@@ -11,38 +11,38 @@ use Rattle.first_pass.proofs.pass.FirstPass.parse_code.Goals as goal
 
 pub overflow_add-at : goal.overflow_add-at
 overflow_add-at c =
-    let i = columns_keep c.args.self.now.text.now 4 (place_at c.args.start_ix c.args.before) c.requires.utf8 c.requires.place in
+    let i = columns_keep c.args.self.now.source.text.now 4 (place_at c.args.start_ix c.args.before) c.requires.utf8 c.requires.place in
     let e = c.bytes_scanned.ensures ∙ ap (λ (r : Rest). r.taken) c.scan_space_upto.ensures.rest in
     omega (arith, i.within)
 
 pub parse_indented_code_block-requires-clause-boundary : goal.parse_indented_code_block-requires-clause-boundary
 parse_indented_code_block-requires-clause-boundary c =
-    let text = c.args.self.now.text.now in
+    let text = c.args.self.now.source.text.now in
     let i = columns_keep text 4 (place_at c.args.start_ix c.args.before) c.requires.utf8 c.requires.place in
     let e = c.bytes_scanned.ensures ∙ ap (λ (r : Rest). r.taken) c.scan_space_upto.ensures.rest in
     subst (λ n. IsCharBoundary text (c.args.start_ix + n)) (sym e) i.boundary
 
 pub parse_indented_code_block-requires-clause-code : goal.parse_indented_code_block-requires-clause-code
 parse_indented_code_block-requires-clause-code c =
-    let text = c.args.self.now.text.now in
+    let text = c.args.self.now.source.text.now in
     let i = columns_keep text 4 (place_at c.args.start_ix c.args.before) c.requires.utf8 c.requires.place in
     let e = c.bytes_scanned.ensures ∙ ap (λ (r : Rest). r.taken) c.scan_space_upto.ensures.rest in
     ap (λ n. is_blank_line (drop (c.args.start_ix + n) text)) e ∙ ap is_blank_line (sym i.left) ∙ blank_columns 4 c.args.before ∙ c.requires.code.0
 
 pub returns-clause-block : goal.returns-clause-block
 returns-clause-block c =
-    let text = c.args.self.now.text.now in
+    let text = c.args.self.now.source.text.now in
     let p = place_at c.args.start_ix c.args.before in
     let i = columns_keep text 4 p c.requires.utf8 c.requires.place in
     let e = c.bytes_scanned.ensures ∙ ap (λ (r : Rest). r.taken) c.scan_space_upto.ensures.rest in
     let there = ap (λ n. c.args.start_ix + n) e in
-    code_added text c.args.self.now.options _ p c.args.self.now.tree c.parse_indented_code_block.new.self.tree c.in_ok-next.next _ i
+    code_added text c.args.self.now.source.options _ p c.args.self.now.reading.tree c.parse_indented_code_block.new.self.reading.tree c.in_ok-next.next _ i
     (c.in_ok-next.ensures.block (moved_columns 4 p) (record { offset_is = sym there; left_is = i.left ∙ ap (λ n. drop n text) (sym there) })
     (ap (λ (r : Rest). r.owed) (sym c.scan_space_upto.ensures.rest) ∙ sym c.remaining_space.ensures.value))
 
 pub returns-clause-boundary : goal.returns-clause-boundary
 returns-clause-boundary c =
-    let text = c.args.self.now.text.now in
+    let text = c.args.self.now.source.text.now in
     let p = place_at c.args.start_ix c.args.before in
     let i = columns_keep text 4 p c.requires.utf8 c.requires.place in
     let e = c.bytes_scanned.ensures ∙ ap (λ (r : Rest). r.taken) c.scan_space_upto.ensures.rest in
@@ -53,7 +53,7 @@ returns-clause-boundary c =
 
 pub returns-clause-fits : goal.returns-clause-fits
 returns-clause-fits c =
-    let text = c.args.self.now.text.now in
+    let text = c.args.self.now.source.text.now in
     let p = place_at c.args.start_ix c.args.before in
     let i = columns_keep text 4 p c.requires.utf8 c.requires.place in
     let e = c.bytes_scanned.ensures ∙ ap (λ (r : Rest). r.taken) c.scan_space_upto.ensures.rest in

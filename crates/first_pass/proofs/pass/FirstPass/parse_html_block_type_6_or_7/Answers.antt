@@ -4,4 +4,4 @@ use Rattle.first_pass.proofs.pass.FirstPass.parse_html_block_type_6_or_7.Goals a
 
 pub returns-clause-fits : goal.returns-clause-fits
 returns-clause-fits c = λ p i from low.
-    subst (λ e. AddsBetween c.args.self.now.text.now from e c.args.self.now.tree c.parse_html_to_blank.new.self.tree) (c.in_ok-lines.ensures.end p i) (c.in_ok-lines.ensures.fits from low)
+    subst (λ e. AddsBetween c.args.self.now.source.text.now from e c.args.self.now.reading.tree c.parse_html_to_blank.new.self.reading.tree) (c.in_ok-lines.ensures.end p i) (c.in_ok-lines.ensures.fits from low)

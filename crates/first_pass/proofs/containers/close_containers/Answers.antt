@@ -1,0 +1,33 @@
+use Rattle.std.proofs.Common.{sym, subst, ◌∙◌, arith}
+use Rattle.first_pass_lists.specs.declared.reading.Reading.{Reading}
+use Rattle.first_pass.specs.Ordered.{IsOrderedAt}
+use Rattle.first_pass.proofs.OrderLemmas.{ordered_popped}
+use Rattle.first_pass.proofs.StateLemmas.{closed_none, closed_one}
+use Rattle.first_pass.proofs.containers.close_containers.Goals as goal
+
+pub loop-reading-init : goal.loop-reading-init
+loop-reading-init c = record {
+  closed = closed_none c.args.reading.now c.args.kept c.args.ix c.requires;
+  order = λ text within boundary ordered. ordered;
+}
+
+pub loop-reading-preserved : goal.loop-reading-preserved
+loop-reading-preserved c =
+    let i = c.loop-reading.invariant in
+    let n = c.spine_len.ensures in
+    let more = c.loop-reading-test.true in
+    let one = closed_one _ _ _ c.args.kept c.args.ix c.is_forest.ensures c.pop.ensures (omega arith) i.closed in
+    record {
+      closed = one.0;
+      order = λ text within boundary ordered. subst (λ (q : Reading). IsOrderedAt text q c.args.ix) (sym c.pop.ensures)
+          (ordered_popped text _ c.args.ix c.args.ix (omega arith) within boundary (i.order text within boundary ordered));
+    }
+
+pub loop-reading-smaller : goal.loop-reading-smaller
+loop-reading-smaller c =
+    let n = c.spine_len.ensures in
+    let more = c.loop-reading-test.true in
+    (closed_one _ _ _ c.args.kept c.args.ix c.is_forest.ensures c.pop.ensures (omega arith) c.loop-reading.invariant.closed).1
+
+pub returns-clause-order : goal.returns-clause-order
+returns-clause-order c = c.loop-reading.invariant.order

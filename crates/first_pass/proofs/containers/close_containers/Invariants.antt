@@ -1,0 +1,14 @@
+use Rattle.std.proofs.Common.{◌≡◌, ◌≤◌, ℕ, List, length, IsCharBoundary}
+use Rattle.first_pass.specs.Ordered.{IsOrderedAt}
+use Rattle.first_pass.proofs.StateLemmas.{ClosedSoFar}
+use Rattle.first_pass.proofs.containers.close_containers.Given as goal
+
+-- the others are still to be closed
+abbrev pub invariant-loop-reading : goal.invariant-loop-reading
+invariant-loop-reading l = record {
+  closed : ClosedSoFar l.initial.reading l.reading l.kept l.ix;
+  order : (text : List ℕ) → l.ix ≤ length text → IsCharBoundary text l.ix → IsOrderedAt text l.initial.reading l.ix → IsOrderedAt text l.reading l.ix;
+}
+
+abbrev pub decreases-loop-reading : goal.decreases-loop-reading
+decreases-loop-reading l = length l.reading.tree.spine

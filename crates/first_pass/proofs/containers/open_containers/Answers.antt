@@ -1,0 +1,20 @@
+use Rattle.std.proofs.Common.{◌≡◌, ℕ, Some, sym, subst}
+use Rattle.first_pass_scan.specs.Places.{place_at, line_end}
+use Rattle.first_pass_grammar.specs.Leaves.{document}
+use Rattle.first_pass_grammar.specs.Skeleton.{Inside}
+use Rattle.first_pass_grammar.specs.Completion.{lines_from}
+use Rattle.first_pass.specs.State.{ReadyAt}
+use Rattle.first_pass.specs.Opening.{ReadyIn, ReadyBehind}
+use Rattle.first_pass.proofs.containers.open_containers.Goals as goal
+
+pub returns-in-Some-clause-ready : goal.returns-in-Some-clause-ready
+returns-in-Some-clause-ready c = λ names ready.
+    let text = c.args.source.text.now in
+    let d = document text c.args.source.options names in
+    let l = c.loop-behind in
+    let e = l.invariant.same_end in
+    let p = place_at c.args.start_ix c.open_container.new.line_start in
+    let before = subst (λ (n : ℕ). ReadyAt d l.reading.tree l.reading.blank (Inside (place_at c.args.start_ix l.line_start)) (lines_from text n)) (sym e) (l.invariant.ready names ready) in
+    let is : c.in_ok-behind.field-0 ≡ Some c.in-Some.behind = cc in
+    subst (λ (n : ℕ). ReadyBehind d c.open_container.new.reading p n c.in-Some.behind) e
+    (subst (λ o. ReadyIn d c.open_container.new.reading p (line_end (place_at c.args.start_ix l.line_start)) o) is (c.in_ok-behind.ensures.ready names before))

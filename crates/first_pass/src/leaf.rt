@@ -1,0 +1,82 @@
+//! Paragraphs, headings and thematic breaks, as calls of the pass.
+
+ghost use Rattle.std.specs.Prelude.{◌≡◌, ℕ, ◌+◌, ◌≤◌, drop, Some, false, length, IfOk, IfSome, OnOk, IsCharBoundary};
+ghost use Rattle.first_pass_scan.specs.Lines.{atx_level as atx_level_of};
+ghost use Rattle.first_pass_tree.specs.Forest.{added, is_text};
+ghost use Rattle.first_pass_leaves.specs.TableEntries.{no_names};
+ghost use Rattle.first_pass_grammar.specs.Leaves.{document, rule_block};
+ghost use Rattle.first_pass_lists.specs.Closing.{with_tree};
+ghost use Rattle.first_pass.specs.Appends.{AddsParagraph, AddsHeading};
+ghost use Rattle.first_pass.specs.Ordered.{AddsBetween, StandsBefore};
+
+use crate::pass::FirstPass;
+use crate::{heading, paragraph, rule};
+use first_pass_items::item::{HeadingLevel, Item};
+use std::alloc::AllocError;
+
+impl<'a> FirstPass<'a> {
+    /// Appends the paragraph whose first line's text begins at the offset `start_ix` into the text, with
+    /// the marker of its task list item, if it has one, as its first child. Answers the offset at which
+    /// the line begins that ends the paragraph, or the text's length (CommonMark 4.8).
+    pub fn parse_paragraph(
+        &mut self,
+        start_ix: usize,
+        tasklist_marker: Option<Item>,
+    ) -> Result<usize, AllocError>
+        requires boundary { IsCharBoundary self.old.source.text.now start_ix }
+        requires marker { IfSome tasklist_marker (λ x. is_text x.body ≡ false) }
+        ensures source { OnOk result (self.new.source ≡ self.old.source) }
+        ensures allocs { OnOk result (self.new.allocs ≡ self.old.allocs) }
+        ensures reading { OnOk result (self.new.reading ≡ with_tree self.old.reading self.new.reading.tree) }
+        ensures block { IfOk result (λ next. AddsParagraph (document self.old.source.text.now self.old.source.options no_names) start_ix tasklist_marker self.old.reading.tree self.new.reading.tree next) }
+        ensures fits { IfOk result (λ next. (from : ℕ) → StandsBefore self.old.source.text.now from start_ix tasklist_marker → AddsBetween self.old.source.text.now from next self.old.reading.tree self.new.reading.tree) }
+    {
+        paragraph::parse_paragraph(
+            self.alloc,
+            self.source,
+            &self.lookup_table,
+            &mut self.reading.tree,
+            start_ix,
+            tasklist_marker,
+        )
+    }
+
+    /// Appends the ATX heading of this level that begins at the offset `start` into the text, and
+    /// answers the offset at which its line ends (CommonMark 4.2).
+    pub fn parse_atx_heading(
+        &mut self,
+        start: usize,
+        atx_level: HeadingLevel,
+    ) -> Result<usize, AllocError>
+        requires within { start ≤ length self.old.source.text.now }
+        requires heading { atx_level_of (drop start self.old.source.text.now) ≡ Some atx_level }
+        ensures source { OnOk result (self.new.source ≡ self.old.source) }
+        ensures allocs { OnOk result (self.new.allocs ≡ self.old.allocs) }
+        ensures reading { OnOk result (self.new.reading ≡ with_tree self.old.reading self.new.reading.tree) }
+        ensures block { IfOk result (λ next. AddsHeading (document self.old.source.text.now self.old.source.options no_names) start atx_level self.old.reading.tree self.new.reading.tree next) }
+        ensures fits { IfOk result (λ next. (from : ℕ) → from ≤ start → IsCharBoundary self.old.source.text.now start → AddsBetween self.old.source.text.now from next self.old.reading.tree self.new.reading.tree) }
+    {
+        heading::parse_atx_heading(
+            self.source,
+            &self.lookup_table,
+            &mut self.reading.tree,
+            start,
+            atx_level,
+        )
+    }
+
+    /// Appends the thematic break of `hrule_size` bytes, its line end too, that begins at the offset `ix`
+    /// into the text, and answers the offset behind it (CommonMark 4.1).
+    pub fn parse_hrule(&mut self, hrule_size: usize, ix: usize) -> Result<usize, AllocError>
+        requires { ix + hrule_size ≤ length self.old.source.text.now }
+        ensures source { OnOk result (self.new.source ≡ self.old.source) }
+        ensures allocs { OnOk result (self.new.allocs ≡ self.old.allocs) }
+        ensures reading { OnOk result (self.new.reading ≡ with_tree self.old.reading self.new.reading.tree) }
+        ensures block { OnOk result (self.new.reading.tree ≡ added self.old.reading.tree (rule_block ix hrule_size)) }
+        ensures fits { OnOk result ((from : ℕ) → from ≤ ix → IsCharBoundary self.old.source.text.now ix → IsCharBoundary self.old.source.text.now (ix + hrule_size) → AddsBetween self.old.source.text.now from (ix + hrule_size) self.old.reading.tree self.new.reading.tree) }
+        ensures behind { IfOk result (λ next. next ≡ ix + hrule_size) }
+    {
+        self.source.is_short();
+        rule::parse_hrule(&mut self.reading.tree, hrule_size, ix)
+    }
+}

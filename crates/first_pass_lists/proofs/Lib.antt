@@ -1,0 +1,3 @@
+pub mod BodyLemmas
+pub mod TightLemmas
+pub mod WithinLemmas

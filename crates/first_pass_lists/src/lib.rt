@@ -1,0 +1,5 @@
+//! When a list goes on, becomes loose and is closed: what the pass remembers between two lines, and the calls on it.
+#![tactic(auto)]
+
+pub mod list;
+pub mod reading;
