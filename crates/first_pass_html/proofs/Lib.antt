@@ -5,3 +5,5 @@ pub mod TailFacts
 pub mod TagFacts
 pub mod FrontFacts
 pub mod WholeTagFacts
+pub mod LongestNames
+pub mod RawFacts

@@ -21,6 +21,10 @@ prefix_passes p (x ∷ xs) =
       | false ↦ λ e. refl
     ]) refl
 
+-- bytes that all pass, where what stands behind them begins with none that does
+pub front_size : (p : ℕ → Bool) (bs front rest : List ℕ) → bs ≡ front ++ rest → list_all p front ≡ true → prefix_len p rest ≡ 0 → prefix_len p bs ≡ length front
+front_size p bs front rest parts all stops = let more = prefix_all p front rest all in rw parts (omega arith)
+
 -- a list that begins with n other elements
 pub front_of : (n : ℕ) (bs xs ys : List ℕ) → bs ≡ xs ++ ys → n ≡ length xs → take n bs ≡ xs
 front_of n bs xs ys parts size = ap (λ k. take k bs) size ∙ ap (take (length xs)) parts ∙ take-append_seam xs ys

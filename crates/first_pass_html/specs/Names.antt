@@ -1,9 +1,7 @@
 -- Names of HTML tags.
-use Rattle.std.specs.Prelude.{ℕ, Bool, true, ◌&&◌, List, [], ◌∷◌, map, bytes_eq, codes}
+use Rattle.std.specs.Prelude.{◌≡◌, ◌<◌, ◌≤◌, ℕ, Bool, List, [], ◌∷◌, ◌++◌, length, take, map, bytes_eq, codes, if◌then◌else◌}
 use Rattle.std.specs.Borrow.{Bor}
 use Rattle.std.specs.List.{Contains, list_any}
-use Rattle.std.specs.Ordering.{nat_cmp, is_lt}
-use Rattle.std.specs.Cmp.Lexicographic.{slice_cmp}
 use Rattle.std.specs.Char.{to_ascii_lowercase}
 
 -- the bytes with their ASCII letters in lower case (CommonMark 4.6: case-insensitive)
@@ -89,12 +87,17 @@ is_block_name name = list_any (bytes_eq (in_lower_case name)) block_names
 abbrev pub text_of : Bor (List ℕ) → List ℕ
 text_of t = t.now
 
--- each text is less than the next one, byte by byte, and the first of them is more than another one (this project)
-abbrev pub rises_from : List ℕ → List (List ℕ) → Bool
-rises_from t [] = true
-rises_from t (u ∷ us) = is_lt (slice_cmp nat_cmp t u) && rises_from u us
+-- the bytes begin with the name, in any case (CommonMark 4.6: case-insensitive)
+abbrev pub begins_with_name : List ℕ → List ℕ → Bool
+begins_with_name name bs = bytes_eq (in_lower_case (take (length name) bs)) (in_lower_case name)
 
--- each text is less than the next one, byte by byte (this project)
-abbrev pub rises : List (List ℕ) → Bool
-rises [] = true
-rises (t ∷ ts) = rises_from t ts
+-- how many bytes the first of the names has that the bytes begin with, in any case: 0 where they begin with none (this project)
+unfoldable pub first_name_len : List (List ℕ) → List ℕ → ℕ
+first_name_len [] bs = 0
+first_name_len (name ∷ names) bs = if begins_with_name name bs then length name else first_name_len names bs
+
+-- n is how many bytes the longest name of a block has that the bytes begin with, in any case: 0 where they begin with none (CommonMark 4.6, start condition 6)
+pub record IsLongestName (bs : List ℕ) (n : ℕ) : Type 0 where
+  pub within : n ≤ length bs
+  pub is_name : 0 < n → IsBlockName (take n bs)
+  pub longest : (name rest : List ℕ) → bs ≡ name ++ rest → IsBlockName name → length name ≤ n

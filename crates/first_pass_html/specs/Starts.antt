@@ -4,7 +4,7 @@ use Rattle.std.specs.List.{prefix_len}
 use Rattle.std.specs.Option.{is_some}
 use Rattle.std.specs.Char.{is_ascii_alphabetic, is_ascii_alphanumeric}
 use Rattle.first_pass_scan.specs.Lines.{is_ascii_white, begins}
-use Rattle.first_pass_html.specs.Names.{in_lower_case, IsBlockName, is_block_name}
+use Rattle.first_pass_html.specs.Names.{in_lower_case, begins_with_name, IsBlockName, is_block_name}
 
 -- the bytes begin with a text (this project)
 abbrev pub begins_with : List ℕ → List ℕ → Bool
@@ -33,6 +33,10 @@ raw_end_of name =
     else (if bytes_eq name (codes "style") then Some (codes "</style>")
     else (if bytes_eq name (codes "textarea") then Some (codes "</textarea>")
     else None)))
+
+-- the bytes begin with the name of raw text, in any case, and what ends it (CommonMark 4.6, start condition 1)
+abbrev pub begins_raw : List ℕ → List ℕ → Bool
+begins_raw name bs = begins_with_name name bs && ends_raw_name (drop (length name) bs)
 
 -- a name of raw text, in any case: pre, script, style or textarea (CommonMark 4.6, start conditions 1 and 7)
 unfoldable pub is_raw_name : List ℕ → Bool

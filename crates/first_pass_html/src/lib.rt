@@ -11,6 +11,7 @@ mod tests {
     use crate::names::is_block_name;
     use crate::starts::{get_html_end_tag, is_raw_name, starts_html_block_type_6};
     use crate::tags::scan_html_type_7;
+    use std::test::Fail;
 
     #[test]
     fn ends_of_the_kinds_1_to_5(rt: HostRuntime) {
@@ -24,9 +25,14 @@ mod tests {
             ("?php", Some("?>")),
             ("!DOCTYPE html", Some(">")),
             ("![CDATA[x", Some("]]>")),
+            ("PRE\t", Some("</pre>")),
+            ("sTYLE>", Some("</style>")),
             ("pre2", None),
             ("prefix>", None),
             ("pre/>", None),
+            ("scripts>", None),
+            ("span>", None),
+            ("table>", None),
             ("!- -", None),
             ("!1", None),
             ("![cdata[", None),
@@ -69,6 +75,101 @@ mod tests {
         }
         assert!(rt; is_block_name(b"tRack"));
         assert!(rt; is_raw_name(b"Style"));
+    }
+
+    // The names of start condition 6, as CommonMark 4.6 lists them.
+    const BLOCK_NAMES: [&str; 62] = [
+        "address",
+        "article",
+        "aside",
+        "base",
+        "basefont",
+        "blockquote",
+        "body",
+        "caption",
+        "center",
+        "col",
+        "colgroup",
+        "dd",
+        "details",
+        "dialog",
+        "dir",
+        "div",
+        "dl",
+        "dt",
+        "fieldset",
+        "figcaption",
+        "figure",
+        "footer",
+        "form",
+        "frame",
+        "frameset",
+        "h1",
+        "h2",
+        "h3",
+        "h4",
+        "h5",
+        "h6",
+        "head",
+        "header",
+        "hr",
+        "html",
+        "iframe",
+        "legend",
+        "li",
+        "link",
+        "main",
+        "menu",
+        "menuitem",
+        "nav",
+        "noframes",
+        "ol",
+        "optgroup",
+        "option",
+        "p",
+        "param",
+        "search",
+        "section",
+        "summary",
+        "table",
+        "tbody",
+        "td",
+        "tfoot",
+        "th",
+        "thead",
+        "title",
+        "tr",
+        "track",
+        "ul",
+    ];
+
+    // Whether a tag begins an HTML block of the sixth kind without its first byte, a slash, and with it.
+    fn begin_blocks(tag: &str) -> (bool, bool) {
+        match tag.as_bytes() {
+            [b'/', opening @ ..] => (
+                starts_html_block_type_6(opening),
+                starts_html_block_type_6(tag.as_bytes()),
+            ),
+            _ => (false, false),
+        }
+    }
+
+    #[test]
+    fn names_of_kind_6(rt: HostRuntime) -> Result<(), Fail> {
+        for name in BLOCK_NAMES {
+            let word = format!(in rt.alloc(); "{name}x")?;
+            assert!(rt; is_block_name(name.as_bytes()), "{name}");
+            assert!(rt; !is_block_name(word.as_bytes()), "{word}");
+            let mut tag = format!(in rt.alloc(); "/{name}>")?;
+            let mut longer = format!(in rt.alloc(); "/{word}>")?;
+            assert!(rt; begin_blocks(tag.as_str()) == (true, true), "{tag}");
+            assert!(rt; begin_blocks(longer.as_str()) == (false, false), "{longer}");
+            tag.make_ascii_uppercase();
+            longer.make_ascii_uppercase();
+            assert!(rt; begin_blocks(tag.as_str()) == (true, true), "{tag}");
+            assert!(rt; begin_blocks(longer.as_str()) == (false, false), "{longer}");
+        }
+        Ok(())
     }
 
     #[test]

@@ -1,78 +1,52 @@
 //! The names of tags that begin HTML blocks.
 
-ghost use Rattle.std.specs.Prelude.{◌≡◌, ◌↔◌, IsTrue, true, map};
-ghost use Rattle.std.specs.List.{Contains};
-ghost use Rattle.first_pass_html.specs.Names.{block_names, text_of, rises};
+ghost use Rattle.std.specs.Prelude.{◌≡◌, ◌↔◌, IsTrue, map};
+ghost use Rattle.first_pass_html.specs.Names.{text_of};
 ghost use Rattle.first_pass_html.specs.Names as names;
 
-// The names of the tags that begin an HTML block of the sixth kind, in order (CommonMark 4.6).
-static BLOCK_NAMES: [&str; 62] = [
-    "address",
-    "article",
-    "aside",
-    "base",
-    "basefont",
-    "blockquote",
-    "body",
-    "caption",
-    "center",
-    "col",
-    "colgroup",
-    "dd",
-    "details",
-    "dialog",
-    "dir",
-    "div",
-    "dl",
-    "dt",
+// The names of the tags that begin an HTML block of the sixth kind, by their first letter (CommonMark
+// 4.6). A name that goes on behind another one stands before it: the first that fits is the longest.
+static WITH_A: [&str; 3] = ["address", "article", "aside"];
+
+static WITH_B: [&str; 4] = ["basefont", "base", "blockquote", "body"];
+
+static WITH_C: [&str; 4] = ["caption", "center", "colgroup", "col"];
+
+static WITH_D: [&str; 7] = ["dd", "details", "dialog", "dir", "div", "dl", "dt"];
+
+static WITH_F: [&str; 7] = [
     "fieldset",
     "figcaption",
     "figure",
     "footer",
     "form",
-    "frame",
     "frameset",
-    "h1",
-    "h2",
-    "h3",
-    "h4",
-    "h5",
-    "h6",
-    "head",
-    "header",
-    "hr",
-    "html",
-    "iframe",
-    "legend",
-    "li",
-    "link",
-    "main",
-    "menu",
-    "menuitem",
-    "nav",
-    "noframes",
-    "ol",
-    "optgroup",
-    "option",
-    "p",
-    "param",
-    "search",
-    "section",
-    "summary",
-    "table",
-    "tbody",
-    "td",
-    "tfoot",
-    "th",
-    "thead",
-    "title",
-    "tr",
-    "track",
-    "ul",
+    "frame",
 ];
 
-// The length of the longest of them.
-const LONGEST: usize = 10;
+static WITH_H: [&str; 10] = [
+    "h1", "h2", "h3", "h4", "h5", "h6", "header", "head", "hr", "html",
+];
+
+static WITH_I: [&str; 1] = ["iframe"];
+
+static WITH_L: [&str; 3] = ["legend", "link", "li"];
+
+static WITH_M: [&str; 3] = ["main", "menuitem", "menu"];
+
+static WITH_N: [&str; 2] = ["nav", "noframes"];
+
+static WITH_O: [&str; 3] = ["ol", "optgroup", "option"];
+
+static WITH_P: [&str; 2] = ["param", "p"];
+
+static WITH_S: [&str; 3] = ["search", "section", "summary"];
+
+static WITH_T: [&str; 9] = [
+    "table", "tbody", "td", "tfoot", "thead", "th", "title", "track", "tr",
+];
+
+static WITH_U: [&str; 1] = ["ul"];
 
 /// Whether the bytes are a name of a tag that begins an HTML block of the sixth kind, in any case.
 /// CommonMark 4.6, start condition 6.
@@ -80,22 +54,54 @@ pub fn is_block_name(name: &[u8]) -> bool
     ensures value { IsTrue result ↔ names.IsBlockName name.now }
     ensures listed { result ≡ names.is_block_name name.now }
 {
-    if name.len() > LONGEST {
-        return false;
-    }
-    let mut buffer = [0; LONGEST];
-    let lowered = &mut buffer[..name.len()];
-    lowered.copy_from_slice(name);
-    lowered.make_ascii_lowercase();
-    is_listed(&BLOCK_NAMES, lowered)
+    let len = block_name_len(name);
+    len > 0 && len == name.len()
 }
 
-// Whether the bytes are one of the texts, which are in order.
-fn is_listed(texts: &[&str], bytes: &[u8]) -> bool
-    requires { IsTrue (rises (map text_of texts.now)) }
-    ensures { IsTrue result ↔ Contains (map text_of texts.now) bytes.now }
+/// How many bytes the longest of these names has that the bytes begin with, in any case: 0 where they
+/// begin with none.
+pub fn block_name_len(bytes: &[u8]) -> usize
+    ensures { names.IsLongestName bytes.now result }
 {
-    texts
-        .binary_search_by(|text| text.as_bytes().cmp(bytes))
-        .is_ok()
+    let [letter, ..] = bytes else {
+        return 0;
+    };
+    match letter.to_ascii_lowercase() {
+        b'a' => first_name_len(bytes, &WITH_A),
+        b'b' => first_name_len(bytes, &WITH_B),
+        b'c' => first_name_len(bytes, &WITH_C),
+        b'd' => first_name_len(bytes, &WITH_D),
+        b'f' => first_name_len(bytes, &WITH_F),
+        b'h' => first_name_len(bytes, &WITH_H),
+        b'i' => first_name_len(bytes, &WITH_I),
+        b'l' => first_name_len(bytes, &WITH_L),
+        b'm' => first_name_len(bytes, &WITH_M),
+        b'n' => first_name_len(bytes, &WITH_N),
+        b'o' => first_name_len(bytes, &WITH_O),
+        b'p' => first_name_len(bytes, &WITH_P),
+        b's' => first_name_len(bytes, &WITH_S),
+        b't' => first_name_len(bytes, &WITH_T),
+        b'u' => first_name_len(bytes, &WITH_U),
+        _ => 0,
+    }
+}
+
+// How many bytes the first of the known names has that the bytes begin with, in any case: 0 where they
+// begin with none.
+fn first_name_len(bytes: &[u8], known: &[&str]) -> usize
+    ensures { result ≡ names.first_name_len (map text_of known.now) bytes.now }
+{
+    for name in known {
+        if begins_with_name(bytes, name.as_bytes()) {
+            return name.len();
+        }
+    }
+    0
+}
+
+/// Whether the bytes begin with the name, in any case.
+pub fn begins_with_name(bytes: &[u8], name: &[u8]) -> bool
+    ensures { result ≡ names.begins_with_name name.now bytes.now }
+{
+    bytes.len() >= name.len() && bytes[..name.len()].eq_ignore_ascii_case(name)
 }
