@@ -25,7 +25,7 @@ use Rattle.first_pass_leaves.proofs.PathLemmas.{open_are_in, path_in-append}
 use Rattle.first_pass_leaves.proofs.PlaceLemmas.{after_keeps, place_end}
 use Rattle.first_pass_leaves.proofs.IndentedLemmas.{first_at}
 use Rattle.first_pass.specs.Adding.{behind_blank, with_blank}
-use Rattle.first_pass.specs.Appends.{line_end_at}
+use Rattle.first_pass_text.specs.Appends.{line_end_at}
 use Rattle.first_pass_lists.specs.Closing.{list_left, item_finished, gap_noted, list_finished, blank_read}
 use Rattle.first_pass_lists.specs.declared.reading.Reading.{Reading}
 use Rattle.first_pass.specs.Ordered.{IsOrderedAt}

@@ -22,7 +22,7 @@ use Rattle.first_pass_grammar.specs.Leaves.{Document}
 use Rattle.first_pass_grammar.specs.Skeleton.{BlankLine, From, Line, Inside, Blanks, OpensLeaf, OpensAs, OpensFrom, Opens, is_blank_behind, next_is_blank, end_before}
 use Rattle.first_pass_grammar.specs.Derivation.{node_of}
 use Rattle.first_pass_grammar.specs.Completion.{Frame, InContainer, InList, containers_of, AreBelow, Completes}
-use Rattle.first_pass.proofs.KindLemmas.{blank_kind}
+use Rattle.first_pass_text.proofs.KindLemmas.{blank_kind}
 use Rattle.first_pass_grammar.proofs.Completions.{counts_in, completes-enter, completes-blank_line, completes-only_blank}
 use Rattle.first_pass_leaves.specs.OpenBlock.{closed_by}
 use Rattle.first_pass_lists.specs.Closing.{remembered, top_body, is_item, popped_by, popped, item_finished_by, item_finished, emptied, blank_read_by, blank_read}

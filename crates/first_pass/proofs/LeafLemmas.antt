@@ -22,14 +22,14 @@ use Rattle.first_pass_grammar.specs.Leaves.{Document, IsParagraph, IsHeading, he
 use Rattle.first_pass_grammar.specs.Skeleton.{BlankLine, Block, Line, Inside, LeafAt, IsLeafHere, Opening, OpensLeaf, OpensParagraph, OpensAs, OpensBlockAt, OpensFrom, Opens}
 use Rattle.first_pass_grammar.specs.Completion.{lines_from, Frame, containers_of, AreBelow, Completes}
 use Rattle.first_pass_grammar.proofs.Completions.{completes-leaf, completes-blank, completes-block, completes-text, counts_in}
-use Rattle.first_pass.specs.Appends.{line_end_at, AddsParagraph, AddsHeading}
+use Rattle.first_pass_text.specs.Appends.{line_end_at, AddsParagraph, AddsHeading}
 use Rattle.first_pass_lists.specs.Closing.{remembered, top_body, is_list, list_finished, blank_read_by, blank_read}
 use Rattle.first_pass_lists.specs.declared.reading.Reading.{Reading}
 use Rattle.first_pass_leaves.specs.Path.{path_of}
 use Rattle.first_pass.specs.State.{AreOpen, ReadyAt, Ready}
 use Rattle.first_pass.specs.Opening.{ReadyText, ReadyLazy, ReadyLeaf}
 use Rattle.first_pass.proofs.OpenLemmas.{open_path, open_below, frame-append}
-use Rattle.first_pass.proofs.KindLemmas.{kind_says}
+use Rattle.first_pass_text.proofs.KindLemmas.{kind_says}
 use Rattle.first_pass.proofs.RuleLemmas.{rule_line}
 use Rattle.first_pass.proofs.StateLemmas.{ready_plain}
 use Rattle.first_pass.proofs.FinishLemmas.{EndsListAt, plain_by, ready_finished, path_finished}

@@ -13,7 +13,7 @@ use Rattle.first_pass_tokens.specs.TreeTokens.{with_token, with_tokens, AppendsL
 use Rattle.first_pass_tokens.proofs.OrderLemmas.{order_bound, order_to, order_from, line_in_order}
 use Rattle.first_pass_leaves.specs.TableEntries.{no_names}
 use Rattle.first_pass_grammar.specs.Leaves.{Document, document, content_at}
-use Rattle.first_pass.specs.Appends.{text_upto}
+use Rattle.first_pass_text.specs.Appends.{text_upto}
 use Rattle.std.proofs.lemmas.Str.{IsUtf8-take, IsCharBoundary-from_take}
 use Rattle.std.proofs.lemmas.List.{length-take-le}
 use Rattle.first_pass_grammar.specs.Order.{Extent, extent_of, extents, is_task_marker, Row, Empty, Node, laid, IsBetween, IsLead, Fits}

@@ -22,7 +22,8 @@ use Rattle.first_pass_leaves.specs.OpenBlock.{with_child}
 use Rattle.first_pass_lists.specs.Closing.{remembered, top_body, is_list, is_item, item_finished_by, item_finished, list_finished, begun, list_continued}
 use Rattle.first_pass_lists.specs.declared.reading.Reading.{Reading}
 use Rattle.first_pass.specs.Opening.{task_text, line_or, OrderedIn}
-use Rattle.first_pass.specs.Ordered.{reached, IsOrderedAt, AddsBetween, StandsBefore}
+use Rattle.first_pass.specs.Ordered.{reached, IsOrderedAt}
+use Rattle.first_pass_text.specs.Between.{AddsBetween, StandsBefore}
 use Rattle.first_pass_leaves.proofs.PathLemmas.{get_front}
 use Rattle.first_pass.proofs.OpenLemmas.{get_end}
 use Rattle.first_pass_leaves.proofs.PlaceLemmas.{all_keep, task_keeps, option_on, quote_less}

@@ -16,7 +16,7 @@ use Rattle.first_pass_leaves.specs.RawBlocks.{IsPlaceAt, code_behind, AddsIndent
 use Rattle.first_pass_leaves.proofs.NameLemmas.{extends_none}
 use Rattle.first_pass_leaves.proofs.IndentedLemmas.{first_at, first_is}
 use Rattle.first_pass_leaves.proofs.RawOrder.{IsPlaced, fence_plain, ends_before_next, kept_last, indented_fits, fenced_fits, metadata_fits, html_fits, indented_behind_placed, fenced_behind_placed, metadata_behind_placed, to_end_placed, to_blank_placed, fenced_behind_before, metadata_behind_before, to_end_before}
-use Rattle.first_pass.specs.Ordered.{AddsBetween}
+use Rattle.first_pass_text.specs.Between.{AddsBetween}
 
 -- a place at an offset between characters
 place_of : (text : List ℕ) (start : ℕ) (p : Place) → IsCharBoundary text start → IsPlaceAt text start p → IsPlaceOf text p

@@ -25,7 +25,7 @@ use Rattle.first_pass_leaves.specs.Path.{path_of}
 use Rattle.first_pass.specs.State.{frame_of, AreOpen, ReadyAt, Ready}
 use Rattle.first_pass.specs.Opening.{ReadyInQuote, ReadyTagged, ReadyLazy}
 use Rattle.first_pass_leaves.proofs.PathLemmas.{front-end}
-use Rattle.first_pass.proofs.ParagraphLemmas.{ends_past}
+use Rattle.first_pass_text.proofs.ParagraphLemmas.{ends_past}
 use Rattle.first_pass.proofs.StateLemmas.{ready_plain}
 
 left_none : (at : ℕ) (r : Reading) (t : Bool) → t ≡ false → (if t then popped at r else r) ≡ r

@@ -3,7 +3,8 @@ use Rattle.std.specs.Prelude.{◌≡◌, ◌⊎◌, ℕ, ◌<◌, false, List, l
 use Rattle.first_pass_items.specs.declared.item.Item.{Item}
 use Rattle.first_pass_tree.specs.Forest.{Forest, is_text}
 use Rattle.first_pass_grammar.specs.OpenOrder.{IsOrderedTo}
-use Rattle.first_pass.specs.Ordered.{IsOrderedAt, StandsBefore}
+use Rattle.first_pass.specs.Ordered.{IsOrderedAt}
+use Rattle.first_pass_text.specs.Between.{StandsBefore}
 use Rattle.first_pass_scan.specs.Rest.{Rest}
 use Rattle.first_pass_scan.specs.Places.{Place}
 use Rattle.first_pass_grammar.specs.declared.kind.Container.TheVariants.{BlockQuote}

@@ -1,8 +1,5 @@
 -- How far what the pass remembers is in order.
 use Rattle.std.specs.Prelude.{◌≡◌, ℕ, ◌≤◌, true, List, length, Option, Some, None, IsCharBoundary}
-use Rattle.first_pass_items.specs.declared.item.Item.{Item}
-use Rattle.first_pass_tree.specs.Forest.{Forest, added}
-use Rattle.first_pass_grammar.specs.Order.{extent_of, is_task_marker, IsBetween, FitsBetween}
 use Rattle.first_pass_grammar.specs.OpenOrder.{IsOrderedTo}
 use Rattle.first_pass_lists.specs.Closing.{top_body, is_item}
 use Rattle.first_pass_lists.specs.declared.reading.Reading.{Reading}
@@ -18,14 +15,3 @@ pub record IsOrderedAt (text : List ℕ) (r : Reading) (at : ℕ) : Type 0 where
   pub later : reached r.empty_item at ≤ at
   pub within : at ≤ length text
   pub innermost : (e : ℕ) → r.empty_item ≡ Some e → (is_item (top_body r.tree) ≡ true) × IsCharBoundary text e
-
--- A block is a last child of the innermost open node, and its nodes lie between two offsets in order.
-pub record AddsBetween (text : List ℕ) (from to : ℕ) (old new : Forest Item) : Type 0 where
-  pub items : List (ℕ × Item)
-  pub tree_is : new ≡ added old items
-  pub fits : FitsBetween text from to items
-
--- a task list item marker lies between two offsets, if there is one
-abbrev pub StandsBefore : List ℕ → ℕ → ℕ → Option Item → Type 0
-StandsBefore text from to None = from ≤ to
-StandsBefore text from to (Some x) = (is_task_marker x.body ≡ true) × IsBetween text from to (extent_of x)

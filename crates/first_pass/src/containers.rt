@@ -18,7 +18,6 @@ ghost use Rattle.first_pass.specs.Opening.{IsOpenedAt, ReadyIn, IsBehind, task_t
 ghost use Rattle.first_pass.specs.Ordered.{IsOrderedAt};
 ghost use Rattle.first_pass_grammar.specs.OpenOrder.{IsOrderedTo};
 
-use crate::paragraph::append_item;
 use bitflags::Flags;
 use first_pass_items::item::{BlockQuoteKind, Item, ItemBody};
 use first_pass_items::option_set::Options;
@@ -30,6 +29,7 @@ use first_pass_lists::reading::Reading;
 use first_pass_scan::line_start::LineStart;
 use first_pass_scan::lines::scan_blank_line;
 use first_pass_scan::places::{next_line, rest_of};
+use first_pass_text::paragraph::append_item;
 use first_pass_tree::forest::Tree;
 use std::alloc::AllocError;
 

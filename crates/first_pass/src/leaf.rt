@@ -6,12 +6,12 @@ ghost use Rattle.first_pass_tree.specs.Forest.{added, is_text};
 ghost use Rattle.first_pass_leaves.specs.TableEntries.{no_names};
 ghost use Rattle.first_pass_grammar.specs.Leaves.{document, rule_block};
 ghost use Rattle.first_pass_lists.specs.Closing.{with_tree};
-ghost use Rattle.first_pass.specs.Appends.{AddsParagraph, AddsHeading};
-ghost use Rattle.first_pass.specs.Ordered.{AddsBetween, StandsBefore};
+ghost use Rattle.first_pass_text.specs.Appends.{AddsParagraph, AddsHeading};
+ghost use Rattle.first_pass_text.specs.Between.{AddsBetween, StandsBefore};
 
 use crate::pass::FirstPass;
-use crate::{heading, paragraph, rule};
 use first_pass_items::item::{HeadingLevel, Item};
+use first_pass_text::{heading, paragraph, rule};
 use std::alloc::AllocError;
 
 impl<'a> FirstPass<'a> {

@@ -3,15 +3,10 @@
 #![tactic(auto)]
 
 pub mod containers;
-mod heading;
-mod interrupt;
-mod kinds;
 mod leaf;
 pub mod list;
-mod paragraph;
 pub mod pass;
 mod raw;
-mod rule;
 
 pub use first_pass_below::{below, flank, walk};
 pub use first_pass_leaves::items;

@@ -12,7 +12,7 @@ ghost use Rattle.first_pass_grammar.specs.declared.kind.Container.TheVariants.{B
 ghost use Rattle.first_pass_grammar.specs.Containers.{prefix};
 ghost use Rattle.first_pass_grammar.specs.Derivation.{Derives};
 ghost use Rattle.first_pass_grammar.specs.Completion.{lines_from};
-ghost use Rattle.first_pass.specs.Appends.{text_upto};
+ghost use Rattle.first_pass_text.specs.Appends.{text_upto};
 ghost use Rattle.first_pass_leaves.specs.OpenBlock.{closed_by};
 ghost use Rattle.first_pass_grammar.specs.Skeleton.{Inside, Line};
 ghost use Rattle.first_pass_tree.specs.Forest.{is_text};
@@ -21,7 +21,8 @@ ghost use Rattle.first_pass_scan.specs.Rest.{indent};
 ghost use Rattle.first_pass.specs.Adding.{AddsKind, IsMarked};
 ghost use Rattle.first_pass.specs.Opening.{ReadyText, ReadyTagged, ReadyLeaf, line_or, OrderedText};
 ghost use Rattle.first_pass_lists.specs.Closing.{with_tree};
-ghost use Rattle.first_pass.specs.Ordered.{IsOrderedAt, AddsBetween};
+ghost use Rattle.first_pass.specs.Ordered.{IsOrderedAt};
+ghost use Rattle.first_pass_text.specs.Between.{AddsBetween};
 ghost use Rattle.first_pass_grammar.specs.Order.{IsOrdered};
 ghost use Rattle.first_pass_grammar.specs.OpenOrder.{IsOrderedTo};
 ghost use Rattle.first_pass.specs.State.{Ready, ReadyAt};
@@ -29,9 +30,6 @@ ghost use Rattle.first_pass_leaves.specs.TableEntries.{tables, no_tables, names_
 ghost use Rattle.first_pass_grammar.specs.Names.{Names, Extends};
 
 use crate::containers::{Behind, close_containers, enter_line, open_containers};
-use crate::interrupt::lazy_leaf;
-pub use crate::interrupt::scan_paragraph_interrupt_no_table;
-use crate::kinds::kind_at;
 use crate::raw::read_blank_behind;
 use first_pass_below::flank::TableParseMode;
 use first_pass_below::walk::special_bytes;
@@ -45,6 +43,9 @@ use first_pass_lists::reading::Reading;
 use first_pass_scan::line_start::LineStart;
 use first_pass_scan::metadata_search::MetadataEnds;
 use first_pass_scan::places::{next_line, rest_of};
+use first_pass_text::interrupt::lazy_leaf;
+pub use first_pass_text::interrupt::scan_paragraph_interrupt_no_table;
+use first_pass_text::kinds::kind_at;
 use first_pass_tokens::line::append_line;
 use first_pass_tree::forest::Tree;
 use first_pass_tree::tree_index::TreeIndex;

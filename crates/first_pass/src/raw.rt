@@ -16,15 +16,15 @@ ghost use Rattle.first_pass_leaves.specs.TableEntries.{tables, names_of};
 ghost use Rattle.first_pass_leaves.specs.RawBlocks.{AppendsCode, AppendsHtml, IsPlaceAt, AddsIndented, AddsRaw, behind_line_at, fenced_behind, metadata_behind, html_to_end, html_to_blank};
 ghost use Rattle.first_pass.specs.Adding.{AddsKind, behind_blank, with_blank};
 ghost use Rattle.first_pass_lists.specs.Closing.{with_tree};
-ghost use Rattle.first_pass.specs.Ordered.{AddsBetween};
+ghost use Rattle.first_pass_text.specs.Between.{AddsBetween};
 
 use crate::pass::FirstPass;
 use first_pass_html::starts::get_html_end_tag;
 use first_pass_leaves::fenced_code::Fence;
 use first_pass_leaves::open_block::BlockLines;
 use first_pass_leaves::source::Source;
-use first_pass_lists::reading::Reading;
 use first_pass_leaves::{fenced_code, html_block, indented_code, metadata_block, raw_line};
+use first_pass_lists::reading::Reading;
 use first_pass_scan::line_start::LineStart;
 use first_pass_scan::places::{next_line, rest_of};
 use std::alloc::AllocError;

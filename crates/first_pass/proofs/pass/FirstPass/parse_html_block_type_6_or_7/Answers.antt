@@ -1,5 +1,5 @@
 use Rattle.std.proofs.Common.{subst}
-use Rattle.first_pass.specs.Ordered.{AddsBetween}
+use Rattle.first_pass_text.specs.Between.{AddsBetween}
 use Rattle.first_pass.proofs.pass.FirstPass.parse_html_block_type_6_or_7.Goals as goal
 
 pub returns-clause-fits : goal.returns-clause-fits

@@ -6,7 +6,7 @@ use Rattle.std.proofs.Math.Nat.{zero-max}
 use Rattle.first_pass_leaves.specs.TableEntries.{names_of}
 use Rattle.first_pass_leaves.specs.Path.{path_of}
 use Rattle.first_pass_leaves.specs.RawBlocks.{AddsRaw, html_to_end}
-use Rattle.first_pass.proofs.KindLemmas.{same_tag}
+use Rattle.first_pass_text.proofs.KindLemmas.{same_tag}
 use Rattle.first_pass.proofs.pass.FirstPass.parse_html_to_end.Goals as goal
 
 pub returns-clause-block : goal.returns-clause-block

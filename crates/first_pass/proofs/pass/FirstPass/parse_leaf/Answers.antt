@@ -4,7 +4,7 @@ use Rattle.first_pass_scan.specs.Places.{place_at, offset}
 use Rattle.first_pass_grammar.specs.OpenOrder.{IsOrderedTo}
 use Rattle.first_pass.specs.Opening.{line_or}
 use Rattle.first_pass.specs.Ordered.{IsOrderedAt}
-use Rattle.first_pass.proofs.KindLemmas.{behind_columns}
+use Rattle.first_pass_text.proofs.KindLemmas.{behind_columns}
 use Rattle.first_pass.proofs.pass.FirstPass.parse_leaf.Goals as goal
 
 pub overflow_add-at : goal.overflow_add-at

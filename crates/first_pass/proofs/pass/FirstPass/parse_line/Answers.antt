@@ -1,10 +1,10 @@
 use Rattle.std.proofs.Common.{◌≡◌, ◌≤◌, ℕ, List, length, Option, Some, None, IfSome, IsCharBoundary, refl, ap, subst, ◌∙◌}
 use Rattle.first_pass_leaves.specs.TableEntries.{no_names}
 use Rattle.first_pass_grammar.specs.Leaves.{document, content_at}
-use Rattle.first_pass.specs.Appends.{text_upto}
+use Rattle.first_pass_text.specs.Appends.{text_upto}
 use Rattle.first_pass_tokens.specs.TreeTokens.{AppendsLine}
 use Rattle.first_pass.proofs.OrderJoin.{ordered_line}
-use Rattle.first_pass.proofs.ParagraphLemmas.{next_boundary, same_end}
+use Rattle.first_pass_text.proofs.ParagraphLemmas.{next_boundary, same_end}
 use Rattle.first_pass.proofs.pass.FirstPass.parse_line.Goals as goal
 
 pub returns-clause-boundary : goal.returns-clause-boundary

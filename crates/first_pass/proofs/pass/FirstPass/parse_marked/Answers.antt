@@ -7,10 +7,10 @@ use Rattle.first_pass_grammar.specs.declared.kind.Kind.TheVariants.{Metadata, Ht
 use Rattle.first_pass_grammar.specs.Kinds.{unindented, begins_html_to_end}
 use Rattle.first_pass_leaves.specs.TableEntries.{names_of}
 use Rattle.first_pass_leaves.proofs.PlaceLemmas.{all_keep, place_end}
-use Rattle.first_pass.specs.Ordered.{AddsBetween}
+use Rattle.first_pass_text.specs.Between.{AddsBetween}
 use Rattle.first_pass.proofs.OrderSteps.{unindented_later}
 use Rattle.first_pass.proofs.LeafLemmas.{rule_end}
-use Rattle.first_pass.proofs.KindLemmas.{Says, kind_says, html_ends}
+use Rattle.first_pass_text.proofs.KindLemmas.{Says, kind_says, html_ends}
 use Rattle.first_pass.proofs.KindBlocks.{metadata_added, fenced_added, html_end_added, rule_added, heading_added, is_here, ends_here, adds_so, columns_are}
 use Rattle.first_pass_lists.specs.declared.reading.Reading.{Reading}
 use Rattle.first_pass.proofs.pass.FirstPass.parse_marked.Goals as goal

@@ -3,7 +3,7 @@ use Rattle.first_pass_lists.specs.Closing.{remembered}
 use Rattle.first_pass_scan.specs.Places.{place_at}
 use Rattle.first_pass_grammar.specs.Leaves.{document}
 use Rattle.first_pass_grammar.specs.Completion.{lines_from}
-use Rattle.first_pass.specs.Appends.{line_end_at}
+use Rattle.first_pass_text.specs.Appends.{line_end_at}
 use Rattle.first_pass_lists.specs.declared.reading.Reading.{Reading}
 use Rattle.first_pass.specs.State.{Ready}
 use Rattle.first_pass_leaves.proofs.PlaceLemmas.{all_keep, at_read}

@@ -1,0 +1,6 @@
+pub mod KindLemmas
+pub mod HeadingLemmas
+pub mod OrderHeading
+pub mod OrderParagraph
+pub mod ParagraphLemmas
+pub mod PlainKinds

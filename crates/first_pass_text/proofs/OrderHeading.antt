@@ -1,0 +1,244 @@
+-- Thematic breaks and ATX headings are in order.
+use Rattle.std.proofs.Common.{◌≡◌, ◌⊎◌, inl, inr, ℕ, zero, suc, ◌+◌, ◌-◌, ◌<◌, ◌≤◌, ◌==◌, ◌||◌, Bool, true, false, List, [], ◌∷◌, length, take, drop, get_or, slice_index, nat_lt, Some, None, IsUtf8, IsCharBoundary, refl, sym, ap, subst, ◌∙◌, arith, length-drop, length-take-le, get_or-drop, drop-drop, if◌then◌else◌}
+use Rattle.std.specs.Char.{is_ascii_punctuation}
+use Rattle.std.specs.List.{prefix_len, suffix_len}
+use Rattle.std.proofs.lemmas.Bool.{cond_both, cases_Bool, cases_lt, eqb-true, eq-eqb, or_cases, ltb-true, false≢true}
+use Rattle.std.proofs.lemmas.Bool.Decides.{nat_tests}
+use Rattle.std.proofs.lemmas.List.{take_all, get_or-take, get_or_past}
+use Rattle.std.proofs.lemmas.List.Sums.{suffix_len-le-length, suffix_len-take_yes, suffix_len-take_no}
+use Rattle.first_pass_items.specs.declared.item.Item.{Item}
+use Rattle.first_pass_items.specs.declared.item.HeadingLevel.{HeadingLevel}
+use Rattle.first_pass_items.specs.declared.item.ItemBody.TheVariants.{Heading as HeadingBody, Rule}
+use Rattle.first_pass_tree.specs.Forest.{Forest, added}
+use Rattle.first_pass_scan.specs.Lines.{is_line_end, is_number_sign, is_white, ends_line, line_len, level_number, atx_level}
+use Rattle.first_pass_scan.specs.Places.{Place, IsPlaceOf, offset, moved_bytes, line_place}
+use Rattle.first_pass_scan.proofs.LineFacts.{line_len-none, line_len-step, line_len-some, line_len-fits}
+use Rattle.first_pass_scan.proofs.PlaceFacts.{line_is_place, signs_keep, white_keeps}
+use Rattle.first_pass_scan.proofs.HeadingFacts.{atx_level-signs}
+use Rattle.first_pass_tokens.specs.Chains.{add_tokens, close_break, cut}
+use Rattle.first_pass_tokens.specs.Order.{AreInOrder}
+use Rattle.first_pass_tokens.proofs.LineLemmas.{ends_line as line_ends}
+use Rattle.first_pass_tokens.proofs.OrderLemmas.{order_bound, order_from, order_to}
+use Rattle.first_pass_tokens.proofs.CutOrder.{cut_in_order, line_none_escaped}
+use Rattle.first_pass_grammar.specs.Leaves.{Document, is_put_aside, kept_len, heading_chain, heading_text_at, heading_block, rule_block, IsHeading, content_at}
+use Rattle.first_pass_grammar.proofs.Orders.{block_fits}
+use Rattle.first_pass_text.specs.Appends.{AddsHeading, line_end_at}
+use Rattle.first_pass_text.specs.Between.{AddsBetween}
+use Rattle.first_pass_leaves.proofs.PlaceLemmas.{place_end, line_start_end}
+
+-- the run of bytes that pass at the end of a front of a list: it is empty, or its first byte passes
+run_first : (p : ℕ → Bool) (xs : List ℕ) (n : ℕ) → n ≤ length xs → (suffix_len p (take n xs) ≡ 0) ⊎ (p (get_or xs (n - suffix_len p (take n xs)) 0) ≡ true)
+run_first p xs zero within = inl refl
+run_first p xs (suc n) within =
+    let back : suc n - 1 ≡ n = omega arith in
+    elim (cases_Bool (p (get_or xs (suc n - 1) 0))) [
+      | inl passes ↦
+          let one = suffix_len-take_yes p xs (suc n) 0 (omega arith) within passes in
+          let same : suffix_len p (take (suc n - 1) xs) ≡ suffix_len p (take n xs) = ap (λ (x : ℕ). suffix_len p (take x xs)) back in
+          elim (run_first p xs n (omega arith)) [
+            | inl none ↦
+                let at : suc n - suffix_len p (take (suc n) xs) ≡ suc n - 1 = omega arith in
+                inr (ap (λ k. p (get_or xs k 0)) at ∙ passes)
+            | inr first ↦
+                let at : suc n - suffix_len p (take (suc n) xs) ≡ n - suffix_len p (take n xs) = omega arith in
+                inr (ap (λ k. p (get_or xs k 0)) at ∙ first)
+          ]
+      | inr fails ↦ inl (suffix_len-take_no p xs (suc n) 0 (omega arith) within fails)
+    ]
+
+-- the last byte does not pass where none passes at the end
+run_none : (p : ℕ → Bool) (xs : List ℕ) → 0 < length xs → suffix_len p xs ≡ 0 → p (get_or xs (length xs - 1) 0) ≡ false
+run_none p xs some none =
+    elim (cases_Bool (p (get_or xs (length xs - 1) 0))) [
+      | inl passes ↦
+          let one = suffix_len-take_yes p xs (length xs) 0 some (omega arith) passes in
+          let all : suffix_len p (take (length xs) xs) ≡ suffix_len p xs = ap (suffix_len p) (take_all (length xs) xs (omega arith)) in
+          absurd (omega arith)
+      | inr fails ↦ fails
+    ]
+
+-- what stands behind the bytes of a heading's text that are kept: a byte that is put aside, or nothing; or no byte is kept
+KeptAt : List ℕ → ℕ → Type 0
+KeptAt text n = (n ≡ 0) ⊎ (((n < length text) × (is_put_aside (get_or text n 0) ≡ true)) ⊎ ((n ≡ length text) × (suffix_len is_put_aside text ≡ 0)))
+
+space_aside : (b : ℕ) → (b == 32) ≡ true → is_put_aside b ≡ true
+space_aside b h = grind (arith, nat_tests, h)
+
+kept_by : (text : List ℕ) (t o n : ℕ) → t ≡ length text - suffix_len is_put_aside text → o ≤ length text → n ≡ suffix_len (λ b. b == 32) (take o text)
+    → KeptAt text (if (o == 0) || nat_lt 0 n then o - n else t)
+unfolding KeptAt
+kept_by text t o n e within g =
+    cond_both ((o == 0) || nat_lt 0 n) (o - n) t (KeptAt text)
+    (λ c. elim (cases_lt 0 o) [
+      | inl some ↦ elim (or_cases (o == 0) (nat_lt 0 n) c) [
+        | inl z ↦ (let zero : o ≡ 0 = eqb-true o 0 z in absurd (omega arith))
+        | inr more ↦
+            let positive : 0 < n = ltb-true 0 n more in
+            elim (run_first (λ b. b == 32) text o within) [
+              | inl none ↦ absurd (omega arith)
+              | inr first ↦ inr (inl (omega arith, space_aside (get_or text (o - n) 0) (ap (λ k. get_or text (o - k) 0 == 32) g ∙ first)))
+            ]
+      ]
+      | inr none ↦ inl (omega arith)
+    ])
+    (λ c.
+    let all : suffix_len is_put_aside (take (length text) text) ≡ suffix_len is_put_aside text = ap (suffix_len is_put_aside) (take_all (length text) text (omega arith)) in
+    elim (cases_lt 0 (suffix_len is_put_aside text)) [
+      | inl some ↦
+          let fits = suffix_len-le-length is_put_aside text in
+          elim (run_first is_put_aside text (length text) (omega arith)) [
+            | inl none ↦ absurd (omega arith)
+            | inr first ↦ inr (inl (omega arith, ap (λ k. is_put_aside (get_or text k 0)) (let same : t ≡ length text - suffix_len is_put_aside (take (length text) text) = omega arith in same) ∙ first))
+          ]
+      | inr none ↦ inr (inr (omega arith, omega arith))
+    ])
+
+kept_at : (text : List ℕ) → KeptAt text (kept_len text)
+unfolding kept_len
+kept_at text =
+    let t : ℕ = length text - suffix_len is_put_aside text in
+    let o : ℕ = t - suffix_len (λ b. b == 35) (take t text) in
+    kept_by text t o (suffix_len (λ b. b == 32) (take o text)) refl (omega arith) refl
+
+-- a line ends with a line end, or with the text
+last_step : (t : Bool) (b : ℕ) (bs : List ℕ) → ends_line b bs ≡ t → (0 < length bs → (is_line_end (slice_index bs (line_len bs - 1)) ≡ true) ⊎ (line_len bs ≡ length bs))
+    → (is_line_end (slice_index (b ∷ bs) (line_len (b ∷ bs) - 1)) ≡ true) ⊎ (line_len (b ∷ bs) ≡ length (b ∷ bs))
+last_step true b bs h f =
+    let e : line_len (b ∷ bs) ≡ 1 = line_len-step b bs ∙ rw h in
+    let line : is_line_end b ≡ true = grind (arith, nat_tests, h) in
+    inl (rw e line)
+last_step false b [] h f =
+    let e : line_len (b ∷ []) ≡ line_len [] + 1 = line_len-step b [] ∙ rw h in
+    inr (omega (arith, line_len-none))
+last_step false b (c ∷ cs) h f =
+    let e : line_len (b ∷ c ∷ cs) ≡ line_len (c ∷ cs) + 1 = line_len-step b (c ∷ cs) ∙ rw h in
+    let some = line_len-some (c ∷ cs) (omega arith) in
+    let k : line_len (b ∷ c ∷ cs) - 1 ≡ suc (line_len (c ∷ cs) - 1) = omega arith in
+    elim (f (omega arith)) [ inl line ↦ inl (rw k line) | inr all ↦ inr (omega arith) ]
+
+last_of_line : (bs : List ℕ) → 0 < length bs → (is_line_end (slice_index bs (line_len bs - 1)) ≡ true) ⊎ (line_len bs ≡ length bs)
+last_of_line [] h = absurd (omega arith)
+last_of_line (b ∷ bs) h = last_step (ends_line b bs) b bs refl (last_of_line bs)
+
+line_aside : (b : ℕ) → is_line_end b ≡ true → is_put_aside b ≡ true
+line_aside b h = grind (arith, nat_tests, h)
+
+aside_small : (b : ℕ) → is_put_aside b ≡ true → b < 33
+aside_small b h = grind (arith, nat_tests, h)
+
+-- before a byte that is no more than a space, or at the text's end
+small_boundary : (text : List ℕ) (i : ℕ) → i ≤ length text → slice_index text i < 33 → IsCharBoundary text i
+small_boundary text i within small = (within, λ l high. absurd (omega arith))
+
+small_plain : (b : ℕ) → b < 33 → is_ascii_punctuation b ≡ false
+small_plain b h = grind (arith, nat_tests, h)
+
+-- where the bytes of a heading's text end that are kept: none is, or a space, a line end or the text's end is there
+kept_place : (text : List ℕ) (start n : ℕ) → start ≤ length text → KeptAt (take (line_len (drop start text)) (drop start text)) n
+    → (n ≡ 0) ⊎ ((n ≤ line_len (drop start text)) × (start + n ≤ length text) × (slice_index text (start + n) < 33))
+unfolding KeptAt
+kept_place text start n within (inl none) = inl none
+kept_place text start n within (inr (inl aside)) =
+    let bs : List ℕ = drop start text in
+    let len = length-drop start text in
+    let fits = line_len-fits bs in
+    let size : length (take (line_len bs) bs) ≡ line_len bs = length-take-le (line_len bs) bs fits in
+    let inside = aside.0 in
+    let same : get_or (take (line_len bs) bs) n 0 ≡ slice_index text (start + n) = get_or-take (line_len bs) bs n 0 (omega arith) ∙ get_or-drop start text n 0 in
+    inr (omega arith, omega arith, aside_small (slice_index text (start + n)) (ap is_put_aside (sym same) ∙ aside.1))
+kept_place text start n within (inr (inr whole)) =
+    let bs : List ℕ = drop start text in
+    let len = length-drop start text in
+    let fits = line_len-fits bs in
+    let size : length (take (line_len bs) bs) ≡ line_len bs = length-take-le (line_len bs) bs fits in
+    let all = whole.0 in
+    elim (cases_lt 0 (length bs)) [
+      | inl some ↦
+          let more = line_len-some bs some in
+          elim (last_of_line bs some) [
+            | inl line ↦
+                let last : get_or (take (line_len bs) bs) (length (take (line_len bs) bs) - 1) 0 ≡ slice_index bs (line_len bs - 1) =
+                ap (λ k. get_or (take (line_len bs) bs) (k - 1) 0) size ∙ get_or-take (line_len bs) bs (line_len bs - 1) 0 (omega arith) in
+                absurd (false≢true (sym (run_none is_put_aside (take (line_len bs) bs) (omega arith) whole.1) ∙ ap is_put_aside last ∙ line_aside (slice_index bs (line_len bs - 1)) line))
+            | inr ended ↦ (let past = get_or_past text (start + n) 0 (omega arith) in inr (omega arith, omega arith, omega arith))
+          ]
+      | inr none ↦ inl (omega arith)
+    ]
+
+-- What is kept of a heading's text ends between characters, and in its line.
+pub kept_boundary : (text : List ℕ) (start : ℕ) → IsCharBoundary text start
+    → (let n : ℕ = kept_len (take (line_len (drop start text)) (drop start text)) in IsCharBoundary text (start + n) × (start + n ≤ line_end_at text start))
+kept_boundary text start b =
+    let n : ℕ = kept_len (take (line_len (drop start text)) (drop start text)) in
+    elim (kept_place text start n b.0 (kept_at (take (line_len (drop start text)) (drop start text)))) [
+      | inl none ↦ (let same : start ≡ start + n = omega arith in (subst (IsCharBoundary text) same b, omega arith))
+      | inr some ↦ (let within = some.0 in (small_boundary text (start + n) some.1 some.2, omega arith))
+    ]
+
+chain_kept : (text : List ℕ) (start next kept : ℕ) (chain : List Item) → AreInOrder text start next chain
+    → (kept ≡ 0) ⊎ ((start + kept ≤ next) × IsCharBoundary text (start + kept) × AreInOrder text start (start + kept) (cut (start + kept) chain))
+    → AreInOrder text start next (heading_chain kept start chain)
+unfolding heading_chain
+chain_kept text start next kept chain h (inl none) =
+    let z : (kept == 0) ≡ true = eq-eqb kept 0 none in
+    rw z (order_bound text start next chain h)
+chain_kept text start next kept chain h (inr some) =
+    cond_both (kept == 0) [] (cut (start + kept) chain) (AreInOrder text start next)
+    (λ b. order_bound text start next chain h) (λ b. order_to text start (start + kept) next (cut (start + kept) chain) some.2 some.0)
+
+-- The chain of a heading is in order where that of its line is.
+pub heading_in_order : (d : Document) (start : ℕ) (chain : List Item) (end_of_line : ℕ) → start ≤ length d.text → (h : IsHeading d start chain end_of_line)
+    → AreInOrder d.text start end_of_line (close_break h.break (add_tokens [] h.tokens)) → AreInOrder d.text start end_of_line chain
+heading_in_order d start chain end_of_line within h order =
+    let n : ℕ = kept_len (take (line_len (drop start d.text)) (drop start d.text)) in
+    let whole : List Item = close_break h.break (add_tokens [] h.tokens) in
+    let place : end_of_line ≡ start + line_len (drop start d.text) = (line_ends within h.line).place in
+    subst (AreInOrder d.text start end_of_line) (sym h.chain_is)
+    (chain_kept d.text start end_of_line n whole order
+    (elim (kept_place d.text start n within (kept_at (take (line_len (drop start d.text)) (drop start d.text)))) [
+      | inl none ↦ inl none
+      | inr some ↦
+          let before = some.0 in
+          let at = small_boundary d.text (start + n) some.1 some.2 in
+          let free = line_none_escaped (content_at d start) h.tokens end_of_line h.break (start + n) h.line (small_plain (slice_index d.text (start + n)) some.2) in
+          inr (omega arith, at, cut_in_order d.text start end_of_line (start + n) whole order at (omega arith) free)
+    ]))
+
+-- A thematic break fits in its line.
+pub rule_fits : (text : List ℕ) (from ix size : ℕ) (old new : Forest Item) → new ≡ added old (rule_block ix size) → from ≤ ix → IsCharBoundary text ix → IsCharBoundary text (ix + size) → AddsBetween text from (ix + size) old new
+rule_fits text from ix size old new tree_is behind starts ends = record {
+  items = rule_block ix size;
+  tree_is = tree_is;
+  fits = block_fits text from (ix + size) (record { start = ix; «end» = ix + size; body = Rule }) [] (record { behind = behind; order = omega arith; before = omega arith; starts = starts; ends = ends }) (omega arith);
+}
+
+-- The text of an ATX heading begins between characters.
+pub heading_text_boundary : (text : List ℕ) (start : ℕ) (level : HeadingLevel) → IsUtf8 text → IsCharBoundary text start → atx_level (drop start text) ≡ Some level → IsCharBoundary text (heading_text_at text start (level_number level))
+heading_text_boundary text start level u b h =
+    let n : ℕ = level_number level in
+    let p : Place = line_place start (drop start text) in
+    let signs : n ≡ prefix_len is_number_sign (drop start text) = (atx_level-signs (drop start text) level h).0 in
+    let behind : IsPlaceOf text (moved_bytes n p) = subst (λ k. IsPlaceOf text (moved_bytes k p)) (sym signs) (signs_keep text p u (line_is_place text start b)) in
+    let at = (white_keeps text (moved_bytes n p) u behind).boundary in
+    let rest = ap (prefix_len is_white) (drop-drop n start text) in
+    let same : offset (moved_bytes (prefix_len is_white (drop n (drop start text))) (moved_bytes n p)) ≡ heading_text_at text start n = omega arith in
+    subst (IsCharBoundary text) same at
+
+line_stops : (text : List ℕ) (start : ℕ) → IsUtf8 text → IsCharBoundary text start → IsCharBoundary text (line_end_at text start)
+line_stops text start u b = subst (IsCharBoundary text) (line_start_end text start) (place_end text (line_place start (drop start text)) u (line_is_place text start b))
+
+-- An ATX heading fits in its line, where the chain of its line is in order.
+pub heading_fits : (d : Document) (start : ℕ) (level : HeadingLevel) (old new : Forest Item) (next : ℕ) → IsUtf8 d.text → IsCharBoundary d.text start → (h : AddsHeading d start level old new next)
+    → AreInOrder d.text (heading_text_at d.text start (level_number level)) next (close_break h.line.break (add_tokens [] h.line.tokens)) → (from : ℕ) → from ≤ start → AddsBetween d.text from next old new
+heading_fits d start level old new next u b h order from behind =
+    let text_at : ℕ = heading_text_at d.text start (level_number level) in
+    let ends : IsCharBoundary d.text next = subst (IsCharBoundary d.text) (sym h.end_is) (line_stops d.text start u b) in
+    let span = order_bound d.text text_at next (close_break h.line.break (add_tokens [] h.line.tokens)) order in
+    let within = ends.0 in
+    record {
+      items = heading_block start next level h.chain;
+      tree_is = h.tree_is;
+      fits = block_fits d.text from next (record { start = start; «end» = next; body = HeadingBody level None }) h.chain
+          (record { behind = behind; order = omega arith; before = omega arith; starts = b; ends = ends })
+          (order_from d.text start text_at next h.chain (heading_in_order d text_at h.chain next (omega arith) h.line order) (omega arith));
+    }

@@ -1,0 +1,231 @@
+-- The lines of a paragraph, one after the other.
+use Rattle.std.proofs.Common.{◌≡◌, ◌⊎◌, inl, inr, ℕ, zero, suc, ◌+◌, ◌<◌, ◌≤◌, Bool, true, false, List, [], ◌∷◌, ◌++◌, length, drop, ◌^◌, if◌then◌else◌, Option, Some, None, is_some, IfSome, IsUtf8, IsCharBoundary, refl, sym, ap, subst, ◌∙◌, arith}
+use Rattle.std.proofs.lemmas.Bool.{cases_lt, false≢true}
+use Rattle.std.proofs.lemmas.Str.{IsCharBoundary-end}
+use Rattle.first_pass_items.specs.declared.item.Item.{Item}
+use Rattle.first_pass_items.specs.declared.option_set.Options.{Options}
+use Rattle.first_pass_tree.specs.Forest.{Forest, appended, pushed}
+use Rattle.first_pass_tree.specs.declared.tree_index.TreeIndex.{TreeIndex}
+use Rattle.first_pass_scan.specs.Lines.{line_len}
+use Rattle.first_pass_scan.specs.Places.{Place, offset, line_rest, line_place, place_at, IsPlaceOf}
+use Rattle.first_pass_scan.proofs.LineFacts.{lines_at-line, lines_at-end}
+use Rattle.first_pass_scan.proofs.PlaceFacts.{line_end_boundary}
+use Rattle.first_pass_leaves.specs.TableEntries.{no_names}
+use Rattle.first_pass_grammar.specs.declared.kind.Container.{Container}
+use Rattle.first_pass_tokens.specs.LineTokens.{IsLine, EndsLine, IsBreak}
+use Rattle.first_pass_tokens.specs.Chains.{add_tokens, close_break, is_backslash_break}
+use Rattle.first_pass_tokens.specs.TreeTokens.{chained, with_tokens, JoinsNone, AppendsLine}
+use Rattle.first_pass_tokens.proofs.ChainLemmas.{with_tokens-chained, with_text-chained, appended-chained}
+use Rattle.first_pass_grammar.specs.Containers.{after, front}
+use Rattle.first_pass_grammar.specs.Kinds.{unindented, interrupts, ends_paragraph}
+use Rattle.first_pass_grammar.specs.Leaves.{Document, document, content_at, add_break, IsParagraph}
+use Rattle.first_pass_grammar.specs.Completion.{lines_from}
+use Rattle.first_pass_text.specs.Appends.{line_end_at, with_closed_break, AppendsParagraph}
+use Rattle.first_pass_leaves.specs.OpenBlock.{with_child}
+use Rattle.first_pass_leaves.specs.Path.{container_of, with_container, path_of}
+use Rattle.first_pass_text.specs.Reading.{ParagraphSoFar}
+use Rattle.first_pass_leaves.proofs.PathLemmas.{AreIn, front-end, path_in-append, path_of-chained, path_of-opened, opened_in}
+use Rattle.first_pass_leaves.proofs.PlaceLemmas.{text_place}
+
+-- At the end of the text a paragraph ends.
+interrupts-end : (whole : Bool) → interrupts whole (line_rest []) ≡ true
+unfolding interrupts
+interrupts-end whole = refl
+
+pub ends_past : (text : List ℕ) (n : ℕ) → length text ≤ n → drop n text ≡ []
+ends_past [] zero h = refl
+ends_past [] (suc n) h = refl
+ends_past (b ∷ bs) zero h = absurd (omega arith)
+ends_past (b ∷ bs) (suc n) h = ends_past bs n (omega arith)
+
+pub goes_within : (path : List Container) (text : List ℕ) (n : ℕ) → ends_paragraph path (line_rest (drop n text)) ≡ false → n < length text
+goes_within path text n h =
+    elim (cases_lt n (length text)) [
+      | inl more ↦ more
+      | inr past ↦ absurd (false≢true (sym h ∙ ap (λ bs. ends_paragraph path (line_rest bs)) (ends_past text n past) ∙ ap (interrupts (is_some (after path (line_rest [])))) (front-end path) ∙ interrupts-end (is_some (after path (line_rest [])))))
+    ]
+
+-- The text of a line ends where the line ends.
+pub line_end-text : (path : List Container) (text : List ℕ) (n : ℕ) → IsUtf8 text → IsCharBoundary text n → line_end_at text (offset (unindented (place_at n (front path (line_rest (drop n text)))))) ≡ line_end_at text n
+line_end-text path text n u b =
+    let p = text_place text n path u b in
+    let f = ap line_len p.0.left in
+    let e = p.1 in
+    omega arith
+
+-- one more line of a paragraph
+paragraph_more : (path : List Container) (d : Document) (ix n : ℕ) (chain tokens whole : List Item) (line_break : Option Item) (left : List Place) → IsLine (content_at d ix) tokens (n, line_break) → n ≡ line_end_at d.text ix
+    → ends_paragraph path (line_rest (drop n d.text)) ≡ false → IsUtf8 d.text → IsCharBoundary d.text n
+    → (let at : ℕ = offset (unindented (place_at n (front path (line_rest (drop n d.text))))) in IsParagraph d path at (add_break line_break (add_tokens chain tokens)) (lines_from d.text (line_end_at d.text at)) whole left)
+    → IsParagraph d path ix chain (lines_from d.text (line_end_at d.text ix)) whole left
+unfolding IsParagraph front
+paragraph_more path d ix n chain tokens whole line_break left line place goes u b more =
+    let within = goes_within path d.text n goes in
+    let first : lines_from d.text n ≡ line_place n (drop n d.text) ∷ lines_from d.text (line_end_at d.text n) = lines_at-line d.text n within in
+    let rest : IsParagraph d path (offset (unindented (place_at n (front path (line_rest (drop n d.text)))))) (add_break line_break (add_tokens chain tokens)) (lines_from d.text (line_end_at d.text n)) whole left =
+    subst (λ e. IsParagraph d path (offset (unindented (place_at n (front path (line_rest (drop n d.text)))))) (add_break line_break (add_tokens chain tokens)) (lines_from d.text e) whole left) (line_end-text path d.text n u b) more in
+    let all : IsParagraph d path ix chain (line_place n (drop n d.text) ∷ lines_from d.text (line_end_at d.text n)) whole left = (tokens, (n, line_break), line, inr (goes, rest)) in
+    subst (λ lines. IsParagraph d path ix chain lines whole left) (sym first ∙ ap (lines_from d.text) place) all
+
+-- the last line of a paragraph
+last_by : (path : List Container) (d : Document) (ix n : ℕ) (chain tokens : List Item) (line_break : Option Item) (lines : List Place) → IsLine (content_at d ix) tokens (n, line_break)
+    → (lines ≡ []) ⊎ ((more : List Place) × (lines ≡ line_place n (drop n d.text) ∷ more)) → ends_paragraph path (line_rest (drop n d.text)) ≡ true
+    → IsParagraph d path ix chain lines (close_break line_break (add_tokens chain tokens)) lines
+unfolding IsParagraph front
+last_by path d ix n chain tokens line_break lines line (inl none) ends =
+    let whole : List Item = close_break line_break (add_tokens chain tokens) in
+    let p : IsParagraph d path ix chain [] whole [] = (tokens, (n, line_break), line, refl, refl) in
+    subst (λ ls. IsParagraph d path ix chain ls whole ls) (sym none) p
+last_by path d ix n chain tokens line_break lines line (inr (more, some)) ends =
+    let whole : List Item = close_break line_break (add_tokens chain tokens) in
+    let here : List Place = line_place n (drop n d.text) ∷ more in
+    let p : IsParagraph d path ix chain here whole here = (tokens, (n, line_break), line, inl (ends, refl, refl)) in
+    subst (λ ls. IsParagraph d path ix chain ls whole ls) (sym some) p
+
+paragraph_last : (path : List Container) (d : Document) (ix n : ℕ) (chain tokens : List Item) (line_break : Option Item) → IsLine (content_at d ix) tokens (n, line_break) → n ≡ line_end_at d.text ix
+    → ends_paragraph path (line_rest (drop n d.text)) ≡ true
+    → IsParagraph d path ix chain (lines_from d.text (line_end_at d.text ix)) (close_break line_break (add_tokens chain tokens)) (lines_from d.text n)
+paragraph_last path d ix n chain tokens line_break line place ends =
+    let lines : (lines_from d.text n ≡ []) ⊎ ((more : List Place) × (lines_from d.text n ≡ line_place n (drop n d.text) ∷ more)) =
+    elim (cases_lt n (length d.text)) [
+      | inl within ↦ inr (lines_from d.text (line_end_at d.text n), lines_at-line d.text n within)
+      | inr past ↦ inl (lines_at-end d.text n past)
+    ] in
+    subst (λ e. IsParagraph d path ix chain (lines_from d.text e) (close_break line_break (add_tokens chain tokens)) (lines_from d.text n)) place (last_by path d ix n chain tokens line_break (lines_from d.text n) line lines ends)
+
+-- the break behind a chain in the tree
+pub with_child-chained : (f : Forest Item) (chain : List Item) (line_break : Option Item) → with_child (chained f chain) line_break ≡ chained f (add_break line_break chain)
+with_child-chained f chain None = refl
+with_child-chained f chain (Some x) = appended-chained f chain x
+
+closed_by : (t : Bool) (f : Forest Item) (chain : List Item) (x : Item) → is_backslash_break x.body ≡ t → JoinsNone f → with_closed_break (chained f chain) (Some x) ≡ chained f (close_break (Some x) chain)
+closed_by true f chain x h apart = rw h (with_text-chained f chain x.start (x.start + 1) false apart (omega arith))
+closed_by false f chain x h apart = rw h refl
+
+pub with_closed_break-chained : (f : Forest Item) (chain : List Item) (line_break : Option Item) → JoinsNone f → with_closed_break (chained f chain) line_break ≡ chained f (close_break line_break chain)
+with_closed_break-chained f chain None apart = refl
+with_closed_break-chained f chain (Some x) apart = closed_by (is_backslash_break x.body) f chain x refl apart
+
+-- before the first line
+pub so_far_start : (d : Document) (start : ℕ) (old : Forest Item) → IsCharBoundary d.text start → ParagraphSoFar d start old old start
+so_far_start d start old boundary = record { chain = []; tree_is = refl; boundary = boundary; from = inl refl; goes_on = λ whole left p. p }
+
+-- A line ends between characters.
+pub next_boundary : (d : Document) (ix n : ℕ) (line_break : Option Item) → IsUtf8 d.text → IsCharBoundary d.text ix → EndsLine (content_at d ix) (n, line_break) → IsCharBoundary d.text n
+next_boundary d ix n line_break utf8 boundary ends =
+    let place : n ≡ line_end_at d.text ix = ends.place in
+    let within : n ≤ length d.text = ends.within in
+    let from : ix ≤ n = ends.from in
+    elim (cases_lt ix (length d.text)) [
+      | inl more ↦ subst (IsCharBoundary d.text) (sym place) (line_end_boundary d.text ix utf8 boundary more)
+      | inr past ↦ let e : n ≡ length d.text = omega arith in subst (IsCharBoundary d.text) (sym e) (IsCharBoundary-end d.text)
+    ]
+
+-- The tokens of a line open and close nothing.
+read_path : (d : Document) (start ix : ℕ) (old now read : Forest Item) (answer : ℕ × Option Item) → ParagraphSoFar d start old now ix → JoinsNone old
+    → AppendsLine (content_at d ix) now read answer → AreIn (length old.nodes) old.spine → path_of read ≡ path_of old
+read_path d start ix old now read answer s apart line there =
+    ap path_of (line.tree_is ∙ ap (λ f. with_tokens f line.tokens) s.tree_is ∙ with_tokens-chained old s.chain line.tokens apart) ∙ path_of-chained old (add_tokens s.chain line.tokens) there
+
+-- behind a line, where the paragraph goes on
+pub so_far_more : (path : List Container) (d : Document) (start ix n at : ℕ) (old now read new : Forest Item) (line_break : Option Item) → path ≡ path_of old → IsUtf8 d.text → ParagraphSoFar d start old now ix → JoinsNone old
+    → AppendsLine (content_at d ix) now read (n, line_break) → EndsLine (content_at d ix) (n, line_break)
+    → ends_paragraph path (line_rest (drop n d.text)) ≡ false → at ≡ offset (unindented (place_at n (front path (line_rest (drop n d.text))))) → IsPlaceOf d.text (unindented (place_at n (front path (line_rest (drop n d.text)))))
+    → new ≡ with_child read line_break → (ParagraphSoFar d start old new at) × (ix < at)
+so_far_more path d start ix n at old now read new line_break path_is u s apart line ends goes at_is i new_is =
+    let b = next_boundary d ix n line_break u s.boundary ends in
+    let within = goes_within path d.text n goes in
+    let later : ix < length d.text → ix < n = ends.later in
+    let from : ix ≤ n = ends.from in
+    let chain : List Item = add_tokens s.chain line.tokens in
+    let tree : read ≡ chained old chain = line.tree_is ∙ ap (λ f. with_tokens f line.tokens) s.tree_is ∙ with_tokens-chained old s.chain line.tokens apart in (
+      record {
+        chain = add_break line_break chain;
+        tree_is = new_is ∙ ap (λ f. with_child f line_break) tree ∙ with_child-chained old chain line_break;
+        boundary = subst (IsCharBoundary d.text) (sym at_is) i.boundary;
+        from = inr (elim s.from [ inl same ↦ (let e = ap (line_end_at d.text) same in let p : n ≡ line_end_at d.text ix = ends.place in omega arith) | inr past ↦ omega arith ]);
+        goes_on = λ whole left p. s.goes_on whole left (subst (λ c. IsParagraph d c ix s.chain (lines_from d.text (line_end_at d.text ix)) whole left) path_is
+            (paragraph_more path d ix n s.chain line.tokens whole line_break left line.line ends.place goes u b
+            (subst (λ z. IsParagraph d path z (add_break line_break chain) (lines_from d.text (line_end_at d.text z)) whole left) at_is
+            (subst (λ c. IsParagraph d c at (add_break line_break chain) (lines_from d.text (line_end_at d.text at)) whole left) (sym path_is) p))));
+      },
+      omega arith,
+    )
+
+-- behind the last line
+pub so_far_end : (path : List Container) (d : Document) (start ix n : ℕ) (old now read new : Forest Item) (line_break : Option Item) → path ≡ path_of old → ParagraphSoFar d start old now ix → JoinsNone old
+    → AppendsLine (content_at d ix) now read (n, line_break) → EndsLine (content_at d ix) (n, line_break)
+    → ends_paragraph path (line_rest (drop n d.text)) ≡ true → IsCharBoundary d.text n
+    → new ≡ with_closed_break read line_break → AppendsParagraph d start old new n
+so_far_end path d start ix n old now read new line_break path_is s apart line ends stops boundary new_is =
+    let chain : List Item = add_tokens s.chain line.tokens in
+    let tree : read ≡ chained old chain = line.tree_is ∙ ap (λ f. with_tokens f line.tokens) s.tree_is ∙ with_tokens-chained old s.chain line.tokens apart in
+    record {
+      chain = close_break line_break chain;
+      lines = s.goes_on (close_break line_break chain) (lines_from d.text n)
+          (subst (λ c. IsParagraph d c ix s.chain (lines_from d.text (line_end_at d.text ix)) (close_break line_break chain) (lines_from d.text n)) path_is (paragraph_last path d ix n s.chain line.tokens line_break line.line ends.place stops));
+      tree_is = new_is ∙ ap (λ f. with_closed_break f line_break) tree ∙ with_closed_break-chained old chain line_break apart;
+      later = elim s.from [ inl same ↦ (let e = ap (line_end_at d.text) same in let p : n ≡ line_end_at d.text ix = ends.place in omega arith) | inr past ↦ (let from : ix ≤ n = ends.from in omega arith) ];
+      boundary = boundary;
+    }
+
+-- what the text of the next line says
+pub goes_by : (t : Bool) (o : Option ℕ) (v at : ℕ) → o ≡ (if t then None else Some v) → o ≡ Some at → (t ≡ false) × (at ≡ v)
+goes_by true o v at e f = cc
+goes_by false o v at e f = (refl, cc)
+
+pub stops_by : (t : Bool) (o : Option ℕ) (v : ℕ) → o ≡ (if t then None else Some v) → o ≡ None → t ≡ true
+stops_by true o v e f = refl
+stops_by false o v e f = cc
+
+-- the backslash of a hard break is in the text
+pub break_fits : (d : Document) (ix n : ℕ) (line_break : Option Item) → length d.text < 2 ^ 63 → EndsLine (content_at d ix) (n, line_break) → IfSome line_break (λ x. x.start < 2 ^ 63)
+break_fits d ix n None small ends = tt
+break_fits d ix n (Some x) small ends =
+    let within : n ≤ length d.text = ends.within in
+    let b : IsBreak ix n x = ends.broken in
+    let p = b.before in
+    let q = b.to in
+    omega arith
+
+-- the same source, where the text and the options are still those
+pub same_line : (t u : List ℕ) (o w : Options) (ix : ℕ) (old new : Forest Item) (answer : ℕ × Option Item) → t ≡ u → o ≡ w
+    → AppendsLine (record { options = o; text = t; start = ix }) old new answer → AppendsLine (content_at (document u w no_names) ix) old new answer
+same_line t u o w ix old new answer e f line = subst (λ z. AppendsLine (record { options = z; text = u; start = ix }) old new answer) f (subst (λ z. AppendsLine (record { options = o; text = z; start = ix }) old new answer) e line)
+
+pub same_end : (t u : List ℕ) (o w : Options) (ix : ℕ) (answer : ℕ × Option Item) → t ≡ u → o ≡ w
+    → EndsLine (record { options = o; text = t; start = ix }) answer → EndsLine (content_at (document u w no_names) ix) answer
+same_end t u o w ix answer e f ends = subst (λ z. EndsLine (record { options = z; text = u; start = ix }) answer) f (subst (λ z. EndsLine (record { options = o; text = z; start = ix }) answer) e ends)
+
+-- the two steps, of a text that is held by other names before and after the line is read
+pub so_far_next : (first text now_text : List ℕ) (o w : Options) (start ix n at : ℕ) (old now read new : Forest Item) (line_break : Option Item) (found : Option ℕ) (path : List Container)
+    → text ≡ first → o ≡ w → now_text ≡ text → path ≡ path_of read → AreIn (length old.nodes) old.spine → IsUtf8 first → ParagraphSoFar (document first w no_names) start old now ix → JoinsNone old
+    → AppendsLine (record { options = o; text = text; start = ix }) now read (n, line_break) → EndsLine (record { options = o; text = text; start = ix }) (n, line_break)
+    → found ≡ (if ends_paragraph path ((line_rest (drop n now_text))) then None else Some (offset (unindented (place_at n (front path (line_rest (drop n now_text))))))) → found ≡ Some at
+    → IsPlaceOf now_text (unindented (place_at n (front path (line_rest (drop n now_text))))) → new ≡ with_child read line_break
+    → (ParagraphSoFar (document first w no_names) start old new at) × (ix < at)
+so_far_next first text now_text o w start ix n at old now read new line_break found path same same_options kept path_is there u s apart line ends value is place new_is =
+    let e : now_text ≡ first = kept ∙ same in
+    let goes = goes_by _ _ _ _ (subst (λ t. found ≡ (if ends_paragraph path ((line_rest (drop n t))) then None else Some (offset (unindented (place_at n (front path (line_rest (drop n t)))))))) e value) is in
+    so_far_more path (document first w no_names) start ix n at old now read new line_break (path_is ∙ read_path (document first w no_names) start ix old now read (n, line_break) s apart (same_line text first o w ix now read (n, line_break) same same_options line) there) u s apart (same_line text first o w ix now read (n, line_break) same same_options line)
+    (same_end text first o w ix (n, line_break) same same_options ends) goes.0 goes.1 (subst (λ t. IsPlaceOf t (unindented (place_at n (front path (line_rest (drop n t)))))) e place) new_is
+
+pub so_far_stop : (first text now_text : List ℕ) (o w : Options) (start ix n : ℕ) (old now read new : Forest Item) (line_break : Option Item) (found : Option ℕ) (path : List Container)
+    → text ≡ first → o ≡ w → now_text ≡ text → path ≡ path_of read → AreIn (length old.nodes) old.spine → IsUtf8 first → ParagraphSoFar (document first w no_names) start old now ix → JoinsNone old
+    → AppendsLine (record { options = o; text = text; start = ix }) now read (n, line_break) → EndsLine (record { options = o; text = text; start = ix }) (n, line_break)
+    → found ≡ (if ends_paragraph path ((line_rest (drop n now_text))) then None else Some (offset (unindented (place_at n (front path (line_rest (drop n now_text))))))) → found ≡ None
+    → IsCharBoundary text n → new ≡ with_closed_break read line_break
+    → AppendsParagraph (document first w no_names) start old new n
+so_far_stop first text now_text o w start ix n old now read new line_break found path same same_options kept path_is there u s apart line ends value is boundary new_is =
+    let e : now_text ≡ first = kept ∙ same in
+    let stops = stops_by _ _ _ (subst (λ t. found ≡ (if ends_paragraph path ((line_rest (drop n t))) then None else Some (offset (unindented (place_at n (front path (line_rest (drop n t)))))))) e value) is in
+    so_far_end path (document first w no_names) start ix n old now read new line_break (path_is ∙ read_path (document first w no_names) start ix old now read (n, line_break) s apart (same_line text first o w ix now read (n, line_break) same same_options line) there) s apart (same_line text first o w ix now read (n, line_break) same same_options line)
+    (same_end text first o w ix (n, line_break) same same_options ends) stops (subst (λ t. IsCharBoundary t n) same boundary) new_is
+
+-- a paragraph just opened, with the marker of its task list item
+pub path_of-paragraph : (g p m : Forest Item) (x : Item) (ix : TreeIndex) (marker : Option Item) → container_of x.body ≡ None → p ≡ pushed (appended g x) ix → m ≡ with_child p marker → ix.0 ≡ length g.nodes
+    → AreIn (length g.nodes) g.spine → path_of m ≡ path_of g
+path_of-paragraph g p m x ix None leaf e f at a = ap path_of (f ∙ e) ∙ path_of-opened g x ix at a ∙ ap (λ c. with_container c (path_of g)) leaf
+path_of-paragraph g p m x ix (Some y) leaf e f at a =
+    ap path_of (f ∙ ap (λ q. appended q y) e) ∙ path_in-append (g.nodes ++ (length g.spine + 1, x) ∷ []) ((length (ix ∷ g.spine) + 1, y) ∷ []) (ix ∷ g.spine) (opened_in g x ix at a)
+    ∙ path_of-opened g x ix at a ∙ ap (λ c. with_container c (path_of g)) leaf

@@ -1,0 +1,3 @@
+pub mod Appends
+pub mod Between
+pub mod Reading

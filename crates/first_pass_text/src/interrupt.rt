@@ -1,0 +1,144 @@
+//! Which lines end a paragraph before them.
+
+ghost use Rattle.std.specs.Prelude.{◌≡◌, min, drop, is_some, IfOk, OnOk, Some, None, if◌then◌else◌, IsUtf8, IsCharBoundary};
+ghost use Rattle.first_pass_scan.specs.Places.{line_rest, place_at, offset, IsPlaceOf};
+ghost use Rattle.first_pass_scan.specs.Rest.{indent};
+ghost use Rattle.first_pass_scan.specs.Markers.{is_bullet, listitem};
+ghost use Rattle.first_pass_grammar.specs.Containers.{after, front};
+ghost use Rattle.first_pass_grammar.specs.Kinds.{interrupts_with, item_interrupts, ends_paragraph, ends_tag, unindented, all_taken};
+ghost use Rattle.first_pass_leaves.specs.Path.{path_of};
+
+use crate::kinds::html_kind;
+use first_pass_items::item::Item;
+use first_pass_leaves::containers::scan_containers;
+use first_pass_leaves::indentation::scan_indentation;
+use first_pass_leaves::source::Source;
+use first_pass_scan::leaf_scan::{scan_code_fence, scan_hrule};
+use first_pass_scan::line_start::{LineStart, scan_listitem};
+use first_pass_scan::lines::{begins, is_plain_front, scan_atx_heading, scan_blank_line, scan_eol};
+use first_pass_scan::places::rest_of;
+use first_pass_tree::forest::Tree;
+use std::alloc::{AllocError, Global};
+
+// Whether a list item interrupts a paragraph at the beginning of `bytes`, in a line that goes on with all
+// containers or not.
+fn interrupts_as_item(bytes: &[u8], current_container: bool) -> bool
+    ensures { result ≡ item_interrupts current_container bytes.now (listitem bytes.now) }
+{
+    match scan_listitem(bytes) {
+        None => false,
+        Some((width, byte, number, _)) => {
+            !current_container
+                || (is_bullet(byte) || number == 1)
+                    && scan_blank_line(rest_of(bytes, width)).is_none()
+        }
+    }
+}
+
+fn is_bullet(byte: u8) -> bool
+    ensures { result ≡ is_bullet byte }
+{
+    matches!(byte, b'-' | b'+' | b'*')
+}
+
+/// Whether `text`, what is left of a line behind its indentation of under four columns, interrupts a
+/// paragraph: its line ends, or a thematic break, an ATX heading, a code fence, a block quote, a list item or an HTML
+/// block of the kinds 1 to 6 begins. An item interrupts where the line doesn't go on with all containers; else only a
+/// bullet or the number 1 does, and only with a rest that isn't blank (CommonMark 4.8, 4.1, 4.2, 4.5, 5.1, 5.2, 4.6).
+/// The tree so far makes no difference yet.
+pub fn scan_paragraph_interrupt_no_table(
+    _alloc: Global,
+    text: &str,
+    current_container: bool,
+    _has_footnote: bool,
+    _definition_list: bool,
+    _tree: &Tree<Item>,
+    _tree_position: usize,
+) -> Result<bool, AllocError>
+    ensures { IfOk result (λ yes. yes ≡ interrupts_with current_container text.now) }
+{
+    let bytes = text.as_bytes();
+    if is_plain_front(bytes) {
+        return Ok(false);
+    }
+    Ok(
+        scan_eol(bytes).is_some()
+            || scan_hrule(bytes).is_some()
+            || scan_atx_heading(bytes).is_some()
+            || scan_code_fence(bytes).is_some()
+            || begins(b'>', bytes)
+            || interrupts_as_item(bytes, current_container)
+            || html_kind(bytes).is_some(),
+    )
+}
+
+// Whether the line that begins at `start` goes on with all open containers; the columns of indentation, but
+// 4 where there are more, behind what it takes for them; and what is left behind those columns.
+fn scan_prefixes<'a>(
+    source: Source<'a>,
+    start: usize,
+    tree: &Tree<Item>,
+) -> (bool, usize, LineStart<'a>)
+    requires { IsCharBoundary source.text.now start }
+    ensures whole { result.0 ≡ is_some (after (path_of tree.now) (line_rest (drop start source.entry.text.now))) }
+    ensures columns { result.1 ≡ min 4 (indent (front (path_of tree.now) (line_rest (drop start source.entry.text.now)))) }
+    ensures behind { result.2 ≡ all_taken (front (path_of tree.now) (line_rest (drop start source.entry.text.now))) }
+    ensures place { IsPlaceOf source.entry.text.now (unindented (place_at start (front (path_of tree.now) (line_rest (drop start source.entry.text.now))))) }
+{
+    let mut line_start = LineStart::new(rest_of(source.text.as_bytes(), start));
+    let kept = scan_containers(tree, &mut line_start, source.options, false);
+    let columns = scan_indentation(&mut line_start);
+    (kept == tree.spine_len(), columns, line_start)
+}
+
+/// Where the text of the line begins, as an offset into `text`, by which a paragraph goes on at the line
+/// that begins at `start`, whatever open containers that line goes on with; `None` where that line ends the
+/// paragraph (CommonMark 4.8, 5.1).
+#[tactic(auto, unfolding(first_pass_grammar::specs::Kinds::interrupts))]
+pub fn next_paragraph_text(
+    alloc: Global,
+    source: Source<'_>,
+    start: usize,
+    tree: &Tree<Item>,
+) -> Result<Option<usize>, AllocError>
+    requires { IsCharBoundary source.text.now start }
+    ensures value { IfOk result (λ next. next ≡ (if ends_paragraph (path_of tree.now) (line_rest (drop start source.entry.text.now))
+        then None else Some (offset (unindented (place_at start (front (path_of tree.now) (line_rest (drop start source.entry.text.now)))))))) }
+    ensures place { OnOk result (IsPlaceOf source.entry.text.now (unindented (place_at start (front (path_of tree.now) (line_rest (drop start source.entry.text.now)))))) }
+    ensures utf8 { IsUtf8 source.entry.text.now }
+{
+    let (whole, columns, line_start) = scan_prefixes(source, start, tree);
+    let at = start + line_start.bytes_scanned();
+    let interrupted = if columns < 4 {
+        scan_paragraph_interrupt_no_table(alloc, &source.text[at..], whole, false, false, tree, 0)?
+    } else {
+        scan_eol(rest_of(source.text.as_bytes(), at)).is_some()
+    };
+    if interrupted { Ok(None) } else { Ok(Some(at)) }
+}
+
+// What is left of the line that begins at `start`, behind its columns, where it belongs to a block quote
+// with a tag that is innermost, whatever open containers it goes on with; `None` where it is read as any line.
+#[tactic(auto, unfolding(first_pass_grammar::specs::Kinds::interrupts))]
+pub fn lazy_leaf<'a>(
+    alloc: Global,
+    source: Source<'a>,
+    start: usize,
+    tree: &Tree<Item>,
+) -> Result<Option<LineStart<'a>>, AllocError>
+    requires { IsCharBoundary source.text.now start }
+    ensures value { IfOk result (λ leaf. leaf ≡ (if ends_tag (path_of tree.now) (line_rest (drop start source.entry.text.now))
+        then None else Some (all_taken (front (path_of tree.now) (line_rest (drop start source.entry.text.now)))))) }
+    ensures place { OnOk result (IsPlaceOf source.entry.text.now (unindented (place_at start (front (path_of tree.now) (line_rest (drop start source.entry.text.now)))))) }
+    ensures utf8 { IsUtf8 source.entry.text.now }
+{
+    let (whole, columns, line_start) = scan_prefixes(source, start, tree);
+    if columns >= 4 {
+        return Ok(Some(line_start));
+    }
+    let rest = &source.text[start + line_start.bytes_scanned()..];
+    if scan_paragraph_interrupt_no_table(alloc, rest, whole, false, false, tree, 0)? {
+        return Ok(None);
+    }
+    Ok(Some(line_start))
+}

@@ -1,0 +1,9 @@
+//! Which lines a paragraph, a heading or a thematic break has, and what interrupts a paragraph: the leaf blocks with
+//! tokens, and the kind of a place.
+#![tactic(auto)]
+
+pub mod kinds;
+pub mod interrupt;
+pub mod paragraph;
+pub mod heading;
+pub mod rule;

@@ -1,0 +1,27 @@
+//! Thematic breaks.
+
+ghost use Rattle.std.specs.Prelude.{◌≡◌, ℕ, ◌+◌, ◌<◌, ◌≤◌, ◌^◌, List, IsCharBoundary, IfOk, OnOk};
+ghost use Rattle.first_pass_tree.specs.Forest.{added};
+ghost use Rattle.first_pass_grammar.specs.Leaves.{rule_block};
+ghost use Rattle.first_pass_text.specs.Between.{AddsBetween};
+
+use first_pass_tree::forest::Tree;
+use first_pass_items::item::{Item, ItemBody};
+use std::alloc::AllocError;
+
+/// Appends the thematic break of `hrule_size` bytes, its line end too, that begins at the offset `ix` into a text to
+/// the innermost open node, and answers the offset behind it (CommonMark 4.1).
+pub fn parse_hrule(tree: &mut Tree<Item>, hrule_size: usize, ix: usize) -> Result<usize, AllocError>
+    requires { ix + hrule_size < 2 ^ 64 }
+    ensures block { OnOk result (tree.new ≡ added tree.old (rule_block ix hrule_size)) }
+    ensures fits { OnOk result ((text : List ℕ) (from : ℕ) → from ≤ ix → IsCharBoundary text ix → IsCharBoundary text (ix + hrule_size) → AddsBetween text from (ix + hrule_size) tree.old tree.new) }
+    ensures behind { IfOk result (λ next. next ≡ ix + hrule_size) }
+{
+    let end = ix + hrule_size;
+    tree.append(Item {
+        start: ix,
+        end,
+        body: ItemBody::Rule,
+    })?;
+    Ok(end)
+}
