@@ -2,7 +2,7 @@
 
 ghost use Rattle.std.specs.Prelude.{◌≡◌, ◌<◌, ◌≤◌, min, false, [], length, None, Some, IsSome, slice_get, IfOk, IfSome, OnOk, IsUtf8, IsCharBoundary, ℕ};
 ghost use Rattle.first_pass_scan.specs.Places.{place_at, offset, line_end, IsPlaceOf};
-ghost use Rattle.first_pass_below.specs.Walk.{MarksSpecial};
+ghost use Rattle.first_pass_walk.specs.Walk.{MarksSpecial};
 ghost use Rattle.first_pass_scan.specs.MetadataSearch.{IsKnownOf};
 ghost use Rattle.first_pass_scan.proofs.KnownFacts.{known_prop};
 ghost use Rattle.first_pass_tokens.specs.LineTokens.{EndsLine};
@@ -32,7 +32,7 @@ ghost use Rattle.first_pass_grammar.specs.Names.{Names, Extends};
 use crate::containers::{Behind, close_containers, enter_line, open_containers};
 use crate::raw::read_blank_behind;
 use first_pass_below::flank::TableParseMode;
-use first_pass_below::walk::special_bytes;
+use first_pass_walk::walk::special_bytes;
 use first_pass_grammar::Kind;
 use first_pass_items::item::Item;
 use first_pass_items::option_set::Options;

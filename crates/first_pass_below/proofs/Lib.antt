@@ -7,6 +7,4 @@ pub use Rattle.first_pass_scan.proofs.Columns
 pub use Rattle.first_pass_scan.proofs.HeadingFacts
 pub use Rattle.first_pass_scan.proofs.LineFacts
 pub use Rattle.first_pass_scan.proofs.PlaceFacts
-pub mod WalkFacts
-pub mod WalkLemmas
 pub mod FlankFacts

@@ -5,6 +5,5 @@ pub use Rattle.first_pass_tree.specs.Lending
 pub use Rattle.first_pass_scan.specs.Lines
 pub use Rattle.first_pass_scan.specs.Rest
 pub use Rattle.first_pass_scan.specs.Places
-pub mod Walk
 pub mod Flank
 pub mod Flanking

@@ -4,13 +4,14 @@
 
 pub mod below;
 pub mod flank;
-pub mod walk;
+
+pub use first_pass_walk::walk;
 
 #[cfg(test)]
 mod tests {
     use crate::below::Options;
     use crate::flank::{TableParseMode, delim_run_can_close, delim_run_can_open};
-    use crate::walk::{LoopInstruction, iterate_special_bytes, next_special, special_bytes};
+    use first_pass_walk::walk::{LoopInstruction, iterate_special_bytes, next_special, special_bytes};
     use bitflags::Flags;
     use std::test::Fail;
 

@@ -2,7 +2,7 @@
 
 ghost use Rattle.std.specs.List.{suffix_len};
 ghost use Rattle.std.specs.Prelude.{◌≡◌, ℕ, ◌==◌, take, drop, ◌≤◌, Some, length, IfOk, OnOk, IsCharBoundary};
-ghost use Rattle.first_pass_below.specs.Walk.{MarksSpecial};
+ghost use Rattle.first_pass_walk.specs.Walk.{MarksSpecial};
 ghost use Rattle.first_pass_scan.specs.Lines.{atx_level as atx_level_of, level_number as number_of};
 ghost use Rattle.first_pass_leaves.specs.TableEntries.{no_names};
 ghost use Rattle.first_pass_grammar.specs.Leaves.{document, is_put_aside, kept_len, heading_text_at};

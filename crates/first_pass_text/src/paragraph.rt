@@ -1,7 +1,7 @@
 //! The lines of a paragraph.
 
 ghost use Rattle.std.specs.Prelude.{◌≡◌, ◌<◌, ◌^◌, ℕ, false, IfOk, IfSome, OnOk, IsUtf8, IsCharBoundary};
-ghost use Rattle.first_pass_below.specs.Walk.{MarksSpecial};
+ghost use Rattle.first_pass_walk.specs.Walk.{MarksSpecial};
 ghost use Rattle.first_pass_tokens.specs.TreeTokens.{JoinsNone};
 ghost use Rattle.first_pass_leaves.specs.TableEntries.{no_names};
 ghost use Rattle.first_pass_grammar.specs.Leaves.{document};

@@ -4,7 +4,7 @@ use Rattle.std.specs.Char.{is_ascii_punctuation}
 use Rattle.std.proofs.lemmas.Bool.{cond-true, cond-false, cond_both, cases_Bool, cases_lt, lt-ltb, le-ltb, eqb-true, false≢true}
 use Rattle.first_pass_items.specs.declared.item.Item.{Item}
 use Rattle.first_pass_tree.specs.Forest.{is_escaped, cut_item}
-use Rattle.first_pass_below.specs.Walk.{is_special}
+use Rattle.first_pass_walk.specs.Walk.{is_special}
 use Rattle.first_pass_tokens.specs.declared.pieces.Piece.{Piece}
 use Rattle.first_pass_tokens.specs.declared.pieces.Piece.TheVariants.{Left, Begins}
 use Rattle.first_pass_tokens.specs.Pieces.{Source, piece_at, special_piece, backslash_piece, size}

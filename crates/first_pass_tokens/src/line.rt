@@ -1,7 +1,7 @@
 //! The tokens of a line, appended to the tree.
 
 ghost use Rattle.std.specs.Prelude.{◌≡◌, ◌==◌, ◌+◌, ◌<◌, ◌≤◌, ◌^◌, true, IsTrue, length, OnOk, IfOk};
-ghost use Rattle.first_pass_below.specs.Walk.{MarksSpecial};
+ghost use Rattle.first_pass_walk.specs.Walk.{MarksSpecial};
 ghost use Rattle.first_pass_tree.specs.Forest.{with_text};
 ghost use Rattle.first_pass_tokens.specs.Pieces.{Source, size};
 ghost use Rattle.first_pass_tokens.specs.LineTokens.{line_end_len, blanks_at_end, backslashes_at_end, breaks_by_backslash, text_end, break_of, line_break, EndsLine};
@@ -9,7 +9,7 @@ ghost use Rattle.first_pass_tokens.specs.TreeTokens.{AppendsLine};
 ghost use Rattle.first_pass_tokens.specs.Pending.{source, pending_after, tree_after};
 
 use crate::pieces::{Piece, piece_len, special_piece};
-use first_pass_below::walk::next_special_in_words;
+use first_pass_walk::walk::next_special_in_words;
 use first_pass_items::item::{Item, ItemBody};
 use first_pass_items::option_set::Options;
 use first_pass_scan::lines::{is_line_end, is_white};

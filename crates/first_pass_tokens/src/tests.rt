@@ -2,7 +2,7 @@
 
 use crate::line::append_line;
 use bitflags::Flags;
-use first_pass_below::walk::special_bytes;
+use first_pass_walk::walk::special_bytes;
 use first_pass_items::item::{Item, ItemBody};
 use first_pass_items::option_set::Options;
 use first_pass_tree::forest::Tree;

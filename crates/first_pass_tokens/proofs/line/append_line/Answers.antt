@@ -2,7 +2,7 @@ use Rattle.std.proofs.Common.{◌+◌, length, sym, ◌∙◌, ap, arith}
 use Rattle.first_pass_tokens.specs.Pieces.{Source}
 use Rattle.first_pass_tokens.proofs.LineLemmas.{ends_line-if}
 use Rattle.first_pass_tokens.proofs.SoFar.{IsRead, read_upto, read_piece, read_ended, piece_special, runs_on, ended_by_byte, ended_by_text}
-use Rattle.first_pass_below.proofs.WalkFacts.{spares_words}
+use Rattle.first_pass_walk.proofs.WalkFacts.{spares_words}
 use Rattle.first_pass_tokens.proofs.line.append_line.Goals as goal
 use Rattle.first_pass_tokens.proofs.line.append_line.Goals.{In_default, In-Some}
 

@@ -1,8 +1,8 @@
 -- A walk from past the end calls nothing, wherever it begins there.
 use Rattle.std.proofs.Common.{None, slice_index, ◌+◌, ℕ, ◌≡◌, ◌⊎◌, subst, ◌≤◌, ◌<◌, Bool, List, [], ◌∷◌, length, Option, inl, inr, arith}
-use Rattle.first_pass_below.specs.declared.walk.LoopInstruction.{LoopInstruction}
-use Rattle.first_pass_below.specs.declared.walk.LoopInstruction.TheVariants.{ContinueAndSkip, BreakAtWith}
-use Rattle.first_pass_below.specs.Walk.{Walks, IsWalk, IsNextMarked}
+use Rattle.first_pass_walk.specs.declared.walk.LoopInstruction.{LoopInstruction}
+use Rattle.first_pass_walk.specs.declared.walk.LoopInstruction.TheVariants.{ContinueAndSkip, BreakAtWith}
+use Rattle.first_pass_walk.specs.Walk.{Walks, IsWalk, IsNextMarked}
 
 next_within : {lut : List Bool} {bytes : List ℕ} {ix j : ℕ} → IsNextMarked lut bytes ix j → (ix ≤ j) × (j < length bytes)
 next_within next = (next.from, next.within)

@@ -5,7 +5,7 @@ use Rattle.std.proofs.lemmas.Bool.Decides.{nat_tests}
 use Rattle.first_pass_items.specs.declared.option_set.Options.{Options}
 use Rattle.first_pass_scan.specs.Lines.{is_line_end}
 use Rattle.first_pass_items.specs.OptionWords.{has}
-use Rattle.first_pass_below.specs.Walk.{begins_token, is_special, MarksSpecial, is_marked, IsNextMarked, NoneMarkedFrom, is_word_byte, SparesWords}
+use Rattle.first_pass_walk.specs.Walk.{begins_token, is_special, MarksSpecial, is_marked, IsNextMarked, NoneMarkedFrom, is_word_byte, SparesWords}
 
 -- what the table of the special bytes marks
 pub marked_special : (options : Options) (lut : List Bool) (bytes : List ℕ) (k : ℕ) → MarksSpecial lut options → slice_index bytes k < 256 → is_marked lut bytes k ≡ is_special options (slice_index bytes k)

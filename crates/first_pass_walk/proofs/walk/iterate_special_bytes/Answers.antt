@@ -1,7 +1,7 @@
 use Rattle.std.proofs.Common.{◌≡◌, ◌⊎◌, ◌≤◌, ◌+◌, [], ◌∷◌, length, None, refl, inl, inr, arith, of_calls}
 use Rattle.std.proofs.lemmas.Bool.{cases_lt}
-use Rattle.first_pass_below.proofs.WalkLemmas.{walks_from_sum}
-use Rattle.first_pass_below.proofs.walk.iterate_special_bytes.Goals as goal
+use Rattle.first_pass_walk.proofs.WalkLemmas.{walks_from_sum}
+use Rattle.first_pass_walk.proofs.walk.iterate_special_bytes.Goals as goal
 
 pub loop-at-preserved : goal.loop-at-preserved
 loop-at-preserved g c =

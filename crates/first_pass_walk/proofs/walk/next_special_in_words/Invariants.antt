@@ -1,6 +1,6 @@
 use Rattle.std.proofs.Common.{◌≡◌, ℕ, ◌<◌, ◌≤◌, ◌-◌, length, false}
-use Rattle.first_pass_below.specs.Walk.{is_marked}
-use Rattle.first_pass_below.proofs.walk.next_special_in_words.Given as goal
+use Rattle.first_pass_walk.specs.Walk.{is_marked}
+use Rattle.first_pass_walk.proofs.walk.next_special_in_words.Given as goal
 
 abbrev pub invariant-loop-next : goal.invariant-loop-next
 invariant-loop-next l = record {

@@ -1,7 +1,7 @@
 //! The walk over the bytes at which a token may begin.
 
 ghost use Rattle.std.specs.Prelude.{◌≡◌, ◌+◌, ◌≤◌, length, IfSome, IfNone};
-ghost use Rattle.first_pass_below.specs.Walk.{is_special as is_special_byte, MarksSpecial, IsNextMarked, NoneMarkedFrom, IsWalk, is_word_byte, SparesWords};
+ghost use Rattle.first_pass_walk.specs.Walk.{is_special as is_special_byte, MarksSpecial, IsNextMarked, NoneMarkedFrom, IsWalk, is_word_byte, SparesWords};
 ghost use Rattle.first_pass_scan.specs.Lanes.{IsRunIn};
 
 use bitflags::Flags;

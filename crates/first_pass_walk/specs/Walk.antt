@@ -4,8 +4,8 @@ use Rattle.std.specs.List.{slice_index_or, list_any}
 use Rattle.std.specs.Char.{is_ascii_alphabetic}
 use Rattle.first_pass_items.specs.declared.option_set.Options.{Options}
 use Rattle.first_pass_items.specs.OptionWords.{has}
-use Rattle.first_pass_below.specs.declared.walk.LoopInstruction.{LoopInstruction}
-use Rattle.first_pass_below.specs.declared.walk.LoopInstruction.TheVariants.{ContinueAndSkip, BreakAtWith}
+use Rattle.first_pass_walk.specs.declared.walk.LoopInstruction.{LoopInstruction}
+use Rattle.first_pass_walk.specs.declared.walk.LoopInstruction.TheVariants.{ContinueAndSkip, BreakAtWith}
 
 -- the byte is one of these (this project)
 abbrev pub is_one_of : List ℕ → ℕ → Bool

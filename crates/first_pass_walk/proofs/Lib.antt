@@ -1,0 +1,2 @@
+pub mod WalkFacts
+pub mod WalkLemmas
