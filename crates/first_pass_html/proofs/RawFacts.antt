@@ -1,5 +1,5 @@
 -- Facts on what ends the HTML blocks of the kinds 1 to 5, by their first byte.
-use Rattle.std.proofs.Common.{◌≡◌, ◌⊎◌, inl, inr, ℕ, ◌<◌, ◌≤◌, Bool, true, false, cond, ◌==◌, ◌&&◌, ◌||◌, List, [], ◌∷◌, length, take, drop, get_or, bytes_eq, codes, Option, Some, None, MatchOption, Bor, refl, sym, ap, ◌∙◌, subst, arith}
+use Rattle.std.proofs.Common.{◌≡◌, ◌⊎◌, inl, inr, ℕ, ◌<◌, ◌≤◌, Bool, true, false, cond, ◌==◌, ◌&&◌, ◌||◌, List, [], ◌∷◌, length, take, drop, get_or, bytes_eq, codes, Option, Some, None, Bor, refl, sym, ap, ◌∙◌, subst, arith}
 use Rattle.std.specs.List.{list_all, list_any, prefix_len}
 use Rattle.std.specs.Option.{option_or}
 use Rattle.std.specs.Char.{to_ascii_lowercase, is_ascii_alphabetic}
@@ -10,7 +10,7 @@ use Rattle.std.proofs.lemmas.List.Folds.{length-prefix_len}
 use Rattle.std.proofs.lemmas.Slice.Eq.{bytes_eq-Decides}
 use Rattle.first_pass_scan.specs.Lines.{is_ascii_white}
 use Rattle.first_pass_html.specs.Names.{in_lower_case, begins_with_name}
-use Rattle.first_pass_html.specs.Starts.{ends_raw_name, begins_raw, raw_end_of, raw_end, html_end}
+use Rattle.first_pass_html.specs.Starts.{ends_raw_name, IsText, IsTextIf, begins_raw, raw_end_of, raw_end, html_end}
 use Rattle.first_pass_html.proofs.ListFacts.{front_size}
 use Rattle.first_pass_html.proofs.NameFacts.{all_in_lower_case}
 use Rattle.first_pass_html.proofs.LongestNames.{front_within, same_length}
@@ -118,12 +118,12 @@ no_end (b ∷ bs) none = absurd (omega arith)
 
 -- what a call says of a name and its end, said of the kinds
 pub ended : (named : Bool) (end : List ℕ) (kind : Option (List ℕ)) (found : Option (Bor (List ℕ))) → kind ≡ cond named (Some end) None
-    → MatchOption found (named ≡ false) (λ text. (named ≡ true) × (text.now ≡ end)) → MatchOption found (kind ≡ None) (λ text. kind ≡ Some text.now)
+    → IsTextIf named end found → IsText kind found
 ended named end kind None by isnt = by ∙ ap (λ t. cond t (Some end) None) isnt
 ended named end kind (Some text) by is = by ∙ ap (λ t. cond t (Some end) None) is.0 ∙ ap Some (sym is.1)
 
 pub ended_twice : (named other : Bool) (end end' : List ℕ) (kind : Option (List ℕ)) (found found' first : Option (Bor (List ℕ))) → kind ≡ cond named (Some end) (cond other (Some end') None) → first ≡ option_or found found'
-    → MatchOption found (named ≡ false) (λ text. (named ≡ true) × (text.now ≡ end)) → MatchOption found' (other ≡ false) (λ text. (other ≡ true) × (text.now ≡ end')) → MatchOption first (kind ≡ None) (λ text. kind ≡ Some text.now)
+    → IsTextIf named end found → IsTextIf other end' found' → IsText kind first
 ended_twice named other end end' kind None found' first by e isnt is =
     rw e (ended other end' kind found' (by ∙ ap (λ t. cond t (Some end) (cond other (Some end') None)) isnt) is)
 ended_twice named other end end' kind (Some text) found' first by e is other_is =

@@ -1,5 +1,6 @@
 -- Where HTML blocks of the kinds 1 to 6 begin. The bytes are those behind the `<`.
-use Rattle.std.specs.Prelude.{◌≡◌, ℕ, Bool, true, false, ◌==◌, ◌&&◌, ◌||◌, List, [], ◌∷◌, ◌++◌, length, drop, take, bytes_eq, Option, None, Some, codes, if◌then◌else◌}
+use Rattle.std.specs.Prelude.{◌≡◌, ℕ, Bool, true, false, ◌==◌, ◌&&◌, ◌||◌, List, [], ◌∷◌, ◌++◌, length, drop, take, bytes_eq, Option, None, Some, MatchOption, codes, if◌then◌else◌}
+use Rattle.std.specs.Borrow.{Bor}
 use Rattle.std.specs.List.{prefix_len}
 use Rattle.std.specs.Option.{is_some}
 use Rattle.std.specs.Char.{is_ascii_alphabetic, is_ascii_alphanumeric}
@@ -33,6 +34,14 @@ raw_end_of name =
     else (if bytes_eq name (codes "style") then Some (codes "</style>")
     else (if bytes_eq name (codes "textarea") then Some (codes "</textarea>")
     else None)))
+
+-- the text found is the text wanted, or there is none of both (this project)
+abbrev pub IsText : Option (List ℕ) → Option (Bor (List ℕ)) → Type 0
+IsText wanted found = MatchOption found (wanted ≡ None) (λ text. wanted ≡ Some text.now)
+
+-- the text is found where the test holds, and none where it does not (this project)
+abbrev pub IsTextIf : Bool → List ℕ → Option (Bor (List ℕ)) → Type 0
+IsTextIf test wanted found = MatchOption found (test ≡ false) (λ text. (test ≡ true) × (text.now ≡ wanted))
 
 -- the bytes begin with the name of raw text, in any case, and what ends it (CommonMark 4.6, start condition 1)
 abbrev pub begins_raw : List ℕ → List ℕ → Bool

@@ -1,6 +1,6 @@
 //! Where HTML blocks of the kinds 1 to 6 begin.
 
-ghost use Rattle.std.specs.Prelude.{◌≡◌, ◌↔◌, IsTrue, true, false, ◌∷◌, MatchOption, None, Some, bytes_eq};
+ghost use Rattle.std.specs.Prelude.{◌≡◌, ◌↔◌, IsTrue, ◌∷◌, MatchOption, None, Some, bytes_eq};
 ghost use Rattle.first_pass_html.specs.Names.{in_lower_case};
 ghost use Rattle.first_pass_html.specs.Starts as starts;
 
@@ -57,7 +57,7 @@ pub fn is_raw_name(name: &[u8]) -> bool
 // What ends the comment, the CDATA section or the declaration whose `<!` stands before the bytes.
 #[tactic(auto, unfolding(crate::specs::Starts::html_end, crate::specs::Starts::raw_end))]
 fn declaration_end(bytes: &[u8]) -> Option<&'static str>
-    ensures { MatchOption result (starts.html_end (33 ∷ bytes.now) ≡ None) (λ text. starts.html_end (33 ∷ bytes.now) ≡ Some text.now) }
+    ensures { starts.IsText (starts.html_end (33 ∷ bytes.now)) result }
 {
     if bytes.starts_with(b"--") {
         Some("-->")
@@ -82,7 +82,7 @@ fn begins_letter(bytes: &[u8]) -> bool
 
 // The `end` of raw text, where the bytes begin with its name, in any case, and what ends the name.
 fn raw_end(bytes: &[u8], name: &str, end: &'static str) -> Option<&'static str>
-    ensures { MatchOption result (starts.begins_raw name.now bytes.now ≡ false) (λ text. (starts.begins_raw name.now bytes.now ≡ true) × (text.now ≡ end.now)) }
+    ensures { starts.IsTextIf (starts.begins_raw name.now bytes.now) end.now result }
 {
     if begins_with_name(bytes, name.as_bytes()) && ends_raw_name(rest_of(bytes, name.len())) {
         Some(end)
