@@ -19,11 +19,11 @@ use Rattle.first_pass_grammar.specs.CodeBlocks.{Extent}
 use Rattle.first_pass_grammar.specs.HtmlBlocks.{place_or, until_blank_by, until_blank}
 use Rattle.first_pass_grammar.specs.Skeleton.{Line}
 use Rattle.first_pass_grammar.specs.Completion.{lines_from}
-use Rattle.first_pass_leaves.specs.Path.{path_of}
-use Rattle.first_pass_leaves.specs.RawBlocks.{behind_line_at, html_to_blank}
-use Rattle.first_pass_leaves.proofs.PathLemmas.{open_are_in, path_in-append}
-use Rattle.first_pass_leaves.proofs.PlaceLemmas.{after_keeps, place_end}
-use Rattle.first_pass_leaves.proofs.IndentedLemmas.{first_at}
+use Rattle.first_pass_open.specs.Path.{path_of}
+use Rattle.first_pass_raw.specs.RawBlocks.{behind_line_at, html_to_blank}
+use Rattle.first_pass_open.proofs.PathLemmas.{open_are_in, path_in-append}
+use Rattle.first_pass_open.proofs.PlaceLemmas.{after_keeps, place_end}
+use Rattle.first_pass_raw.proofs.IndentedLemmas.{first_at}
 use Rattle.first_pass.specs.Adding.{behind_blank, with_blank}
 use Rattle.first_pass_text.specs.Appends.{line_end_at}
 use Rattle.first_pass_lists.specs.Closing.{list_left, item_finished, gap_noted, list_finished, blank_read}

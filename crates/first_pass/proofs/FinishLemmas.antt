@@ -14,10 +14,10 @@ use Rattle.first_pass_grammar.specs.Skeleton.{Inside, Opening, Opens}
 use Rattle.first_pass_grammar.specs.Derivation.{node_of, list_flags}
 use Rattle.first_pass_grammar.specs.Completion.{flagged, reflagged, Frame, InContainer, InList, loosened_in, IsPlain, Completes}
 use Rattle.first_pass_grammar.proofs.Completions.{OpensAway, OpensBlock, completes-note, completes-reflag}
-use Rattle.first_pass_leaves.specs.OpenBlock.{closed_by}
+use Rattle.first_pass_open.specs.OpenBlock.{closed_by}
 use Rattle.first_pass_lists.specs.Closing.{loosened_by, loosened_at, top_body, is_list, popped_by, popped, item_finished_by, item_finished, list_left, gap_tree, gap_noted, list_finished}
 use Rattle.first_pass_lists.specs.declared.reading.Reading.{Reading}
-use Rattle.first_pass_leaves.specs.Path.{container_of, with_container, path_in, path_of}
+use Rattle.first_pass_open.specs.Path.{container_of, with_container, path_in, path_of}
 use Rattle.first_pass.specs.State.{frame_of, frame_at, AreOpen, ReadyAt}
 use Rattle.first_pass.proofs.OpenLemmas.{open_path, open_below}
 use Rattle.first_pass_lists.proofs.BodyLemmas.{body-other, body-later, body-changed, changed_alike}

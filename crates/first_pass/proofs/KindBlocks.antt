@@ -22,9 +22,9 @@ use Rattle.first_pass_grammar.specs.CodeBlocks.{Extent, code_lines, last_is_blan
 use Rattle.first_pass_grammar.specs.HtmlBlocks.{until_end, until_blank, IsHtml}
 use Rattle.first_pass_grammar.specs.Skeleton.{Block, Line, OpensLeaf, OpensAs}
 use Rattle.first_pass_grammar.specs.Completion.{lines_from}
-use Rattle.first_pass_leaves.specs.Path.{path_of}
-use Rattle.first_pass_leaves.specs.TableEntries.{no_names}
-use Rattle.first_pass_leaves.specs.RawBlocks.{IsPlaceAt, behind_line_at, code_behind, AddsIndented, AddsRaw, metadata_behind, fenced_behind, html_to_end, html_to_blank}
+use Rattle.first_pass_open.specs.Path.{path_of}
+use Rattle.first_pass_names.specs.TableEntries.{no_names}
+use Rattle.first_pass_raw.specs.RawBlocks.{IsPlaceAt, behind_line_at, code_behind, AddsIndented, AddsRaw, metadata_behind, fenced_behind, html_to_end, html_to_blank}
 use Rattle.first_pass.specs.Adding.{AddsKind, IsMarked}
 use Rattle.first_pass_text.specs.Appends.{AddsHeading, AddsParagraph}
 use Rattle.first_pass_lists.specs.Closing.{remembered, list_finished}

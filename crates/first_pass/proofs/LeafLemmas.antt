@@ -25,7 +25,7 @@ use Rattle.first_pass_grammar.proofs.Completions.{completes-leaf, completes-blan
 use Rattle.first_pass_text.specs.Appends.{line_end_at, AddsParagraph, AddsHeading}
 use Rattle.first_pass_lists.specs.Closing.{remembered, top_body, is_list, list_finished, blank_read_by, blank_read}
 use Rattle.first_pass_lists.specs.declared.reading.Reading.{Reading}
-use Rattle.first_pass_leaves.specs.Path.{path_of}
+use Rattle.first_pass_open.specs.Path.{path_of}
 use Rattle.first_pass.specs.State.{AreOpen, ReadyAt, Ready}
 use Rattle.first_pass.specs.Opening.{ReadyText, ReadyLazy, ReadyLeaf}
 use Rattle.first_pass.proofs.OpenLemmas.{open_path, open_below, frame-append}

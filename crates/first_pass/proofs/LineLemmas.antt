@@ -14,13 +14,13 @@ use Rattle.first_pass_grammar.specs.Containers.{after}
 use Rattle.first_pass_grammar.specs.Leaves.{Document}
 use Rattle.first_pass_grammar.specs.Skeleton.{Inside}
 use Rattle.first_pass_grammar.specs.Derivation.{list_flags}
-use Rattle.first_pass_leaves.specs.OpenBlock.{closed_by}
+use Rattle.first_pass_open.specs.OpenBlock.{closed_by}
 use Rattle.first_pass_grammar.specs.Completion.{lines_from}
 use Rattle.first_pass_lists.specs.Closing.{top_body, is_list, is_list_of, popped_by, popped_at, popped, item_finished_by, item_finished, list_left, gap_tree, list_finished, loosened_top, list_kept, begun, list_continued, blank_read}
 use Rattle.first_pass_lists.specs.declared.reading.Reading.{Reading}
-use Rattle.first_pass_leaves.specs.Path.{path_in, path_of, outer}
+use Rattle.first_pass_open.specs.Path.{path_in, path_of, outer}
 use Rattle.first_pass.specs.State.{NoMore, Ready, ReadyAt}
-use Rattle.first_pass_leaves.proofs.PlaceLemmas.{after_keeps, line_start_end}
+use Rattle.first_pass_open.proofs.PlaceLemmas.{after_keeps, line_start_end}
 use Rattle.first_pass.proofs.EnterLemmas.{ready_blank_line, ready_line}
 
 -- a line and those behind it, of which the containers that don't go on with it are closed

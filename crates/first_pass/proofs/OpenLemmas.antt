@@ -9,9 +9,9 @@ use Rattle.first_pass_tree.specs.Forest.{Forest, modify, map_from, body_at, item
 use Rattle.first_pass_grammar.specs.declared.kind.Container.{Container}
 use Rattle.first_pass_grammar.specs.Derivation.{tightened}
 use Rattle.first_pass_grammar.specs.Completion.{ended, list_closed, Frame, InContainer, InList, containers_of, AreBelow}
-use Rattle.first_pass_leaves.specs.Path.{container_of, with_container, path_in}
+use Rattle.first_pass_open.specs.Path.{container_of, with_container, path_in}
 use Rattle.first_pass.specs.State.{frame_of, frame_at, AreOpen}
-use Rattle.first_pass_leaves.proofs.PathLemmas.{get_front}
+use Rattle.first_pass_open.proofs.PathLemmas.{get_front}
 use Rattle.first_pass_lists.proofs.BodyLemmas.{body-kept, body-other}
 
 -- the container that a frame is, if it is one

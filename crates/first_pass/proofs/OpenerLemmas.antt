@@ -23,13 +23,13 @@ use Rattle.first_pass_grammar.specs.Derivation.{node_of, list_flags}
 use Rattle.first_pass_grammar.specs.Completion.{lines_from, Frame, InContainer, InList, containers_of, AreBelow, IsPlain, Completes}
 use Rattle.first_pass_grammar.proofs.Tightening.{modify-append, length-modify}
 use Rattle.first_pass_grammar.proofs.Completions.{AreBelow-more, completes-mark, completes-quote, completes-list, completes-item, completes-reflag_list}
-use Rattle.first_pass_leaves.specs.OpenBlock.{with_child}
+use Rattle.first_pass_open.specs.OpenBlock.{with_child}
 use Rattle.first_pass_lists.specs.Closing.{remembered, loosened_by, loosened_at, top_body, is_list_of, item_finished_by, item_finished, list_finished, loosened_top, list_kept, begun, list_continued, emptied}
 use Rattle.first_pass_lists.specs.declared.reading.Reading.{Reading}
-use Rattle.first_pass_leaves.specs.Path.{container_of, with_container, path_in, path_of}
+use Rattle.first_pass_open.specs.Path.{container_of, with_container, path_in, path_of}
 use Rattle.first_pass.specs.Opening.{task_text, IsOpenedAt, ReadyIn, ReadyTagged}
 use Rattle.first_pass.specs.State.{frame_of, AreOpen, ReadyAt, ReadyBeforeLine, ReadyInItem, ReadyEmpty, Ready}
-use Rattle.first_pass_leaves.proofs.PathLemmas.{get_front}
+use Rattle.first_pass_open.proofs.PathLemmas.{get_front}
 use Rattle.first_pass.proofs.EnterLemmas.{path_below}
 use Rattle.first_pass.proofs.OpenLemmas.{open_path, open_below, frame-append, get_end}
 use Rattle.first_pass_lists.proofs.BodyLemmas.{body-other}

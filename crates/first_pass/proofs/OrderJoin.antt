@@ -11,7 +11,7 @@ use Rattle.first_pass_tree.proofs.Keeps.{appended-is, modified-is}
 use Rattle.first_pass_tokens.specs.Order.{AreInOrder}
 use Rattle.first_pass_tokens.specs.TreeTokens.{with_token, with_tokens, AppendsLine}
 use Rattle.first_pass_tokens.proofs.OrderLemmas.{order_bound, order_to, order_from, line_in_order}
-use Rattle.first_pass_leaves.specs.TableEntries.{no_names}
+use Rattle.first_pass_names.specs.TableEntries.{no_names}
 use Rattle.first_pass_grammar.specs.Leaves.{Document, document, content_at}
 use Rattle.first_pass_text.specs.Appends.{text_upto}
 use Rattle.std.proofs.lemmas.Str.{IsUtf8-take, IsCharBoundary-from_take}

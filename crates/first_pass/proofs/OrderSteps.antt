@@ -18,15 +18,15 @@ use Rattle.first_pass_grammar.specs.Kinds.{all_taken, unindented}
 use Rattle.first_pass_grammar.specs.Skeleton.{task_by, task_behind}
 use Rattle.first_pass_grammar.specs.Derivation.{node_of}
 use Rattle.first_pass_grammar.specs.OpenOrder.{IsOrderedTo}
-use Rattle.first_pass_leaves.specs.OpenBlock.{with_child}
+use Rattle.first_pass_open.specs.OpenBlock.{with_child}
 use Rattle.first_pass_lists.specs.Closing.{remembered, top_body, is_list, is_item, item_finished_by, item_finished, list_finished, begun, list_continued}
 use Rattle.first_pass_lists.specs.declared.reading.Reading.{Reading}
 use Rattle.first_pass.specs.Opening.{task_text, line_or, OrderedIn}
 use Rattle.first_pass.specs.Ordered.{reached, IsOrderedAt}
 use Rattle.first_pass_text.specs.Between.{AddsBetween, StandsBefore}
-use Rattle.first_pass_leaves.proofs.PathLemmas.{get_front}
+use Rattle.first_pass_open.proofs.PathLemmas.{get_front}
 use Rattle.first_pass.proofs.OpenLemmas.{get_end}
-use Rattle.first_pass_leaves.proofs.PlaceLemmas.{all_keep, task_keeps, option_on, quote_less}
+use Rattle.first_pass_open.proofs.PlaceLemmas.{all_keep, task_keeps, option_on, quote_less}
 use Rattle.first_pass.proofs.LineLemmas.{list_finished_none, list_continued_none}
 use Rattle.first_pass.proofs.OpenerLemmas.{item_opened}
 use Rattle.first_pass.proofs.OrderLemmas.{ordered_later, ordered_appended, ordered_added, ordered_begun, ordered_none, ordered_list_finished, ordered_list_continued}

@@ -15,9 +15,9 @@ use Rattle.first_pass_grammar.specs.Skeleton.{From, Line, Inside, Ends, end_befo
 use Rattle.first_pass_grammar.specs.Derivation.{list_flags}
 use Rattle.first_pass_grammar.specs.Completion.{ended, list_closed, Frame, InContainer, InList, containers_of, AreBelow, IsPlain, Completes}
 use Rattle.first_pass_grammar.proofs.Completions.{OpensAway, completes-pop, completes-pop_list, completes-close}
-use Rattle.first_pass_leaves.specs.OpenBlock.{closed_by}
+use Rattle.first_pass_open.specs.OpenBlock.{closed_by}
 use Rattle.first_pass_lists.specs.Closing.{tight_items}
-use Rattle.first_pass_leaves.specs.Path.{path_in}
+use Rattle.first_pass_open.specs.Path.{path_in}
 use Rattle.first_pass.specs.State.{frame_of, frame_at, AreOpen, ReadyAt}
 use Rattle.first_pass.proofs.OpenLemmas.{open_path, open_below, frame-closed, frame-ended}
 use Rattle.first_pass.proofs.ListLemmas.{tight_closed, loose_closed, open_flags}

@@ -11,11 +11,11 @@ use Rattle.first_pass_grammar.specs.Names.{Names}
 use Rattle.first_pass_grammar.specs.Leaves.{document}
 use Rattle.first_pass_grammar.specs.CodeBlocks.{Extent, IsFencedCode, IsMetadata}
 use Rattle.first_pass_grammar.specs.HtmlBlocks.{IsHtml}
-use Rattle.first_pass_leaves.specs.Path.{path_of}
-use Rattle.first_pass_leaves.specs.RawBlocks.{IsPlaceAt, code_behind, AddsIndented, AddsRaw, metadata_behind, fenced_behind, html_to_end, html_to_blank}
-use Rattle.first_pass_leaves.proofs.NameLemmas.{extends_none}
-use Rattle.first_pass_leaves.proofs.IndentedLemmas.{first_at, first_is}
-use Rattle.first_pass_leaves.proofs.RawOrder.{IsPlaced, fence_plain, ends_before_next, kept_last, indented_fits, fenced_fits, metadata_fits, html_fits, indented_behind_placed, fenced_behind_placed, metadata_behind_placed, to_end_placed, to_blank_placed, fenced_behind_before, metadata_behind_before, to_end_before}
+use Rattle.first_pass_open.specs.Path.{path_of}
+use Rattle.first_pass_raw.specs.RawBlocks.{IsPlaceAt, code_behind, AddsIndented, AddsRaw, metadata_behind, fenced_behind, html_to_end, html_to_blank}
+use Rattle.first_pass_names.proofs.NameLemmas.{extends_none}
+use Rattle.first_pass_raw.proofs.IndentedLemmas.{first_at, first_is}
+use Rattle.first_pass_raw.proofs.RawOrder.{IsPlaced, fence_plain, ends_before_next, kept_last, indented_fits, fenced_fits, metadata_fits, html_fits, indented_behind_placed, fenced_behind_placed, metadata_behind_placed, to_end_placed, to_blank_placed, fenced_behind_before, metadata_behind_before, to_end_before}
 use Rattle.first_pass_text.specs.Between.{AddsBetween}
 
 -- a place at an offset between characters

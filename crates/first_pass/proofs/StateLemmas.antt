@@ -20,13 +20,13 @@ use Rattle.first_pass_grammar.specs.Skeleton.{Line, Blanks, is_blank_behind, nex
 use Rattle.first_pass_grammar.specs.Derivation.{Derives, tight_body, tightened}
 use Rattle.first_pass_grammar.specs.Completion.{lines_from, Frame, Completes}
 use Rattle.first_pass_grammar.proofs.Completions.{completes-first, completes-end}
-use Rattle.first_pass_leaves.specs.OpenBlock.{closed_by}
+use Rattle.first_pass_open.specs.OpenBlock.{closed_by}
 use Rattle.first_pass_lists.specs.Closing.{remembered, tight_run, tight_at, tight_items, popped_by, popped_at, popped}
 use Rattle.first_pass_lists.specs.declared.reading.Reading.{Reading}
-use Rattle.first_pass_leaves.specs.Path.{container_of, container_at, with_container, path_in, path_of, outer}
+use Rattle.first_pass_open.specs.Path.{container_of, container_at, with_container, path_in, path_of, outer}
 use Rattle.first_pass.specs.State.{frame_of, frame_at, AreOpen, ReadyAt, ReadyBeforeLine, ReadyInItem, ReadyWith, NoMore, Ready}
-use Rattle.first_pass_leaves.specs.TableEntries.{no_tables}
-use Rattle.first_pass_leaves.proofs.FrontLemmas.{outer-all}
+use Rattle.first_pass_names.specs.TableEntries.{no_tables}
+use Rattle.first_pass_open.proofs.FrontLemmas.{outer-all}
 use Rattle.first_pass_lists.proofs.BodyLemmas.{body-kept}
 use Rattle.first_pass.proofs.PopLemmas.{pop_container, pop_list}
 

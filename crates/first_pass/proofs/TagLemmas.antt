@@ -21,10 +21,10 @@ use Rattle.first_pass_grammar.specs.Completion.{lines_from, Frame, InContainer}
 use Rattle.first_pass_grammar.proofs.Completions.{counts_in}
 use Rattle.first_pass_lists.specs.Closing.{top_body, is_list, popped, item_finished_by, item_finished, list_left, gap_tree, gap_noted, list_finished}
 use Rattle.first_pass_lists.specs.declared.reading.Reading.{Reading}
-use Rattle.first_pass_leaves.specs.Path.{path_of}
+use Rattle.first_pass_open.specs.Path.{path_of}
 use Rattle.first_pass.specs.State.{frame_of, AreOpen, ReadyAt, Ready}
 use Rattle.first_pass.specs.Opening.{ReadyInQuote, ReadyTagged, ReadyLazy}
-use Rattle.first_pass_leaves.proofs.PathLemmas.{front-end}
+use Rattle.first_pass_open.proofs.PathLemmas.{front-end}
 use Rattle.first_pass_text.proofs.ParagraphLemmas.{ends_past}
 use Rattle.first_pass.proofs.StateLemmas.{ready_plain}
 

@@ -10,7 +10,7 @@ use Rattle.first_pass_grammar.specs.Names.{Names, Extends}
 use Rattle.first_pass_grammar.specs.Leaves.{document}
 use Rattle.first_pass_grammar.specs.Skeleton.{Block, Line, OpensLeaf, OpensAs}
 use Rattle.first_pass_grammar.specs.Completion.{lines_from}
-use Rattle.first_pass_leaves.specs.Path.{path_of}
+use Rattle.first_pass_open.specs.Path.{path_of}
 use Rattle.first_pass_text.specs.Appends.{line_end_at}
 use Rattle.first_pass_lists.specs.Closing.{blank_read}
 use Rattle.first_pass_lists.specs.declared.reading.Reading.{Reading}

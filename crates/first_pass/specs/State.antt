@@ -13,7 +13,7 @@ use Rattle.first_pass_grammar.specs.Skeleton.{From, Line, Blanks, Ends, next_is_
 use Rattle.first_pass_grammar.specs.Completion.{Frame, InContainer, InList, Completes}
 use Rattle.first_pass_lists.specs.Closing.{emptied}
 use Rattle.first_pass_lists.specs.declared.reading.Reading.{Reading}
-use Rattle.first_pass_leaves.specs.Path.{path_in, path_of, outer}
+use Rattle.first_pass_open.specs.Path.{path_in, path_of, outer}
 
 -- a list that is tight so far, or isn't
 abbrev pub list_frame : ℕ → ℕ → Option Frame

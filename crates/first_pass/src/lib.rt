@@ -9,4 +9,4 @@ pub mod pass;
 mod raw;
 
 pub use first_pass_below::{below, flank, walk};
-pub use first_pass_leaves::items;
+pub use first_pass_names::items;

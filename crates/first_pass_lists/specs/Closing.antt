@@ -8,7 +8,7 @@ use Rattle.first_pass_items.specs.declared.item.ItemBody.TheVariants.{BlockQuote
 use Rattle.first_pass_tree.specs.declared.tree_index.TreeIndex.{TreeIndex}
 use Rattle.first_pass_tree.specs.Forest.{Forest, appended, pushed, with_body_at, body_at, depths}
 use Rattle.first_pass_grammar.specs.Derivation.{list_flags, tightened}
-use Rattle.first_pass_leaves.specs.OpenBlock.{closed_by}
+use Rattle.first_pass_open.specs.OpenBlock.{closed_by}
 use Rattle.first_pass_lists.specs.declared.reading.Reading.{Reading}
 
 -- what is remembered, part by part

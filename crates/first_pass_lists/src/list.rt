@@ -3,7 +3,7 @@
 ghost use Rattle.std.specs.Prelude.{◌≡◌, ◌<◌, ◌≤◌, ℕ, length, None, IsSome, IsCharBoundary, slice_get, slice_index, OnOk};
 ghost use Rattle.first_pass_lists.specs.Closing.{with_tight_node, tight_items, loosened_at, top_body, is_item, is_list_of, popped, item_finished, list_left, with_tree, gap_noted, list_finished, list_kept, list_continued, begun, blank_read};
 ghost use Rattle.first_pass_tree.specs.Forest.{depths};
-ghost use Rattle.first_pass_leaves.specs.OpenBlock.{closed_by};
+ghost use Rattle.first_pass_open.specs.OpenBlock.{closed_by};
 ghost use Rattle.first_pass_items.specs.declared.item.ItemBody.TheVariants.{BlockQuote as BlockQuoteBody, ListItem as ListItemBody};
 
 use crate::reading::Reading;

@@ -2,12 +2,12 @@
 
 ghost use Rattle.std.specs.Prelude.{◌≡◌, ◌++◌, ◌∷◌, [], OnOk, codes, decimal, encode_utf8};
 ghost use Rattle.first_pass_items.specs.declared.item.ItemBody.TheVariants.{MaybeEmphasis, MaybeMath, MaybeSmartQuote, MaybeCode, List as ListBody};
-ghost use Rattle.first_pass_leaves.specs.TableEntries.{names_of};
+ghost use Rattle.first_pass_names.specs.TableEntries.{names_of};
 ghost use Rattle.first_pass_program.specs.Printed.{node_line, named_values, visible, visible_byte, name_of, block_values, token_values, body_text, enclosed, flag_name, list_name, quote_name, metadata_name, indentation};
 
 use bitflags::Flags;
 use first_pass_items::item::{BlockQuoteKind, Item, ItemBody, ListFlags, MetadataBlockKind};
-use first_pass_leaves::items::Allocations;
+use first_pass_names::items::Allocations;
 use first_pass_scan::lines::level_number;
 use itoa::{Buffer, Integer};
 use std::alloc::AllocError;

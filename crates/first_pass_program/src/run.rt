@@ -5,7 +5,7 @@ ghost use Rattle.std.specs.List.{flat_map};
 ghost use Rattle.std.specs.Io.KnownBytes.{Appends};
 ghost use Rattle.first_pass_program.specs.declared.fault.BlocksFault.TheVariants.{BadOptions};
 ghost use Rattle.first_pass_program.specs.OptionWord.{StandFor};
-ghost use Rattle.first_pass_leaves.specs.TableEntries.{names_of};
+ghost use Rattle.first_pass_names.specs.TableEntries.{names_of};
 ghost use Rattle.first_pass_program.specs.Printed.{node_line};
 ghost use Rattle.first_pass_program.specs.Runs.{AppendsFront, IsPrinted, IsWriteFault, Leaves, LeavesText, WritesWhole};
 
@@ -17,7 +17,7 @@ use crate::printed::append_node;
 use first_pass::pass::run_first_pass;
 use first_pass_items::item::Item;
 use first_pass_items::option_set::Options;
-use first_pass_leaves::items::Allocations;
+use first_pass_names::items::Allocations;
 use std::alloc::Global;
 use std::io::{Read, Write};
 use std::str;

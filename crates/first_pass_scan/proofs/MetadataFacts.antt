@@ -1,10 +1,10 @@
 -- Facts on where metadata closes.
-use Rattle.std.proofs.Common.{◌≡◌, inl, inr, ℕ, zero, suc, ◌+◌, ◌-◌, ◌<◌, ◌≤◌, Bool, true, false, cond, ◌||◌, nat_lt, List, [], ◌∷◌, length, drop, refl, sym, ap, ◌∙◌, arith, drop-drop}
+use Rattle.std.proofs.Common.{◌≡◌, ◌&&◌, Option, Some, None, if◌then◌else◌, inl, inr, ℕ, zero, suc, ◌+◌, ◌-◌, ◌<◌, ◌≤◌, Bool, true, false, cond, ◌||◌, nat_lt, List, [], ◌∷◌, length, drop, refl, sym, ap, ◌∙◌, arith, drop-drop}
 use Rattle.std.specs.List.{list_any}
 use Rattle.std.proofs.lemmas.Bool.{cases_lt, lt-ltb, le-ltb}
-use Rattle.first_pass_scan.specs.Lines.{ends_line, line_len}
+use Rattle.first_pass_scan.specs.Lines.{begins, is_content, ends_line, line_len}
 use Rattle.first_pass_scan.specs.Places.{Place, line_place, lines_behind, lines_at}
-use Rattle.first_pass_scan.specs.LeafLines.{closes_metadata, any_line_closes, behind_line}
+use Rattle.first_pass_scan.specs.LeafLines.{closes_metadata, any_line_closes, behind_line, opens_metadata, metadata_byte}
 use Rattle.first_pass_scan.specs.MetadataSearch.{first_closing, closing_line_from}
 use Rattle.first_pass_scan.proofs.LineFacts.{line_len-inside, line_len-within, lines_at-line, lines_at-end}
 use Rattle.first_pass_scan.proofs.LeafFacts.{any_line-first, any_line-none}
@@ -114,3 +114,15 @@ pub any_line-behind : (c : ℕ) (text : List ℕ) (s from : ℕ) → from ≡ s 
 any_line-behind c text s from e =
     let d : drop from text ≡ behind_line (drop s text) = ap (λ k. drop k text) e ∙ sym (drop-drop (line_len (drop s text)) s text) in
     any_line-sought c text from ∙ any_line-anywhere c from 0 (drop from text) ∙ ap (any_line_closes c 0) d
+
+-- what opens metadata is no line end
+metadata_plain_by : (t v w x : Bool) (byte : ℕ) → (if t then (if v then Some 45 else None) else (if w then (if x then Some 43 else None) else None)) ≡ Some byte → is_content byte ≡ true
+metadata_plain_by true true w x byte h = (let e : 45 ≡ byte = cc in ap is_content (sym e))
+metadata_plain_by true false w x byte h = cc
+metadata_plain_by false v true true byte h = (let e : 43 ≡ byte = cc in ap is_content (sym e))
+metadata_plain_by false v true false byte h = cc
+metadata_plain_by false v false x byte h = cc
+
+pub metadata_plain : (yaml pluses : Bool) (bs : List ℕ) (byte : ℕ) → metadata_byte yaml pluses bs ≡ Some byte → is_content byte ≡ true
+unfolding metadata_byte
+metadata_plain yaml pluses bs byte h = metadata_plain_by (yaml && begins 45 bs) (opens_metadata 45 bs) (pluses && begins 43 bs) (opens_metadata 43 bs) byte h

@@ -16,7 +16,7 @@ use Rattle.first_pass_tokens.specs.TreeTokens.{chained, AppendsLine}
 use Rattle.first_pass_tokens.proofs.ChainLemmas.{with_tokens-chained, joins_none-fresh, chained-spine, childless-chained, has_leaves-chained, cut_siblings-chained}
 use Rattle.first_pass_grammar.specs.Leaves.{Document, content_at, kept_len, heading_chain, heading_text_at}
 use Rattle.first_pass_text.specs.Appends.{line_end_at, with_closed_break, AppendsHeading}
-use Rattle.first_pass_leaves.specs.OpenBlock.{IsJustPushed}
+use Rattle.first_pass_open.specs.OpenBlock.{IsJustPushed}
 use Rattle.first_pass_text.proofs.ParagraphLemmas.{with_closed_break-chained}
 
 chain_kept : (kept start : ℕ) (chain : List Item) → (kept ≡ 0 → ⊥) → heading_chain kept start chain ≡ cut (start + kept) chain

@@ -9,8 +9,8 @@ use Rattle.first_pass_scan.specs.Lines.{is_content, begins, atx_level}
 use Rattle.first_pass_scan.specs.LeafLines.{hrule_len, code_fence, metadata_byte}
 use Rattle.first_pass_scan.specs.Rest.{Rest, indent}
 use Rattle.first_pass_scan.specs.Places.{place_at, offset, IsPlaceOf}
-use Rattle.first_pass_leaves.proofs.PlaceLemmas.{all_keep}
-use Rattle.first_pass_leaves.proofs.RawOrder.{metadata_plain}
+use Rattle.first_pass_open.proofs.PlaceLemmas.{all_keep}
+use Rattle.first_pass_scan.proofs.MetadataFacts.{metadata_plain}
 use Rattle.first_pass_html.specs.Starts.{html_end}
 use Rattle.first_pass_html.specs.Tags.{BeginsTagLine}
 use Rattle.first_pass_grammar.specs.declared.kind.Kind.{Kind}

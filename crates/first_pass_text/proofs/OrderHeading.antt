@@ -24,7 +24,7 @@ use Rattle.first_pass_grammar.specs.Leaves.{Document, is_put_aside, kept_len, he
 use Rattle.first_pass_grammar.proofs.Orders.{block_fits}
 use Rattle.first_pass_text.specs.Appends.{AddsHeading, line_end_at}
 use Rattle.first_pass_text.specs.Between.{AddsBetween}
-use Rattle.first_pass_leaves.proofs.PlaceLemmas.{place_end, line_start_end}
+use Rattle.first_pass_open.proofs.PlaceLemmas.{place_end, line_start_end}
 
 -- the run of bytes that pass at the end of a front of a list: it is empty, or its first byte passes
 run_first : (p : ℕ → Bool) (xs : List ℕ) (n : ℕ) → n ≤ length xs → (suffix_len p (take n xs) ≡ 0) ⊎ (p (get_or xs (n - suffix_len p (take n xs)) 0) ≡ true)

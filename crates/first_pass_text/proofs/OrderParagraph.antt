@@ -22,9 +22,9 @@ use Rattle.first_pass_grammar.specs.Order.{Extent, Empty, Node, extent_of, exten
 use Rattle.first_pass_text.specs.Appends.{line_end_at, AddsParagraph}
 use Rattle.first_pass_grammar.proofs.Orders.{row_of, row_of-laid, row_of-fits}
 use Rattle.first_pass_text.specs.Between.{AddsBetween, StandsBefore}
-use Rattle.first_pass_leaves.specs.Path.{path_of}
+use Rattle.first_pass_open.specs.Path.{path_of}
 use Rattle.first_pass_text.proofs.ParagraphLemmas.{line_end-text}
-use Rattle.first_pass_leaves.proofs.PlaceLemmas.{text_place}
+use Rattle.first_pass_open.proofs.PlaceLemmas.{text_place}
 
 -- a chain with the break behind it
 order_break : (text : List ℕ) (from at next : ℕ) (break : Option Item) (chain : List Item) → AreInOrder text from at chain → at ≤ next → IfSome break (StandsBehind text at next) → AreInOrder text from next (add_break break chain)

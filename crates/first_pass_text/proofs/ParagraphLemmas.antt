@@ -10,7 +10,7 @@ use Rattle.first_pass_scan.specs.Lines.{line_len}
 use Rattle.first_pass_scan.specs.Places.{Place, offset, line_rest, line_place, place_at, IsPlaceOf}
 use Rattle.first_pass_scan.proofs.LineFacts.{lines_at-line, lines_at-end}
 use Rattle.first_pass_scan.proofs.PlaceFacts.{line_end_boundary}
-use Rattle.first_pass_leaves.specs.TableEntries.{no_names}
+use Rattle.first_pass_names.specs.TableEntries.{no_names}
 use Rattle.first_pass_grammar.specs.declared.kind.Container.{Container}
 use Rattle.first_pass_tokens.specs.LineTokens.{IsLine, EndsLine, IsBreak}
 use Rattle.first_pass_tokens.specs.Chains.{add_tokens, close_break, is_backslash_break}
@@ -21,11 +21,11 @@ use Rattle.first_pass_grammar.specs.Kinds.{unindented, interrupts, ends_paragrap
 use Rattle.first_pass_grammar.specs.Leaves.{Document, document, content_at, add_break, IsParagraph}
 use Rattle.first_pass_grammar.specs.Completion.{lines_from}
 use Rattle.first_pass_text.specs.Appends.{line_end_at, with_closed_break, AppendsParagraph}
-use Rattle.first_pass_leaves.specs.OpenBlock.{with_child}
-use Rattle.first_pass_leaves.specs.Path.{container_of, with_container, path_of}
+use Rattle.first_pass_open.specs.OpenBlock.{with_child}
+use Rattle.first_pass_open.specs.Path.{container_of, with_container, path_of}
 use Rattle.first_pass_text.specs.Reading.{ParagraphSoFar}
-use Rattle.first_pass_leaves.proofs.PathLemmas.{AreIn, front-end, path_in-append, path_of-chained, path_of-opened, opened_in}
-use Rattle.first_pass_leaves.proofs.PlaceLemmas.{text_place}
+use Rattle.first_pass_open.proofs.PathLemmas.{AreIn, front-end, path_in-append, path_of-chained, path_of-opened, opened_in}
+use Rattle.first_pass_open.proofs.PlaceLemmas.{text_place}
 
 -- At the end of the text a paragraph ends.
 interrupts-end : (whole : Bool) → interrupts whole (line_rest []) ≡ true

@@ -8,7 +8,7 @@ use Rattle.first_pass_tokens.specs.Chains.{is_backslash_break}
 use Rattle.first_pass_tokens.specs.TreeTokens.{chained}
 use Rattle.first_pass_grammar.specs.Leaves.{Document, IsParagraph, IsHeading, heading_text_at, heading_block, paragraph_block, marker_items}
 use Rattle.first_pass_grammar.specs.Completion.{lines_from}
-use Rattle.first_pass_leaves.specs.Path.{path_of}
+use Rattle.first_pass_open.specs.Path.{path_of}
 
 -- the bytes of a text up to an offset, or all
 abbrev pub text_upto : List ℕ → Option ℕ → List ℕ

@@ -7,7 +7,7 @@ use Rattle.first_pass_tokens.specs.TreeTokens.{chained}
 use Rattle.first_pass_grammar.specs.Leaves.{Document, IsParagraph}
 use Rattle.first_pass_grammar.specs.Completion.{lines_from}
 use Rattle.first_pass_text.specs.Appends.{line_end_at}
-use Rattle.first_pass_leaves.specs.Path.{path_of}
+use Rattle.first_pass_open.specs.Path.{path_of}
 
 -- The lines of a paragraph are read up to where the text of another begins: what is then the chain of the paragraph from there on, is that of the whole.
 pub record ParagraphSoFar (d : Document) (start : ℕ) (old now : Forest Item) (at : ℕ) : Type 0 where

@@ -6,13 +6,13 @@ ghost use Rattle.first_pass_scan.specs.Rest.{indent};
 ghost use Rattle.first_pass_scan.specs.Markers.{is_bullet, listitem};
 ghost use Rattle.first_pass_grammar.specs.Containers.{after, front};
 ghost use Rattle.first_pass_grammar.specs.Kinds.{interrupts_with, item_interrupts, ends_paragraph, ends_tag, unindented, all_taken};
-ghost use Rattle.first_pass_leaves.specs.Path.{path_of};
+ghost use Rattle.first_pass_open.specs.Path.{path_of};
 
 use crate::kinds::html_kind;
 use first_pass_items::item::Item;
-use first_pass_leaves::containers::scan_containers;
-use first_pass_leaves::indentation::scan_indentation;
-use first_pass_leaves::source::Source;
+use first_pass_open::containers::scan_containers;
+use first_pass_open::indentation::scan_indentation;
+use first_pass_open::source::Source;
 use first_pass_scan::leaf_scan::{scan_code_fence, scan_hrule};
 use first_pass_scan::line_start::{LineStart, scan_listitem};
 use first_pass_scan::lines::{begins, is_plain_front, scan_atx_heading, scan_blank_line, scan_eol};

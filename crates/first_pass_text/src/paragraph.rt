@@ -3,17 +3,17 @@
 ghost use Rattle.std.specs.Prelude.{◌≡◌, ◌<◌, ◌^◌, ℕ, false, IfOk, IfSome, OnOk, IsUtf8, IsCharBoundary};
 ghost use Rattle.first_pass_walk.specs.Walk.{MarksSpecial};
 ghost use Rattle.first_pass_tokens.specs.TreeTokens.{JoinsNone};
-ghost use Rattle.first_pass_leaves.specs.TableEntries.{no_names};
+ghost use Rattle.first_pass_names.specs.TableEntries.{no_names};
 ghost use Rattle.first_pass_grammar.specs.Leaves.{document};
 ghost use Rattle.first_pass_tree.specs.Forest.{is_text};
 ghost use Rattle.first_pass_text.specs.Appends.{AppendsParagraph, AddsParagraph, with_closed_break};
-ghost use Rattle.first_pass_leaves.specs.OpenBlock.{with_child};
+ghost use Rattle.first_pass_open.specs.OpenBlock.{with_child};
 ghost use Rattle.first_pass_text.specs.Between.{AddsBetween, StandsBefore};
 
 use crate::interrupt::next_paragraph_text;
 use first_pass_items::item::{Item, ItemBody};
-use first_pass_leaves::open_block::close_block;
-use first_pass_leaves::source::Source;
+use first_pass_open::open_block::close_block;
+use first_pass_open::source::Source;
 use first_pass_tokens::line::append_line;
 use first_pass_tree::forest::Tree;
 use std::alloc::{AllocError, Global};

@@ -17,9 +17,9 @@ use Rattle.first_pass_lists.specs.declared.reading.Reading.{Reading}
 use Rattle.first_pass.specs.Opening.{IsOpenedAt, task_text, ReadyIn, ReadyTagged, line_or, OrderedIn}
 use Rattle.first_pass.specs.Ordered.{IsOrderedAt}
 use Rattle.first_pass_grammar.specs.OpenOrder.{IsOrderedTo}
-use Rattle.first_pass_leaves.specs.OpenBlock.{with_child}
+use Rattle.first_pass_open.specs.OpenBlock.{with_child}
 use Rattle.first_pass.specs.State.{Ready, ReadyAt}
-use Rattle.first_pass_leaves.proofs.PlaceLemmas.{item_found, item_keeps, item_shorter, item_absent, markers_keep, mark_is_no_text, quote_taken, prefix_keeps, quote_prefix_shorter, place_end, read_end}
+use Rattle.first_pass_open.proofs.PlaceLemmas.{item_found, item_keeps, item_shorter, item_absent, markers_keep, mark_is_no_text, quote_taken, prefix_keeps, quote_prefix_shorter, place_end, read_end}
 use Rattle.first_pass.proofs.LineLemmas.{list_finished_none, list_continued_none}
 use Rattle.first_pass.proofs.OrderLemmas.{ordered_later}
 use Rattle.first_pass.proofs.OrderSteps.{offset_later, ordered_on, top_begun, ordered_item, ordered_quote, mark_stands, ordered_container, ordered_empty_item, quote_stands, place_before_end}

@@ -1,5 +1,5 @@
 use Rattle.std.proofs.Common.{arith}
-use Rattle.first_pass_leaves.proofs.PlaceLemmas.{task_keeps, task_found}
+use Rattle.first_pass_open.proofs.PlaceLemmas.{task_keeps, task_found}
 use Rattle.first_pass.proofs.containers.scan_task.Goals as goal
 
 pub overflow_add-result : goal.overflow_add-result

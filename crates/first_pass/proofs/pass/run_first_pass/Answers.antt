@@ -6,14 +6,14 @@ use Rattle.first_pass_items.specs.declared.option_set.Options.{Options}
 use Rattle.first_pass_grammar.specs.Completion.{lines_from}
 use Rattle.first_pass_grammar.specs.Derivation.{Derives}
 use Rattle.first_pass_lists.specs.declared.reading.Reading.{Reading}
-use Rattle.first_pass_leaves.specs.declared.source.Source.{Source}
+use Rattle.first_pass_open.specs.declared.source.Source.{Source}
 use Rattle.first_pass.specs.Ordered.{reached, IsOrderedAt}
 use Rattle.first_pass.specs.State.{Ready}
-use Rattle.first_pass_leaves.specs.TableEntries.{tables, names_of}
+use Rattle.first_pass_names.specs.TableEntries.{tables, names_of}
 use Rattle.first_pass.proofs.OrderLemmas.{ordered_whole}
-use Rattle.first_pass_leaves.proofs.FrontLemmas.{outer-none}
+use Rattle.first_pass_open.proofs.FrontLemmas.{outer-none}
 use Rattle.first_pass.proofs.StateLemmas.{ready_finish}
-use Rattle.first_pass_leaves.proofs.NameLemmas.{extends_both, extends_equal}
+use Rattle.first_pass_names.proofs.NameLemmas.{extends_both, extends_equal}
 use Rattle.first_pass.proofs.pass.run_first_pass.Goals as goal
 
 pub loop-ix-init : goal.loop-ix-init

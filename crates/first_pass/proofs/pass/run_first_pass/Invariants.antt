@@ -4,7 +4,7 @@ use Rattle.first_pass_grammar.specs.Leaves.{document}
 use Rattle.first_pass_grammar.specs.Completion.{lines_from}
 use Rattle.first_pass.specs.Ordered.{IsOrderedAt}
 use Rattle.first_pass.specs.State.{Ready}
-use Rattle.first_pass_leaves.specs.TableEntries.{tables, no_tables, names_of}
+use Rattle.first_pass_names.specs.TableEntries.{tables, no_tables, names_of}
 use Rattle.first_pass.proofs.pass.run_first_pass.Given as goal
 
 -- the blocks are read up to here

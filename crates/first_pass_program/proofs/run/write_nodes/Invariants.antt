@@ -1,7 +1,7 @@
 use Rattle.std.proofs.Common.{◌≡◌, List, ℕ, ◌++◌, take}
 use Rattle.std.specs.List.{flat_map}
 use Rattle.std.specs.Io.KnownBytes.{Appends}
-use Rattle.first_pass_leaves.specs.TableEntries.{names_of}
+use Rattle.first_pass_names.specs.TableEntries.{names_of}
 use Rattle.first_pass_program.specs.Printed.{node_line}
 use Rattle.first_pass_program.proofs.run.write_nodes.Given as goal
 

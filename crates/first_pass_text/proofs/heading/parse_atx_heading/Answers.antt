@@ -2,14 +2,14 @@ use Rattle.std.proofs.Common.{None, ◌≡◌, IsUtf8, ap, subst, ◌∙◌}
 use Rattle.first_pass_items.specs.declared.item.Item.{Item}
 use Rattle.first_pass_scan.specs.Lines.{level_number}
 use Rattle.first_pass_tokens.specs.TreeTokens.{chained}
-use Rattle.first_pass_leaves.specs.TableEntries.{no_names}
+use Rattle.first_pass_names.specs.TableEntries.{no_names}
 use Rattle.first_pass_grammar.specs.Leaves.{Document, document, heading_text_at, IsHeading}
 use Rattle.first_pass_text.specs.Appends.{line_end_at}
 use Rattle.first_pass_tokens.proofs.OrderLemmas.{closed_line_in_order}
 use Rattle.first_pass_items.specs.declared.item.ItemBody.TheVariants.{Heading}
 use Rattle.first_pass_text.proofs.OrderHeading.{heading_text_boundary, heading_fits}
 use Rattle.first_pass_text.proofs.HeadingLemmas.{heading_line_end}
-use Rattle.first_pass_leaves.proofs.BlockLemmas.{opened_at, opened_is, just_pushed, still_open, block_closed}
+use Rattle.first_pass_open.proofs.BlockLemmas.{opened_at, opened_is, just_pushed, still_open, block_closed}
 use Rattle.first_pass_text.proofs.heading.parse_atx_heading.Goals as goal
 
 pub heading_text-requires-clause-opened : goal.heading_text-requires-clause-opened

@@ -1,8 +1,8 @@
 use Rattle.std.proofs.Common.{min, ap, ◌∙◌, IsUtf8, subst}
 use Rattle.first_pass_scan.specs.Rest.{indent}
 use Rattle.first_pass_grammar.specs.Kinds.{all_taken}
-use Rattle.first_pass_leaves.specs.Path.{path_of}
-use Rattle.first_pass_leaves.proofs.PlaceLemmas.{text_place, front_read}
+use Rattle.first_pass_open.specs.Path.{path_of}
+use Rattle.first_pass_open.proofs.PlaceLemmas.{text_place, front_read}
 use Rattle.first_pass_text.proofs.interrupt.scan_prefixes.Goals as goal
 
 pub returns-clause-columns : goal.returns-clause-columns

@@ -3,7 +3,7 @@ use Rattle.first_pass_scan.specs.Lines.{blank_len}
 use Rattle.first_pass_scan.specs.Rest.{Rest}
 use Rattle.first_pass_grammar.specs.Kinds.{all_taken, html_kind, last_kind, IsKind}
 use Rattle.first_pass_text.proofs.KindLemmas.{many_columns, blank_kind, code_kind, behind_columns, found_early, tag_found, tag_absent, metadata_here, html_here, tag_here, last_here}
-use Rattle.first_pass_leaves.proofs.PlainLemmas.{plain_all, plain_few}
+use Rattle.first_pass_open.proofs.PlainLemmas.{plain_all, plain_few}
 use Rattle.first_pass_text.proofs.PlainKinds.{plain_kind}
 use Rattle.first_pass_text.proofs.kinds.kind_at.Goals as goal
 

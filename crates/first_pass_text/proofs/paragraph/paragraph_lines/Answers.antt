@@ -1,7 +1,7 @@
 use Rattle.std.proofs.Common.{◌<◌, ◌≤◌, length, IsUtf8, IsCharBoundary, refl, ap, sym, ◌∙◌, subst, arith}
-use Rattle.first_pass_leaves.specs.TableEntries.{no_names}
+use Rattle.first_pass_names.specs.TableEntries.{no_names}
 use Rattle.first_pass_grammar.specs.Leaves.{document}
-use Rattle.first_pass_leaves.proofs.PathLemmas.{open_are_in}
+use Rattle.first_pass_open.proofs.PathLemmas.{open_are_in}
 use Rattle.first_pass_text.proofs.ParagraphLemmas.{same_end, next_boundary, so_far_start, so_far_next, so_far_stop}
 use Rattle.first_pass_text.proofs.paragraph.paragraph_lines.Goals as goal
 

@@ -1,14 +1,14 @@
 use Rattle.std.proofs.Common.{[], ◌++◌, refl, ap, subst, ◌∙◌}
 use Rattle.first_pass_items.specs.declared.item.Item.{Item}
 use Rattle.first_pass_items.specs.declared.item.ItemBody.TheVariants.{Paragraph}
-use Rattle.first_pass_leaves.specs.TableEntries.{no_names}
+use Rattle.first_pass_names.specs.TableEntries.{no_names}
 use Rattle.first_pass_grammar.specs.Leaves.{document, IsParagraph, marker_items}
 use Rattle.first_pass_grammar.specs.Completion.{lines_from}
 use Rattle.first_pass_text.specs.Appends.{line_end_at}
-use Rattle.first_pass_leaves.specs.OpenBlock.{with_child}
-use Rattle.first_pass_leaves.proofs.PathLemmas.{open_are_in}
+use Rattle.first_pass_open.specs.OpenBlock.{with_child}
+use Rattle.first_pass_open.proofs.PathLemmas.{open_are_in}
 use Rattle.first_pass_text.proofs.ParagraphLemmas.{path_of-paragraph}
-use Rattle.first_pass_leaves.proofs.BlockLemmas.{opened_at, opened_is, marked_chain, still_open, block_closed}
+use Rattle.first_pass_open.proofs.BlockLemmas.{opened_at, opened_is, marked_chain, still_open, block_closed}
 use Rattle.first_pass_text.proofs.OrderParagraph.{paragraph_fits}
 use Rattle.first_pass_text.proofs.paragraph.parse_paragraph.Goals as goal
 

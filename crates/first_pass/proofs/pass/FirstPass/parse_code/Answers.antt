@@ -3,7 +3,7 @@ use Rattle.first_pass_scan.specs.Lines.{is_blank_line, line_len}
 use Rattle.first_pass_scan.specs.Rest.{Rest}
 use Rattle.first_pass_scan.specs.Places.{place_at, offset, moved_columns}
 use Rattle.first_pass_scan.proofs.PlaceFacts.{columns_keep, columns_line_end, columns_shorter}
-use Rattle.first_pass_leaves.specs.RawBlocks.{behind_line_at}
+use Rattle.first_pass_raw.specs.RawBlocks.{behind_line_at}
 use Rattle.first_pass.proofs.EnterLemmas.{blank_columns}
 use Rattle.first_pass.proofs.OrderSteps.{offset_later}
 use Rattle.first_pass.proofs.KindBlocks.{code_added}

@@ -1,6 +1,6 @@
 use Rattle.std.proofs.Common.{IsCharBoundary, sym, subst}
-use Rattle.first_pass_leaves.proofs.IndentedLemmas.{first_at, first_is}
-use Rattle.first_pass_leaves.specs.TableEntries.{no_names}
+use Rattle.first_pass_raw.proofs.IndentedLemmas.{first_at, first_is}
+use Rattle.first_pass_names.specs.TableEntries.{no_names}
 use Rattle.first_pass_text.specs.Between.{AddsBetween}
 use Rattle.first_pass.proofs.RawFits.{to_blank_between, to_blank_ends}
 use Rattle.first_pass.proofs.pass.FirstPass.parse_html_to_blank.Goals as goal

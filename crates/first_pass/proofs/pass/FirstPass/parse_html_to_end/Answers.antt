@@ -3,9 +3,9 @@ use Rattle.std.proofs.lemmas.List.{drop-drop}
 use Rattle.first_pass_html.specs.Starts.{html_end}
 use Rattle.first_pass_grammar.specs.HtmlBlocks.{IsHtml}
 use Rattle.std.proofs.Math.Nat.{zero-max}
-use Rattle.first_pass_leaves.specs.TableEntries.{names_of}
-use Rattle.first_pass_leaves.specs.Path.{path_of}
-use Rattle.first_pass_leaves.specs.RawBlocks.{AddsRaw, html_to_end}
+use Rattle.first_pass_names.specs.TableEntries.{names_of}
+use Rattle.first_pass_open.specs.Path.{path_of}
+use Rattle.first_pass_raw.specs.RawBlocks.{AddsRaw, html_to_end}
 use Rattle.first_pass_text.proofs.KindLemmas.{same_tag}
 use Rattle.first_pass.proofs.pass.FirstPass.parse_html_to_end.Goals as goal
 

@@ -5,12 +5,12 @@ use Rattle.first_pass_grammar.specs.Completion.{lines_from}
 use Rattle.first_pass_text.specs.Appends.{line_end_at, AddsParagraph}
 use Rattle.first_pass_lists.specs.Closing.{remembered, list_finished, blank_read}
 use Rattle.first_pass_lists.specs.declared.reading.Reading.{Reading}
-use Rattle.first_pass_leaves.specs.declared.source.Source.{Source}
+use Rattle.first_pass_open.specs.declared.source.Source.{Source}
 use Rattle.first_pass.specs.Opening.{line_or}
 use Rattle.first_pass.specs.Ordered.{IsOrderedAt}
 use Rattle.first_pass_text.specs.Between.{AddsBetween, StandsBefore}
 use Rattle.first_pass.specs.State.{Ready}
-use Rattle.first_pass_leaves.proofs.PlaceLemmas.{all_keep, place_end}
+use Rattle.first_pass_open.proofs.PlaceLemmas.{all_keep, place_end}
 use Rattle.first_pass.proofs.LineLemmas.{list_finished_none}
 use Rattle.first_pass.proofs.OrderLemmas.{ordered_none, ordered_blank_read}
 use Rattle.first_pass.proofs.OrderSteps.{line_or-below, ordered_leaf, unindented_later, place_before_end}
@@ -19,9 +19,9 @@ use Rattle.first_pass_text.proofs.KindLemmas.{Says, kind_says}
 use Rattle.first_pass.proofs.KindBlocks.{is_marked, paragraph_named, columns_are, html_blank_added, AddsHtml, html_moved, adds_moved, ready_kind}
 use Rattle.first_pass.proofs.BlankBehind.{list_finished_blank, path_added, ready_behind, behind_on, ordered_behind}
 use Rattle.first_pass.specs.Adding.{behind_blank}
-use Rattle.first_pass_leaves.specs.Path.{path_of}
-use Rattle.first_pass_leaves.specs.TableEntries.{tables, names_of, no_names}
-use Rattle.first_pass_leaves.specs.RawBlocks.{IsPlaceAt, behind_line_at, html_to_blank}
+use Rattle.first_pass_open.specs.Path.{path_of}
+use Rattle.first_pass_names.specs.TableEntries.{tables, names_of, no_names}
+use Rattle.first_pass_raw.specs.RawBlocks.{IsPlaceAt, behind_line_at, html_to_blank}
 use Rattle.first_pass_grammar.specs.Names.{Extends}
 use Rattle.first_pass_grammar.specs.Kinds.{unindented, IsKind}
 use Rattle.first_pass_grammar.specs.declared.kind.Kind.TheVariants.{HtmlToBlank}

@@ -1,5 +1,5 @@
 use Rattle.std.proofs.Common.{◌≡◌, ◌≤◌, ℕ, List, length, Option, Some, None, IfSome, IsCharBoundary, refl, ap, subst, ◌∙◌}
-use Rattle.first_pass_leaves.specs.TableEntries.{no_names}
+use Rattle.first_pass_names.specs.TableEntries.{no_names}
 use Rattle.first_pass_grammar.specs.Leaves.{document, content_at}
 use Rattle.first_pass_text.specs.Appends.{text_upto}
 use Rattle.first_pass_tokens.specs.TreeTokens.{AppendsLine}

@@ -5,8 +5,8 @@ use Rattle.first_pass_scan.specs.Places.{place_at, line_end}
 use Rattle.first_pass_html.specs.Starts.{html_end}
 use Rattle.first_pass_grammar.specs.declared.kind.Kind.TheVariants.{Metadata, HtmlToEnd, ThematicBreak, AtxHeading, FencedCode}
 use Rattle.first_pass_grammar.specs.Kinds.{unindented, begins_html_to_end}
-use Rattle.first_pass_leaves.specs.TableEntries.{names_of}
-use Rattle.first_pass_leaves.proofs.PlaceLemmas.{all_keep, place_end}
+use Rattle.first_pass_names.specs.TableEntries.{names_of}
+use Rattle.first_pass_open.proofs.PlaceLemmas.{all_keep, place_end}
 use Rattle.first_pass_text.specs.Between.{AddsBetween}
 use Rattle.first_pass.proofs.OrderSteps.{unindented_later}
 use Rattle.first_pass.proofs.LeafLemmas.{rule_end}

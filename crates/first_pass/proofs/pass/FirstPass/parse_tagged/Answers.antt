@@ -8,9 +8,9 @@ use Rattle.first_pass_grammar.specs.Kinds.{ends_tag, all_taken}
 use Rattle.first_pass_grammar.specs.Leaves.{document}
 use Rattle.first_pass_grammar.specs.Completion.{lines_from}
 use Rattle.first_pass_lists.specs.declared.reading.Reading.{Reading}
-use Rattle.first_pass_leaves.specs.Path.{path_of}
+use Rattle.first_pass_open.specs.Path.{path_of}
 use Rattle.first_pass.specs.Opening.{ReadyLazy}
-use Rattle.first_pass_leaves.proofs.PlaceLemmas.{text_place}
+use Rattle.first_pass_open.proofs.PlaceLemmas.{text_place}
 use Rattle.first_pass.proofs.OrderLemmas.{ordered_none}
 use Rattle.first_pass.proofs.OrderSteps.{ordered_in_line}
 use Rattle.first_pass.proofs.TagLemmas.{ready_any_line, ready_its_line}

@@ -6,9 +6,9 @@ use Rattle.first_pass_grammar.specs.Completion.{lines_from}
 use Rattle.first_pass_text.specs.Appends.{line_end_at}
 use Rattle.first_pass_lists.specs.declared.reading.Reading.{Reading}
 use Rattle.first_pass.specs.State.{Ready}
-use Rattle.first_pass_leaves.proofs.PlaceLemmas.{all_keep, at_read}
+use Rattle.first_pass_open.proofs.PlaceLemmas.{all_keep, at_read}
 use Rattle.first_pass.proofs.OrderSteps.{ordered_block, unindented_later}
-use Rattle.first_pass_leaves.specs.TableEntries.{no_names}
+use Rattle.first_pass_names.specs.TableEntries.{no_names}
 use Rattle.first_pass.proofs.KindBlocks.{paragraph_named}
 use Rattle.first_pass.proofs.LeafLemmas.{line_end_of, ready_text}
 use Rattle.first_pass.proofs.pass.FirstPass.parse_task_text.Goals as goal

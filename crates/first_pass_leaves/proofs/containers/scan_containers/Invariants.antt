@@ -1,7 +1,0 @@
-use Rattle.std.proofs.Common.{◌≡◌, Some}
-use Rattle.first_pass_grammar.specs.Containers.{after}
-use Rattle.first_pass_leaves.specs.Path.{path_in, outer}
-use Rattle.first_pass_leaves.proofs.containers.scan_containers.Given as goal
-
-abbrev pub invariant-loop-i : goal.invariant-loop-i
-invariant-loop-i l = after (path_in l.tree.nodes (outer l.i l.tree.spine)) l.fn.line_start ≡ Some l.line_start

@@ -1,4 +1,0 @@
-pub mod OpenBlock
-pub mod Path
-pub mod RawBlocks
-pub mod TableEntries

@@ -1,0 +1,115 @@
+//! What the nodes of a tree name by an index, and what a text defines.
+
+ghost use Rattle.std.specs.Prelude.{◌≡◌, ◌<◌, ◌∷◌, ◌++◌, [], length, slice_get, Some, IfOk, OnOk, OnErr};
+ghost use Rattle.first_pass_grammar.specs.Names.{NamesText, Extends};
+ghost use Rattle.first_pass_items.specs.CowText.{text_of};
+ghost use Rattle.first_pass_names.specs.TableEntries.{tables, no_tables, names_of, no_names, with_named};
+ghost use Rattle.first_pass_grammar.specs.Names.{text_named};
+
+use first_pass_items::cow_str::CowStr;
+use first_pass_items::item::CowIndex;
+use std::alloc::{AllocError, Global};
+use std::ops::{DerefStr, Index, Range};
+
+/// What a link reference definition says: where the link leads, its title, and where in the text the
+/// definition stands (CommonMark 4.7).
+#[derive(Drop)]
+pub struct LinkDef<'a> {
+    pub dest: CowStr<'a>,
+    pub title: Option<CowStr<'a>>,
+    pub span: Range<usize>,
+}
+
+/// What is known of a footnote: how often it is used, which this pass does not count.
+#[derive(Drop)]
+pub struct FootnoteDef {
+    pub use_count: usize,
+}
+
+/// The link definitions of a text, by label. No block that the pass reads so far makes one.
+#[derive(Drop)]
+pub struct RefDefs<'a> {
+    entries: Vec<(CowStr<'a>, LinkDef<'a>)>,
+}
+
+/// The footnote definitions of a text, by label. No block that the pass reads so far makes one.
+#[derive(Drop)]
+pub struct FootDefs<'a> {
+    entries: Vec<(CowStr<'a>, FootnoteDef)>,
+}
+
+/// The tables beside a tree: what the text defines, and the texts that nodes name by an index.
+#[derive(Drop)]
+pub struct Allocations<'a> {
+    texts: Vec<CowStr<'a>>,
+    refdefs: RefDefs<'a>,
+    footdefs: FootDefs<'a>,
+}
+
+impl<'a> Allocations<'a> {
+    /// Empty tables, which take no memory.
+    pub fn new(alloc: Global) -> Allocations<'a>
+        ensures tables { tables result ≡ no_tables }
+        ensures names { names_of result ≡ no_names }
+    {
+        Allocations {
+            texts: Vec::new(alloc),
+            refdefs: RefDefs {
+                entries: Vec::new(alloc),
+            },
+            footdefs: FootDefs {
+                entries: Vec::new(alloc),
+            },
+        }
+    }
+
+    /// The link definitions.
+    pub fn refdefs(&self) -> &RefDefs<'a>
+        ensures { result.now ≡ self.now.refdefs }
+    {
+        &self.refdefs
+    }
+
+    /// The footnote definitions.
+    pub fn footdefs(&self) -> &FootDefs<'a>
+        ensures { result.now ≡ self.now.footdefs }
+    {
+        &self.footdefs
+    }
+
+    /// Puts a text behind those that nodes name, and answers its index. The one error is that a request for
+    /// memory was refused; then nothing changes.
+    pub fn allocate_cow(&mut self, cow: CowStr<'a>) -> Result<CowIndex, AllocError>
+        ensures index { IfOk result (λ ix. ix.0 ≡ length (names_of self.old).texts) }
+        ensures names { OnOk result (names_of self.new ≡ with_named (names_of self.old) cow.entry) }
+        ensures tables { tables self.new ≡ tables self.old }
+        ensures refused { OnErr result (names_of self.new ≡ names_of self.old) }
+    {
+        let ix = CowIndex(self.texts.len());
+        self.texts.push(cow)?;
+        Ok(ix)
+    }
+
+    /// The text that a node names by this index; an empty one where the index names none.
+    pub fn text_at(&self, ix: CowIndex) -> &str
+        ensures { result.now ≡ text_named (names_of self.now) ix }
+    {
+        match self.texts.get(ix.0) {
+            Some(text) => text.deref(),
+            None => "",
+        }
+    }
+}
+
+impl<'a> Index<CowIndex> for Allocations<'a> {
+    type Output = CowStr<'a>;
+
+    ghost can_index = { λ allocs ix. ix.0 < length (names_of allocs).texts };
+
+    ghost index_gives = { λ allocs ix named. slice_get (names_of allocs).texts ix.0 ≡ Some named };
+
+    /// The text that a node names by this index.
+    fn index(&self, ix: CowIndex) -> &CowStr<'a> {
+        &self.texts[ix.0]
+    }
+}

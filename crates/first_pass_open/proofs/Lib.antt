@@ -1,0 +1,5 @@
+pub mod PathLemmas
+pub mod FrontLemmas
+pub mod PlaceLemmas
+pub mod PlainLemmas
+pub mod BlockLemmas

@@ -1,0 +1,99 @@
+-- The containers among the open nodes, as the tree grows and nodes are closed.
+use Rattle.std.proofs.Common.{◌≡◌, ◌⊎◌, inl, inr, ℕ, zero, suc, ◌+◌, ◌<◌, ◌≤◌, nat_le, ◌||◌, Bool, true, false, List, [], ◌∷◌, ◌++◌, length, slice_get, Option, Some, None, refl, ap, subst, ◌∙◌, arith, length-append}
+use Rattle.std.proofs.lemmas.List.{length-map}
+use Rattle.std.specs.Option.{option_map, option_and_then}
+use Rattle.first_pass_items.specs.declared.item.Item.{Item}
+use Rattle.first_pass_tree.specs.declared.tree_index.TreeIndex.{TreeIndex}
+use Rattle.first_pass_tree.specs.Forest.{Forest, IsOpenPath, depths, appended, pushed, at_depth}
+use Rattle.first_pass_scan.specs.Lines.{at_line_end}
+use Rattle.first_pass_scan.specs.Rest.{Rest, indent, after_columns}
+use Rattle.first_pass_scan.proofs.Columns.{after-none}
+use Rattle.first_pass_scan.specs.Places.{line_rest}
+use Rattle.first_pass_tokens.specs.TreeTokens.{chained, leaves}
+use Rattle.first_pass_tokens.proofs.ChainLemmas.{chained-spine, chained-nodes}
+use Rattle.first_pass_grammar.specs.declared.kind.Container.{Container}
+use Rattle.first_pass_grammar.specs.declared.kind.Container.TheVariants.{BlockQuote, ListItem}
+use Rattle.first_pass_grammar.specs.Containers.{has_columns, prefix, after, or_shorter, front}
+use Rattle.first_pass_open.specs.Path.{container_of, container_at, with_container, path_in, path_of}
+
+-- each of these places is one of n
+abbrev pub AreIn : ℕ → List TreeIndex → Type 0
+AreIn n [] = Unit {0}
+AreIn n (ix ∷ spine) = (ix.0 < n) × AreIn n spine
+
+pub open_are_in : (ns : List (ℕ × Item)) (spine : List TreeIndex) → IsOpenPath (depths ns) spine → AreIn (length ns) spine
+open_are_in ns [] o = tt
+open_are_in ns (ix ∷ spine) o = (subst (λ n. ix.0 < n) (length-map ns (λ n. n.0)) o.0.within, open_are_in ns spine o.1)
+
+pub get_front : (ns more : List (ℕ × Item)) (i : ℕ) → i < length ns → slice_get (ns ++ more) i ≡ slice_get ns i
+get_front [] more i h = absurd (omega arith)
+get_front (n ∷ ns) more zero h = refl
+get_front (n ∷ ns) more (suc i) h = get_front ns more i (omega arith)
+
+-- more nodes behind
+pub path_in-append : (ns more : List (ℕ × Item)) (spine : List TreeIndex) → AreIn (length ns) spine → path_in (ns ++ more) spine ≡ path_in ns spine
+path_in-append ns more [] a = refl
+path_in-append ns more (ix ∷ spine) a =
+    ap (λ n. with_container (option_and_then container_of (option_map (λ n. n.1.body) n)) (path_in (ns ++ more) spine)) (get_front ns more ix.0 a.0)
+    ∙ ap (with_container (container_at ns ix)) (path_in-append ns more spine a.1)
+
+-- a chain in the innermost open node
+pub path_of-chained : (f : Forest Item) (chain : List Item) → AreIn (length f.nodes) f.spine → path_of (chained f chain) ≡ path_of f
+path_of-chained f chain a =
+    ap (λ s. path_in (chained f chain).nodes s) (chained-spine f chain)
+    ∙ ap (λ ns. path_in ns f.spine) (chained-nodes f chain) ∙ path_in-append f.nodes (at_depth (length f.spine + 1) (leaves chain)) f.spine a
+
+or_true : (t : Bool) → (t || true) ≡ true
+or_true true = refl
+or_true false = refl
+
+columns-end : (n : ℕ) → after_columns n (line_rest []) ≡ line_rest []
+columns-end n = after-none n (line_rest []) refl
+
+item_prefix : (n : ℕ) (r : Rest) → has_columns n r ≡ true → prefix (ListItem n) r ≡ Some (after_columns n r)
+unfolding prefix
+item_prefix n r h = rw h refl
+
+item-end : (n : ℕ) → prefix (ListItem n) (line_rest []) ≡ Some (line_rest [])
+item-end n =
+    let e = columns-end n in
+    let h : has_columns n (line_rest []) ≡ true = ap (λ (r : Rest). nat_le n (indent (line_rest [])) || at_line_end r.left) e ∙ or_true (nat_le n 0) in
+    item_prefix n (line_rest []) h ∙ ap (λ r. Some r) e
+
+-- At the end of the text a line goes on with a path, or doesn't.
+pub after-end : (path : List Container) → (after path (line_rest []) ≡ None) ⊎ (after path (line_rest []) ≡ Some (line_rest []))
+unfolding after prefix
+after-end [] = inr refl
+after-end (BlockQuote kind ∷ path) = elim (after-end path) [ inl none ↦ inl (rw none refl) | inr some ↦ inl (rw some refl) ]
+after-end (ListItem n ∷ path) = elim (after-end path) [ inl none ↦ inl (rw none refl) | inr some ↦ (let e = item-end n in inr (rw some e)) ]
+
+front_by : (o : Option Rest) (r q : Rest) → (o ≡ None) ⊎ (o ≡ Some r) → q ≡ r → or_shorter o q ≡ r
+front_by None r q h e = e
+front_by (Some x) r q (inl none) e = cc
+front_by (Some x) r q (inr some) e = cc
+
+pub front-end : (path : List Container) → front path (line_rest []) ≡ line_rest []
+unfolding front
+front-end [] = refl
+front-end (c ∷ path) = front_by (after (c ∷ path) (line_rest [])) (line_rest []) (front path (line_rest [])) (after-end (c ∷ path)) (front-end path)
+
+pub AreIn-more : (n m : ℕ) (spine : List TreeIndex) → n ≤ m → AreIn n spine → AreIn m spine
+AreIn-more n m [] h a = tt
+AreIn-more n m (ix ∷ spine) h a = (let w : ix.0 < n = a.0 in omega arith, AreIn-more n m spine h a.1)
+
+pub get_last : (ns : List (ℕ × Item)) (x : ℕ × Item) (i : ℕ) → i ≡ length ns → slice_get (ns ++ x ∷ []) i ≡ Some x
+get_last [] x zero h = refl
+get_last [] x (suc i) h = absurd (omega arith)
+get_last (n ∷ ns) x zero h = absurd (omega arith)
+get_last (n ∷ ns) x (suc i) h = get_last ns x i (omega arith)
+
+-- a node just opened
+pub path_of-opened : (g : Forest Item) (x : Item) (ix : TreeIndex) → ix.0 ≡ length g.nodes → AreIn (length g.nodes) g.spine → path_of (pushed (appended g x) ix) ≡ with_container (container_of x.body) (path_of g)
+path_of-opened g x ix at a =
+    ap (λ n. with_container (option_and_then container_of (option_map (λ n. n.1.body) n)) (path_in (g.nodes ++ (length g.spine + 1, x) ∷ []) g.spine)) (get_last g.nodes (length g.spine + 1, x) ix.0 at)
+    ∙ ap (with_container (container_of x.body)) (path_in-append g.nodes ((length g.spine + 1, x) ∷ []) g.spine a)
+
+pub opened_in : (g : Forest Item) (x : Item) (ix : TreeIndex) → ix.0 ≡ length g.nodes → AreIn (length g.nodes) g.spine → AreIn (length (pushed (appended g x) ix).nodes) (ix ∷ g.spine)
+opened_in g x ix at a =
+    let n : length (g.nodes ++ (length g.spine + 1, x) ∷ []) ≡ length g.nodes + 1 = length-append g.nodes ((length g.spine + 1, x) ∷ []) in
+    (omega arith, AreIn-more (length g.nodes) (length (g.nodes ++ (length g.spine + 1, x) ∷ [])) g.spine (omega arith) a)

@@ -1,0 +1,16 @@
+use Rattle.std.proofs.Common.{ap, sym, ◌∙◌}
+use Rattle.first_pass_scan.specs.Rest.{Rest, indent, after_columns}
+use Rattle.first_pass_open.proofs.PlaceLemmas.{all_after}
+use Rattle.first_pass_open.proofs.PlainLemmas.{inert_all, inert_few}
+use Rattle.first_pass_open.proofs.indentation.scan_indentation.Goals as goal
+
+pub returns-then-is_at_inert-clause-columns : goal.returns-then-is_at_inert-clause-columns
+returns-then-is_at_inert-clause-columns c =
+    inert_few c.args.line_start.now (c.is_at_inert.ensures.owed c.if-is_at_inert.true) (c.is_at_inert.ensures.inert c.if-is_at_inert.true)
+
+pub returns-then-is_at_inert-clause-rest : goal.returns-then-is_at_inert-clause-rest
+returns-then-is_at_inert-clause-rest c =
+    sym (inert_all c.args.line_start.now (c.is_at_inert.ensures.owed c.if-is_at_inert.true) (c.is_at_inert.ensures.inert c.if-is_at_inert.true))
+
+pub returns-clause-rest : goal.returns-clause-rest
+returns-clause-rest c = c.scan_all_space.ensures ∙ ap (λ (r : Rest). after_columns (indent r) r) c.scan_space_upto-columns.ensures.rest ∙ all_after 4 c.args.line_start.now

@@ -1,0 +1,92 @@
+//! How far a line goes on with the open containers (CommonMark 5).
+
+ghost use Rattle.std.specs.Prelude.{◌≡◌, ℕ, ◌<◌, ◌≤◌, length, Some, None, true, false, MatchOption};
+ghost use Rattle.first_pass_grammar.specs.declared.kind.Container.TheVariants.{BlockQuote, ListItem};
+ghost use Rattle.first_pass_grammar.specs.Containers.{prefix, after, front};
+ghost use Rattle.first_pass_scan.specs.Rest.{after_columns};
+ghost use Rattle.first_pass_open.specs.Path.{container_of, prefix_of, path_in, path_of, outer};
+
+use first_pass_items::item::{Item, ItemBody};
+use first_pass_items::option_set::Options;
+use first_pass_scan::line_start::LineStart;
+use first_pass_tree::forest::Tree;
+
+// Takes the columns of an item's indent, or fewer where the line ends behind them, and says whether they are
+// there; takes nothing where they aren't.
+#[tactic(auto, unfolding(first_pass_grammar::specs::Containers::prefix))]
+fn takes_columns<'a>(columns: usize, line_start: &mut LineStart<'a>) -> bool
+    ensures { MatchOption (prefix (ListItem columns) line_start.old)
+        ((result ≡ false) × (line_start.new ≡ line_start.old)) (λ next. (result ≡ true) × (line_start.new ≡ next)) }
+{
+    let mut next = line_start.copy();
+    if !next.scan_space(columns) && !next.is_at_eol() {
+        return false;
+    }
+    *line_start = next;
+    true
+}
+
+// Takes the prefix by which the line goes on with a node, and says whether it does; takes nothing where it doesn't.
+#[tactic(auto, unfolding(first_pass_grammar::specs::Containers::prefix))]
+fn takes_prefix<'a>(body: ItemBody, line_start: &mut LineStart<'a>) -> bool
+    ensures { MatchOption (prefix_of (container_of body) line_start.old)
+        ((result ≡ false) × (line_start.new ≡ line_start.old)) (λ next. (result ≡ true) × (line_start.new ≡ next)) }
+{
+    // Two tests and no match on all kinds of nodes, which would be a jump that is seldom predicted.
+    let columns = match body {
+        ItemBody::ListItem(columns) => Some(columns),
+        _ => None,
+    };
+    if let Some(columns) = columns {
+        return takes_columns(columns, line_start);
+    }
+    if matches!(body, ItemBody::BlockQuote(_)) {
+        return scan_quote(line_start).is_some();
+    }
+    true
+}
+
+/// How many of the open nodes the line goes on with, the outermost first, up to the first by which it
+/// doesn't; the line start is then behind what they take (CommonMark 5). What is no container goes on with
+/// every line. Neither the options nor the flag make a difference yet.
+pub fn scan_containers<'a>(
+    tree: &Tree<Item>,
+    line_start: &mut LineStart<'a>,
+    _options: Options,
+    _gfm_blockquote: bool,
+) -> usize
+    ensures within { result ≤ length tree.now.spine }
+    ensures taken { after (path_in tree.now.nodes (outer result tree.now.spine)) line_start.old ≡ Some line_start.new }
+    ensures stops { (m : ℕ) → result < m → m ≤ length tree.now.spine → after (path_in tree.now.nodes (outer m tree.now.spine)) line_start.old ≡ None }
+    ensures front { line_start.new ≡ front (path_of tree.now) line_start.old }
+{
+    tree.is_forest();
+    let spine = tree.walk_spine();
+    for (i, ix) in spine.iter().enumerate() {
+        if !takes_prefix(tree[*ix].body, line_start) {
+            return i;
+        }
+    }
+    spine.len()
+}
+
+/// Takes the prefix of a block quote, where it is there, and answers how many bytes of the line stand before
+/// its marker; takes nothing where it isn't (CommonMark 5.1).
+#[inline(always)]
+#[tactic(auto, unfolding(first_pass_grammar::specs::Containers::prefix))]
+pub fn scan_quote<'a>(line_start: &mut LineStart<'a>) -> Option<usize>
+    ensures { MatchOption (prefix (BlockQuote None) line_start.old) ((result ≡ None) × (line_start.new ≡ line_start.old))
+        (λ next. (result ≡ Some (after_columns 3 line_start.old).taken) × (line_start.new ≡ next)) }
+{
+    if line_start.is_at_inert() {
+        return None;
+    }
+    let mut next = line_start.copy();
+    next.scan_space_upto(3);
+    let before = next.bytes_scanned();
+    if !next.scan_blockquote_marker() {
+        return None;
+    }
+    *line_start = next;
+    Some(before)
+}

@@ -1,0 +1,7 @@
+pub mod CodeLineLemmas
+pub mod FencedLemmas
+pub mod HtmlLemmas
+pub mod IndentedLemmas
+pub mod MetadataLemmas
+pub mod RawLineLemmas
+pub mod RawOrder

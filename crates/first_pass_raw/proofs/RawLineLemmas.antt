@@ -1,0 +1,134 @@
+-- Raw lines behind the nodes of a tree: the columns that are owed, and the bytes.
+use Rattle.std.proofs.Common.{◌≡◌, ℕ, zero, suc, ◌+◌, ◌-◌, ◌<◌, ◌≤◌, Bool, true, false, List, [], ◌∷◌, ◌++◌, length, slice_get, Some, refl, sym, ap, ◌∙◌, subst, inl, inr, arith}
+use Rattle.std.specs.List.{slice_range}
+use Rattle.std.proofs.lemmas.Bool.{cases_lt, lt-ltb, le-ltb, cond-true, cond-false}
+use Rattle.first_pass_items.specs.declared.cow_str.CowStr.{CowStr}
+use Rattle.first_pass_items.specs.CowText.{text_of}
+use Rattle.first_pass_items.specs.declared.item.CowIndex.{CowIndex}
+use Rattle.first_pass_items.specs.declared.item.Item.{Item}
+use Rattle.first_pass_items.specs.declared.item.ItemBody.TheVariants.{SynthesizeText}
+use Rattle.first_pass_tree.specs.Forest.{Forest, appended, with_text}
+use Rattle.first_pass_tokens.specs.TreeTokens.{with_tokens, chained}
+use Rattle.first_pass_tokens.proofs.ChainLemmas.{with_tokens-append, chained-append, with_text-none, with_text-some, with_token-plain}
+use Rattle.first_pass_grammar.specs.Names.{Names, NamesText, Extends}
+use Rattle.first_pass_grammar.specs.RawLines.{spaces, AreColumns, ends_with_both, range_text, code_texts, html_item, html_items}
+use Rattle.first_pass_names.specs.TableEntries.{with_named}
+use Rattle.first_pass_names.proofs.NameLemmas.{extends_none}
+use Rattle.first_pass_raw.specs.RawBlocks.{AppendsColumns, AppendsCode, AppendsHtml}
+
+-- with one more text
+pub extends_named : (old new : Names) (cow : CowStr) → new ≡ with_named old cow → Extends new old
+extends_named old new cow e = record { more = cow ∷ []; texts = ap (λ (n : Names). n.texts) e }
+
+get_behind : (xs : List CowStr) (x : CowStr) (ys : List CowStr) → slice_get ((xs ++ x ∷ []) ++ ys) (length xs) ≡ Some x
+get_behind [] x ys = refl
+get_behind (y ∷ xs) x ys = get_behind xs x ys
+
+-- the index of a text that was put behind those that are named names it, whatever more is named
+pub named_last : (old new more : Names) (cow : CowStr) (ix : CowIndex) (text : List ℕ) → new ≡ with_named old cow → ix.0 ≡ length old.texts → text_of cow ≡ text → Extends more new → NamesText more ix text
+named_last old new more cow ix text e at is f =
+    (cow, ap (λ i. slice_get more.texts i) at ∙ ap (λ ts. slice_get ts (length old.texts)) (f.texts ∙ ap (λ (n : Names). n.texts ++ f.more) e) ∙ get_behind old.texts cow f.more, is)
+
+-- up to three spaces
+pub spaces_taken : (n : ℕ) → n ≤ 3 → slice_range (32 ∷ 32 ∷ 32 ∷ []) 0 n ≡ spaces n
+spaces_taken zero h = refl
+spaces_taken (suc zero) h = refl
+spaces_taken (suc (suc zero)) h = refl
+spaces_taken (suc (suc (suc zero))) h = refl
+spaces_taken (suc (suc (suc (suc n)))) h = absurd (omega arith)
+
+abbrev columns_item : ℕ → CowIndex → Item
+columns_item at ix = record { start = at; «end» = at; body = SynthesizeText ix }
+
+some_columns : (names : Names) (n at : ℕ) (ix : CowIndex) → ¬ (n ≡ 0) → NamesText names ix (spaces n) → AreColumns names n at (columns_item at ix ∷ [])
+some_columns names zero at ix h named = absurd (h refl)
+some_columns names (suc n) at ix h named = (ix, named, refl)
+
+pub no_columns : (names : Names) (n at : ℕ) (f : Forest Item) → n ≡ 0 → AppendsColumns names n at f f
+no_columns names n at f e = record { items = []; tree_is = refl; are = λ more h. subst (λ k. AreColumns more k at []) (sym e) refl }
+
+pub columns_appended : (old_names names : Names) (cow : CowStr) (ix : CowIndex) (n at : ℕ) (old new : Forest Item) → ¬ (n ≡ 0) → n ≤ 3 → text_of cow ≡ slice_range (32 ∷ 32 ∷ 32 ∷ []) 0 n → names ≡ with_named old_names cow → ix.0 ≡ length old_names.texts
+    → new ≡ appended old (record { start = at; «end» = at; body = SynthesizeText ix }) → AppendsColumns names n at old new
+columns_appended old_names names cow ix n at old new some small text e place new_is =
+    record {
+      items = columns_item at ix ∷ [];
+      tree_is = new_is;
+      are = λ more h. some_columns more n at ix some (named_last old_names names more cow ix (spaces n) e place (text ∙ spaces_taken n small) h);
+    }
+
+-- columns are no text, so that nothing joins them
+columns_plain : (names : Names) (n at : ℕ) (items : List Item) (f : Forest Item) → AreColumns names n at items → chained f items ≡ with_tokens f items
+columns_plain names zero at items f h = ap (chained f) h ∙ sym (ap (with_tokens f) h)
+columns_plain names (suc n) at items f (ix, named, is) = ap (chained f) is ∙ sym (with_token-plain f (columns_item at ix) refl) ∙ sym (ap (with_tokens f) is)
+
+-- the bytes of a line
+pub range_appended : (f : Forest Item) (from to : ℕ) → from ≤ to → with_text f from to false ≡ with_tokens f (range_text from to)
+range_appended f from to order =
+    elim (cases_lt from to) [
+      | inl some ↦ with_text-some f from to false some ∙ sym (ap (with_tokens f) (cond-true _ _ _ (lt-ltb from to some)))
+      | inr none ↦ with_text-none f from to false (omega arith) ∙ sym (ap (with_tokens f) (cond-false _ _ _ (le-ltb from to none)))
+    ]
+
+pub texts_one : (text : List ℕ) (from to : ℕ) → ends_with_both text from to ≡ false → code_texts text from to ≡ range_text from to
+unfolding code_texts
+texts_one text from to h = cond-false _ _ _ h
+
+pub texts_two : (text : List ℕ) (from to : ℕ) → ends_with_both text from to ≡ true → code_texts text from to ≡ range_text from (to - 2) ++ range_text (to - 1) to
+unfolding code_texts
+texts_two text from to h = cond-true _ _ _ h
+
+html_one : (text : List ℕ) (from to : ℕ) → ends_with_both text from to ≡ false → html_items text from to ≡ html_item from to ∷ []
+unfolding html_items
+html_one text from to h = cond-false _ _ _ h
+
+html_two : (text : List ℕ) (from to : ℕ) → ends_with_both text from to ≡ true → html_items text from to ≡ html_item from (to - 2) ∷ html_item (to - 1) to ∷ []
+unfolding html_items
+html_two text from to h = cond-true _ _ _ h
+
+both_order : (text : List ℕ) (from to : ℕ) → ends_with_both text from to ≡ true → from + 1 < to
+both_order text from to h = grind (arith, h)
+
+code_appended : (text : List ℕ) (names : Names) (owed from to : ℕ) (old mid new : Forest Item) → AppendsColumns names owed from old mid → new ≡ with_tokens mid (code_texts text from to) → AppendsCode text names owed from to old new
+code_appended text names owed from to old mid new c e =
+    record {
+      items = c.items ++ code_texts text from to;
+      tree_is = e ∙ ap (λ f. with_tokens f (code_texts text from to)) (c.tree_is ∙ columns_plain names owed from c.items old (c.are names (extends_none names))) ∙ sym (with_tokens-append old c.items (code_texts text from to));
+      are = λ options more h. (c.items, c.are more h, refl);
+    }
+
+-- a raw line of code whose end is not `\r\n`, and one whose end is
+pub code_one : (text bytes : List ℕ) (names : Names) (owed from to : ℕ) (old mid new : Forest Item) (both : Bool) → AppendsColumns names owed from old mid → bytes ≡ text → both ≡ ends_with_both bytes from to → both ≡ false → from ≤ to
+    → new ≡ with_text mid from to false → AppendsCode text names owed from to old new
+code_one text bytes names owed from to old mid new both c same is h order e =
+    let t : ends_with_both text from to ≡ false = ap (λ bs. ends_with_both bs from to) (sym same) ∙ sym is ∙ h in
+    code_appended text names owed from to old mid new c (e ∙ range_appended mid from to order ∙ ap (with_tokens mid) (sym (texts_one text from to t)))
+
+pub code_two : (text bytes : List ℕ) (names : Names) (owed from to : ℕ) (old mid line new : Forest Item) (both : Bool) → AppendsColumns names owed from old mid → bytes ≡ text → both ≡ ends_with_both bytes from to → both ≡ true
+    → line ≡ with_text mid from (to - 2) false → new ≡ with_text line (to - 1) to false → AppendsCode text names owed from to old new
+code_two text bytes names owed from to old mid line new both c same is h d e =
+    let t : ends_with_both text from to ≡ true = ap (λ bs. ends_with_both bs from to) (sym same) ∙ sym is ∙ h in
+    let order = both_order text from to t in
+    code_appended text names owed from to old mid new c
+    (e ∙ ap (λ f. with_text f (to - 1) to false) (d ∙ range_appended mid from (to - 2) (omega arith)) ∙ range_appended (with_tokens mid (range_text from (to - 2))) (to - 1) to (omega arith)
+    ∙ sym (with_tokens-append mid (range_text from (to - 2)) (range_text (to - 1) to)) ∙ ap (with_tokens mid) (sym (texts_two text from to t)))
+
+html_appended : (text : List ℕ) (names : Names) (owed from to : ℕ) (old mid new : Forest Item) → AppendsColumns names owed from old mid → new ≡ chained mid (html_items text from to) → AppendsHtml text names owed from to old new
+html_appended text names owed from to old mid new c e =
+    record {
+      items = c.items ++ html_items text from to;
+      tree_is = e ∙ ap (λ f. chained f (html_items text from to)) c.tree_is ∙ chained-append old c.items (html_items text from to);
+      are = λ options more h. (c.items, c.are more h, refl);
+    }
+
+-- the same as HTML
+pub html_line_one : (text bytes : List ℕ) (names : Names) (owed from to : ℕ) (old mid new : Forest Item) (both : Bool) → AppendsColumns names owed from old mid → bytes ≡ text → both ≡ ends_with_both bytes from to → both ≡ false
+    → new ≡ appended mid (html_item from to) → AppendsHtml text names owed from to old new
+html_line_one text bytes names owed from to old mid new both c same is h e =
+    let t : ends_with_both text from to ≡ false = ap (λ bs. ends_with_both bs from to) (sym same) ∙ sym is ∙ h in
+    html_appended text names owed from to old mid new c (e ∙ ap (chained mid) (sym (html_one text from to t)))
+
+pub html_line_two : (text bytes : List ℕ) (names : Names) (owed from to : ℕ) (old mid line new : Forest Item) (both : Bool) → AppendsColumns names owed from old mid → bytes ≡ text → both ≡ ends_with_both bytes from to → both ≡ true
+    → line ≡ appended mid (html_item from (to - 2)) → new ≡ appended line (html_item (to - 1) to) → AppendsHtml text names owed from to old new
+html_line_two text bytes names owed from to old mid line new both c same is h d e =
+    let t : ends_with_both text from to ≡ true = ap (λ bs. ends_with_both bs from to) (sym same) ∙ sym is ∙ h in
+    html_appended text names owed from to old mid new c (e ∙ ap (λ f. appended f (html_item (to - 1) to)) d ∙ ap (chained mid) (sym (html_two text from to t)))

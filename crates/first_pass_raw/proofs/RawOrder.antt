@@ -1,0 +1,665 @@
+-- Raw leaf blocks are in order: each lies between two offsets with what is below it, and its lines are placed in the text one behind the other.
+use Rattle.std.proofs.Common.{◌≡◌, ◌⊎◌, inl, inr, ℕ, zero, suc, ◌+◌, ◌-◌, ◌<◌, ◌≤◌, ◌==◌, ◌&&◌, Bool, true, false, not, List, [], ◌∷◌, ◌++◌, length, drop, get_or, slice_index, nat_lt, nat_le, if◌then◌else◌, Option, Some, None, IsUtf8, IsCharBoundary, refl, sym, ap, subst, ◌∙◌, arith, length-drop, get_or-drop}
+use Rattle.std.specs.List.{prefix_len}
+use Rattle.std.specs.Option.{option_map, option_and_then}
+use Rattle.std.proofs.lemmas.Bool.{cond_both, cases_lt, eqb-true, and_parts, or_cases, ltb-true}
+use Rattle.std.proofs.lemmas.Bool.Decides.{nat_tests}
+use Rattle.std.proofs.lemmas.List.Sums.{prefix_len-le-length}
+use Rattle.std.proofs.lemmas.Str.{IsCharBoundary-before_ascii, IsCharBoundary-end}
+use Rattle.first_pass_items.specs.declared.item.Item.{Item}
+use Rattle.first_pass_items.specs.declared.item.ItemBody.{ItemBody}
+use Rattle.first_pass_items.specs.declared.item.ItemBody.TheVariants.{IndentCodeBlock, FencedCodeBlock, MetadataBlock, HtmlBlock}
+use Rattle.first_pass_scan.specs.Lines.{begins, is_content, is_blank, line_len, at_line_end}
+use Rattle.first_pass_scan.specs.LeafLines.{run_len, has_backquote, code_fence, three_of, closing_fence_len, closing_marks, closing_metadata_len, opens_metadata, metadata_byte}
+use Rattle.first_pass_scan.specs.Rest.{Rest, indent}
+use Rattle.first_pass_scan.specs.Places.{Place, offset, line_of, line_end, line_rest, line_place, place_at, moved_columns, start_of, IsPlaceOf}
+use Rattle.first_pass_scan.proofs.LineFacts.{line_len-parts, lines_at-line, lines_at-end}
+use Rattle.first_pass_scan.proofs.PlaceFacts.{line_is_place, columns_keep, columns_line_end, place_length, start_of-lines}
+use Rattle.first_pass_tokens.specs.Chains.{text_token, add_tokens}
+use Rattle.first_pass_tokens.specs.Order.{AreInOrder}
+use Rattle.first_pass_tokens.proofs.OrderLemmas.{order_from, order_to, order_append, order_adds}
+use Rattle.first_pass_grammar.specs.declared.kind.Container.{Container}
+use Rattle.first_pass_grammar.specs.Containers.{has_columns, at_rest, after, taken}
+use Rattle.first_pass_grammar.specs.Kinds.{all_taken, unindented, is_blank_rest}
+use Rattle.first_pass_grammar.specs.Names.{Names}
+use Rattle.first_pass_grammar.specs.Leaves.{Document, block_with}
+use Rattle.first_pass_grammar.specs.RawLines.{AreColumns, ends_with_both, range_text, code_texts, IsCodeLine, AreCodeLines, html_item, html_items, IsHtmlLine, AreHtmlLines}
+use Rattle.first_pass_grammar.specs.CodeBlocks.{Extent as Lines, with_line, ends_at, code_place, code_by, code_lines, unless_blank, without_blanks, last_end, IsIndentedCode, closing_fence_end, fenced_line, fenced_by, fenced_lines, IsFencedCode, metadata_line, metadata_by, metadata_lines, metadata_kind, IsMetadata}
+use Rattle.first_pass_grammar.specs.HtmlBlocks.{holds, is_empty, place_or, until_end_by, until_end, until_blank_by, until_blank, IsHtml}
+use Rattle.first_pass_grammar.specs.Completion.{lines_from}
+use Rattle.first_pass_grammar.specs.Order.{FitsBetween}
+use Rattle.first_pass_grammar.proofs.Orders.{block_fits}
+use Rattle.first_pass_raw.specs.RawBlocks.{behind_line_at, code_behind, fenced_behind, metadata_behind, html_to_end, html_to_blank}
+use Rattle.first_pass_open.proofs.PlaceLemmas.{all_keep, after_keeps, place_end, line_start_end}
+
+-- These places stand in the text between two offsets, each behind the line of the one before it.
+unfoldable pub ArePlaced : List ℕ → ℕ → List Place → ℕ → Type 0
+ArePlaced text from [] to = from ≤ to
+ArePlaced text from (p ∷ ps) to = (from ≤ offset p) × IsPlaceOf text p × ArePlaced text (line_end p) ps to
+
+-- So do the lines of an extent, up to its end, which is between characters.
+pub record IsPlaced (text : List ℕ) (from : ℕ) (e : Lines) : Type 0 where
+  pub places : ArePlaced text from e.places e.«end»
+  pub boundary : IsCharBoundary text e.«end»
+
+-- An extent ends no later than the first line begins that it leaves.
+abbrev pub EndsBefore : List ℕ → Lines → Type 0
+EndsBefore text e = e.«end» ≤ start_of (length text) e.left
+
+-- that is where reading goes on
+pub ends_before_next : (text : List ℕ) (e : Lines) (next : ℕ) → next ≤ length text → lines_from text next ≡ e.left → EndsBefore text e → e.«end» ≤ next
+ends_before_next text e next within left_is h = (let at = ap (start_of (length text)) left_is in let same = start_of-lines text next within in omega arith)
+
+-- the first of the two offsets is not behind the other
+pub placed_bound : (text : List ℕ) (from to : ℕ) (ps : List Place) → ArePlaced text from ps to → from ≤ to
+unfolding ArePlaced
+placed_bound text from to [] h = h
+placed_bound text from to (p ∷ ps) h = (let a = h.0 in let b = placed_bound text (line_end p) to ps h.2 in omega arith)
+
+-- from an earlier offset on, and up to a later one
+pub placed_from : (text : List ℕ) (low from to : ℕ) (ps : List Place) → low ≤ from → ArePlaced text from ps to → ArePlaced text low ps to
+unfolding ArePlaced
+placed_from text low from to [] less h = omega arith
+placed_from text low from to (p ∷ ps) less h = (let a = h.0 in omega arith, h.1, h.2)
+
+pub placed_to : (text : List ℕ) (from mid to : ℕ) (ps : List Place) → mid ≤ to → ArePlaced text from ps mid → ArePlaced text from ps to
+unfolding ArePlaced
+placed_to text from mid to [] more h = omega arith
+placed_to text from mid to (p ∷ ps) more h = (h.0, h.1, placed_to text (line_end p) mid to ps more h.2)
+
+-- columns that are owed have an empty range
+columns_in_order : (text : List ℕ) (names : Names) (owed at : ℕ) (items : List Item) → IsCharBoundary text at → AreColumns names owed at items → AreInOrder text at at items
+columns_in_order text names zero at items b is = subst (AreInOrder text at at) (sym is) (omega arith)
+columns_in_order text names (suc n) at items b is = subst (AreInOrder text at at) (sym is.2) (omega arith, omega arith, b, b, omega arith)
+
+-- `\r\n` at the end of a line: between characters before both, and between the two
+both_by : (text : List ℕ) (from to : ℕ) → to ≤ length text → ends_with_both text from to ≡ true → (from + 2 ≤ to) × IsCharBoundary text (to - 2) × IsCharBoundary text (to - 1)
+both_by text from to within h =
+    let a = and_parts (nat_lt (from + 1) to && (slice_index text (to - 2) == 13)) (slice_index text (to - 1) == 10) h in
+    let b = and_parts (nat_lt (from + 1) to) (slice_index text (to - 2) == 13) a.0 in
+    let long : from + 1 < to = ltb-true (from + 1) to b.0 in
+    let return_is = eqb-true (slice_index text (to - 2)) 13 b.1 in
+    let newline_is = eqb-true (slice_index text (to - 1)) 10 a.1 in
+    (omega arith, IsCharBoundary-before_ascii text (to - 2) (omega arith) (omega arith), IsCharBoundary-before_ascii text (to - 1) (omega arith) (omega arith))
+
+range_in_order : (text : List ℕ) (from to : ℕ) → from ≤ to → IsCharBoundary text from → IsCharBoundary text to → AreInOrder text from to (range_text from to)
+range_in_order text from to order b c =
+    cond_both (nat_lt from to) (text_token from to false ∷ []) [] (AreInOrder text from to) (λ some. (omega arith, order, b, c, omega arith)) (λ none. order)
+
+code_texts_in_order : (text : List ℕ) (from to : ℕ) → from ≤ to → IsCharBoundary text from → IsCharBoundary text to → AreInOrder text from to (code_texts text from to)
+unfolding code_texts
+code_texts_in_order text from to order b c =
+    cond_both (ends_with_both text from to) (range_text from (to - 2) ++ range_text (to - 1) to) (range_text from to) (AreInOrder text from to)
+    (λ both.
+    let h = both_by text from to c.0 both in
+    let long = h.0 in
+    order_append text from (to - 2) to (range_text from (to - 2)) (range_text (to - 1) to) (range_in_order text from (to - 2) (omega arith) b h.1)
+    (order_from text (to - 2) (to - 1) to (range_text (to - 1) to) (range_in_order text (to - 1) to (omega arith) h.2 c) (omega arith)))
+    (λ none. range_in_order text from to order b c)
+
+html_items_in_order : (text : List ℕ) (from to : ℕ) → from ≤ to → IsCharBoundary text from → IsCharBoundary text to → AreInOrder text from to (html_items text from to)
+unfolding html_items
+html_items_in_order text from to order b c =
+    cond_both (ends_with_both text from to) (html_item from (to - 2) ∷ html_item (to - 1) to ∷ []) (html_item from to ∷ []) (AreInOrder text from to)
+    (λ both.
+    let h = both_by text from to c.0 both in
+    let long = h.0 in
+    (omega arith, omega arith, b, h.1, (omega arith, omega arith, h.2, c, omega arith)))
+    (λ none. (omega arith, order, b, c, omega arith))
+
+-- the items of a line lie from where its text begins to where the line ends
+module _ (d : Document) (u : IsUtf8 d.text) where
+  code_line_in_order : (p : Place) (owed : ℕ) (items : List Item) → IsPlaceOf d.text p → IsCodeLine d owed (offset p) (line_end p) items → AreInOrder d.text (offset p) (line_end p) items
+  code_line_in_order p owed items i (columns, are, is) =
+      subst (AreInOrder d.text (offset p) (line_end p)) (sym is)
+      (order_append d.text (offset p) (offset p) (line_end p) columns (code_texts d.text (offset p) (line_end p)) (columns_in_order d.text d.names owed (offset p) columns i.boundary are)
+      (code_texts_in_order d.text (offset p) (line_end p) (omega arith) i.boundary (place_end d.text p u i)))
+
+  html_line_in_order : (p : Place) (owed : ℕ) (items : List Item) → IsPlaceOf d.text p → IsHtmlLine d owed (offset p) (line_end p) items → AreInOrder d.text (offset p) (line_end p) items
+  html_line_in_order p owed items i (columns, are, is) =
+      subst (AreInOrder d.text (offset p) (line_end p)) (sym is)
+      (order_append d.text (offset p) (offset p) (line_end p) columns (html_items d.text (offset p) (line_end p)) (columns_in_order d.text d.names owed (offset p) columns i.boundary are)
+      (html_items_in_order d.text (offset p) (line_end p) (omega arith) i.boundary (place_end d.text p u i)))
+
+  -- a chain of raw lines is in order
+  pub code_in_order : (ps : List Place) (from at to : ℕ) (chain whole : List Item) → ArePlaced d.text at ps to → AreInOrder d.text from at chain → AreCodeLines d chain ps whole → AreInOrder d.text from to whole
+  unfolding ArePlaced AreCodeLines
+  code_in_order [] from at to chain whole placed h is = subst (AreInOrder d.text from to) (sym is) (order_to d.text from at to chain h placed)
+  code_in_order (p ∷ ps) from at to chain whole placed h (line, is, further) =
+      code_in_order ps from (line_end p) to (add_tokens chain line) whole placed.2
+      (order_adds d.text from (offset p) (line_end p) chain line (order_to d.text from at (offset p) chain h placed.0) (code_line_in_order p p.rest.owed line placed.1 is)) further
+
+  pub html_in_order : (ps : List Place) (from at to owed : ℕ) (chain whole : List Item) → ArePlaced d.text at ps to → AreInOrder d.text from at chain → AreHtmlLines d chain owed ps whole → AreInOrder d.text from to whole
+  unfolding ArePlaced AreHtmlLines
+  html_in_order [] from at to owed chain whole placed h is = subst (AreInOrder d.text from to) (sym is) (order_to d.text from at to chain h placed)
+  html_in_order (p ∷ []) from at to owed chain whole placed h (line, is, whole_is) =
+      subst (AreInOrder d.text from to) (sym whole_is)
+      (order_to d.text from (line_end p) to (chain ++ line)
+      (order_append d.text from (offset p) (line_end p) chain line (order_to d.text from at (offset p) chain h placed.0) (html_line_in_order p owed line placed.1 is)) placed.2)
+  html_in_order (p ∷ q ∷ ps) from at to owed chain whole placed h (line, is, further) =
+      html_in_order (q ∷ ps) from (line_end p) to q.rest.owed (chain ++ line) whole placed.2
+      (order_append d.text from (offset p) (line_end p) chain line (order_to d.text from at (offset p) chain h placed.0) (html_line_in_order p owed line placed.1 is)) further
+
+-- a block of raw lines
+raw_fits : (text : List ℕ) (from to start stop : ℕ) (body : ItemBody) (chain : List Item) (items : List (ℕ × Item)) → items ≡ block_with start stop body chain → IsCharBoundary text start → IsCharBoundary text stop
+    → from ≤ start → start ≤ stop → stop ≤ to → AreInOrder text start stop chain → FitsBetween text from to items
+raw_fits text from to start stop body chain items is b c behind order before h =
+    subst (FitsBetween text from to) (sym is) (block_fits text from to (record { start = start; «end» = stop; body = body }) chain (record { behind = behind; order = order; before = before; starts = b; ends = c }) h)
+
+-- what lines are left without the blank ones at the end
+kept_by : (text : List ℕ) (from to : ℕ) (p : Place) (t : Bool) (qs : List Place) → is_blank_rest p.rest ≡ t → from ≤ offset p → IsPlaceOf text p → IsCharBoundary text from
+    → ArePlaced text (line_end p) qs (last_end (line_end p) qs) → IsCharBoundary text (last_end (line_end p) qs)
+    → ArePlaced text from (unless_blank p qs) (last_end from (unless_blank p qs)) × IsCharBoundary text (last_end from (unless_blank p qs))
+unfolding ArePlaced last_end
+kept_by text from to p true [] e h i b rest stops = rw e (omega arith, b)
+kept_by text from to p false [] e h i b rest stops = rw e ((h, i, rest), stops)
+kept_by text from to p t (q ∷ qs) e h i b rest stops = ((h, i, rest), stops)
+
+pub kept_placed : (text : List ℕ) (from to : ℕ) (ps : List Place) → IsUtf8 text → IsCharBoundary text from → ArePlaced text from ps to
+    → ArePlaced text from (without_blanks ps) (last_end from (without_blanks ps)) × IsCharBoundary text (last_end from (without_blanks ps))
+unfolding ArePlaced without_blanks last_end
+kept_placed text from to [] u b h = (omega arith, b)
+kept_placed text from to (p ∷ ps) u b h =
+    let k = kept_placed text (line_end p) to ps u (place_end text p u h.1) h.2 in
+    kept_by text from to p (is_blank_rest p.rest) (without_blanks ps) refl h.0 h.1 b k.0 k.1
+
+-- the last of them is not behind the others
+kept_last_by : (text : List ℕ) (from to : ℕ) (p : Place) (t : Bool) (qs : List Place) → is_blank_rest p.rest ≡ t → from ≤ to → last_end (line_end p) qs ≤ to → last_end from (unless_blank p qs) ≤ to
+unfolding last_end
+kept_last_by text from to p true [] e a b = rw e a
+kept_last_by text from to p false [] e a b = rw e b
+kept_last_by text from to p t (q ∷ qs) e a b = b
+
+pub kept_last : (text : List ℕ) (from to : ℕ) (ps : List Place) → ArePlaced text from ps to → last_end from (without_blanks ps) ≤ to
+unfolding ArePlaced without_blanks last_end
+kept_last text from to [] h = h
+kept_last text from to (p ∷ ps) h =
+    let a = h.0 in
+    let b = placed_bound text (line_end p) to ps h.2 in
+    kept_last_by text from to p (is_blank_rest p.rest) (without_blanks ps) refl (omega arith) (kept_last text (line_end p) to ps h.2)
+
+-- Indented code fits where its lines do.
+pub indented_fits : (d : Document) (p : Place) (further : List Place) (items : List (ℕ × Item)) (limit : ℕ) → IsUtf8 d.text → IsIndentedCode d p further items → ArePlaced d.text (offset p) (p ∷ further) limit
+    → (from to : ℕ) → from ≤ offset p → last_end (offset p) (without_blanks (p ∷ further)) ≤ to → FitsBetween d.text from to items
+unfolding ArePlaced
+indented_fits d p further items limit u is placed from to behind before =
+    let k = kept_placed d.text (offset p) limit (p ∷ further) u placed.1.boundary placed in
+    raw_fits d.text from to (offset p) (last_end (offset p) (without_blanks (p ∷ further))) IndentCodeBlock is.chain items is.items_are placed.1.boundary k.1
+    behind (placed_bound d.text (offset p) _ _ k.0) before
+    (code_in_order d u (without_blanks (p ∷ further)) (offset p) (offset p) _ [] is.chain k.0 (omega arith) is.lines)
+
+-- So do a fenced code block, a metadata block and an HTML block.
+pub fenced_fits : (d : Document) (start count : ℕ) (e : Lines) (items : List (ℕ × Item)) → IsUtf8 d.text → IsFencedCode d start count e.places e.«end» items → IsCharBoundary d.text start → IsPlaced d.text start e
+    → (from to : ℕ) → from ≤ start → e.«end» ≤ to → FitsBetween d.text from to items
+fenced_fits d start count e items u is b placed from to behind before =
+    raw_fits d.text from to start e.«end» (FencedCodeBlock is.info) is.chain items is.items_are b placed.boundary behind (placed_bound d.text start e.«end» e.places placed.places) before
+    (code_in_order d u e.places start start e.«end» [] is.chain placed.places (omega arith) is.lines)
+
+pub metadata_fits : (d : Document) (start byte : ℕ) (e : Lines) (items : List (ℕ × Item)) → IsUtf8 d.text → IsMetadata d start byte e.places e.«end» items → IsCharBoundary d.text start → IsPlaced d.text start e
+    → (from to : ℕ) → from ≤ start → e.«end» ≤ to → FitsBetween d.text from to items
+metadata_fits d start byte e items u is b placed from to behind before =
+    raw_fits d.text from to start e.«end» (MetadataBlock (metadata_kind byte)) is.chain items is.items_are b placed.boundary behind (placed_bound d.text start e.«end» e.places placed.places) before
+    (code_in_order d u e.places start start e.«end» [] is.chain placed.places (omega arith) is.lines)
+
+pub html_fits : (d : Document) (start columns : ℕ) (e : Lines) (items : List (ℕ × Item)) → IsUtf8 d.text → IsHtml d start columns e.places e.«end» items → IsCharBoundary d.text start → IsPlaced d.text start e
+    → (from to : ℕ) → from ≤ start → e.«end» ≤ to → FitsBetween d.text from to items
+html_fits d start columns e items u is b placed from to behind before =
+    raw_fits d.text from to start e.«end» HtmlBlock is.chain items is.items_are b placed.boundary behind (placed_bound d.text start e.«end» e.places placed.places) before
+    (html_in_order d u e.places start start e.«end» columns [] is.chain placed.places (omega arith) is.lines)
+
+-- Where lines end between characters: behind some of what is left at a place, where the line ends there.
+eol_small : (b : ℕ) (bs : List ℕ) (t v : Bool) → (b == 10) ≡ t → (b == 13) ≡ v → at_line_end (b ∷ bs) ≡ true → b < 128
+eol_small b bs true v e f h = (let z = eqb-true b 10 e in omega arith)
+eol_small b bs false true e f h = (let z = eqb-true b 13 f in omega arith)
+eol_small b bs false false e f h = absurd (grind (arith, e, f, h))
+
+end_small : (bs : List ℕ) → at_line_end bs ≡ true → (length bs ≡ 0) ⊎ (get_or bs 0 0 < 128)
+end_small [] h = inl refl
+end_small (b ∷ bs) h = inr (eol_small b bs (b == 10) (b == 13) refl refl h)
+
+ends_between : (text : List ℕ) (p : Place) (m : ℕ) → IsPlaceOf text p → m ≤ length p.rest.left → at_line_end (drop m p.rest.left) ≡ true → IsCharBoundary text (offset p + m)
+ends_between text p m i within h =
+    let l = place_length text p i in
+    let k = length-drop m p.rest.left in
+    elim (end_small (drop m p.rest.left) h) [
+      | inl none ↦ (let z : offset p + m ≡ length text = omega arith in subst (IsCharBoundary text) (sym z) (IsCharBoundary-end text))
+      | inr small ↦ elim (cases_lt (offset p + m) (length text)) [
+        | inl inside ↦
+            let same : get_or (drop m p.rest.left) 0 0 ≡ get_or text (offset p + (m + 0)) 0 = get_or-drop m p.rest.left 0 0 ∙ ap (λ bs. get_or bs (m + 0) 0) i.left ∙ get_or-drop (offset p) text (m + 0) 0 in
+            let z : offset p + (m + 0) ≡ offset p + m = omega arith in
+            let here = ap (λ k. get_or text k 0) z in
+            IsCharBoundary-before_ascii text (offset p + m) inside (omega arith)
+        | inr past ↦ (let z : offset p + m ≡ length text = omega arith in subst (IsCharBoundary text) (sym z) (IsCharBoundary-end text))
+      ]
+    ]
+
+-- what a test that was passed tells
+found_by : (t : Bool) (m n : ℕ) → (if t then Some m else None) ≡ Some n → (t ≡ true) × (m ≡ n)
+found_by true m n h = (refl, cc)
+found_by false m n h = cc
+
+none_by : (t : Bool) (o : Option ℕ) (n : ℕ) → (if t then Some 0 else o) ≡ Some n → ((t ≡ true) × (n ≡ 0)) ⊎ (o ≡ Some n)
+none_by true o n h = (let z : 0 ≡ n = cc in inl (refl, sym z))
+none_by false o n h = inr h
+
+nothing_ends : (bs : List ℕ) → length bs ≡ 0 → at_line_end (drop 0 bs) ≡ true
+nothing_ends [] h = refl
+nothing_ends (b ∷ bs) h = absurd (omega arith)
+
+-- Behind a closing fence its line ends, and behind the closing line of metadata.
+fence_ends : (byte count : ℕ) (bs : List ℕ) (n : ℕ) → closing_fence_len byte count bs ≡ Some n → (n ≤ length bs) × (at_line_end (drop n bs) ≡ true)
+unfolding closing_fence_len
+fence_ends byte count bs n h =
+    let k : ℕ = run_len byte bs in
+    let m : ℕ = k + prefix_len is_blank (drop k bs) in
+    elim (none_by (length bs == 0) (if nat_le count k && at_line_end (drop m bs) then Some m else None) n h) [
+      | inl none ↦ (let z = eqb-true (length bs) 0 none.0 in (omega (arith, none.1), ap (λ j. at_line_end (drop j bs)) none.1 ∙ nothing_ends bs z))
+      | inr some ↦
+          let f = found_by (nat_le count k && at_line_end (drop m bs)) m n some in
+          let run = prefix_len-le-length (λ b. b == byte) bs in
+          let behind = prefix_len-le-length is_blank (drop k bs) in
+          let l = length-drop k bs in
+          (omega (arith, f.1), ap (λ j. at_line_end (drop j bs)) (sym f.1) ∙ (and_parts (nat_le count k) (at_line_end (drop m bs)) f.0).1)
+    ]
+
+three_long : (c : ℕ) (bs : List ℕ) → three_of c bs ≡ true → 3 ≤ length bs
+three_long c [] h = cc
+three_long c (x ∷ []) h = absurd (grind (arith, h))
+three_long c (x ∷ y ∷ []) h = absurd (grind (arith, h))
+three_long c (x ∷ y ∷ z ∷ bs) h = omega arith
+
+marks_long : (c : ℕ) (bs : List ℕ) → closing_marks c bs ≡ true → 3 ≤ length bs
+unfolding closing_marks
+marks_long c bs h =
+    elim (or_cases ((c == 45) && three_of 46 bs) (three_of c bs) h) [
+      | inl dots ↦ three_long 46 bs (and_parts (c == 45) (three_of 46 bs) dots).1
+      | inr same ↦ three_long c bs same
+    ]
+
+metadata_ends : (byte : ℕ) (bs : List ℕ) (n : ℕ) → closing_metadata_len byte bs ≡ Some n → (n ≤ length bs) × (at_line_end (drop n bs) ≡ true)
+unfolding closing_metadata_len
+metadata_ends byte bs n h =
+    let m : ℕ = 3 + run_len 32 (drop 3 bs) in
+    let f = found_by (closing_marks byte bs && at_line_end (drop m bs)) m n h in
+    let a = and_parts (closing_marks byte bs) (at_line_end (drop m bs)) f.0 in
+    let long = marks_long byte bs a.0 in
+    let behind = prefix_len-le-length (λ b. b == 32) (drop 3 bs) in
+    let l = length-drop 3 bs in
+    (omega (arith, f.1), ap (λ j. at_line_end (drop j bs)) (sym f.1) ∙ a.1)
+
+-- They have no byte of a line end, where the mark's byte is none.
+content_first : (b : ℕ) (bs : List ℕ) → is_content b ≡ true → prefix_len is_content (b ∷ bs) ≡ prefix_len is_content bs + 1
+content_first b bs h = rw h (omega arith)
+
+run_step : (test : ℕ → Bool) → ((b : ℕ) → test b ≡ true → is_content b ≡ true) → (t : Bool) (b : ℕ) (bs : List ℕ) → test b ≡ t → prefix_len test bs ≤ prefix_len is_content bs → prefix_len test (b ∷ bs) ≤ prefix_len is_content (b ∷ bs)
+run_step test content true b bs e h = (let f = content_first b bs (content b e) in let g : prefix_len test (b ∷ bs) ≡ prefix_len test bs + 1 = rw e (omega arith) in omega arith)
+run_step test content false b bs e h = (let g : prefix_len test (b ∷ bs) ≡ 0 = rw e in omega arith)
+
+run_first : (test : ℕ → Bool) → ((b : ℕ) → test b ≡ true → is_content b ≡ true) → (bs : List ℕ) → prefix_len test bs ≤ prefix_len is_content bs
+run_first test content [] = omega arith
+run_first test content (b ∷ bs) = run_step test content (test b) b bs refl (run_first test content bs)
+
+run_behind_by : (test : ℕ → Bool) → ((b : ℕ) → test b ≡ true → is_content b ≡ true) → (t : Bool) (k b : ℕ) (bs : List ℕ) → is_content b ≡ t → suc k ≤ prefix_len is_content (b ∷ bs)
+    → (k ≤ prefix_len is_content bs → k + prefix_len test (drop k bs) ≤ prefix_len is_content bs) → suc k + prefix_len test (drop k bs) ≤ prefix_len is_content (b ∷ bs)
+run_behind_by test content true k b bs e h f =
+    let c = content_first b bs e in
+    let r = f (omega arith) in
+    omega arith
+run_behind_by test content false k b bs e h f = (let c : prefix_len is_content (b ∷ bs) ≡ 0 = rw e in absurd (omega arith))
+
+run_behind : (test : ℕ → Bool) → ((b : ℕ) → test b ≡ true → is_content b ≡ true) → (k : ℕ) (bs : List ℕ) → k ≤ prefix_len is_content bs → k + prefix_len test (drop k bs) ≤ prefix_len is_content bs
+run_behind test content zero bs h = (let f = run_first test content bs in omega arith)
+run_behind test content (suc k) [] h = absurd (omega arith)
+run_behind test content (suc k) (b ∷ bs) h = run_behind_by test content (is_content b) k b bs refl h (run_behind test content k bs)
+
+-- The bytes of opening marks are none of a line end.
+fence_plain_by : (t v w x : Bool) (p q r : ℕ × ℕ) → is_content p.1 ≡ true → is_content q.1 ≡ true → (if t then (if v then Some p else None) else (if w then (if x then Some q else None) else None)) ≡ Some r → is_content r.1 ≡ true
+fence_plain_by true true w x p q r e f h = (let same : p ≡ r = cc in ap (λ (z : ℕ × ℕ). is_content z.1) (sym same) ∙ e)
+fence_plain_by true false w x p q r e f h = cc
+fence_plain_by false v true true p q r e f h = (let same : q ≡ r = cc in ap (λ (z : ℕ × ℕ). is_content z.1) (sym same) ∙ f)
+fence_plain_by false v true false p q r e f h = cc
+fence_plain_by false v false x p q r e f h = cc
+
+pub fence_plain : (bs : List ℕ) (fence : ℕ × ℕ) → code_fence bs ≡ Some fence → is_content fence.1 ≡ true
+unfolding code_fence
+fence_plain bs fence h =
+    fence_plain_by (begins 96 bs) (nat_le 3 (run_len 96 bs) && not (has_backquote (drop (run_len 96 bs) bs))) (begins 126 bs) (nat_le 3 (run_len 126 bs)) (run_len 96 bs, 96) (run_len 126 bs, 126) fence refl refl h
+
+content_within : (bs : List ℕ) → prefix_len is_content bs ≤ line_len bs
+content_within bs = omega (arith, line_len-parts bs)
+
+fence_within : (byte count : ℕ) (bs : List ℕ) (n : ℕ) → is_content byte ≡ true → closing_fence_len byte count bs ≡ Some n → n ≤ line_len bs
+unfolding closing_fence_len
+fence_within byte count bs n plain h =
+    let k : ℕ = run_len byte bs in
+    let m : ℕ = k + prefix_len is_blank (drop k bs) in
+    elim (none_by (length bs == 0) (if nat_le count k && at_line_end (drop m bs) then Some m else None) n h) [
+      | inl none ↦ omega (arith, none.1)
+      | inr some ↦
+          let f = found_by (nat_le count k && at_line_end (drop m bs)) m n some in
+          let run = run_first (λ b. b == byte) (λ b e. ap is_content (eqb-true b byte e) ∙ plain) bs in
+          let behind = run_behind is_blank (λ b e. grind (arith, nat_tests, e)) k bs run in
+          let w = content_within bs in
+          omega (arith, f.1)
+    ]
+
+three_plain : (c : ℕ) (bs : List ℕ) → is_content c ≡ true → three_of c bs ≡ true → 3 ≤ prefix_len is_content bs
+three_plain c [] plain h = cc
+three_plain c (x ∷ []) plain h = absurd (grind (arith, h))
+three_plain c (x ∷ y ∷ []) plain h = absurd (grind (arith, h))
+three_plain c (x ∷ y ∷ z ∷ bs) plain h =
+    let a = and_parts _ _ h in
+    let b = and_parts _ _ a.1 in
+    let d = and_parts _ _ b.1 in
+    let f = content_first x (y ∷ z ∷ bs) (ap is_content (sym (eqb-true c x a.0)) ∙ plain) in
+    let g = content_first y (z ∷ bs) (ap is_content (sym (eqb-true c y b.0)) ∙ plain) in
+    let k = content_first z bs (ap is_content (sym (eqb-true c z d.0)) ∙ plain) in
+    omega arith
+
+marks_plain : (c : ℕ) (bs : List ℕ) → is_content c ≡ true → closing_marks c bs ≡ true → 3 ≤ prefix_len is_content bs
+unfolding closing_marks
+marks_plain c bs plain h =
+    elim (or_cases ((c == 45) && three_of 46 bs) (three_of c bs) h) [
+      | inl dots ↦ three_plain 46 bs refl (and_parts (c == 45) (three_of 46 bs) dots).1
+      | inr same ↦ three_plain c bs plain same
+    ]
+
+metadata_within : (byte : ℕ) (bs : List ℕ) (n : ℕ) → is_content byte ≡ true → closing_metadata_len byte bs ≡ Some n → n ≤ line_len bs
+unfolding closing_metadata_len
+metadata_within byte bs n plain h =
+    let m : ℕ = 3 + run_len 32 (drop 3 bs) in
+    let f = found_by (closing_marks byte bs && at_line_end (drop m bs)) m n h in
+    let marks = marks_plain byte bs plain (and_parts (closing_marks byte bs) (at_line_end (drop m bs)) f.0).0 in
+    let behind = run_behind (λ b. b == 32) (λ b e. ap is_content (eqb-true b 32 e)) 3 bs marks in
+    let w = content_within bs in
+    omega (arith, f.1)
+
+-- the first of the lines from an offset on, and the others
+first_line : (text : List ℕ) (at : ℕ) (line : Place) (lines : List Place) → line ∷ lines ≡ lines_from text at → (at < length text) × (line ≡ line_place at (drop at text)) × (lines ≡ lines_from text (behind_line_at text at))
+first_line text at line lines is =
+    elim (cases_lt at (length text)) [
+      | inl within ↦ (let e : line ∷ lines ≡ line_place at (drop at text) ∷ lines_from text (behind_line_at text at) = is ∙ lines_at-line text at within in (within, cc, cc))
+      | inr past ↦ (let e : line ∷ lines ≡ [] = is ∙ lines_at-end text at past in cc)
+    ]
+
+-- Each of the lines from an offset on begins there or behind another line, and a place in it stands in the text, up to the same end.
+module _ (text : List ℕ) (u : IsUtf8 text) (path : List Container) where
+  -- a line, where it begins, and a place in it
+  record IsIn (at : ℕ) (q : Place) : Type 0 where
+    stands : IsPlaceOf text q
+    here : q.line ≡ at
+    same_end : line_end q ≡ behind_line_at text at
+
+  behind_is_boundary : (at : ℕ) → IsCharBoundary text at → IsCharBoundary text (behind_line_at text at)
+  behind_is_boundary at b = subst (IsCharBoundary text) (line_start_end text at) (place_end text (line_place at (drop at text)) u (line_is_place text at b))
+
+  in_by : (at : ℕ) (q : Place) (o : Option Rest) → IsCharBoundary text at → after path (line_rest (drop at text)) ≡ o → option_map (at_rest (line_place at (drop at text))) o ≡ Some q → IsIn at q
+  in_by at q None b e h = cc
+  in_by at q (Some r) b e h =
+      let same : place_at at r ≡ q = cc in
+      let k = after_keeps text at path (line_rest (drop at text)) r u e (line_is_place text at b) in
+      subst (IsIn at) same (record { stands = k.0; here = refl; same_end = k.1 ∙ line_start_end text at })
+
+  taken_in : (at : ℕ) (line q : Place) → IsCharBoundary text at → line ≡ line_place at (drop at text) → taken path line ≡ Some q → IsIn at q
+  taken_in at line q b e h = in_by at q (after path (line_rest (drop at text))) b refl (ap (taken path) (sym e) ∙ h)
+
+  columns_in : (n at : ℕ) (q : Place) → IsIn at q → IsIn at (moved_columns n q)
+  columns_in n at q i = record { stands = columns_keep text n q u i.stands; here = i.here; same_end = columns_line_end n q ∙ i.same_end }
+
+  in_behind : (at : ℕ) (q : Place) → IsIn at q → at ≤ offset q
+  in_behind at q i = (let h = i.here in omega arith)
+
+  -- a line before those that are placed behind it
+  line_placed : (at to : ℕ) (q : Place) (ps : List Place) → IsIn at q → ArePlaced text (behind_line_at text at) ps to → ArePlaced text at (q ∷ ps) to
+  unfolding ArePlaced
+  line_placed at to q ps i further = (in_behind at q i, i.stands, subst (λ k. ArePlaced text k ps to) (sym i.same_end) further)
+
+  extent_placed : (at : ℕ) (q : Place) (e : Lines) → IsIn at q → IsPlaced text (behind_line_at text at) e → IsPlaced text at (with_line q e)
+  extent_placed at q e i further = record { places = line_placed at e.«end» q e.places i further.places; boundary = further.boundary }
+
+  -- a block that has no more lines
+  stops_placed : (at stop : ℕ) (lines : List Place) → at ≤ stop → IsCharBoundary text stop → IsPlaced text at (ends_at stop lines)
+  unfolding ArePlaced
+  stops_placed at stop lines order b = record { places = order; boundary = b }
+
+  no_lines_placed : (at n : ℕ) → n ≡ length text → IsCharBoundary text at → IsPlaced text at (ends_at n [])
+  no_lines_placed at n e b = (let w = b.0 in stops_placed at n [] (omega arith) (subst (IsCharBoundary text) (sym e) (IsCharBoundary-end text)))
+
+  -- the lines that go on with indented code
+  code_in_by : (t : Bool) (at : ℕ) (p q : Place) → IsIn at q → (if t then Some (moved_columns 4 q) else None) ≡ Some p → IsIn at p
+  code_in_by true at p q i h = (let e : moved_columns 4 q ≡ p = cc in subst (IsIn at) e (columns_in 4 at q i))
+  code_in_by false at p q i h = cc
+
+  code_in : (at : ℕ) (p : Place) (o : Option Place) → ((q : Place) → o ≡ Some q → IsIn at q) → option_and_then (λ (q : Place). if has_columns 4 q.rest then Some (moved_columns 4 q) else None) o ≡ Some p → IsIn at p
+  code_in at p None i h = cc
+  code_in at p (Some q) i h = code_in_by (has_columns 4 q.rest) at p q (i q refl) h
+
+  code_step : (at : ℕ) (line : Place) (lines : List Place) (o : Option Place) (further : List Place × List Place) → line.line ≡ at → ((q : Place) → o ≡ Some q → IsIn at q)
+      → ArePlaced text (behind_line_at text at) further.0 (start_of (length text) further.1)
+      → (let all = code_by lines (line ∷ lines) o further in ArePlaced text at all.0 (start_of (length text) all.1))
+  unfolding ArePlaced
+  code_step at line lines None further start i rest = omega arith
+  code_step at line lines (Some q) further start i rest = line_placed at (start_of (length text) further.1) q further.0 (i q refl) rest
+
+  -- They are placed up to those that it leaves.
+  pub code_placed : (lines : List Place) (at : ℕ) → lines ≡ lines_from text at → IsCharBoundary text at → (let all = code_lines path lines in ArePlaced text at all.0 (start_of (length text) all.1))
+  unfolding ArePlaced code_lines
+  code_placed [] at is b = b.0
+  code_placed (line ∷ lines) at is b =
+      let f = first_line text at line lines is in
+      code_step at line lines (code_place path line) (code_lines path lines) (ap (λ (p : Place). p.line) f.1) (λ q h. code_in at q (taken path line) (λ q h. taken_in at line q b f.1 h) h)
+      (code_placed lines (behind_line_at text at) f.2 (behind_is_boundary at b))
+
+  -- the lines of a fenced code block
+  fence_in_by : (t : Bool) (at e : ℕ) (q : Place) (o : Option ℕ) → ((n : ℕ) → o ≡ Some n → (n ≤ length (all_taken q.rest).left) × (at_line_end (drop n (all_taken q.rest).left) ≡ true)) → IsIn at q
+      → (if t then option_map (λ n. offset (unindented q) + n) o else None) ≡ Some e → (at ≤ e) × IsCharBoundary text e
+  fence_in_by false at e q o within i h = cc
+  fence_in_by true at e q None within i h = cc
+  fence_in_by true at e q (Some n) within i h =
+      let same : offset (unindented q) + n ≡ e = cc in
+      let w = within n refl in
+      let here = i.here in
+      (omega arith, subst (IsCharBoundary text) same (ends_between text (unindented q) n (all_keep text q.line q.rest u i.stands) w.0 w.1))
+
+  fence_in : (byte count at e : ℕ) (q : Place) → IsIn at q → closing_fence_end byte count q ≡ Some e → (at ≤ e) × IsCharBoundary text e
+  fence_in byte count at e q i h = fence_in_by (nat_lt (indent q.rest) 4) at e q (closing_fence_len byte count (all_taken q.rest).left) (λ n g. fence_ends byte count (all_taken q.rest).left n g) i h
+
+  fenced_line_placed : (columns at : ℕ) (q : Place) (o : Option ℕ) (lines : List Place) (further : Lines) → IsIn at q → ((e : ℕ) → o ≡ Some e → (at ≤ e) × IsCharBoundary text e)
+      → IsPlaced text (behind_line_at text at) further → IsPlaced text at (fenced_line columns q o lines further)
+  fenced_line_placed columns at q None lines further i c rest = extent_placed at (moved_columns columns q) further (columns_in columns at q i) rest
+  fenced_line_placed columns at q (Some e) lines further i c rest = stops_placed at e lines (c e refl).0 (c e refl).1
+
+  fenced_step : (columns byte count at : ℕ) (line : Place) (lines : List Place) (o : Option Place) (further : Lines) → line.line ≡ at → ((q : Place) → o ≡ Some q → IsIn at q) → IsCharBoundary text at
+      → IsPlaced text (behind_line_at text at) further → IsPlaced text at (fenced_by columns byte count line lines o further)
+  fenced_step columns byte count at line lines None further start i b rest = stops_placed at line.line (line ∷ lines) (omega arith) (subst (IsCharBoundary text) (sym start) b)
+  fenced_step columns byte count at line lines (Some q) further start i b rest =
+      fenced_line_placed columns at q (closing_fence_end byte count q) lines further (i q refl) (λ e h. fence_in byte count at e q (i q refl) h) rest
+
+  pub fenced_placed : (columns byte count : ℕ) (lines : List Place) (at : ℕ) → lines ≡ lines_from text at → IsCharBoundary text at → IsPlaced text at (fenced_lines (length text) path columns byte count lines)
+  unfolding fenced_lines
+  fenced_placed columns byte count [] at is b = no_lines_placed at (length text) refl b
+  fenced_placed columns byte count (line ∷ lines) at is b =
+      let f = first_line text at line lines is in
+      fenced_step columns byte count at line lines (taken path line) (fenced_lines (length text) path columns byte count lines) (ap (λ (p : Place). p.line) f.1) (λ q h. taken_in at line q b f.1 h) b
+      (fenced_placed columns byte count lines (behind_line_at text at) f.2 (behind_is_boundary at b))
+
+  -- the lines of a metadata block
+  metadata_line_placed : (at : ℕ) (line q : Place) (o : Option ℕ) (lines : List Place) (further : Lines) → line ≡ line_place at (drop at text) → IsIn at q
+      → ((n : ℕ) → o ≡ Some n → (n ≤ length line.rest.left) × (at_line_end (drop n line.rest.left) ≡ true)) → IsCharBoundary text at
+      → IsPlaced text (behind_line_at text at) further → IsPlaced text at (metadata_line line q o lines further)
+  metadata_line_placed at line q None lines further is i within b rest = extent_placed at q further i rest
+  metadata_line_placed at line q (Some n) lines further is i within b rest =
+      let w = within n refl in
+      let start = ap (λ (p : Place). p.line) is in
+      let none = ap (λ (p : Place). p.rest.taken) is in
+      let z : offset line + n ≡ line.line + n = omega arith in
+      stops_placed at (line.line + n) lines (omega arith) (subst (IsCharBoundary text) z (ends_between text line n (subst (IsPlaceOf text) (sym is) (line_is_place text at b)) w.0 w.1))
+
+  metadata_step : (byte at : ℕ) (line : Place) (lines : List Place) (o : Option Place) (further : Lines) → line ≡ line_place at (drop at text) → ((q : Place) → o ≡ Some q → IsIn at q) → IsCharBoundary text at
+      → IsPlaced text (behind_line_at text at) further → IsPlaced text at (metadata_by byte line lines o further)
+  metadata_step byte at line lines None further is i b rest =
+      let start = ap (λ (p : Place). p.line) is in
+      stops_placed at line.line (line ∷ lines) (omega arith) (subst (IsCharBoundary text) (sym start) b)
+  metadata_step byte at line lines (Some q) further is i b rest =
+      metadata_line_placed at line q (closing_metadata_len byte line.rest.left) lines further is (i q refl) (λ n h. metadata_ends byte line.rest.left n h) b rest
+
+  pub metadata_placed : (byte : ℕ) (lines : List Place) (at : ℕ) → lines ≡ lines_from text at → IsCharBoundary text at → IsPlaced text at (metadata_lines (length text) path byte lines)
+  unfolding metadata_lines
+  metadata_placed byte [] at is b = no_lines_placed at (length text) refl b
+  metadata_placed byte (line ∷ lines) at is b =
+      let f = first_line text at line lines is in
+      metadata_step byte at line lines (taken path line) (metadata_lines (length text) path byte lines) f.1 (λ q h. taken_in at line q b f.1 h) b
+      (metadata_placed byte lines (behind_line_at text at) f.2 (behind_is_boundary at b))
+
+  -- the lines of an HTML block from a place on
+  place_placed : (p : Place) (e : Lines) → IsPlaceOf text p → IsPlaced text (line_end p) e → IsPlaced text (offset p) (with_line p e)
+  unfolding ArePlaced
+  place_placed p e i further = record { places = (omega arith, i, further.places); boundary = further.boundary }
+
+  further_placed : (at : ℕ) (q : Place) (e : Lines) → IsIn at q → IsPlaced text (offset q) e → IsPlaced text at e
+  further_placed at q e i placed = record { places = placed_from text at (offset q) e.«end» e.places (in_behind at q i) placed.places; boundary = placed.boundary }
+
+  end_step : (tag : List ℕ) (at : ℕ) (line : Place) (lines : List Place) (o : Option Place) → line.line ≡ at → IsCharBoundary text at → ((q : Place) → o ≡ Some q → IsIn at q)
+      → ((q : Place) → IsIn at q → IsPlaced text (offset q) (until_end (length text) path tag q lines)) → IsPlaced text at (until_end_by (length text) line lines o (until_end (length text) path tag (place_or line o) lines))
+  end_step tag at line lines None start b i further = stops_placed at line.line (line ∷ lines) (omega arith) (subst (IsCharBoundary text) (sym start) b)
+  end_step tag at line lines (Some q) start b i further =
+      cond_both (is_empty q.rest.left) (ends_at (length text) []) (until_end (length text) path tag q lines) (IsPlaced text at)
+      (λ none. no_lines_placed at (length text) refl b) (λ some. further_placed at q (until_end (length text) path tag q lines) (i q refl) (further q (i q refl)))
+
+  pub until_end_placed : (tag : List ℕ) (lines : List Place) (p : Place) → IsPlaceOf text p → lines ≡ lines_from text (line_end p) → IsPlaced text (offset p) (until_end (length text) path tag p lines)
+  unfolding until_end
+  until_end_placed tag [] p i is = place_placed p (ends_at (length text) []) i (no_lines_placed (line_end p) (length text) refl (place_end text p u i))
+  until_end_placed tag (line ∷ lines) p i is =
+      let f = first_line text (line_end p) line lines is in
+      let b = place_end text p u i in
+      let start = ap (λ (p : Place). p.line) f.1 in
+      place_placed p _ i
+      (cond_both (holds tag (line_of p)) (ends_at line.line (line ∷ lines)) (until_end_by (length text) line lines (taken path line) (until_end (length text) path tag (place_or line (taken path line)) lines)) (IsPlaced text (line_end p))
+      (λ held. stops_placed (line_end p) line.line (line ∷ lines) (omega arith) (subst (IsCharBoundary text) (sym start) b))
+      (λ other. end_step tag (line_end p) line lines (taken path line) start b (λ q h. taken_in (line_end p) line q b f.1 h)
+      (λ q j. until_end_placed tag lines q j.stands (f.2 ∙ ap (lines_from text) (sym j.same_end)))))
+
+  blank_step : (at : ℕ) (line : Place) (lines : List Place) (o : Option Place) → line.line ≡ at → IsCharBoundary text at → ((q : Place) → o ≡ Some q → IsIn at q)
+      → ((q : Place) → IsIn at q → IsPlaced text (offset q) (until_blank (length text) path q lines)) → IsPlaced text at (until_blank_by line lines o (until_blank (length text) path (place_or line o) lines))
+  blank_step at line lines None start b i further = stops_placed at line.line (line ∷ lines) (omega arith) (subst (IsCharBoundary text) (sym start) b)
+  blank_step at line lines (Some q) start b i further =
+      cond_both (at_line_end q.rest.left) (ends_at line.line (line ∷ lines)) (if is_blank_rest q.rest then ends_at (offset q) (line ∷ lines) else until_blank (length text) path q lines) (IsPlaced text at)
+      (λ here. stops_placed at line.line (line ∷ lines) (omega arith) (subst (IsCharBoundary text) (sym start) b))
+      (λ other. cond_both (is_blank_rest q.rest) (ends_at (offset q) (line ∷ lines)) (until_blank (length text) path q lines) (IsPlaced text at)
+      (λ blank. stops_placed at (offset q) (line ∷ lines) (in_behind at q (i q refl)) (i q refl).stands.boundary)
+      (λ more. further_placed at q (until_blank (length text) path q lines) (i q refl) (further q (i q refl))))
+
+  pub until_blank_placed : (lines : List Place) (p : Place) → IsPlaceOf text p → lines ≡ lines_from text (line_end p) → IsPlaced text (offset p) (until_blank (length text) path p lines)
+  unfolding until_blank
+  until_blank_placed [] p i is = place_placed p (ends_at (length text) []) i (no_lines_placed (line_end p) (length text) refl (place_end text p u i))
+  until_blank_placed (line ∷ lines) p i is =
+      let f = first_line text (line_end p) line lines is in
+      let b = place_end text p u i in
+      place_placed p _ i (blank_step (line_end p) line lines (taken path line) (ap (λ (p : Place). p.line) f.1) b (λ q h. taken_in (line_end p) line q b f.1 h)
+      (λ q j. until_blank_placed lines q j.stands (f.2 ∙ ap (lines_from text) (sym j.same_end))))
+
+  -- where the line of a place ends
+  place_line : (p : Place) → IsPlaceOf text p → behind_line_at text (offset p) ≡ line_end p
+  place_line p i = ap (λ bs. offset p + line_len bs) (sym i.left)
+
+  later_placed : (start at : ℕ) (e : Lines) → start ≤ at → IsPlaced text at e → IsPlaced text start e
+  later_placed start at e order placed = record { places = placed_from text start at e.«end» e.places order placed.places; boundary = placed.boundary }
+
+  -- The lines of each raw leaf block are placed in the text, from where it begins.
+  pub indented_behind_placed : (p : Place) → IsPlaceOf text p → (let all = code_behind text path (offset p) in ArePlaced text (offset p) (p ∷ all.0) (start_of (length text) all.1))
+  unfolding ArePlaced
+  indented_behind_placed p i =
+      let b = behind_is_boundary (offset p) i.boundary in
+      (omega arith, i, subst (λ k. let all = code_behind text path (offset p) in ArePlaced text k all.0 (start_of (length text) all.1)) (place_line p i) (code_placed (lines_from text (behind_line_at text (offset p))) (behind_line_at text (offset p)) refl b))
+
+  pub fenced_behind_placed : (columns byte count start : ℕ) → IsCharBoundary text start → IsPlaced text start (fenced_behind text path columns byte count start)
+  fenced_behind_placed columns byte count start b =
+      later_placed start (behind_line_at text start) _ (omega arith) (fenced_placed columns byte count (lines_from text (behind_line_at text start)) (behind_line_at text start) refl (behind_is_boundary start b))
+
+  pub metadata_behind_placed : (byte start : ℕ) → IsCharBoundary text start → IsPlaced text start (metadata_behind text path byte start)
+  metadata_behind_placed byte start b =
+      later_placed start (behind_line_at text start) _ (omega arith) (metadata_placed byte (lines_from text (behind_line_at text start)) (behind_line_at text start) refl (behind_is_boundary start b))
+
+  pub to_end_placed : (tag : List ℕ) (p : Place) → IsPlaceOf text p → IsPlaced text (offset p) (html_to_end text path tag p)
+  to_end_placed tag p i = until_end_placed tag (lines_from text (behind_line_at text (offset p))) p i (ap (lines_from text) (place_line p i))
+
+  pub to_blank_placed : (p : Place) → IsPlaceOf text p → IsPlaced text (offset p) (html_to_blank text path p)
+  to_blank_placed p i = until_blank_placed (lines_from text (behind_line_at text (offset p))) p i (ap (lines_from text) (place_line p i))
+
+  -- where the lines begin behind one
+  left_start : (at : ℕ) (lines : List Place) → IsCharBoundary text at → lines ≡ lines_from text (behind_line_at text at) → start_of (length text) lines ≡ behind_line_at text at
+  left_start at lines b is = (let w = (behind_is_boundary at b).0 in ap (start_of (length text)) is ∙ start_of-lines text (behind_line_at text at) w)
+
+  fence_before_by : (t : Bool) (at e : ℕ) (q : Place) (o : Option ℕ) → ((n : ℕ) → o ≡ Some n → n ≤ line_len (all_taken q.rest).left) → IsIn at q
+      → (if t then option_map (λ n. offset (unindented q) + n) o else None) ≡ Some e → e ≤ behind_line_at text at
+  fence_before_by false at e q o within i h = cc
+  fence_before_by true at e q None within i h = cc
+  fence_before_by true at e q (Some n) within i h =
+      let same : offset (unindented q) + n ≡ e = cc in
+      let w = within n refl in
+      let stop = columns_line_end (indent q.rest) q in
+      let end_is = i.same_end in
+      omega arith
+
+  fenced_line_before : (columns at : ℕ) (q : Place) (o : Option ℕ) (lines : List Place) (further : Lines) → ((e : ℕ) → o ≡ Some e → e ≤ start_of (length text) lines) → EndsBefore text further → EndsBefore text (fenced_line columns q o lines further)
+  fenced_line_before columns at q None lines further c rest = rest
+  fenced_line_before columns at q (Some e) lines further c rest = c e refl
+
+  fenced_before_step : (columns byte count at : ℕ) (line : Place) (lines : List Place) (o : Option Place) (further : Lines) → is_content byte ≡ true → ((q : Place) → o ≡ Some q → IsIn at q) → start_of (length text) lines ≡ behind_line_at text at
+      → EndsBefore text further → EndsBefore text (fenced_by columns byte count line lines o further)
+  fenced_before_step columns byte count at line lines None further plain i is rest = omega arith
+  fenced_before_step columns byte count at line lines (Some q) further plain i is rest =
+      fenced_line_before columns at q (closing_fence_end byte count q) lines further
+      (λ e h. subst (λ k. e ≤ k) (sym is) (fence_before_by (nat_lt (indent q.rest) 4) at e q (closing_fence_len byte count (all_taken q.rest).left) (λ n g. fence_within byte count (all_taken q.rest).left n plain g) (i q refl) h)) rest
+
+  pub fenced_before : (columns byte count : ℕ) (lines : List Place) (at : ℕ) → is_content byte ≡ true → lines ≡ lines_from text at → IsCharBoundary text at → EndsBefore text (fenced_lines (length text) path columns byte count lines)
+  unfolding fenced_lines
+  fenced_before columns byte count [] at plain is b = omega arith
+  fenced_before columns byte count (line ∷ lines) at plain is b =
+      let f = first_line text at line lines is in
+      fenced_before_step columns byte count at line lines (taken path line) (fenced_lines (length text) path columns byte count lines) plain (λ q h. taken_in at line q b f.1 h) (left_start at lines b f.2)
+      (fenced_before columns byte count lines (behind_line_at text at) plain f.2 (behind_is_boundary at b))
+
+  metadata_line_before : (at : ℕ) (line q : Place) (o : Option ℕ) (lines : List Place) (further : Lines) → ((n : ℕ) → o ≡ Some n → line.line + n ≤ start_of (length text) lines) → EndsBefore text further → EndsBefore text (metadata_line line q o lines further)
+  metadata_line_before at line q None lines further c rest = rest
+  metadata_line_before at line q (Some n) lines further c rest = c n refl
+
+  metadata_before_step : (byte at : ℕ) (line : Place) (lines : List Place) (o : Option Place) (further : Lines) → is_content byte ≡ true → line ≡ line_place at (drop at text) → start_of (length text) lines ≡ behind_line_at text at
+      → EndsBefore text further → EndsBefore text (metadata_by byte line lines o further)
+  metadata_before_step byte at line lines None further plain is start rest = omega arith
+  metadata_before_step byte at line lines (Some q) further plain is start rest =
+      let here = ap (λ (p : Place). p.line) is in
+      let long = ap (λ (p : Place). line_len p.rest.left) is in
+      metadata_line_before at line q (closing_metadata_len byte line.rest.left) lines further
+      (λ n h. let w = metadata_within byte line.rest.left n plain h in omega arith) rest
+
+  pub metadata_before : (byte : ℕ) (lines : List Place) (at : ℕ) → is_content byte ≡ true → lines ≡ lines_from text at → IsCharBoundary text at → EndsBefore text (metadata_lines (length text) path byte lines)
+  unfolding metadata_lines
+  metadata_before byte [] at plain is b = omega arith
+  metadata_before byte (line ∷ lines) at plain is b =
+      let f = first_line text at line lines is in
+      metadata_before_step byte at line lines (taken path line) (metadata_lines (length text) path byte lines) plain f.1 (left_start at lines b f.2)
+      (metadata_before byte lines (behind_line_at text at) plain f.2 (behind_is_boundary at b))
+
+  end_before_step : (tag : List ℕ) (line : Place) (lines : List Place) (o : Option Place) → ((q : Place) → EndsBefore text (until_end (length text) path tag q lines))
+      → EndsBefore text (until_end_by (length text) line lines o (until_end (length text) path tag (place_or line o) lines))
+  end_before_step tag line lines None further = omega arith
+  end_before_step tag line lines (Some q) further =
+      cond_both (is_empty q.rest.left) (ends_at (length text) []) (until_end (length text) path tag q lines) (EndsBefore text) (λ none. omega arith) (λ some. further q)
+
+  pub until_end_before : (tag : List ℕ) (lines : List Place) (p : Place) → EndsBefore text (until_end (length text) path tag p lines)
+  unfolding until_end
+  until_end_before tag [] p = omega arith
+  until_end_before tag (line ∷ lines) p =
+      cond_both (holds tag (line_of p)) (ends_at line.line (line ∷ lines)) (until_end_by (length text) line lines (taken path line) (until_end (length text) path tag (place_or line (taken path line)) lines)) (EndsBefore text)
+      (λ held. omega arith) (λ other. end_before_step tag line lines (taken path line) (λ q. until_end_before tag lines q))
+
+  -- So do the raw leaf blocks, but for an HTML block that ends behind the prefix of a blank line.
+  pub fenced_behind_before : (columns byte count start : ℕ) → is_content byte ≡ true → IsCharBoundary text start → EndsBefore text (fenced_behind text path columns byte count start)
+  fenced_behind_before columns byte count start plain b = fenced_before columns byte count (lines_from text (behind_line_at text start)) (behind_line_at text start) plain refl (behind_is_boundary start b)
+
+  pub metadata_behind_before : (byte start : ℕ) → is_content byte ≡ true → IsCharBoundary text start → EndsBefore text (metadata_behind text path byte start)
+  metadata_behind_before byte start plain b = metadata_before byte (lines_from text (behind_line_at text start)) (behind_line_at text start) plain refl (behind_is_boundary start b)
+
+  pub to_end_before : (tag : List ℕ) (p : Place) → EndsBefore text (html_to_end text path tag p)
+  to_end_before tag p = until_end_before tag (lines_from text (behind_line_at text (offset p))) p

@@ -1,0 +1,5 @@
+use Rattle.first_pass_scan.proofs.PlaceFacts.{taken_columns}
+use Rattle.first_pass_raw.proofs.indented_code.indented_line.Goals as goal
+
+pub returns-clause-place : goal.returns-clause-place
+returns-clause-place c = taken_columns c.args.text.now 4 c.args.start _ _ c.utf8.text c.scan_space.ensures.rest c.in_ok-line_start.ensures.place

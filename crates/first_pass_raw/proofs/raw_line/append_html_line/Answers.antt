@@ -1,0 +1,13 @@
+use Rattle.first_pass_names.specs.TableEntries.{names_of}
+use Rattle.first_pass_raw.proofs.RawLineLemmas.{html_line_one, html_line_two}
+use Rattle.first_pass_raw.proofs.raw_line.append_html_line.Goals as goal
+
+pub returns-in_ok-append_html-2-clause-line : goal.returns-in_ok-append_html-2-clause-line
+returns-in_ok-append_html-2-clause-line c =
+    html_line_two c.args.text.now _ (names_of c.append_columns.new.allocs) c.args.remaining_space c.args.start c.args.«end» c.args.tree.now c.append_columns.new.tree c.append_html.new.tree c.append_html-then-ends_with_both.new.tree c.ends_with_both.result
+    c.in_ok-append_columns.ensures.items c.as_bytes.ensures.value c.ends_with_both.ensures c.if-ends_with_both.true c.in_ok-append_html.ensures c.in_ok-append_html-2.ensures
+
+pub returns-in_ok-append_html-3-clause-line : goal.returns-in_ok-append_html-3-clause-line
+returns-in_ok-append_html-3-clause-line c =
+    html_line_one c.args.text.now _ (names_of c.append_columns.new.allocs) c.args.remaining_space c.args.start c.args.«end» c.args.tree.now c.append_columns.new.tree c.append_html-else-ends_with_both.new.tree c.ends_with_both.result
+    c.in_ok-append_columns.ensures.items c.as_bytes.ensures.value c.ends_with_both.ensures c.if-ends_with_both.false c.in_ok-append_html-3.ensures

@@ -1,0 +1,120 @@
+-- What the raw leaf blocks append to a tree: code, metadata and HTML.
+use Rattle.std.specs.Prelude.{◌≡◌, ℕ, ◌+◌, Bool, List, [], ◌∷◌, length, drop, Option, Some, None, ◌==◌, if◌then◌else◌}
+use Rattle.first_pass_items.specs.declared.option_set.Options.{Options}
+use Rattle.first_pass_items.specs.declared.item.Item.{Item}
+use Rattle.first_pass_tree.specs.Forest.{Forest, added}
+use Rattle.first_pass_scan.specs.Lines.{line_len}
+use Rattle.first_pass_scan.specs.Places.{Place, offset}
+use Rattle.first_pass_tokens.specs.TreeTokens.{with_tokens, chained}
+use Rattle.first_pass_grammar.specs.declared.kind.Container.{Container}
+use Rattle.first_pass_grammar.specs.Names.{Names, Extends}
+use Rattle.first_pass_grammar.specs.Leaves.{Document, document}
+use Rattle.first_pass_grammar.specs.RawLines.{AreColumns, IsCodeLine, AreCodeLines, IsHtmlLine, AreHtmlLines}
+use Rattle.first_pass_grammar.specs.CodeBlocks.{Extent, code_lines, without_blanks, last_is_blank, last_end, IsIndentedCode, fenced_lines, metadata_lines}
+use Rattle.first_pass_grammar.specs.HtmlBlocks.{until_end, until_blank}
+use Rattle.first_pass_grammar.specs.Completion.{lines_from}
+use Rattle.std.specs.Option.{option_and_then}
+use Rattle.first_pass_tree.specs.declared.tree_index.TreeIndex.{TreeIndex}
+use Rattle.first_pass_scan.specs.Rest.{Rest, after_columns}
+use Rattle.first_pass_scan.specs.Places.{line_rest}
+use Rattle.first_pass_grammar.specs.Containers.{has_columns, after}
+use Rattle.first_pass_open.specs.OpenBlock.{IsJustPushed}
+use Rattle.first_pass_open.specs.Path.{path_of}
+
+-- Columns that are owed stand behind the nodes of a tree, whatever more is named.
+pub record AppendsColumns (names : Names) (owed at : ℕ) (old new : Forest Item) : Type 0 where
+  pub items : List Item
+  pub tree_is : new ≡ chained old items
+  pub are : (more : Names) → Extends more names → AreColumns more owed at items
+
+-- a block was just opened in the tree: it is the last node, and has no children
+pub record IsJustOpened (f : Forest Item) : Type 0 where
+  pub place : TreeIndex
+  pub pushed : IsJustPushed f place
+
+-- what is left of the line at an offset, behind its containers and four columns or fewer, where there is such a line and it goes on with indented code
+abbrev pub code_rest : Option Rest → Option Rest
+code_rest o = option_and_then (λ r. if has_columns 4 r then Some (after_columns 4 r) else None) o
+
+abbrev pub code_rest_at : List ℕ → List Container → ℕ → Option Rest
+code_rest_at text path start = if start == length text then None else code_rest (after path (line_rest (drop start text)))
+
+-- A raw line of code stands behind the nodes of a tree, whatever more is named.
+pub record AppendsCode (text : List ℕ) (names : Names) (owed from to : ℕ) (old new : Forest Item) : Type 0 where
+  pub items : List Item
+  pub tree_is : new ≡ with_tokens old items
+  pub are : (options : Options) (more : Names) → Extends more names → IsCodeLine (document text options more) owed from to items
+
+-- a raw line of HTML
+pub record AppendsHtml (text : List ℕ) (names : Names) (owed from to : ℕ) (old new : Forest Item) : Type 0 where
+  pub items : List Item
+  pub tree_is : new ≡ chained old items
+  pub are : (options : Options) (more : Names) → Extends more names → IsHtmlLine (document text options more) owed from to items
+
+-- a place at an offset in the text
+pub record IsPlaceAt (text : List ℕ) (start : ℕ) (p : Place) : Type 0 where
+  pub offset_is : offset p ≡ start
+  pub left_is : p.rest.left ≡ drop start text
+
+-- where the line ends that has something at an offset
+abbrev pub behind_line_at : List ℕ → ℕ → ℕ
+behind_line_at text at = at + line_len (drop at text)
+
+-- the lines that go on with indented code whose first line has something at an offset, and those that it leaves
+abbrev pub code_behind : List ℕ → List Container → ℕ → List Place × List Place
+code_behind text path start = code_lines path (lines_from text (behind_line_at text start))
+
+-- The lines of indented code stand behind the nodes of a tree, whatever more is named: its first line's text is at a place, and it ends at an offset and leaves
+-- the lines from another on.
+pub record AppendsIndented (text : List ℕ) (options : Options) (names : Names) (p : Place) (old new : Forest Item) («end» next : ℕ) (blank : Bool) : Type 0 where
+  pub chain : List Item
+  pub tree_is : new ≡ chained old chain
+  pub lines : (more : Names) → Extends more names → AreCodeLines (document text options more) [] (without_blanks (p ∷ (code_behind text (path_of old) (offset p)).0)) chain
+  pub end_is : «end» ≡ last_end (offset p) (without_blanks (p ∷ (code_behind text (path_of old) (offset p)).0))
+  pub blank_is : blank ≡ last_is_blank (code_behind text (path_of old) (offset p)).0
+  pub left_is : lines_from text next ≡ (code_behind text (path_of old) (offset p)).1
+
+-- Indented code is a last child of the innermost open node.
+pub record AddsIndented (text : List ℕ) (options : Options) (names : Names) (p : Place) (old new : Forest Item) (next : ℕ) (blank : Bool) : Type 0 where
+  pub items : List (ℕ × Item)
+  pub tree_is : new ≡ added old items
+  pub is : (more : Names) → Extends more names → IsIndentedCode (document text options more) p (code_behind text (path_of old) (offset p)).0 items
+  pub blank_is : blank ≡ last_is_blank (code_behind text (path_of old) (offset p)).0
+  pub left_is : lines_from text next ≡ (code_behind text (path_of old) (offset p)).1
+
+-- The raw lines of an extent stand behind the nodes of a tree, whatever more is named, as lines of code.
+pub record AppendsCodeLines (text : List ℕ) (options : Options) (names : Names) (e : Extent) (old new : Forest Item) («end» next : ℕ) : Type 0 where
+  pub chain : List Item
+  pub tree_is : new ≡ chained old chain
+  pub lines : (more : Names) → Extends more names → AreCodeLines (document text options more) [] e.places chain
+  pub end_is : «end» ≡ e.«end»
+  pub left_is : lines_from text next ≡ e.left
+
+-- the same as lines of HTML, of the first of which so many columns are owed
+pub record AppendsHtmlLines (text : List ℕ) (options : Options) (names : Names) (owed : ℕ) (e : Extent) (old new : Forest Item) («end» next : ℕ) : Type 0 where
+  pub chain : List Item
+  pub tree_is : new ≡ chained old chain
+  pub lines : (more : Names) → Extends more names → AreHtmlLines (document text options more) [] owed e.places chain
+  pub end_is : «end» ≡ e.«end»
+  pub left_is : lines_from text next ≡ e.left
+
+-- A block is a last child of the innermost open node, whose items are, whatever more is named, what is said of them; and the lines from an offset on are left.
+pub record AddsRaw (text : List ℕ) (options : Options) (names : Names) (Are : Document → List (ℕ × Item) → Type 0) (left : List Place) (old new : Forest Item) (next : ℕ) : Type 0 where
+  pub items : List (ℕ × Item)
+  pub tree_is : new ≡ added old items
+  pub are : (more : Names) → Extends more names → Are (document text options more) items
+  pub left_is : lines_from text next ≡ left
+
+-- the lines behind the one that has something at an offset, which are a fenced code block's, or a metadata block's
+abbrev pub fenced_behind : List ℕ → List Container → ℕ → ℕ → ℕ → ℕ → Extent
+fenced_behind text path columns byte count start = fenced_lines (length text) path columns byte count (lines_from text (behind_line_at text start))
+
+abbrev pub metadata_behind : List ℕ → List Container → ℕ → ℕ → Extent
+metadata_behind text path byte start = metadata_lines (length text) path byte (lines_from text (behind_line_at text start))
+
+-- the lines of an HTML block from a place on
+abbrev pub html_to_end : List ℕ → List Container → List ℕ → Place → Extent
+html_to_end text path tag p = until_end (length text) path tag p (lines_from text (behind_line_at text (offset p)))
+
+abbrev pub html_to_blank : List ℕ → List Container → Place → Extent
+html_to_blank text path p = until_blank (length text) path p (lines_from text (behind_line_at text (offset p)))

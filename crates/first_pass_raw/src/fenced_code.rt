@@ -1,0 +1,141 @@
+//! Fenced code blocks (CommonMark 4.5).
+
+ghost use Rattle.std.specs.Prelude.{◌≡◌, ◌≤◌, length, drop, Some, IfOk, OnOk, IsCharBoundary, IsUtf8};
+ghost use Rattle.std.specs.List.{suffix_len};
+ghost use Rattle.first_pass_scan.specs.Lines.{is_ascii_white};
+ghost use Rattle.first_pass_scan.specs.Places.{place_at, IsPlaceOf};
+ghost use Rattle.first_pass_tokens.specs.TreeTokens.{JoinsNone};
+ghost use Rattle.first_pass_grammar.specs.Names.{Extends};
+ghost use Rattle.first_pass_open.specs.Path.{path_of};
+ghost use Rattle.first_pass_names.specs.TableEntries.{tables, names_of};
+ghost use Rattle.first_pass_scan.specs.LeafLines.{code_fence};
+ghost use Rattle.first_pass_grammar.specs.CodeBlocks.{info_string, closing_fence_end, IsFencedCode, fenced_lines};
+ghost use Rattle.first_pass_raw.specs.RawBlocks.{AppendsCodeLines, AddsRaw, fenced_behind, behind_line_at};
+ghost use Rattle.first_pass_grammar.specs.Completion.{lines_from};
+
+use first_pass_open::indentation::scan_indentation;
+use first_pass_names::items::Allocations;
+use first_pass_open::open_block::{BlockLines, close_block, go_on, open_block};
+use crate::raw_line::append_code_text;
+use first_pass_items::item::{Item, ItemBody};
+use first_pass_items::option_set::Options;
+use first_pass_links::escape::unescape;
+use first_pass_scan::leaf_scan::scan_closing_code_fence;
+use first_pass_scan::line_start::LineStart;
+use first_pass_scan::lines::{is_ascii_white, scan_whitespace_no_nl};
+use first_pass_scan::places::{next_line, rest_of};
+use first_pass_tree::forest::Tree;
+use std::alloc::{AllocError, Global};
+
+/// A code fence that opens a block: the columns before it, its byte, and how many bytes it has.
+#[derive(Clone, Copy)]
+pub struct Fence {
+    pub indent: usize,
+    pub byte: u8,
+    pub count: usize,
+}
+
+/// Appends the fenced code block whose fence begins at the offset `start_ix`. Answers the offset at which the line
+/// begins that is not read, or the text's length (CommonMark 4.5).
+pub fn parse_fenced_code_block<'a>(
+    alloc: Global,
+    tree: &mut Tree<Item>,
+    allocs: &mut Allocations<'a>,
+    text: &'a str,
+    options: Options,
+    start_ix: usize,
+    fence: Fence,
+) -> Result<usize, AllocError>
+    requires boundary { IsCharBoundary text.now start_ix }
+    requires fence { code_fence (drop start_ix text.now) ≡ Some (fence.count, fence.byte) }
+    ensures block { IfOk result (λ next. let e = fenced_behind text.now (path_of tree.old) fence.indent fence.byte fence.count start_ix in
+        AddsRaw text.now options (names_of allocs.new) (λ d. IsFencedCode d start_ix fence.count e.places e.«end») e.left tree.old tree.new next) }
+    ensures boundary { IfOk result (λ next. (behind_line_at text.now start_ix ≤ next) × IsCharBoundary text.now next) }
+    ensures names { OnOk result (Extends (names_of allocs.new) (names_of allocs.old)) }
+    ensures tables { OnOk result (tables allocs.new ≡ tables allocs.old) }
+    ensures utf8 { IsUtf8 text.now }
+{
+    tree.is_forest();
+    let bytes = text.as_bytes();
+    let info = unescape(alloc, info_string(text, start_ix + fence.count), false)?;
+    let info_ix = allocs.allocate_cow(info)?;
+    open_block(tree, start_ix, ItemBody::FencedCodeBlock(info_ix))?;
+    let first = next_line(bytes, start_ix);
+    let lines = fenced_lines(tree, allocs, text, options, first, fence)?;
+    close_block(tree, lines.end);
+    Ok(lines.next)
+}
+
+// The info string behind a code fence that ends at the offset `start`: the rest of the line without the white space
+// at its ends.
+fn info_string(text: &str, start: usize) -> &str
+    requires boundary { IsCharBoundary text.now start }
+    ensures { result.now ≡ info_string (drop start text.now) }
+{
+    let bytes = text.as_bytes();
+    let from = start + scan_whitespace_no_nl(rest_of(bytes, start));
+    let next = next_line(bytes, from);
+    &text[from..next - trailing_white(&bytes[from..next])]
+}
+
+// How many bytes of ASCII white space stand last.
+fn trailing_white(bytes: &[u8]) -> usize
+    ensures value { result ≡ suffix_len is_ascii_white bytes.now }
+    ensures within { result ≤ length bytes.now }
+{
+    bytes
+        .iter()
+        .rev()
+        .take_while(|b| is_ascii_white(**b))
+        .count()
+}
+
+// Where the closing fence ends that is left of a line of the text, which begins at the offset `start`.
+fn closing_fence(text: &str, start: usize, line_start: LineStart<'_>, fence: Fence) -> Option<usize>
+    requires place { IsPlaceOf text.now (place_at start line_start) }
+    ensures { result ≡ closing_fence_end fence.byte fence.count (place_at start line_start.entry) }
+{
+    let bytes = text.as_bytes();
+    let mut line_start = line_start;
+    if scan_indentation(&mut line_start) >= 4 {
+        return None;
+    }
+    let at = start + line_start.bytes_scanned();
+    let size = scan_closing_code_fence(rest_of(bytes, at), fence.byte, fence.count)?;
+    Some(at + size)
+}
+
+// The lines of a fenced code block from the one on that begins at the offset `start`.
+fn fenced_lines<'a>(
+    tree: &mut Tree<Item>,
+    allocs: &mut Allocations<'a>,
+    text: &'a str,
+    options: Options,
+    start: usize,
+    fence: Fence,
+) -> Result<BlockLines, AllocError>
+    requires boundary { IsCharBoundary text.now start }
+    requires apart { JoinsNone tree.old }
+    ensures lines { IfOk result (λ lines. AppendsCodeLines text.now options (names_of allocs.new)
+        (fenced_lines (length text.now) (path_of tree.old) fence.indent fence.byte fence.count (lines_from text.now start)) tree.old tree.new lines.«end» lines.next) }
+    ensures boundary { IfOk result (λ lines. (start ≤ lines.next) × IsCharBoundary text.now lines.next) }
+    ensures names { OnOk result (Extends (names_of allocs.new) (names_of allocs.old)) }
+    ensures tables { OnOk result (tables allocs.new ≡ tables allocs.old) }
+{
+    tree.is_forest();
+    let mut ix = start;
+    while ix < text.len() {
+        let Some(mut line_start) = go_on(text, ix, tree, options) else {
+            return Ok(BlockLines { end: ix, next: ix });
+        };
+        let next = next_line(text.as_bytes(), ix);
+        if let Some(end) = closing_fence(text, ix, line_start.copy(), fence) {
+            return Ok(BlockLines { end, next });
+        }
+        line_start.scan_space_upto(fence.indent);
+        let at = ix + line_start.bytes_scanned();
+        append_code_text(tree, allocs, text, line_start.remaining_space(), at, next)?;
+        ix = next;
+    }
+    Ok(BlockLines { end: ix, next: ix })
+}

@@ -1,0 +1,163 @@
+//! Indented code blocks (CommonMark 4.4).
+
+ghost use Rattle.std.specs.Prelude.{◌≡◌, ◌≤◌, length, drop, Some, false, if◌then◌else◌, IfOk, OnOk, IfSome, IsCharBoundary, IsUtf8};
+ghost use Rattle.first_pass_tree.specs.Forest.{IsChild, kept_after, with_end_at};
+ghost use Rattle.first_pass_scan.specs.Places.{Place, place_at, offset, IsPlaceOf};
+ghost use Rattle.first_pass_grammar.specs.Names.{Extends};
+ghost use Rattle.first_pass_open.specs.Path.{path_of};
+ghost use Rattle.first_pass_names.specs.TableEntries.{tables, names_of};
+ghost use Rattle.first_pass_scan.specs.Lines.{is_blank_line};
+ghost use Rattle.first_pass_raw.specs.RawBlocks.{IsJustOpened, code_rest_at, IsPlaceAt, AppendsCode, AppendsIndented, AddsIndented, behind_line_at};
+
+use first_pass_names::items::Allocations;
+use first_pass_open::open_block::{BlockLines, close_block, go_on, open_block};
+use crate::raw_line::append_code_text;
+use first_pass_items::item::{Item, ItemBody};
+use first_pass_items::option_set::Options;
+use first_pass_scan::line_start::LineStart;
+use first_pass_scan::lines::scan_blank_line;
+use first_pass_scan::places::next_line;
+use first_pass_tree::forest::Tree;
+use first_pass_tree::tree_index::TreeIndex;
+use std::alloc::AllocError;
+
+/// Appends the indented code whose first line's text begins at the offset `start_ix`, behind its four columns,
+/// with so many columns owed there. Answers the offset at which the line begins that is not read, or the text's
+/// length, and whether the last line read is blank: such lines are no part of the block (CommonMark 4.4).
+pub fn parse_indented_code_block<'a>(
+    tree: &mut Tree<Item>,
+    allocs: &mut Allocations<'a>,
+    text: &'a str,
+    options: Options,
+    start_ix: usize,
+    remaining_space: usize,
+) -> Result<(usize, bool), AllocError>
+    requires boundary { IsCharBoundary text.now start_ix }
+    requires owed { remaining_space ≤ 3 }
+    requires code { is_blank_line (drop start_ix text.now) ≡ false }
+    ensures block { IfOk result (λ answer. (p : Place) → IsPlaceAt text.now start_ix p → p.rest.owed ≡ remaining_space → AddsIndented text.now options (names_of allocs.new) p tree.old tree.new answer.0 answer.1) }
+    ensures boundary { IfOk result (λ answer. (behind_line_at text.now start_ix ≤ answer.0) × IsCharBoundary text.now answer.0) }
+    ensures names { OnOk result (Extends (names_of allocs.new) (names_of allocs.old)) }
+    ensures tables { OnOk result (tables allocs.new ≡ tables allocs.old) }
+    ensures utf8 { IsUtf8 text.now }
+{
+    tree.is_forest();
+    open_block(tree, start_ix, ItemBody::IndentCodeBlock)?;
+    let (lines, blank) = indented_lines(tree, allocs, text, options, start_ix, remaining_space)?;
+    close_block(tree, lines.end);
+    Ok((lines.next, blank))
+}
+
+// What stays of the lines so far where only blank ones follow: the last node, and where it ends.
+#[derive(Clone, Copy)]
+struct Kept {
+    last: Option<TreeIndex>,
+    end: usize,
+}
+
+// The lines of indented code, its first from the offset `start` on, without the blank ones at the end; and whether
+// there are such.
+fn indented_lines<'a>(
+    tree: &mut Tree<Item>,
+    allocs: &mut Allocations<'a>,
+    text: &'a str,
+    options: Options,
+    start: usize,
+    remaining_space: usize,
+) -> Result<(BlockLines, bool), AllocError>
+    requires boundary { IsCharBoundary text.now start }
+    requires owed { remaining_space ≤ 3 }
+    requires code { is_blank_line (drop start text.now) ≡ false }
+    requires opened { IsJustOpened tree.old }
+    ensures lines { IfOk result (λ answer. (p : Place) → IsPlaceAt text.now start p → p.rest.owed ≡ remaining_space → AppendsIndented text.now options (names_of allocs.new) p tree.old tree.new answer.0.«end» answer.0.next answer.1) }
+    ensures boundary { IfOk result (λ answer. (behind_line_at text.now start ≤ answer.0.next) × IsCharBoundary text.now answer.0.next) }
+    ensures names { OnOk result (Extends (names_of allocs.new) (names_of allocs.old)) }
+    ensures tables { OnOk result (tables allocs.new ≡ tables allocs.old) }
+{
+    tree.is_forest();
+    let mut next = append_line(tree, allocs, text, start, remaining_space)?;
+    let mut kept = Kept {
+        last: tree.cur(),
+        end: next,
+    };
+    let mut blank = false;
+    'lines: while let Some(line_start) = indented_line(text, next, tree, options) {
+        let at = next + line_start.bytes_scanned();
+        blank = scan_blank_line(line_start.left()).is_some();
+        next = append_line(tree, allocs, text, at, line_start.remaining_space())?;
+        kept = kept_line(kept, tree, blank, next);
+    }
+    cut_behind(tree, kept);
+    let lines = BlockLines {
+        end: kept.end,
+        next,
+    };
+    Ok((lines, blank))
+}
+
+// Appends the line of code from the offset `at` on, of which so many columns are owed there, and answers where it ends.
+fn append_line<'a>(
+    tree: &mut Tree<Item>,
+    allocs: &mut Allocations<'a>,
+    text: &str,
+    at: usize,
+    owed: usize,
+) -> Result<usize, AllocError>
+    requires within { at ≤ length text.now }
+    requires owed { owed ≤ 3 }
+    ensures end { IfOk result (λ next. next ≡ behind_line_at text.now at) }
+    ensures within { IfOk result (λ next. next ≤ length text.now) }
+    ensures line { IfOk result (λ next. AppendsCode text.now (names_of allocs.new) owed at next tree.old tree.new) }
+    ensures names { OnOk result (Extends (names_of allocs.new) (names_of allocs.old)) }
+    ensures tables { OnOk result (tables allocs.new ≡ tables allocs.old) }
+{
+    let next = next_line(text.as_bytes(), at);
+    append_code_text(tree, allocs, text, owed, at, next)?;
+    Ok(next)
+}
+
+// What stays: the same where the line that was appended last is blank, else all up to its end.
+fn kept_line(kept: Kept, tree: &Tree<Item>, blank: bool, end: usize) -> Kept
+    ensures { result ≡ (if blank then kept else record { last = tree.now.current; «end» = end }) }
+{
+    if blank {
+        return kept;
+    }
+    Kept {
+        last: tree.cur(),
+        end,
+    }
+}
+
+// Drops what stands behind the last node that stays. A blank line may have been joined to that, so it gets its end.
+fn cut_behind(tree: &mut Tree<Item>, kept: Kept)
+    requires { IfSome kept.last (λ child. IsChild tree.old child) }
+    ensures { IfSome kept.last (λ child. tree.new ≡ with_end_at (kept_after tree.old child) child kept.«end») }
+{
+    if let Some(child) = kept.last {
+        tree.drop_after(child);
+        tree.set_end(child, kept.end);
+    }
+}
+
+// What is left of the line that begins at the offset `start`, behind its containers and four columns or fewer, where
+// it goes on with indented code.
+fn indented_line<'a>(
+    text: &'a str,
+    start: usize,
+    tree: &Tree<Item>,
+    options: Options,
+) -> Option<LineStart<'a>>
+    requires { IsCharBoundary text.now start }
+    ensures value { result ≡ code_rest_at text.now (path_of tree.now) start }
+    ensures place { IfSome result (λ line_start. IsPlaceOf text.now (place_at start line_start)) }
+{
+    if start == text.len() {
+        return None;
+    }
+    let mut line_start = go_on(text, start, tree, options)?;
+    if !line_start.scan_space(4) && !line_start.is_at_eol() {
+        return None;
+    }
+    Some(line_start)
+}
