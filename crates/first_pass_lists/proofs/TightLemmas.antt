@@ -1,39 +1,88 @@
 -- The paragraphs of a list made tight, one node after the other.
-use Rattle.std.proofs.Common.{◌≡◌, ℕ, zero, suc, ◌+◌, ◌<◌, ◌≤◌, ◌-◌, ◌==◌, nat_lt, Bool, true, false, List, [], ◌∷◌, length, slice_index, Option, Some, refl, sym, ap, ◌∙◌, arith}
+use Rattle.std.proofs.Common.{◌≡◌, ℕ, zero, suc, ◌+◌, ◌<◌, ◌≤◌, ◌-◌, ◌==◌, nat_lt, Bool, true, false, List, [], ◌∷◌, length, slice_index, if◌then◌else◌, Option, Some, refl, sym, ap, subst, ◌∙◌, ⊎_elim, arith}
+use Rattle.std.proofs.lemmas.Bool.{cases_lt}
 use Rattle.std.proofs.lemmas.Bool.Decides.{nat_tests}
+use Rattle.std.proofs.lemmas.List.{length-map}
 use Rattle.first_pass_items.specs.declared.item.Item.{Item}
 use Rattle.first_pass_items.specs.declared.item.ItemBody.{ItemBody}
 use Rattle.first_pass_items.specs.declared.item.ItemBody.TheVariants.{Paragraph}
 use Rattle.first_pass_tree.specs.declared.tree_index.TreeIndex.{TreeIndex}
-use Rattle.first_pass_tree.specs.Forest.{Forest, depths, modify, body_at}
+use Rattle.first_pass_tree.specs.Forest.{Forest, depths, modify, body_at, end_of}
+use Rattle.first_pass_tree.proofs.Depths.{at-end, before-end}
+use Rattle.first_pass_tree.proofs.Keeps.{run-within}
 use Rattle.first_pass_grammar.specs.Derivation.{node_of, tight_body, tightened}
-use Rattle.first_pass_lists.specs.Closing.{tight_run, tight_at, tight_node}
+use Rattle.first_pass_lists.specs.Closing.{tight_run, tight_at, tight_node, tight_from, with_tight_node}
 use Rattle.first_pass_lists.proofs.BodyLemmas.{not_changed}
 
-pub tight_node_length : (depth i : ℕ) (ns : List (ℕ × Item)) → length (tight_node depth i ns) ≡ length ns
-unfolding tight_node
-tight_node_length depth i [] = refl
-tight_node_length depth zero (n ∷ ns) = refl
-tight_node_length depth (suc i) (n ∷ ns) = ap suc (tight_node_length depth i ns)
+run_depths_by : (t : Bool) (depth : ℕ) (n : ℕ × Item) (ns : List (ℕ × Item)) → depths (tight_run depth ns) ≡ depths ns → depths (if t then tightened (depth + 2) n ∷ tight_run depth ns else n ∷ ns) ≡ depths (n ∷ ns)
+run_depths_by true depth n ns h = ap (λ ds. n.0 ∷ ds) h
+run_depths_by false depth n ns h = refl
 
--- one node further
-pub tight_step : (depth i : ℕ) (ns : List (ℕ × Item)) → i < length ns → depth < slice_index (depths ns) i → tight_at depth (i + 1) (tight_node depth i ns) ≡ tight_at depth i ns
+tight_run_depths : (depth : ℕ) (ns : List (ℕ × Item)) → depths (tight_run depth ns) ≡ depths ns
+unfolding tight_run
+tight_run_depths depth [] = refl
+tight_run_depths depth (n ∷ ns) = run_depths_by (nat_lt depth n.0) depth n ns (tight_run_depths depth ns)
+
+-- tightening changes no depth
+tight_at_depths : (depth i : ℕ) (ns : List (ℕ × Item)) → depths (tight_at depth i ns) ≡ depths ns
+unfolding tight_at
+tight_at_depths depth zero ns = tight_run_depths depth ns
+tight_at_depths depth (suc i) [] = refl
+tight_at_depths depth (suc i) (n ∷ ns) = ap (λ ds. n.0 ∷ ds) (tight_at_depths depth i ns)
+
+tight_node_depths : (depth i : ℕ) (ns : List (ℕ × Item)) → depths (tight_node depth i ns) ≡ depths ns
+unfolding tight_node
+tight_node_depths depth i [] = refl
+tight_node_depths depth zero (n ∷ ns) = refl
+tight_node_depths depth (suc i) (n ∷ ns) = ap (λ ds. n.0 ∷ ds) (tight_node_depths depth i ns)
+
+-- one node more, before those that are tight
+tight_more : (depth i : ℕ) (ns : List (ℕ × Item)) → i < length ns → depth < slice_index (depths ns) i → tight_node depth i (tight_at depth (i + 1) ns) ≡ tight_at depth i ns
 unfolding tight_node tight_at tight_run
-tight_step depth i [] h deep = absurd (omega arith)
-tight_step depth zero (n ∷ ns) h deep = (let t : nat_lt depth n.0 ≡ true = grind (arith, nat_tests, deep) in rw t refl)
-tight_step depth (suc i) (n ∷ ns) h deep =
+tight_more depth i [] h deep = absurd (omega arith)
+tight_more depth zero (n ∷ ns) h deep = (let t : nat_lt depth n.0 ≡ true = grind (arith, nat_tests, deep) in rw t refl)
+tight_more depth (suc i) (n ∷ ns) h deep =
     let e : suc i + 1 ≡ suc (i + 1) = omega arith in
-    ap (λ k. tight_at depth k (n ∷ tight_node depth i ns)) e ∙ ap (λ ms. n ∷ ms) (tight_step depth i ns (omega arith) deep)
+    ap (λ k. tight_node depth (suc i) (tight_at depth k (n ∷ ns))) e ∙ ap (λ ms. n ∷ ms) (tight_more depth i ns (omega arith) deep)
+
+-- a node that is too deep is as it was
+tight_past : (depth i : ℕ) (ns : List (ℕ × Item)) → i < length ns → depth + 2 < slice_index (depths ns) i → tight_at depth (i + 1) ns ≡ tight_at depth i ns
+unfolding tight_at tight_run
+tight_past depth i [] h deep = absurd (omega arith)
+tight_past depth zero (n ∷ ns) h deep =
+    let t : nat_lt depth n.0 ≡ true = grind (arith, nat_tests, deep) in
+    let u : (n.0 == (depth + 2)) ≡ false = grind (arith, nat_tests, deep) in
+    rw (t, u) refl
+tight_past depth (suc i) (n ∷ ns) h deep =
+    let e : suc i + 1 ≡ suc (i + 1) = omega arith in
+    ap (λ k. tight_at depth k (n ∷ ns)) e ∙ ap (λ ms. n ∷ ms) (tight_past depth i ns (omega arith) deep)
+
+-- so are nodes that all are
+tight_over : (depth i gap : ℕ) (ns : List (ℕ × Item)) → i + gap ≤ length ns → ((k : ℕ) → i ≤ k → k < i + gap → depth + 2 < slice_index (depths ns) k) → tight_at depth (i + gap) ns ≡ tight_at depth i ns
+tight_over depth i zero ns h deep = (let e : i + 0 ≡ i = omega arith in ap (λ k. tight_at depth k ns) e)
+tight_over depth i (suc gap) ns h deep =
+    let e : i + suc gap ≡ i + gap + 1 = omega arith in
+    ap (λ k. tight_at depth k ns) e
+    ∙ tight_past depth (i + gap) ns (omega arith) (deep (i + gap) (omega arith) (omega arith))
+    ∙ tight_over depth i gap ns (omega arith) (λ k a b. deep k a (omega arith))
+
+-- a step of the walk back, over nodes that are too deep
+pub tight_back : (depth place at : ℕ) (ns : List (ℕ × Item)) → place < at → at ≤ length ns → depth < slice_index (depths ns) place → ((k : ℕ) → place < k → k < at → depth + 2 < slice_index (depths ns) k)
+    → tight_node depth place (tight_at depth at ns) ≡ tight_at depth place ns
+tight_back depth place at ns l w deep over =
+    let e : place + 1 + (at - (place + 1)) ≡ at = omega arith in
+    let o = tight_over depth (place + 1) (at - (place + 1)) ns (omega arith) (λ k a b. over k (omega arith) (omega arith)) in
+    ap (λ k. tight_node depth place (tight_at depth k ns)) (sym e) ∙ ap (tight_node depth place) o ∙ tight_more depth place ns (omega arith) deep
 
 -- the end
-pub tight_end : (depth i : ℕ) (ns : List (ℕ × Item)) → length ns ≤ i → tight_at depth i ns ≡ ns
+tight_end : (depth i : ℕ) (ns : List (ℕ × Item)) → length ns ≤ i → tight_at depth i ns ≡ ns
 unfolding tight_at tight_run
 tight_end depth zero [] h = refl
 tight_end depth (suc i) [] h = refl
 tight_end depth zero (n ∷ ns) h = absurd (omega arith)
 tight_end depth (suc i) (n ∷ ns) h = ap (λ ms. n ∷ ms) (tight_end depth i ns (omega arith))
 
-pub tight_stop : (depth i : ℕ) (ns : List (ℕ × Item)) → slice_index (depths ns) i ≤ depth → tight_at depth i ns ≡ ns
+tight_stop : (depth i : ℕ) (ns : List (ℕ × Item)) → slice_index (depths ns) i ≤ depth → tight_at depth i ns ≡ ns
 unfolding tight_at tight_run
 tight_stop depth zero [] h = refl
 tight_stop depth (suc i) [] h = refl
@@ -84,3 +133,100 @@ tight_same_body ns i b is = not_changed ns i _ b is (λ x e. ap (λ z. node_of x
 pub other_tight : (b : ItemBody) → (b ≡ Paragraph → ⊥) → tight_body b ≡ b
 other_tight Paragraph h = absurd (h refl)
 other_tight b h = refl
+
+pub tight_from_depths : (f g : Forest Item) (depth at : ℕ) → g ≡ tight_from f depth at → depths g.nodes ≡ depths f.nodes
+tight_from_depths f g depth at e = ap (λ (v : Forest Item). depths v.nodes) e ∙ tight_at_depths depth at f.nodes
+
+same_count : (f g : Forest Item) → depths g.nodes ≡ depths f.nodes → length g.nodes ≡ length f.nodes
+same_count f g e = sym (length-map g.nodes (λ n. n.0)) ∙ ap length e ∙ length-map f.nodes (λ n. n.0)
+
+-- a walk back over nodes below a list, one node after the other
+pub record IsTightening (old : Forest Item) (depth from to at : ℕ) (now : Forest Item) : Type 0 where
+  pub before : from ≤ at
+  pub within : at ≤ to
+  pub depths_stay : depths now.nodes ≡ depths old.nodes
+  pub tight : (f : Forest Item) → old ≡ tight_from f depth to → now ≡ tight_from f depth at
+
+pub tightening_begins : (old : Forest Item) (depth from to : ℕ) → from ≤ to → IsTightening old depth from to to old
+tightening_begins old depth from to l = record { before = l; within = omega arith; depths_stay = refl; tight = λ f e. e }
+
+pub tightening_within : (old now : Forest Item) (depth from to at : ℕ) → to ≤ length old.nodes → IsTightening old depth from to at now → at ≤ length now.nodes
+tightening_within old now depth from to at l h = omega (arith, h.within, same_count old now h.depths_stay)
+
+pub tightening_deeper : (old now : Forest Item) (depth from to at k : ℕ) → ((j : ℕ) → from ≤ j → j < to → depth < slice_index (depths old.nodes) j) → from < at → at ≡ k + 1 → IsTightening old depth from to at now
+    → depth < slice_index (depths now.nodes) k
+tightening_deeper old now depth from to at k deep l s h =
+    let w = h.within in
+    subst (λ (ds : List ℕ). depth < slice_index ds k) (sym h.depths_stay) (deep k (omega arith) (omega arith))
+
+pub tightening_next : (old now next : Forest Item) (depth from to at k : ℕ) → to ≤ length old.nodes → ((j : ℕ) → from ≤ j → j < to → depth < slice_index (depths old.nodes) j) → from < at → at ≡ k + 1 → IsTightening old depth from to at now
+    → next ≡ with_tight_node now depth (record { 0 = k }) → IsTightening old depth from to k next
+tightening_next old now next depth from to at k l deep b s h e =
+    let w = h.within in
+    let d = deep k (omega arith) (omega arith) in
+    record {
+      before = omega arith;
+      within = omega arith;
+      depths_stay = ap (λ (v : Forest Item). depths v.nodes) e ∙ tight_node_depths depth k now.nodes ∙ h.depths_stay;
+      tight = λ f t.
+          let ds = tight_from_depths f old depth to t in
+          let c = same_count f old ds in
+          let deeper : depth < slice_index (depths f.nodes) k = subst (λ (v : List ℕ). depth < slice_index v k) ds d in
+          e
+          ∙ ap (λ (v : Forest Item). with_tight_node v depth (record { 0 = k })) (h.tight f t ∙ ap (tight_from f depth) s)
+          ∙ ap (λ (ns : List (ℕ × Item)). record f { nodes = ns }) (tight_more depth k f.nodes (omega arith) deeper);
+    }
+
+-- the walk back over all nodes below a list: the paragraphs from a place on are tight
+pub record IsTightFrom (f : Forest Item) (list depth at : ℕ) (g : Forest Item) : Type 0 where
+  pub behind : list < at
+  pub within : at ≤ end_of (depths f.nodes) list
+  pub tight : g ≡ tight_from f depth at
+
+-- at their end nothing is yet
+pub walk_begins : (f : Forest Item) (list depth at : ℕ) → list < length f.nodes → depth ≡ slice_index (depths f.nodes) list → at ≡ end_of (depths f.nodes) list → IsTightFrom f list depth at f
+walk_begins f list depth at l d e =
+    let ds = depths f.nodes in
+    let m = length-map f.nodes (λ n. n.0) in
+    let n : tight_at depth at f.nodes ≡ f.nodes = ⊎_elim
+    (λ a. tight_stop depth at f.nodes (subst (λ (k : ℕ). slice_index ds k ≤ depth) (sym e) (subst (λ (k : ℕ). slice_index ds (end_of ds list) ≤ k) (sym d) (at-end ds list (omega arith) (omega arith)))))
+    (λ a. tight_end depth at f.nodes (omega arith))
+    (cases_lt at (length ds)) in
+    record {
+      behind = omega arith;
+      within = omega arith;
+      tight = ap (λ (ns : List (ℕ × Item)). record f { nodes = ns }) (sym n);
+    }
+
+pub walk_within : (f g : Forest Item) (list depth at : ℕ) → list < length f.nodes → IsTightFrom f list depth at g → at ≤ length g.nodes
+walk_within f g list depth at l h =
+    omega (arith, h.within, same_count f g (tight_from_depths f g depth at h.tight), run-within f.nodes (slice_index (depths f.nodes) list) (list + 1) (omega arith))
+
+-- what is below the list is deeper
+pub walk_deeper : (f g : Forest Item) (list depth at k : ℕ) → depth ≡ slice_index (depths f.nodes) list → IsTightFrom f list depth at g → list < k → k < at → depth < slice_index (depths g.nodes) k
+walk_deeper f g list depth at k d h a b =
+    let w = h.within in
+    let o = before-end (depths f.nodes) list k a (omega arith) in
+    subst (λ (ds : List ℕ). depth < slice_index ds k) (sym (tight_from_depths f g depth at h.tight)) (subst (λ (e : ℕ). e < slice_index (depths f.nodes) k) (sym d) o)
+
+-- the nodes behind an inner list are tight too
+pub walk_over : (f g : Forest Item) (list depth at past : ℕ) → IsTightFrom f list depth at g → list < past → past ≤ at → (h : Forest Item) → h ≡ tight_from f depth past → IsTightFrom f list depth past h
+walk_over f g list depth at past from a b h t = record { behind = a; within = (let w = from.within in omega arith); tight = t }
+
+-- a step over an inner list, from the nodes behind it to its place
+pub walk_next : (f g h next : Forest Item) (list depth at place past : ℕ) → list < length f.nodes → depth ≡ slice_index (depths f.nodes) list → IsTightFrom f list depth at g → list < place → place < past → past ≤ at
+    → ((k : ℕ) → place < k → k < past → depth + 2 < slice_index (depths g.nodes) k)
+    → h ≡ tight_from f depth past → next ≡ with_tight_node h depth (record { 0 = place }) → IsTightFrom f list depth place next
+walk_next f g h next list depth at place past l d from a b c over t e =
+    let v = from.within in
+    let s = tight_from_depths f g depth at from.tight in
+    let w = walk_within f g list depth at l from in
+    let n = same_count f g s in
+    let deep : depth < slice_index (depths f.nodes) place = subst (λ (ds : List ℕ). depth < slice_index ds place) s (walk_deeper f g list depth at place d from a (omega arith)) in
+    record {
+      behind = a;
+      within = omega arith;
+      tight = e
+          ∙ ap (λ (v : Forest Item). with_tight_node v depth (record { 0 = place })) t
+          ∙ ap (λ (ns : List (ℕ × Item)). record f { nodes = ns }) (tight_back depth place past f.nodes b (omega arith) deep (λ k x y. subst (λ (ds : List ℕ). depth + 2 < slice_index ds k) s (over k x y)));
+    }

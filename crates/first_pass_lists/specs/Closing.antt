@@ -38,6 +38,10 @@ tight_node depth (suc i) (n ∷ ns) = n ∷ tight_node depth i ns
 abbrev pub with_tight_node : Forest Item → ℕ → TreeIndex → Forest Item
 with_tight_node f depth ix = record f { nodes = tight_node depth ix.0 f.nodes }
 
+-- the tree with the paragraphs tight, from a place on, that stand directly in the items of a list of this depth
+abbrev pub tight_from : Forest Item → ℕ → ℕ → Forest Item
+tight_from f depth i = record f { nodes = tight_at depth i f.nodes }
+
 -- the tree with the paragraphs tight that stand directly in the items of a list (CommonMark 5.3)
 abbrev pub tight_items : Forest Item → TreeIndex → Forest Item
 tight_items f ix = record f { nodes = tight_at (slice_index (depths f.nodes) ix.0) (ix.0 + 1) f.nodes }

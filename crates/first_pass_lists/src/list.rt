@@ -1,8 +1,8 @@
 //! Lists and their items: how they go on, become loose and are closed (CommonMark 5.2, 5.3).
 
-ghost use Rattle.std.specs.Prelude.{◌≡◌, ◌<◌, ◌≤◌, ℕ, length, None, IsSome, IsCharBoundary, slice_get, slice_index, OnOk};
-ghost use Rattle.first_pass_lists.specs.Closing.{with_tight_node, tight_items, loosened_at, top_body, is_item, is_list_of, popped, item_finished, list_left, with_tree, gap_noted, list_finished, list_kept, list_continued, begun, blank_read};
-ghost use Rattle.first_pass_tree.specs.Forest.{depths};
+ghost use Rattle.std.specs.Prelude.{◌≡◌, ◌==◌, ◌+◌, ◌<◌, ◌≤◌, ℕ, length, None, IsSome, IsCharBoundary, slice_get, slice_index, OnOk, bit_and, if◌then◌else◌};
+ghost use Rattle.first_pass_lists.specs.Closing.{with_tight_node, tight_from, tight_items, loosened_at, top_body, is_item, is_list_of, popped, item_finished, list_left, with_tree, gap_noted, list_finished, list_kept, list_continued, begun, blank_read};
+ghost use Rattle.first_pass_tree.specs.Forest.{Forest, depths};
 ghost use Rattle.first_pass_open.specs.OpenBlock.{closed_by};
 ghost use Rattle.first_pass_items.specs.declared.item.ItemBody.TheVariants.{BlockQuote as BlockQuoteBody, ListItem as ListItemBody};
 
@@ -10,6 +10,7 @@ use crate::reading::Reading;
 use bitflags::Flags;
 use first_pass_items::item::{BlockQuoteKind, Item, ItemBody, ListFlags};
 use first_pass_tree::forest::Tree;
+use first_pass_tree::subtrees::Subtree;
 use first_pass_tree::tree_index::TreeIndex;
 use std::alloc::AllocError;
 
@@ -36,18 +37,65 @@ fn tighten(tree: &mut Tree<Item>, list_depth: usize, ix: TreeIndex)
     }
 }
 
-/// Makes the paragraphs tight that stand directly in the items of the list `list_ix` (CommonMark 5.3).
+/// Does so with each node from `from` up to `to`, all of them below the list. Where the paragraphs from `to`
+/// on were made tight, those from `from` on are then.
+fn tighten_between(tree: &mut Tree<Item>, list_depth: usize, from: usize, to: usize)
+    requires within { (from ≤ to) × (to ≤ length tree.old.nodes) }
+    requires deeper { (k : ℕ) → from ≤ k → k < to → list_depth < slice_index (depths tree.old.nodes) k }
+    ensures { (f : Forest Item) → tree.old ≡ tight_from f list_depth to → tree.new ≡ tight_from f list_depth from }
+{
+    let mut at = to;
+    while from < at {
+        at -= 1;
+        tighten(tree, list_depth, TreeIndex(at));
+    }
+}
+
+/// The last list inside one of depth `list_depth` that stands from `from` on and before `to`, with what is
+/// below it: no paragraph directly in an item of the outer list. The node at `from` alone where there is
+/// none, or where it was answered before.
+fn inner_list(tree: &mut Tree<Item>, list_depth: usize, from: usize, to: usize) -> Subtree
+    requires { (from < to) × (to ≤ length tree.old.nodes) }
+    ensures tree { tree.new ≡ tree.old }
+    ensures within { (from ≤ result.place) × (result.place < result.past) × (result.past ≤ to) }
+    ensures deeper { (k : ℕ) → result.place < k → k < result.past → list_depth + 2 < slice_index (depths tree.old.nodes) k }
+{
+    match tree.take_subtree(from, to) {
+        Some(inner) if 2 <= depth_at(tree, inner.place).saturating_sub(list_depth) => inner,
+        _ => Subtree {
+            place: from,
+            past: from + 1,
+        },
+    }
+}
+
+/// Makes the paragraphs tight that stand directly in the items of the list `list_ix` (CommonMark 5.3). Lists
+/// inside it that were closed before are gone over, and not through.
 pub fn surgerize_tight_list(tree: &mut Tree<Item>, list_ix: TreeIndex)
     requires { list_ix.0 < length tree.old.nodes }
     ensures { tree.new ≡ tight_items tree.old list_ix }
 {
-    let count = tree.node_count();
     let list_depth = depth_at(tree, list_ix.0);
-    let mut at = list_ix.0 + 1;
-    while at < count && list_depth < depth_at(tree, at) {
-        tighten(tree, list_depth, TreeIndex(at));
-        at += 1;
+    let mut at = tree.end_of(list_ix);
+    let first = list_ix.0 + 1;
+    while first < at {
+        let inner = inner_list(tree, list_depth, first, at);
+        tighten_between(tree, list_depth, inner.past, at);
+        tighten(tree, list_depth, TreeIndex(inner.place));
+        at = inner.place;
     }
+}
+
+/// Makes the paragraphs tight that stand directly in the items of a list, the current node, unless it is
+/// loose (CommonMark 5.3), and notes where it ends.
+fn close_list(tree: &mut Tree<Item>, list_ix: TreeIndex, flags: ListFlags)
+    requires { list_ix.0 < length tree.old.nodes }
+    ensures { tree.new ≡ (if bit_and flags.0 1 == 1 then tight_items tree.old list_ix else tree.old) }
+{
+    if flags.contains(ListFlags::IS_TIGHT) {
+        surgerize_tight_list(tree, list_ix);
+    }
+    tree.note_end();
 }
 
 /// Makes a list loose; another node stays.
@@ -71,9 +119,7 @@ impl Reading {
         self.tree.is_forest();
         let cur_ix = self.close_node(ix);
         match self.tree[cur_ix].body {
-            ItemBody::List(flags, _, _) if flags.contains(ListFlags::IS_TIGHT) => {
-                surgerize_tight_list(&mut self.tree, cur_ix);
-            }
+            ItemBody::List(flags, _, _) => close_list(&mut self.tree, cur_ix, flags),
             ItemBody::ListItem(_) => self.empty_item = None,
             _ => {}
         }
@@ -186,6 +232,7 @@ impl Reading {
         }
         self.finish_list(start);
         self.open_node(start, ItemBody::List(ListFlags::IS_TIGHT, ch, index))?;
+        self.tree.remember_last()?;
         Ok(())
     }
 

@@ -1,8 +1,11 @@
 -- Lists of depths: the last place of a depth, and open paths, through an edit.
-use Rattle.std.proofs.Common.{◌≡◌, ℕ, ◌+◌, ◌-◌, ◌<◌, ◌≤◌, suc, zero, List, [], ◌∷◌, ◌++◌, length, get_or, take, refl, ◌∙◌, arith, add-one}
-use Rattle.std.proofs.lemmas.List.{places, get_or_append_left, get_or_push, length_push, get_or-take, length-take-le}
+use Rattle.std.proofs.Common.{◌≡◌, ℕ, ◌+◌, ◌-◌, ◌<◌, ◌≤◌, suc, zero, List, [], ◌∷◌, ◌++◌, length, get_or, take, drop, nat_lt, true, false, refl, sym, ap, ◌∙◌, arith, add-one}
+use Rattle.std.proofs.lemmas.Bool.Decides.{nat_tests}
+use Rattle.std.proofs.lemmas.List.{places, get_or_append_left, get_or_push, length_push, get_or-take, get_or-drop, length-take-le, length-drop}
+use Rattle.std.proofs.lemmas.List.Sums.{prefix_len_passes, prefix_len_stops}
+use Rattle.std.specs.List.{prefix_len}
 use Rattle.first_pass_tree.specs.declared.tree_index.TreeIndex.{TreeIndex}
-use Rattle.first_pass_tree.specs.Forest.{IsLastAt, IsOpenPath, IsPreorder, open_place}
+use Rattle.first_pass_tree.specs.Forest.{IsLastAt, IsOpenPath, IsPreorder, end_of, open_place}
 
 -- the last place of a depth stays it where a deeper node is added
 pub last-append : (ds : List ℕ) (d e i : ℕ) → IsLastAt ds d i → d < e → IsLastAt (ds ++ e ∷ []) d i
@@ -67,3 +70,23 @@ depth-small ds h z (suc k) l =
     let r = depth-small ds h z k (omega arith) in
     let s = h k (omega arith) in
     grind (arith, add-one)
+
+-- what stands behind a node, up to the end of its descendants, is deeper
+pub before-end : (ds : List ℕ) (i k : ℕ) → i < k → k < end_of ds i → get_or ds i 0 < get_or ds k 0
+before-end ds i k a b =
+    let p = λ (d : ℕ). nat_lt (get_or ds i 0) d in
+    let s = prefix_len_passes p (drop (i + 1) ds) (k - (i + 1)) 0 (omega arith) in
+    let u = get_or-drop (i + 1) ds (k - (i + 1)) 0 in
+    let x : i + 1 + (k - (i + 1)) ≡ k = omega arith in
+    let y : nat_lt (get_or ds i 0) (get_or ds k 0) ≡ true = ap (λ z. nat_lt (get_or ds i 0) (get_or ds z 0)) (sym x) ∙ ap (nat_lt (get_or ds i 0)) (sym u) ∙ s in
+    grind (arith, nat_tests, y)
+
+-- what stands at their end is not
+pub at-end : (ds : List ℕ) (i : ℕ) → i < length ds → end_of ds i < length ds → get_or ds (end_of ds i) 0 ≤ get_or ds i 0
+at-end ds i l h =
+    let p = λ (d : ℕ). nat_lt (get_or ds i 0) d in
+    let w : prefix_len p (drop (i + 1) ds) < length (drop (i + 1) ds) = omega (arith, length-drop (i + 1) ds) in
+    let t = prefix_len_stops p (drop (i + 1) ds) 0 w in
+    let u = get_or-drop (i + 1) ds (prefix_len p (drop (i + 1) ds)) 0 in
+    let r : nat_lt (get_or ds i 0) (get_or ds (end_of ds i) 0) ≡ false = ap (nat_lt (get_or ds i 0)) (sym u) ∙ t in
+    grind (arith, nat_tests, r)

@@ -1,19 +1,18 @@
 -- Each change of a forest leaves a forest.
 use Rattle.std.proofs.Common.{◌≡◌, ℕ, ◌+◌, ◌-◌, ◌<◌, ◌≤◌, ◌^◌, suc, zero, List, [], ◌∷◌, ◌++◌, length, get_or, set, take, drop, map, Some, None, true, false, Bool, nat_lt, eqb, ◌≢◌, ◌⊎◌, reverse, if◌then◌else◌, ◌&&◌, ◌==◌, slice_get, IfSome, Option, refl, sym, ◌∙◌, ap, subst, ⊎_elim, arith}
 use Rattle.std.proofs.lemmas.List.{take-take, drop-take, take-append-drop, length-append, length-reverse, get_or-reverse, map-append, length-map, take-map, get_or-map, get_or_past, take_more, reverse-append, get_or-append_right, get_or-drop, get_or-take, length-take-le, length-drop, get_or-set_other, length-set, get_or_append_left, get_or_at}
-use Rattle.std.proofs.lemmas.List.Sums.{prefix_len-drop_yes, prefix_len-drop_no, prefix_len-drop_all, prefix_len-le-length, prefix_len_passes}
+use Rattle.std.proofs.lemmas.List.Sums.{prefix_len-drop_yes, prefix_len-drop_no, prefix_len-drop_all, prefix_len-le-length, prefix_len_is}
 use Rattle.std.proofs.lemmas.Bool.Decides.{nat_tests}
 use Rattle.std.proofs.lemmas.Bool.{cases_lt}
 use Rattle.std.specs.Prelude.{insert}
 use Rattle.std.specs.Option.{option_map}
-use Rattle.std.specs.List.{prefix_len}
 use Rattle.first_pass_tree.specs.declared.tree_index.TreeIndex.{TreeIndex}
 use Rattle.first_pass_items.specs.declared.item.AlignmentIndex.{AlignmentIndex}
 use Rattle.first_pass_items.specs.declared.item.Item.{Item}
 use Rattle.first_pass_items.specs.declared.item.ItemBody.{ItemBody}
 use Rattle.first_pass_items.specs.declared.item.ItemBody.TheVariants.{Text, Table, TableHead, TableRow, TableCell}
 use Rattle.first_pass_tree.specs.Forest.{Forest, IsForest, IsLastAt, IsOpenPath, IsPreorder, depths, item_at, modify, run_end, end_of, child_of, sibling_of, in_table, in_table_by, appended, popped, cut_to, kept_after, childless, wrapped, map_from, deeper, IsShallow, cut_tokens, cut_item, is_escaped, cut_siblings, HasLeaves, last_child, open_place, IsChild}
-use Rattle.first_pass_tree.proofs.Depths.{last-push, last-take, path-append, path-last_depth, path-take, preorder-append, preorder-take, path-take_open, open-last, last-order, depth-small}
+use Rattle.first_pass_tree.proofs.Depths.{last-push, last-take, path-append, path-last_depth, path-take, preorder-append, preorder-take, path-take_open, open-last, last-order, depth-small, before-end}
 
 pub appended-is : {T : Type 0} (f : Forest T) (x : T) → IsForest f → IsForest (appended f x)
 appended-is f x h =
@@ -193,14 +192,20 @@ map_over_same f xs ys i d l e =
     let w : i + 0 ≡ i = omega arith in
     ap (λ zs. get_or zs i d) e ∙ r ∙ ap (λ k. get_or (drop i xs) k d) z ∙ get_or-drop i xs 0 d ∙ ap (λ k. get_or xs k d) w
 
+-- a run of deeper nodes ends within the list
+pub run-within : {T : Type 0} (ns : List (ℕ × T)) (depth i : ℕ) → i ≤ length ns → run_end (depths ns) depth i ≤ length ns
+run-within ns depth i l =
+    let m = length-map ns (λ n. n.0) in
+    let q = prefix_len-le-length (λ d. nat_lt depth d) (drop i (depths ns)) in
+    omega (arith, length-drop i (depths ns))
+
 pub kept_after-is : {T : Type 0} (f : Forest T) (ix : TreeIndex) → IsChild f ix → IsForest f → IsForest (kept_after f ix)
 kept_after-is f ix g h =
     let ds = depths f.nodes in
     let m = length-map f.nodes (λ n. n.0) in
     let p = end_of ds ix.0 in
     let w : ix.0 < p = omega arith in
-    let q = prefix_len-le-length (λ d. nat_lt (get_or ds ix.0 0) d) (drop (ix.0 + 1) ds) in
-    let v : p ≤ length ds = omega (arith, length-drop (ix.0 + 1) ds) in
+    let v : p ≤ length ds = omega (arith, run-within f.nodes (get_or ds ix.0 0) (ix.0 + 1) (omega (arith, g.within))) in
     let t = sym (take-map (λ n. n.0) p f.nodes) in
     record {
       preorder = subst IsPreorder (sym t) (preorder-take ds p v h.preorder);
@@ -210,13 +215,9 @@ kept_after-is f ix g h =
         depth = get_or-take p ds ix.0 0 w ∙ g.depth;
         behind = λ k a b.
             let n : k < p = omega (arith, length-take-le p ds v) in
-            let j : k - (ix.0 + 1) < prefix_len (λ d. nat_lt (get_or ds ix.0 0) d) (drop (ix.0 + 1) ds) = omega arith in
-            let s = prefix_len_passes (λ d. nat_lt (get_or ds ix.0 0) d) (drop (ix.0 + 1) ds) (k - (ix.0 + 1)) 0 j in
-            let u = get_or-drop (ix.0 + 1) ds (k - (ix.0 + 1)) 0 in
-            let x : ix.0 + 1 + (k - (ix.0 + 1)) ≡ k = omega arith in
-            let y : nat_lt (get_or ds ix.0 0) (get_or ds k 0) ≡ true = ap (λ z. nat_lt (get_or ds ix.0 0) (get_or ds z 0)) (sym x) ∙ ap (nat_lt (get_or ds ix.0 0)) (sym u) ∙ s in
+            let y = before-end ds ix.0 k a n in
             let r = get_or-take p ds k 0 n in
-            grind (arith, nat_tests, g.depth, r, y);
+            omega (arith, g.depth);
       });
     }
 
@@ -239,6 +240,9 @@ childless-is f ix g h =
 
 pub open-within : {T : Type 0} (f : Forest T) (ix : TreeIndex) → slice_get f.spine 0 ≡ Some ix → IsForest f → ix.0 < length f.nodes
 open-within f ix g h = omega (arith, (open-last (depths f.nodes) f.spine h.opened).within, open-at f.spine ix g, length-map f.nodes (λ n. n.0))
+
+pub opened-within : {T : Type 0} (f : Forest T) (c : TreeIndex) (rest : List TreeIndex) → f.spine ≡ c ∷ rest → IsForest f → c.0 < length f.nodes
+opened-within f c rest e h = open-within f c (ap (λ (is : List TreeIndex). slice_get is 0) e) h
 
 -- a change from a place on, one element on and at the end
 pub map_from-more : {T : Type 0} (g : ℕ × T → ℕ × T) (ns : List (ℕ × T)) (i : ℕ) (n : ℕ × T) → i < length ns → n ≡ get_or ns i n → map_from g (suc i) (set ns i (g n)) ≡ map_from g i ns
@@ -410,6 +414,30 @@ pub current-within : {T : Type 0} (f : Forest T) (c : TreeIndex) → f.current �
 current-within f c q h =
     let l = subst (λ (o : Option TreeIndex). IfSome o (λ c. IsLastAt (depths f.nodes) (length f.spine + 1) c.0)) q h.at_current in
     omega (arith, l.within, length-map f.nodes (λ n. n.0))
+
+-- the end of what is below a node whose depth is read
+pub end-read : {T : Type 0} (ns ms : List (ℕ × T)) (i e : ℕ) (n : ℕ × T) → i < length ns → n ≡ get_or ns i n → ms ≡ ns → e ≡ run_end (depths ms) n.0 (i + 1) → e ≡ end_of (depths ns) i
+end-read {T = T} ns ms i e n l r q h = h ∙ ap (λ (v : List (ℕ × T)). run_end (depths v) n.0 (i + 1)) q ∙ ap (λ d. run_end (depths ns) d (i + 1)) (sym (depth_at ns i n l r))
+
+-- the last node of its depth ends with the list
+last-end : {T : Type 0} (ns : List (ℕ × T)) (d i : ℕ) → IsLastAt (depths ns) d i → end_of (depths ns) i ≡ length ns
+last-end ns d i h =
+    let ds = depths ns in
+    let m = length-map ns (λ n. n.0) in
+    let n = length-drop (i + 1) ds in
+    let w = h.within in
+    let r = prefix_len_is (λ e. nat_lt (get_or ds i 0) e) (drop (i + 1) ds) (length (drop (i + 1) ds)) 0 (omega arith)
+    (λ k l.
+    let b = h.behind (i + 1 + k) (omega arith) (omega arith) in
+    let t : nat_lt (get_or ds i 0) (get_or ds (i + 1 + k) 0) ≡ true = grind (arith, nat_tests, h.depth, b) in
+    ap (nat_lt (get_or ds i 0)) (get_or-drop (i + 1) ds k 0) ∙ t)
+    (λ l. absurd (omega arith)) in
+    omega arith
+
+pub current-end : {T : Type 0} (f : Forest T) (c ix : TreeIndex) → f.current ≡ Some c → c.0 ≡ ix.0 → IsForest f → end_of (depths f.nodes) ix.0 ≡ length f.nodes
+current-end f c ix q e h =
+    let l = subst (λ (o : Option TreeIndex). IfSome o (λ c. IsLastAt (depths f.nodes) (length f.spine + 1) c.0)) q h.at_current in
+    ap (end_of (depths f.nodes)) (sym e) ∙ last-end f.nodes _ c.0 l
 
 -- the open places are within the list
 path-within : (ds : List ℕ) (is : List TreeIndex) → IsOpenPath ds is → (k : ℕ) → k < length is → (d : TreeIndex) → (get_or is k d).0 < length ds

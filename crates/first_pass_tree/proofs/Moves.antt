@@ -1,14 +1,12 @@
 -- Siblings moved out of a list of depths.
-use Rattle.std.proofs.Common.{◌≡◌, ◌≢◌, ℕ, ◌+◌, ◌-◌, ◌<◌, ◌≤◌, suc, zero, List, [], ◌∷◌, length, get_or, set, drop, map, Some, None, true, false, Bool, nat_lt, eqb, cond, IfSome, IsSomeAnd, Option, refl, sym, ◌∙◌, ap, subst, ⊎_elim, arith}
-use Rattle.std.proofs.lemmas.List.{length-map, length-set, length-drop, get_or-set_other, get_or-drop}
-use Rattle.std.proofs.lemmas.List.Sums.{prefix_len-le-length, prefix_len_stops}
+use Rattle.std.proofs.Common.{◌≡◌, ◌≢◌, ℕ, ◌+◌, ◌-◌, ◌<◌, ◌≤◌, suc, zero, List, [], ◌∷◌, length, get_or, set, map, Some, None, true, false, Bool, eqb, cond, IfSome, IsSomeAnd, Option, refl, sym, ◌∙◌, ap, subst, ⊎_elim, arith}
+use Rattle.std.proofs.lemmas.List.{length-map, length-set, get_or-set_other}
 use Rattle.std.proofs.lemmas.Bool.{cases_lt, cases_eq}
 use Rattle.std.proofs.lemmas.Bool.Decides.{nat_tests}
-use Rattle.std.specs.List.{prefix_len}
 use Rattle.first_pass_tree.specs.declared.tree_index.TreeIndex.{TreeIndex}
 use Rattle.first_pass_tree.specs.Forest.{Forest, IsForest, IsLastAt, IsOpenPath, IsPreorder, IsChildOfCurrent, depths, map_from, shallower, end_of, run_end, last_before, moved_out, open_place}
-use Rattle.first_pass_tree.proofs.Depths.{last-order, open-last}
-use Rattle.first_pass_tree.proofs.Keeps.{map_set}
+use Rattle.first_pass_tree.proofs.Depths.{last-order, open-last, at-end}
+use Rattle.first_pass_tree.proofs.Keeps.{map_set, run-within}
 
 pub lower-keeps : {T : Type 0} (ns : List (ℕ × T)) (i : ℕ) (n : ℕ × T) → ((k : ℕ) → i ≤ k → k < length ns → 0 < get_or (depths ns) k 0) → (k : ℕ) → i + 1 ≤ k → k < length (set ns i n) → 0 < get_or (depths (set ns i n)) k 0
 lower-keeps ns i n h k a b =
@@ -128,16 +126,12 @@ moved_out-is f ix g h =
     let cx : c.0 < ix.0 = s.1.1 in
     let m = length-map f.nodes (λ n. n.0) in
     let o = last-order ds _ _ _ c.0 (open-last ds f.spine h.opened) lc (omega arith) in
-    let p = λ (d : ℕ). nat_lt (get_or ds ix.0 0) d in
-    let v : e ≤ length ds = omega (arith, prefix_len-le-length p (drop (ix.0 + 1) ds), length-drop (ix.0 + 1) ds, g.within) in
+    let l : ix.0 < length ds = omega (arith, g.within) in
+    let v : e ≤ length ds = omega (arith, run-within f.nodes (get_or ds ix.0 0) (ix.0 + 1) (omega arith)) in
     let w : ix.0 < e = omega arith in
     let b = λ (k : ℕ) (x : e ≤ k) (y : k < length ds). lc.behind k (omega arith) y in
     let q : e < length ds → get_or ds e 0 ≤ length f.spine + 2 = λ x.
-    let y : prefix_len p (drop (ix.0 + 1) ds) < length (drop (ix.0 + 1) ds) = omega (arith, length-drop (ix.0 + 1) ds) in
-    let t = prefix_len_stops p (drop (ix.0 + 1) ds) 0 y in
-    let u = get_or-drop (ix.0 + 1) ds (prefix_len p (drop (ix.0 + 1) ds)) 0 in
-    let r : nat_lt (get_or ds ix.0 0) (get_or ds e 0) ≡ false = ap (nat_lt (get_or ds ix.0 0)) (sym u) ∙ t in
-    grind (arith, nat_tests, g.depth, r) in
+    omega (arith, g.depth, at-end ds ix.0 l x) in
     let z = lc.behind (e - 1) (omega arith) (omega arith) in
     let n = lower-length f.nodes e in
     let len = length-map ns (λ n. n.0) in

@@ -1,13 +1,15 @@
 //! The tree as one list in reading order, with the path of its open nodes.
 
-ghost use Rattle.std.specs.Prelude.{◌≡◌, ◌+◌, ◌<◌, ◌∷◌, [], ◌-◌, length, reverse, Some, None, if◌then◌else◌, IfOk, IfSome, OnOk, OnErr, IsSome, MatchOption, slice_get};
-ghost use Rattle.first_pass_tree.specs.Forest.{empty_forest, appended, pushed, popped, cut_to, with_text, with_item, with_end_at, with_body_at, item_at, depths, child_of, sibling_of, kept_after, childless, in_table, wrapped, IsChildOfCurrent, moved_out, IsChild, cut_siblings, HasLeaves, IsForest};
+ghost use Rattle.std.specs.Prelude.{◌≡◌, ◌+◌, ◌<◌, ◌≤◌, ◌∷◌, [], ◌-◌, length, reverse, Some, None, if◌then◌else◌, IfOk, IfSome, OnOk, OnErr, IsSome, MatchOption, slice_get};
+ghost use Rattle.first_pass_tree.specs.Forest.{empty_forest, appended, pushed, popped, cut_to, with_text, with_item, with_end_at, with_body_at, item_at, depths, child_of, sibling_of, kept_after, childless, in_table, wrapped, IsChildOfCurrent, moved_out, IsChild, cut_siblings, HasLeaves, IsForest, end_of};
+ghost use Rattle.first_pass_tree.specs.Subtrees.{IsSubtree};
 ghost use Rattle.std.specs.Borrow.{sem};
 
 use crate::node_list::{
     child_in, cut_nodes, deeper_end, first_place, in_table_of, last_of_depth, last_place, lower,
     sibling_in, wrap,
 };
+use crate::subtrees::{Subtree, Subtrees};
 use crate::tree_index::TreeIndex;
 use first_pass_items::item::{Item, ItemBody};
 use std::alloc::{AllocError, Global};
@@ -24,17 +26,20 @@ pub struct Tree<T> {
     nodes: Vec<(usize, T)>,
     spine: Vec<TreeIndex>,
     cur: Option<TreeIndex>,
+    // Where subtrees begin that a walk goes over at once, and where they end as far as is known.
+    subtrees: Subtrees,
 }
 
 impl<T> Model for Tree<T> {
     ghost use Rattle.std.specs.Prelude.{reverse};
-    ghost use Rattle.first_pass_tree.specs.Forest.{Forest, IsForest};
+    ghost use Rattle.first_pass_tree.specs.Forest.{Forest};
+    ghost use Rattle.first_pass_tree.specs.Subtrees.{IsTree};
 
     ghost Value = { Forest T };
 
     ghost view = { λ t. record { nodes = t.nodes.items; spine = reverse t.spine.items; current = t.cur } };
 
-    ghost invariant = { λ t. IsForest (record { nodes = t.nodes.items; spine = reverse t.spine.items; current = t.cur }) };
+    ghost invariant = { λ t. IsTree (record { nodes = t.nodes.items; spine = reverse t.spine.items; current = t.cur }) t.subtrees };
 }
 
 impl Tree<Item> {
@@ -54,6 +59,7 @@ impl Tree<Item> {
             nodes,
             spine: Vec::new(alloc),
             cur: None,
+            subtrees: Subtrees::new(alloc),
         })
     }
 
@@ -192,6 +198,7 @@ impl Tree<Item> {
             × (self.new ≡ cut_to (popped self.old ix self.new.spine) (ix.0 + 1))) }
     {
         let emptied = self.spine.pop()?;
+        self.subtrees.cut_to(emptied.0 + 1);
         self.nodes.truncate(emptied.0 + 1);
         self.cur = Some(emptied);
         Some(emptied)
@@ -204,6 +211,7 @@ impl Tree<Item> {
         ensures { self.new ≡ kept_after self.old ix }
     {
         let end = deeper_end(&self.nodes, self.spine.len() + 1, ix.0 + 1);
+        self.subtrees.cut_to(end);
         self.nodes.truncate(end);
         self.cur = Some(ix);
     }
@@ -214,6 +222,7 @@ impl Tree<Item> {
         ensures { self.new ≡ childless self.old ix }
     {
         let _count = self.nodes.len();
+        self.subtrees.cut_to(ix.0 + 1);
         self.nodes.truncate(ix.0 + 1);
         self.cur = None;
     }
@@ -228,6 +237,7 @@ impl Tree<Item> {
     {
         let place = self.cur.unwrap().0 + 1;
         wrap(&mut self.nodes, place, self.spine.len() + 2, item)?;
+        self.subtrees.cut_to(place);
         Ok(TreeIndex(place))
     }
 
@@ -240,6 +250,7 @@ impl Tree<Item> {
     {
         let depth = self.spine.len() + 1;
         let end = deeper_end(&self.nodes, depth + 1, ix.0 + 1);
+        self.subtrees.cut_to(end);
         lower(&mut self.nodes, end);
         self.cur = Some(TreeIndex(last_of_depth(&self.nodes, depth)));
     }
@@ -254,6 +265,7 @@ impl Tree<Item> {
     {
         let _count = self.nodes.len();
         let first = first_place(&self.spine);
+        self.subtrees.cut_to(first);
         cut_nodes(&mut self.nodes, first, end);
         self.cur = last_place(first, self.nodes.len());
     }
@@ -311,6 +323,45 @@ impl Tree<Item> {
         ensures { result ≡ sibling_of (depths self.now.nodes) ix.0 }
     {
         sibling_in(&self.nodes, ix.0)
+    }
+
+    /// The place behind a node and all below it.
+    pub fn end_of(&self, ix: TreeIndex) -> usize
+        requires { ix.0 < length self.now.nodes }
+        ensures { result ≡ end_of (depths self.now.nodes) ix.0 }
+    {
+        match self.cur {
+            Some(current) if current.0 == ix.0 => self.nodes.len(),
+            _ => deeper_end(&self.nodes, self.nodes[ix.0].0, ix.0 + 1),
+        }
+    }
+
+    /// Remembers where the subtree of the last node begins, of which `note_end` is to say where it ends. What
+    /// is remembered shows only in `take_subtree`. An error where memory is refused.
+    pub fn remember_last(&mut self) -> Result<(), AllocError>
+        ensures { self.new ≡ self.old }
+    {
+        self.subtrees.add_last(self.nodes.len())
+    }
+
+    /// Notes that the subtree of the current node, if it is remembered, ends where the nodes end now. Those
+    /// inside it are forgotten, and so is itself where no other is remembered.
+    pub fn note_end(&mut self)
+        ensures { self.new ≡ self.old }
+    {
+        if let Some(ix) = self.cur {
+            self.subtrees.note_end(ix.0, self.nodes.len());
+        }
+    }
+
+    /// The last of the subtrees that are remembered, if it stands from `from` on and before `to`. It is
+    /// forgotten then.
+    pub fn take_subtree(&mut self, from: usize, to: usize) -> Option<Subtree>
+        ensures tree { self.new ≡ self.old }
+        ensures within { IfSome result (λ s. (from ≤ s.place) × (s.past ≤ to)) }
+        ensures below { IfSome result (λ s. IsSubtree (depths self.old.nodes) s.place s.past) }
+    {
+        self.subtrees.take_between(from, to)
     }
 
     /// Whether, outwards from the innermost open node over heads, rows and cells, a table comes first.
