@@ -1,11 +1,10 @@
-//! Deep texts: how many nodes they have, and how long they take.
+//! Deep texts: how many nodes they have.
 
 use bitflags::Flags;
 use first_pass::pass::run_first_pass;
 use first_pass_items::option_set::Options;
 use std::alloc::{AllocError, Global};
 use std::test::Fail;
-use std::time::Instant;
 
 // So many times a marker, and then `a`.
 fn nested(alloc: Global, marker: &str, times: usize) -> Result<String, AllocError> {
@@ -20,10 +19,7 @@ fn nested(alloc: Global, marker: &str, times: usize) -> Result<String, AllocErro
 #[test]
 fn quotes_are_nested(rt: HostRuntime) -> Result<(), Fail> {
     let text = nested(rt.alloc(), ">", 10_000)?;
-    let begin = Instant::now(&rt)?;
     let (tree, _allocs) = run_first_pass(rt.alloc(), text.as_str(), Options::empty())?;
-    let took = begin.elapsed(&rt)?;
-    assert!(rt; took.as_millis() < 1000, "{took:?}");
     // The root, the quotes, the paragraph and its text.
     assert_eq!(rt; tree.node_count(), 10_003);
     Ok(())

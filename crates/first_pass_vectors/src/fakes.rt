@@ -97,17 +97,26 @@ pub fn print(alloc: Global, bits: &str, text: &str) -> Result<String, Fail> {
     Ok(String::from_utf8_lossy(alloc, sink.bytes.as_slice())?)
 }
 
+/// A text or a tree as a table has it, which begins on the line below its opening quote.
+fn from_next_line(literal: &str) -> Result<&str, Fail> {
+    Ok(literal.strip_prefix("\n").ok_or("a line of its own")?)
+}
+
 /// Asserts what is printed for each text: its option bits (none where they are empty), the text, what is wanted.
+/// Text and tree stand in the table as they are, from the line below the opening quote on.
 pub fn assert_printed(
     rt: &impl Abort,
     alloc: Global,
     texts: &[(&str, &str, &str)],
 ) -> Result<(), Fail> {
-    for (bits, text, want) in texts {
+    for (bits, text_below, tree_below) in texts {
+        let text = from_next_line(text_below)?;
+        let want = from_next_line(tree_below)?;
         let printed = print(alloc, bits, text)?;
+        let got = printed.as_str();
         assert!(rt;
-            printed.as_str() == *want,
-            "options {bits:?}, text {text:?}: {printed}"
+            got == want,
+            "options {bits:?}, text {text:?}\n{text}\nwanted:\n{want}\ngot:\n{got}"
         );
     }
     Ok(())

@@ -8,113 +8,358 @@ use std::test::Fail;
 const TEXTS: &[(&str, &str, &str)] = &[
     (
         "16",
-        "- [ ] a\n",
-        "Root 0..8\n  List(tight,-,0) 0..8\n    ListItem(2) 0..8\n      TightParagraph 6..8\n        TaskListMarker(false) 2..5\n        Text 6..7\n",
+        "
+- [ ] a
+",
+        "
+Root 0..8
+  List(tight,-,0) 0..8
+    ListItem(2) 0..8
+      TightParagraph 6..8
+        TaskListMarker(false) 2..5
+        Text 6..7
+",
     ),
     (
         "16",
-        "- [x]\n  a",
-        "Root 0..9\n  List(tight,-,0) 0..9\n    ListItem(2) 0..9\n      TaskListMarker(true) 2..5\n      TightParagraph 8..9\n        Text 8..9\n",
+        "
+- [x]
+  a",
+        "
+Root 0..9
+  List(tight,-,0) 0..9
+    ListItem(2) 0..9
+      TaskListMarker(true) 2..5
+      TightParagraph 8..9
+        Text 8..9
+",
     ),
     (
         "16",
-        "- [ ] a\n- [x] b\n- [X] c",
-        "Root 0..23\n  List(tight,-,0) 0..23\n    ListItem(2) 0..8\n      TightParagraph 6..8\n        TaskListMarker(false) 2..5\n        Text 6..7\n    ListItem(2) 8..16\n      TightParagraph 14..16\n        TaskListMarker(true) 10..13\n        Text 14..15\n    ListItem(2) 16..23\n      TightParagraph 22..23\n        TaskListMarker(true) 18..21\n        Text 22..23\n",
+        "
+- [ ] a
+- [x] b
+- [X] c",
+        "
+Root 0..23
+  List(tight,-,0) 0..23
+    ListItem(2) 0..8
+      TightParagraph 6..8
+        TaskListMarker(false) 2..5
+        Text 6..7
+    ListItem(2) 8..16
+      TightParagraph 14..16
+        TaskListMarker(true) 10..13
+        Text 14..15
+    ListItem(2) 16..23
+      TightParagraph 22..23
+        TaskListMarker(true) 18..21
+        Text 22..23
+",
     ),
     (
         "16",
-        "- [ ]\n  a",
-        "Root 0..9\n  List(tight,-,0) 0..9\n    ListItem(2) 0..9\n      TaskListMarker(false) 2..5\n      TightParagraph 8..9\n        Text 8..9\n",
+        "
+- [ ]
+  a",
+        "
+Root 0..9
+  List(tight,-,0) 0..9
+    ListItem(2) 0..9
+      TaskListMarker(false) 2..5
+      TightParagraph 8..9
+        Text 8..9
+",
     ),
     (
         "16",
-        "- [ ]\n\n  a",
-        "Root 0..10\n  List(tight,-,0) 0..9\n    ListItem(0) 0..6\n      TaskListMarker(false) 2..5\n  Paragraph 9..10\n    Text 9..10\n",
+        "
+- [ ]
+
+  a",
+        "
+Root 0..10
+  List(tight,-,0) 0..9
+    ListItem(0) 0..6
+      TaskListMarker(false) 2..5
+  Paragraph 9..10
+    Text 9..10
+",
     ),
     (
         "16",
-        "- [ ] # a\n  b",
-        "Root 0..13\n  List(tight,-,0) 0..13\n    ListItem(2) 0..13\n      TightParagraph 6..13\n        TaskListMarker(false) 2..5\n        Text 6..9\n        SoftBreak 9..10\n        Text 12..13\n",
+        "
+- [ ] # a
+  b",
+        "
+Root 0..13
+  List(tight,-,0) 0..13
+    ListItem(2) 0..13
+      TightParagraph 6..13
+        TaskListMarker(false) 2..5
+        Text 6..9
+        SoftBreak 9..10
+        Text 12..13
+",
     ),
     (
         "16",
-        "1. [x] - a",
-        "Root 0..10\n  List(tight,.,1) 0..10\n    ListItem(3) 0..10\n      TightParagraph 7..10\n        TaskListMarker(true) 3..6\n        Text 7..10\n",
+        "
+1. [x] - a",
+        "
+Root 0..10
+  List(tight,.,1) 0..10
+    ListItem(3) 0..10
+      TightParagraph 7..10
+        TaskListMarker(true) 3..6
+        Text 7..10
+",
     ),
     (
         "16",
-        "- [x]a",
-        "Root 0..6\n  List(tight,-,0) 0..6\n    ListItem(2) 0..6\n      TightParagraph 2..6\n        Text 2..6\n",
+        "
+- [x]a",
+        "
+Root 0..6
+  List(tight,-,0) 0..6
+    ListItem(2) 0..6
+      TightParagraph 2..6
+        Text 2..6
+",
     ),
     (
         "16",
-        "-  [ ]\ta",
-        "Root 0..8\n  List(tight,-,0) 0..8\n    ListItem(3) 0..8\n      TightParagraph 7..8\n        TaskListMarker(false) 3..6\n        Text 7..8\n",
+        "
+-  [ ]\ta",
+        "
+Root 0..8
+  List(tight,-,0) 0..8
+    ListItem(3) 0..8
+      TightParagraph 7..8
+        TaskListMarker(false) 3..6
+        Text 7..8
+",
     ),
     (
         "16",
-        "- [\t] \ta",
-        "Root 0..8\n  List(tight,-,0) 0..8\n    ListItem(2) 0..8\n      TightParagraph 7..8\n        TaskListMarker(false) 2..5\n        Text 7..8\n",
+        "
+- [\t] \ta",
+        "
+Root 0..8
+  List(tight,-,0) 0..8
+    ListItem(2) 0..8
+      TightParagraph 7..8
+        TaskListMarker(false) 2..5
+        Text 7..8
+",
     ),
     (
         "16",
-        "> - [ ] a\nlazy\n> - b",
-        "Root 0..20\n  BlockQuote 0..20\n    List(tight,-,0) 2..20\n      ListItem(2) 2..15\n        TightParagraph 8..15\n          TaskListMarker(false) 4..7\n          Text 8..9\n          SoftBreak 9..10\n          Text 10..14\n      ListItem(2) 17..20\n        TightParagraph 19..20\n          Text 19..20\n",
+        "
+> - [ ] a
+lazy
+> - b",
+        "
+Root 0..20
+  BlockQuote 0..20
+    List(tight,-,0) 2..20
+      ListItem(2) 2..15
+        TightParagraph 8..15
+          TaskListMarker(false) 4..7
+          Text 8..9
+          SoftBreak 9..10
+          Text 10..14
+      ListItem(2) 17..20
+        TightParagraph 19..20
+          Text 19..20
+",
     ),
     (
         "16",
-        "- [ ] a\n\n- b",
-        "Root 0..12\n  List(loose,-,0) 0..12\n    ListItem(2) 0..9\n      Paragraph 6..8\n        TaskListMarker(false) 2..5\n        Text 6..7\n    ListItem(2) 9..12\n      Paragraph 11..12\n        Text 11..12\n",
+        "
+- [ ] a
+
+- b",
+        "
+Root 0..12
+  List(loose,-,0) 0..12
+    ListItem(2) 0..9
+      Paragraph 6..8
+        TaskListMarker(false) 2..5
+        Text 6..7
+    ListItem(2) 9..12
+      Paragraph 11..12
+        Text 11..12
+",
     ),
     (
         "16",
-        "- [ ]",
-        "Root 0..5\n  List(tight,-,0) 0..5\n    ListItem(2) 0..5\n      TightParagraph 2..5\n        Text 2..5\n",
+        "
+- [ ]",
+        "
+Root 0..5
+  List(tight,-,0) 0..5
+    ListItem(2) 0..5
+      TightParagraph 2..5
+        Text 2..5
+",
     ),
     (
         "16",
-        "-\n  [ ] a",
-        "Root 0..9\n  List(tight,-,0) 0..9\n    ListItem(2) 0..9\n      TightParagraph 4..9\n        Text 4..9\n",
+        "
+-
+  [ ] a",
+        "
+Root 0..9
+  List(tight,-,0) 0..9
+    ListItem(2) 0..9
+      TightParagraph 4..9
+        Text 4..9
+",
     ),
     (
         "16",
-        "- - [ ] a",
-        "Root 0..9\n  List(tight,-,0) 0..9\n    ListItem(2) 0..9\n      List(tight,-,0) 2..9\n        ListItem(2) 2..9\n          TightParagraph 8..9\n            TaskListMarker(false) 4..7\n            Text 8..9\n",
+        "
+- - [ ] a",
+        "
+Root 0..9
+  List(tight,-,0) 0..9
+    ListItem(2) 0..9
+      List(tight,-,0) 2..9
+        ListItem(2) 2..9
+          TightParagraph 8..9
+            TaskListMarker(false) 4..7
+            Text 8..9
+",
     ),
     (
         "16",
-        "- [x] \u{e9}\r\n  \u{fc}\\",
-        "Root 0..15\n  List(tight,-,0) 0..15\n    ListItem(2) 0..15\n      TightParagraph 6..15\n        TaskListMarker(true) 2..5\n        Text 6..8\n        SoftBreak 8..10\n        Text 12..15\n",
+        "
+- [x] \u{e9}\r
+  \u{fc}\\",
+        "
+Root 0..15
+  List(tight,-,0) 0..15
+    ListItem(2) 0..15
+      TightParagraph 6..15
+        TaskListMarker(true) 2..5
+        Text 6..8
+        SoftBreak 8..10
+        Text 12..15
+",
     ),
     (
         "16",
-        "- [x]\r\r\r+ [ ]\n",
-        "Root 0..14\n  List(tight,-,0) 0..8\n    ListItem(0) 0..6\n      TaskListMarker(true) 2..5\n  List(tight,+,0) 8..14\n    ListItem(2) 8..14\n      TaskListMarker(false) 10..13\n",
+        "
+- [x]\r\r\r+ [ ]
+",
+        "
+Root 0..14
+  List(tight,-,0) 0..8
+    ListItem(0) 0..6
+      TaskListMarker(true) 2..5
+  List(tight,+,0) 8..14
+    ListItem(2) 8..14
+      TaskListMarker(false) 10..13
+",
     ),
     (
         "16",
-        "- a\n  [ ] b\n- [ ] > c\n# d",
-        "Root 0..25\n  List(tight,-,0) 0..22\n    ListItem(2) 0..12\n      TightParagraph 2..12\n        Text 2..3\n        SoftBreak 3..4\n        Text 6..11\n    ListItem(2) 12..22\n      TightParagraph 18..22\n        TaskListMarker(false) 14..17\n        Text 18..21\n  Heading(1) 22..25\n    Text 24..25\n",
+        "
+- a
+  [ ] b
+- [ ] > c
+# d",
+        "
+Root 0..25
+  List(tight,-,0) 0..22
+    ListItem(2) 0..12
+      TightParagraph 2..12
+        Text 2..3
+        SoftBreak 3..4
+        Text 6..11
+    ListItem(2) 12..22
+      TightParagraph 18..22
+        TaskListMarker(false) 14..17
+        Text 18..21
+  Heading(1) 22..25
+    Text 24..25
+",
     ),
     (
         "16",
-        "- [ ] \\\n",
-        "Root 0..8\n  List(tight,-,0) 0..8\n    ListItem(2) 0..8\n      TightParagraph 6..8\n        TaskListMarker(false) 2..5\n        Text 6..7\n",
+        "
+- [ ] \\
+",
+        "
+Root 0..8
+  List(tight,-,0) 0..8
+    ListItem(2) 0..8
+      TightParagraph 6..8
+        TaskListMarker(false) 2..5
+        Text 6..7
+",
     ),
     (
         "",
-        "- [ ] a",
-        "Root 0..7\n  List(tight,-,0) 0..7\n    ListItem(2) 0..7\n      TightParagraph 2..7\n        Text 2..7\n",
+        "
+- [ ] a",
+        "
+Root 0..7
+  List(tight,-,0) 0..7
+    ListItem(2) 0..7
+      TightParagraph 2..7
+        Text 2..7
+",
     ),
     (
         "16",
-        "- [ ] foo\n- [x] bar\n",
-        "Root 0..20\n  List(tight,-,0) 0..20\n    ListItem(2) 0..10\n      TightParagraph 6..10\n        TaskListMarker(false) 2..5\n        Text 6..9\n    ListItem(2) 10..20\n      TightParagraph 16..20\n        TaskListMarker(true) 12..15\n        Text 16..19\n",
+        "
+- [ ] foo
+- [x] bar
+",
+        "
+Root 0..20
+  List(tight,-,0) 0..20
+    ListItem(2) 0..10
+      TightParagraph 6..10
+        TaskListMarker(false) 2..5
+        Text 6..9
+    ListItem(2) 10..20
+      TightParagraph 16..20
+        TaskListMarker(true) 12..15
+        Text 16..19
+",
     ),
     (
         "16",
-        "- [x] foo\n  - [ ] bar\n  - [x] baz\n- [ ] bim\n",
-        "Root 0..44\n  List(tight,-,0) 0..44\n    ListItem(2) 0..34\n      TightParagraph 6..10\n        TaskListMarker(true) 2..5\n        Text 6..9\n      List(tight,-,0) 12..34\n        ListItem(2) 12..22\n          TightParagraph 18..22\n            TaskListMarker(false) 14..17\n            Text 18..21\n        ListItem(2) 24..34\n          TightParagraph 30..34\n            TaskListMarker(true) 26..29\n            Text 30..33\n    ListItem(2) 34..44\n      TightParagraph 40..44\n        TaskListMarker(false) 36..39\n        Text 40..43\n",
+        "
+- [x] foo
+  - [ ] bar
+  - [x] baz
+- [ ] bim
+",
+        "
+Root 0..44
+  List(tight,-,0) 0..44
+    ListItem(2) 0..34
+      TightParagraph 6..10
+        TaskListMarker(true) 2..5
+        Text 6..9
+      List(tight,-,0) 12..34
+        ListItem(2) 12..22
+          TightParagraph 18..22
+            TaskListMarker(false) 14..17
+            Text 18..21
+        ListItem(2) 24..34
+          TightParagraph 30..34
+            TaskListMarker(true) 26..29
+            Text 30..33
+    ListItem(2) 34..44
+      TightParagraph 40..44
+        TaskListMarker(false) 36..39
+        Text 40..43
+",
     ),
 ];
 

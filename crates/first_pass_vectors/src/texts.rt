@@ -5,211 +5,661 @@ use std::test::Fail;
 
 /// The option bits (none where it is empty), the text, and what is printed.
 const TEXTS: &[(&str, &str, &str)] = &[
-    ("", "", "Root 0..0\n"),
     (
         "",
-        "> a\nb",
-        "Root 0..5\n  BlockQuote 0..5\n    Paragraph 2..5\n      Text 2..3\n      SoftBreak 3..4\n      Text 4..5\n",
+        "
+",
+        "
+Root 0..0
+",
     ),
     (
         "",
-        ">\té",
-        "Root 0..4\n  BlockQuote 0..4\n    Paragraph 2..4\n      Text 2..4\n",
+        "
+> a
+b",
+        "
+Root 0..5
+  BlockQuote 0..5
+    Paragraph 2..5
+      Text 2..3
+      SoftBreak 3..4
+      Text 4..5
+",
     ),
     (
         "",
-        "a\n>> # b\n> c\n\nd",
-        "Root 0..15\n  Paragraph 0..2\n    Text 0..1\n  BlockQuote 2..13\n    BlockQuote 3..9\n      Heading(1) 5..9\n        Text 7..8\n    Paragraph 11..13\n      Text 11..12\n  Paragraph 14..15\n    Text 14..15\n",
+        "
+>\té",
+        "
+Root 0..4
+  BlockQuote 0..4
+    Paragraph 2..4
+      Text 2..4
+",
     ),
     (
         "",
-        "    > a",
-        "Root 0..7\n  IndentCodeBlock 4..7\n    Text 4..7\n",
-    ),
-    ("", ">\n", "Root 0..2\n  BlockQuote 0..2\n"),
-    (
-        "",
-        "\\\n\na",
-        "Root 0..4\n  Paragraph 0..2\n    Text 0..1\n  Paragraph 3..4\n    Text 3..4\n",
-    ),
-    ("", "###\n", "Root 0..4\n  Heading(3) 0..4\n"),
-    (
-        "",
-        "a\\\nb",
-        "Root 0..4\n  Paragraph 0..4\n    Text 0..1\n    HardBreak(true) 1..3\n    Text 3..4\n",
-    ),
-    ("", "# a\n", "Root 0..4\n  Heading(1) 0..4\n    Text 2..3\n"),
-    (
-        "",
-        "# a #\n",
-        "Root 0..6\n  Heading(1) 0..6\n    Text 2..3\n",
-    ),
-    ("", "# #\n", "Root 0..4\n  Heading(1) 0..4\n"),
-    (
-        "",
-        "a  \nb",
-        "Root 0..5\n  Paragraph 0..5\n    Text 0..1\n    HardBreak(false) 1..4\n    Text 4..5\n",
+        "
+a
+>> # b
+> c
+
+d",
+        "
+Root 0..15
+  Paragraph 0..2
+    Text 0..1
+  BlockQuote 2..13
+    BlockQuote 3..9
+      Heading(1) 5..9
+        Text 7..8
+    Paragraph 11..13
+      Text 11..12
+  Paragraph 14..15
+    Text 14..15
+",
     ),
     (
         "",
-        "\\*a",
-        "Root 0..3\n  Paragraph 0..3\n    Text(escaped) 1..3\n",
-    ),
-    ("", "\n \t\n", "Root 0..4\n"),
-    (
-        "",
-        "a\rb",
-        "Root 0..3\n  Paragraph 0..3\n    Text 0..1\n    SoftBreak 1..2\n    Text 2..3\n",
-    ),
-    (
-        "",
-        "a\r\nb\r\n",
-        "Root 0..6\n  Paragraph 0..6\n    Text 0..1\n    SoftBreak 1..3\n    Text 3..4\n",
+        "
+    > a",
+        "
+Root 0..7
+  IndentCodeBlock 4..7
+    Text 4..7
+",
     ),
     (
         "",
-        "a\\\r\nb  \rc",
-        "Root 0..9\n  Paragraph 0..9\n    Text 0..1\n    HardBreak(true) 1..4\n    Text 4..5\n    HardBreak(false) 5..8\n    Text 8..9\n",
+        "
+>
+",
+        "
+Root 0..2
+  BlockQuote 0..2
+",
     ),
     (
         "",
-        "#\ta\t#\n",
-        "Root 0..6\n  Heading(1) 0..6\n    Text 2..5\n",
+        "
+\\
+
+a",
+        "
+Root 0..4
+  Paragraph 0..2
+    Text 0..1
+  Paragraph 3..4
+    Text 3..4
+",
     ),
     (
         "",
-        "  ## a ## b ##  \n",
-        "Root 0..17\n  Heading(2) 2..17\n    Text 5..11\n",
+        "
+###
+",
+        "
+Root 0..4
+  Heading(3) 0..4
+",
     ),
     (
         "",
-        "\u{e9} # \u{fc}\n## \u{f6}",
-        "Root 0..13\n  Paragraph 0..8\n    Text 0..7\n  Heading(2) 8..13\n    Text 11..13\n",
+        "
+a\\
+b",
+        "
+Root 0..4
+  Paragraph 0..4
+    Text 0..1
+    HardBreak(true) 1..3
+    Text 3..4
+",
     ),
     (
         "",
-        "####### x",
-        "Root 0..9\n  Paragraph 0..9\n    Text 0..9\n",
+        "
+# a
+",
+        "
+Root 0..4
+  Heading(1) 0..4
+    Text 2..3
+",
     ),
     (
         "",
-        "#x\n#",
-        "Root 0..4\n  Paragraph 0..3\n    Text 0..2\n  Heading(1) 3..4\n",
+        "
+# a #
+",
+        "
+Root 0..6
+  Heading(1) 0..6
+    Text 2..3
+",
     ),
     (
         "",
-        "a\n# b\nc",
-        "Root 0..7\n  Paragraph 0..2\n    Text 0..1\n  Heading(1) 2..6\n    Text 4..5\n  Paragraph 6..7\n    Text 6..7\n",
+        "
+# #
+",
+        "
+Root 0..4
+  Heading(1) 0..4
+",
     ),
     (
         "",
-        "a\n\n\n  b",
-        "Root 0..7\n  Paragraph 0..2\n    Text 0..1\n  Paragraph 6..7\n    Text 6..7\n",
+        "
+a \u{20}
+b",
+        "
+Root 0..5
+  Paragraph 0..5
+    Text 0..1
+    HardBreak(false) 1..4
+    Text 4..5
+",
     ),
     (
         "",
-        "\u{b}\n\u{c} \na",
-        "Root 0..6\n  Paragraph 5..6\n    Text 5..6\n",
+        "
+\\*a",
+        "
+Root 0..3
+  Paragraph 0..3
+    Text(escaped) 1..3
+",
     ),
     (
         "",
-        "a\n\u{b}\nb",
-        "Root 0..5\n  Paragraph 0..5\n    Text 0..1\n    SoftBreak 1..2\n    SoftBreak 3..4\n    Text 4..5\n",
+        "
+
+ \t
+",
+        "
+Root 0..4
+",
     ),
     (
         "",
-        "a\u{c} \n\u{b} \tb\u{b}",
-        "Root 0..9\n  Paragraph 0..9\n    Text 0..1\n    HardBreak(false) 1..4\n    Text 4..8\n",
+        "
+a\rb",
+        "
+Root 0..3
+  Paragraph 0..3
+    Text 0..1
+    SoftBreak 1..2
+    Text 2..3
+",
     ),
     (
         "",
-        "a\\\\\nb\\",
-        "Root 0..6\n  Paragraph 0..6\n    Text 0..1\n    Text(escaped) 2..3\n    SoftBreak 3..4\n    Text 4..6\n",
+        "
+a\r
+b\r
+",
+        "
+Root 0..6
+  Paragraph 0..6
+    Text 0..1
+    SoftBreak 1..3
+    Text 3..4
+",
     ),
     (
         "",
-        "a\n    # b",
-        "Root 0..9\n  Paragraph 0..9\n    Text 0..1\n    SoftBreak 1..2\n    Text 6..9\n",
+        "
+a\\\r
+b  \rc",
+        "
+Root 0..9
+  Paragraph 0..9
+    Text 0..1
+    HardBreak(true) 1..4
+    Text 4..5
+    HardBreak(false) 5..8
+    Text 8..9
+",
     ),
     (
         "",
-        "a, b;\\;\\\u{e9}",
-        "Root 0..10\n  Paragraph 0..10\n    Text 0..5\n    Text(escaped) 6..10\n",
-    ),
-    ("", "* * *\n", "Root 0..6\n  Rule 0..6\n"),
-    (
-        "",
-        "***\n---\n___",
-        "Root 0..11\n  Rule 0..4\n  Rule 4..8\n  Rule 8..11\n",
-    ),
-    ("", "+++", "Root 0..3\n  Paragraph 0..3\n    Text 0..3\n"),
-    ("", "===", "Root 0..3\n  Paragraph 0..3\n    Text 0..3\n"),
-    (
-        "",
-        "--\n**\n__",
-        "Root 0..8\n  Paragraph 0..8\n    Text 0..2\n    SoftBreak 2..3\n    Text 3..5\n    SoftBreak 5..6\n    Text 6..8\n",
+        "
+#\ta\t#
+",
+        "
+Root 0..6
+  Heading(1) 0..6
+    Text 2..5
+",
     ),
     (
         "",
-        " ***\n  ***\n   ***",
-        "Root 0..17\n  Rule 1..5\n  Rule 7..11\n  Rule 14..17\n",
+        "
+  ## a ## b ## \u{20}
+",
+        "
+Root 0..17
+  Heading(2) 2..17
+    Text 5..11
+",
     ),
     (
         "",
-        "    ***",
-        "Root 0..7\n  IndentCodeBlock 4..7\n    Text 4..7\n",
+        "
+\u{e9} # \u{fc}
+## \u{f6}",
+        "
+Root 0..13
+  Paragraph 0..8
+    Text 0..7
+  Heading(2) 8..13
+    Text 11..13
+",
     ),
     (
         "",
-        "Foo\n    ***",
-        "Root 0..11\n  Paragraph 0..11\n    Text 0..3\n    SoftBreak 3..4\n    Text 8..11\n",
+        "
+####### x",
+        "
+Root 0..9
+  Paragraph 0..9
+    Text 0..9
+",
     ),
     (
         "",
-        "_____________________________________",
-        "Root 0..37\n  Rule 0..37\n",
-    ),
-    ("", " - - -", "Root 0..6\n  Rule 1..6\n"),
-    ("", " **  * ** * ** * **", "Root 0..19\n  Rule 1..19\n"),
-    ("", "-     -      -      -", "Root 0..21\n  Rule 0..21\n"),
-    ("", "- - - -    ", "Root 0..11\n  Rule 0..11\n"),
-    (
-        "",
-        "_ _ _ _ a\n\na------\n\n---a---",
-        "Root 0..27\n  Paragraph 0..10\n    Text 0..9\n  Paragraph 11..19\n    Text 11..18\n  Paragraph 20..27\n    Text 20..27\n",
-    ),
-    ("", " *-*", "Root 0..4\n  Paragraph 1..4\n    Text 1..4\n"),
-    (
-        "",
-        "Foo\n***\nbar",
-        "Root 0..11\n  Paragraph 0..4\n    Text 0..3\n  Rule 4..8\n  Paragraph 8..11\n    Text 8..11\n",
-    ),
-    ("", "--", "Root 0..2\n  Paragraph 0..2\n    Text 0..2\n"),
-    (
-        "",
-        "a\n---",
-        "Root 0..5\n  Paragraph 0..2\n    Text 0..1\n  Rule 2..5\n",
-    ),
-    ("", "-\t-\t-\r\n", "Root 0..7\n  Rule 0..7\n"),
-    (
-        "",
-        "> a\n***\n> b",
-        "Root 0..11\n  BlockQuote 0..4\n    Paragraph 2..4\n      Text 2..3\n  Rule 4..8\n  BlockQuote 8..11\n    Paragraph 10..11\n      Text 10..11\n",
+        "
+#x
+#",
+        "
+Root 0..4
+  Paragraph 0..3
+    Text 0..2
+  Heading(1) 3..4
+",
     ),
     (
         "",
-        ">> ***\n> ---\r> a",
-        "Root 0..16\n  BlockQuote 0..16\n    BlockQuote 1..7\n      Rule 3..7\n    Rule 9..13\n    Paragraph 15..16\n      Text 15..16\n",
+        "
+a
+# b
+c",
+        "
+Root 0..7
+  Paragraph 0..2
+    Text 0..1
+  Heading(1) 2..6
+    Text 4..5
+  Paragraph 6..7
+    Text 6..7
+",
+    ),
+    (
+        "",
+        "
+a
+
+
+  b",
+        "
+Root 0..7
+  Paragraph 0..2
+    Text 0..1
+  Paragraph 6..7
+    Text 6..7
+",
+    ),
+    (
+        "",
+        "
+\u{b}
+\u{c}\u{20}
+a",
+        "
+Root 0..6
+  Paragraph 5..6
+    Text 5..6
+",
+    ),
+    (
+        "",
+        "
+a
+\u{b}
+b",
+        "
+Root 0..5
+  Paragraph 0..5
+    Text 0..1
+    SoftBreak 1..2
+    SoftBreak 3..4
+    Text 4..5
+",
+    ),
+    (
+        "",
+        "
+a\u{c}\u{20}
+\u{b} \tb\u{b}",
+        "
+Root 0..9
+  Paragraph 0..9
+    Text 0..1
+    HardBreak(false) 1..4
+    Text 4..8
+",
+    ),
+    (
+        "",
+        "
+a\\\\
+b\\",
+        "
+Root 0..6
+  Paragraph 0..6
+    Text 0..1
+    Text(escaped) 2..3
+    SoftBreak 3..4
+    Text 4..6
+",
+    ),
+    (
+        "",
+        "
+a
+    # b",
+        "
+Root 0..9
+  Paragraph 0..9
+    Text 0..1
+    SoftBreak 1..2
+    Text 6..9
+",
+    ),
+    (
+        "",
+        "
+a, b;\\;\\\u{e9}",
+        "
+Root 0..10
+  Paragraph 0..10
+    Text 0..5
+    Text(escaped) 6..10
+",
+    ),
+    (
+        "",
+        "
+* * *
+",
+        "
+Root 0..6
+  Rule 0..6
+",
+    ),
+    (
+        "",
+        "
+***
+---
+___",
+        "
+Root 0..11
+  Rule 0..4
+  Rule 4..8
+  Rule 8..11
+",
+    ),
+    (
+        "",
+        "
++++",
+        "
+Root 0..3
+  Paragraph 0..3
+    Text 0..3
+",
+    ),
+    (
+        "",
+        "
+===",
+        "
+Root 0..3
+  Paragraph 0..3
+    Text 0..3
+",
+    ),
+    (
+        "",
+        "
+--
+**
+__",
+        "
+Root 0..8
+  Paragraph 0..8
+    Text 0..2
+    SoftBreak 2..3
+    Text 3..5
+    SoftBreak 5..6
+    Text 6..8
+",
+    ),
+    (
+        "",
+        "
+ ***
+  ***
+   ***",
+        "
+Root 0..17
+  Rule 1..5
+  Rule 7..11
+  Rule 14..17
+",
+    ),
+    (
+        "",
+        "
+    ***",
+        "
+Root 0..7
+  IndentCodeBlock 4..7
+    Text 4..7
+",
+    ),
+    (
+        "",
+        "
+Foo
+    ***",
+        "
+Root 0..11
+  Paragraph 0..11
+    Text 0..3
+    SoftBreak 3..4
+    Text 8..11
+",
+    ),
+    (
+        "",
+        "
+_____________________________________",
+        "
+Root 0..37
+  Rule 0..37
+",
+    ),
+    (
+        "",
+        "
+ - - -",
+        "
+Root 0..6
+  Rule 1..6
+",
+    ),
+    (
+        "",
+        "
+ **  * ** * ** * **",
+        "
+Root 0..19
+  Rule 1..19
+",
+    ),
+    (
+        "",
+        "
+-     -      -      -",
+        "
+Root 0..21
+  Rule 0..21
+",
+    ),
+    (
+        "",
+        "
+- - - -    ",
+        "
+Root 0..11
+  Rule 0..11
+",
+    ),
+    (
+        "",
+        "
+_ _ _ _ a
+
+a------
+
+---a---",
+        "
+Root 0..27
+  Paragraph 0..10
+    Text 0..9
+  Paragraph 11..19
+    Text 11..18
+  Paragraph 20..27
+    Text 20..27
+",
+    ),
+    (
+        "",
+        "
+ *-*",
+        "
+Root 0..4
+  Paragraph 1..4
+    Text 1..4
+",
+    ),
+    (
+        "",
+        "
+Foo
+***
+bar",
+        "
+Root 0..11
+  Paragraph 0..4
+    Text 0..3
+  Rule 4..8
+  Paragraph 8..11
+    Text 8..11
+",
+    ),
+    (
+        "",
+        "
+--",
+        "
+Root 0..2
+  Paragraph 0..2
+    Text 0..2
+",
+    ),
+    (
+        "",
+        "
+a
+---",
+        "
+Root 0..5
+  Paragraph 0..2
+    Text 0..1
+  Rule 2..5
+",
+    ),
+    (
+        "",
+        "
+-\t-\t-\r
+",
+        "
+Root 0..7
+  Rule 0..7
+",
+    ),
+    (
+        "",
+        "
+> a
+***
+> b",
+        "
+Root 0..11
+  BlockQuote 0..4
+    Paragraph 2..4
+      Text 2..3
+  Rule 4..8
+  BlockQuote 8..11
+    Paragraph 10..11
+      Text 10..11
+",
+    ),
+    (
+        "",
+        "
+>> ***
+> ---\r> a",
+        "
+Root 0..16
+  BlockQuote 0..16
+    BlockQuote 1..7
+      Rule 3..7
+    Rule 9..13
+    Paragraph 15..16
+      Text 15..16
+",
     ),
     (
         "65534",
-        "a b",
-        "Root 0..3\n  Paragraph 0..3\n    Text 0..3\n",
+        "
+a b",
+        "
+Root 0..3
+  Paragraph 0..3
+    Text 0..3
+",
     ),
     (
         "65534",
-        "# a #\r\n\r\nb \\. c",
-        "Root 0..15\n  Heading(1) 0..7\n    Text 2..3\n  Paragraph 9..15\n    Text 9..11\n    Text(escaped) 12..15\n",
+        "
+# a #\r
+\r
+b \\. c",
+        "
+Root 0..15
+  Heading(1) 0..7
+    Text 2..3
+  Paragraph 9..15
+    Text 9..11
+    Text(escaped) 12..15
+",
     ),
 ];
 
