@@ -680,7 +680,8 @@ Root 0..8
   FencedCodeBlock() 5..8
 ",
     ),
-    // A fence interrupts a paragraph, also where the line goes on with fewer containers. Behind a tag any column will do.
+    // A fence interrupts a paragraph, also where the line goes on with fewer containers.
+    // Behind a tag any column will do.
     (
         "",
         "
