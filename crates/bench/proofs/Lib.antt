@@ -1,0 +1,3 @@
+mod FaultLemmas
+mod RunLemmas
+mod Words

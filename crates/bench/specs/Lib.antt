@@ -1,0 +1,4 @@
+pub mod Report
+pub mod Runs
+pub mod Task
+pub mod Timing

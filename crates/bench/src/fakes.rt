@@ -1,0 +1,118 @@
+//! A clock, a reader and a writer over memory that can fail.
+
+use crate::clock::TimeSource;
+use crate::run::bench_run;
+use first_pass_program::fault::BlocksFault;
+use std::alloc::{AllocError, Global};
+use std::io;
+use std::io::{ErrorKind, Read, Write};
+
+/// A clock that says what it is told to, and fails behind that.
+#[derive(Drop)]
+pub struct Told<'a> {
+    pub left: &'a [u128],
+}
+
+impl TimeSource for Told<'_> {
+    ghost use Rattle.std.specs.Prelude.{Some};
+
+    ghost readings = { λ clock. Some clock.left.now };
+
+    fn nanos(&mut self) -> io::Result<u128> {
+        let all: &[u128] = self.left;
+        match all.split_first() {
+            Some((nanos, left)) => {
+                self.left = left;
+                Ok(*nanos)
+            }
+            None => Err(io::Error::from(ErrorKind::Other)),
+        }
+    }
+}
+
+/// A reader of bytes that gives at most three of them at a time, and fails at the read of that number.
+#[derive(Drop)]
+pub struct Source<'a> {
+    pub rest: &'a [u8],
+    pub fails_at: usize,
+    pub reads: usize,
+}
+
+impl Source<'_> {
+    pub fn new(rest: &[u8], fails_at: usize) -> Source<'_> {
+        Source {
+            rest,
+            fails_at,
+            reads: 0,
+        }
+    }
+}
+
+impl Read for Source<'_> {
+    fn read(&mut self, buf: &mut [u8]) -> io::Result<usize> {
+        self.reads = self.reads.saturating_add(1);
+        if self.reads == self.fails_at {
+            return Err(io::Error::from(ErrorKind::Other));
+        }
+        let count = self.rest.len().min(3).min(buf.len());
+        let all: &[u8] = self.rest;
+        buf[..count].copy_from_slice(&all[..count]);
+        self.rest = &all[count..];
+        Ok(count)
+    }
+}
+
+/// A writer that takes at most twenty bytes at a time, and fails at the write of that number.
+#[derive(Drop)]
+pub struct Sink {
+    pub bytes: Vec<u8>,
+    pub fails_at: usize,
+    pub writes: usize,
+}
+
+impl Sink {
+    pub fn new(alloc: Global, fails_at: usize) -> Sink {
+        Sink {
+            bytes: Vec::new(alloc),
+            fails_at,
+            writes: 0,
+        }
+    }
+}
+
+impl Write for Sink {
+    fn write(&mut self, buf: &[u8]) -> io::Result<usize> {
+        self.writes = self.writes.saturating_add(1);
+        if self.writes == self.fails_at {
+            return Err(io::Error::from(ErrorKind::Other));
+        }
+        let count = buf.len().min(20);
+        self.bytes.extend_from_slice(&buf[..count])?;
+        Ok(count)
+    }
+
+    fn flush(&mut self) -> io::Result<()> {
+        Ok(())
+    }
+}
+
+/// The words as the program has them.
+pub fn words_of(alloc: Global, words: &[&str]) -> Result<Vec<String>, AllocError> {
+    let mut list = Vec::new(alloc);
+    for word in words {
+        list.push(String::from_str(alloc, word)?)?;
+    }
+    Ok(list)
+}
+
+/// Runs the program's work on these words. An error where memory for the words is refused.
+pub fn run(
+    alloc: Global,
+    words: &[&str],
+    clock: &mut Told<'_>,
+    input: &mut Source<'_>,
+    output: &mut Sink,
+) -> Result<Result<(), BlocksFault>, AllocError> {
+    let list = words_of(alloc, words)?;
+    Ok(bench_run(clock, alloc, list.as_slice(), input, output))
+}
