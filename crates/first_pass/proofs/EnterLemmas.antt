@@ -25,7 +25,7 @@ use Rattle.first_pass_grammar.specs.Completion.{Frame, InContainer, InList, cont
 use Rattle.first_pass_text.proofs.KindLemmas.{blank_kind}
 use Rattle.first_pass_grammar.proofs.Completions.{counts_in, completes-enter, completes-blank_line, completes-only_blank}
 use Rattle.first_pass_open.specs.OpenBlock.{closed_by}
-use Rattle.first_pass_lists.specs.Closing.{remembered, top_body, is_item, popped_by, popped, item_finished_by, item_finished, emptied, blank_read_by, blank_read}
+use Rattle.first_pass_lists.specs.Closing.{top_body, is_item, popped_by, popped, item_finished_by, item_finished, emptied, blank_read_by, blank_read}
 use Rattle.first_pass_lists.specs.declared.reading.Reading.{Reading}
 use Rattle.first_pass_open.specs.Path.{container_of, container_at, with_container, path_in, path_of}
 use Rattle.first_pass.specs.State.{frame_of, frame_at, AreOpen, ReadyAt, ReadyBeforeLine, ReadyInItem, ReadyEmpty, ReadyWith, Ready}

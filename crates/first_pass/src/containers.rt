@@ -21,11 +21,11 @@ ghost use Rattle.first_pass_grammar.specs.OpenOrder.{IsOrderedTo};
 use bitflags::Flags;
 use first_pass_items::item::{BlockQuoteKind, Item, ItemBody};
 use first_pass_items::option_set::Options;
+use first_pass_lists::reading::Reading;
 pub use first_pass_open::containers::scan_containers;
 use first_pass_open::containers::scan_quote;
 use first_pass_open::indentation::scan_indentation;
 use first_pass_open::source::Source;
-use first_pass_lists::reading::Reading;
 use first_pass_scan::line_start::LineStart;
 use first_pass_scan::lines::scan_blank_line;
 use first_pass_scan::places::{next_line, rest_of};
@@ -50,10 +50,12 @@ pub(crate) fn close_containers(reading: &mut Reading, kept: usize, ix: usize)
     requires { kept ≤ length reading.old.tree.spine }
     ensures spine { reading.new.tree.spine ≡ outer kept reading.old.tree.spine }
     ensures paths { (s : List TreeIndex) → path_in reading.new.tree.nodes s ≡ path_in reading.old.tree.nodes s }
-    ensures ready { (d : Document) (lines : List Place) → start_of (length d.text) lines ≡ ix → NoMore reading.old.tree kept lines
+    ensures ready { (d : Document) (lines : List Place) → start_of (length d.text) lines ≡ ix
+        → NoMore reading.old.tree kept lines
         → Ready d reading.old lines
         → Ready d reading.new lines }
-    ensures order { (text : List ℕ) → ix ≤ length text → IsCharBoundary text ix → IsOrderedAt text reading.old ix → IsOrderedAt text reading.new ix }
+    ensures order { (text : List ℕ) → ix ≤ length text → IsCharBoundary text ix → IsOrderedAt text reading.old ix
+        → IsOrderedAt text reading.new ix }
 {
     while kept < reading.tree.spine_len() {
         reading.tree.is_forest();
@@ -72,12 +74,16 @@ pub(crate) fn enter_line<'a>(
     requires boundary { IsCharBoundary source.text.now start_ix }
     ensures utf8 { IsUtf8 source.entry.text.now }
     ensures place { IfSome result (λ line_start. IsPlaceOf source.entry.text.now (place_at start_ix line_start)) }
-    ensures same_end { IfSome result (λ line_start. line_end (place_at start_ix line_start) ≡ start_ix + line_len (drop start_ix source.entry.text.now)) }
+    ensures same_end { IfSome result (λ line_start. line_end (place_at start_ix line_start)
+        ≡ start_ix + line_len (drop start_ix source.entry.text.now)) }
     ensures no_empty { IfSome result (λ line_start. reading.new.empty_item ≡ None) }
-    ensures ready { (names : Names) → Ready (document source.entry.text.now source.entry.options names) reading.old (lines_from source.entry.text.now start_ix)
+    ensures ready { (names : Names) → Ready (document source.entry.text.now source.entry.options names) reading.old
+        (lines_from source.entry.text.now start_ix)
         → MatchOption result
-        (Ready (document source.entry.text.now source.entry.options names) reading.new (lines_from source.entry.text.now (start_ix + line_len (drop start_ix source.entry.text.now))))
-        (λ line_start. ReadyAt (document source.entry.text.now source.entry.options names) reading.new.tree reading.new.blank (Inside (place_at start_ix line_start))
+        (Ready (document source.entry.text.now source.entry.options names) reading.new (lines_from source.entry.text.now
+        (start_ix + line_len (drop start_ix source.entry.text.now))))
+        (λ line_start. ReadyAt (document source.entry.text.now source.entry.options names) reading.new.tree
+        reading.new.blank (Inside (place_at start_ix line_start))
         (lines_from source.entry.text.now (start_ix + line_len (drop start_ix source.entry.text.now)))) }
     ensures order { IsOrderedAt source.entry.text.now reading.old start_ix
         → MatchOption result
@@ -107,13 +113,20 @@ pub(crate) fn open_containers<'a>(
     requires place { IsPlaceOf source.text.now (place_at start_ix line_start.old) }
     requires no_empty { reading.old.empty_item ≡ None }
     ensures place { OnOk result (IsPlaceOf source.entry.text.now (place_at start_ix line_start.new)) }
-    ensures same_end { OnOk result (line_end (place_at start_ix line_start.new) ≡ line_end (place_at start_ix line_start.old)) }
-    ensures behind { IfOk result (λ answer. IsBehind answer reading.new.empty_item line_start.new (line_end (place_at start_ix line_start.old))) }
+    ensures same_end { OnOk result (line_end (place_at start_ix line_start.new)
+        ≡ line_end (place_at start_ix line_start.old)) }
+    ensures behind { IfOk result (λ answer. IsBehind answer reading.new.empty_item line_start.new
+        (line_end (place_at start_ix line_start.old))) }
     ensures ready { IfOk result (λ answer. (names : Names) →
-        ReadyAt (document source.entry.text.now source.entry.options names) reading.old.tree reading.old.blank (Inside (place_at start_ix line_start.old)) (lines_from source.entry.text.now (line_end (place_at start_ix line_start.old)))
-        → ReadyBehind (document source.entry.text.now source.entry.options names) reading.new (place_at start_ix line_start.new) (line_end (place_at start_ix line_start.old)) answer) }
+        ReadyAt (document source.entry.text.now source.entry.options names) reading.old.tree reading.old.blank
+        (Inside (place_at start_ix line_start.old))
+        (lines_from source.entry.text.now (line_end (place_at start_ix line_start.old)))
+        → ReadyBehind (document source.entry.text.now source.entry.options names) reading.new
+        (place_at start_ix line_start.new) (line_end (place_at start_ix line_start.old)) answer) }
     ensures order { IfOk result (λ answer.
-        IsCharBoundary source.entry.text.now start_ix → IsOrderedTo source.entry.text.now reading.old.tree (line_or reading.old.tree start_ix (offset (place_at start_ix line_start.old)))
+        IsCharBoundary source.entry.text.now start_ix
+        → IsOrderedTo source.entry.text.now reading.old.tree (line_or reading.old.tree start_ix
+        (offset (place_at start_ix line_start.old)))
         → OrderedBehind source.entry.text.now reading.new start_ix (offset (place_at start_ix line_start.new)) answer) }
 {
     loop {
@@ -136,13 +149,20 @@ fn open_container<'a>(
     requires place { IsPlaceOf source.text.now (place_at start_ix line_start.old) }
     requires no_empty { reading.old.empty_item ≡ None }
     ensures place { OnOk result (IsPlaceOf source.entry.text.now (place_at start_ix line_start.new)) }
-    ensures same_end { OnOk result (line_end (place_at start_ix line_start.new) ≡ line_end (place_at start_ix line_start.old)) }
-    ensures opened { IfOk result (λ answer. IsOpenedAt answer reading.new.empty_item line_start.old line_start.new (line_end (place_at start_ix line_start.old))) }
+    ensures same_end { OnOk result (line_end (place_at start_ix line_start.new)
+        ≡ line_end (place_at start_ix line_start.old)) }
+    ensures opened { IfOk result (λ answer. IsOpenedAt answer reading.new.empty_item line_start.old line_start.new
+        (line_end (place_at start_ix line_start.old))) }
     ensures ready { IfOk result (λ answer. (names : Names) →
-        ReadyAt (document source.entry.text.now source.entry.options names) reading.old.tree reading.old.blank (Inside (place_at start_ix line_start.old)) (lines_from source.entry.text.now (line_end (place_at start_ix line_start.old)))
-        → ReadyIn (document source.entry.text.now source.entry.options names) reading.new (place_at start_ix line_start.new) (line_end (place_at start_ix line_start.old)) answer) }
+        ReadyAt (document source.entry.text.now source.entry.options names) reading.old.tree reading.old.blank
+        (Inside (place_at start_ix line_start.old))
+        (lines_from source.entry.text.now (line_end (place_at start_ix line_start.old)))
+        → ReadyIn (document source.entry.text.now source.entry.options names) reading.new
+        (place_at start_ix line_start.new) (line_end (place_at start_ix line_start.old)) answer) }
     ensures order { IfOk result (λ answer.
-        IsCharBoundary source.entry.text.now start_ix → IsOrderedTo source.entry.text.now reading.old.tree (line_or reading.old.tree start_ix (offset (place_at start_ix line_start.old)))
+        IsCharBoundary source.entry.text.now start_ix
+        → IsOrderedTo source.entry.text.now reading.old.tree (line_or reading.old.tree start_ix
+        (offset (place_at start_ix line_start.old)))
         → OrderedIn source.entry.text.now reading.new start_ix (offset (place_at start_ix line_start.new)) answer) }
 {
     reading.tree.is_forest();

@@ -28,8 +28,12 @@ impl<'a> FirstPass<'a> {
         ensures source { OnOk result (self.new.source ≡ self.old.source) }
         ensures allocs { OnOk result (self.new.allocs ≡ self.old.allocs) }
         ensures reading { OnOk result (self.new.reading ≡ with_tree self.old.reading self.new.reading.tree) }
-        ensures block { IfOk result (λ next. AddsParagraph (document self.old.source.text.now self.old.source.options no_names) start_ix tasklist_marker self.old.reading.tree self.new.reading.tree next) }
-        ensures fits { IfOk result (λ next. (from : ℕ) → StandsBefore self.old.source.text.now from start_ix tasklist_marker → AddsBetween self.old.source.text.now from next self.old.reading.tree self.new.reading.tree) }
+        ensures block { IfOk result (λ next.
+            AddsParagraph (document self.old.source.text.now self.old.source.options no_names) start_ix tasklist_marker
+            self.old.reading.tree self.new.reading.tree next) }
+        ensures fits { IfOk result (λ next. (from : ℕ)
+            → StandsBefore self.old.source.text.now from start_ix tasklist_marker
+            → AddsBetween self.old.source.text.now from next self.old.reading.tree self.new.reading.tree) }
     {
         paragraph::parse_paragraph(
             self.alloc,
@@ -53,8 +57,11 @@ impl<'a> FirstPass<'a> {
         ensures source { OnOk result (self.new.source ≡ self.old.source) }
         ensures allocs { OnOk result (self.new.allocs ≡ self.old.allocs) }
         ensures reading { OnOk result (self.new.reading ≡ with_tree self.old.reading self.new.reading.tree) }
-        ensures block { IfOk result (λ next. AddsHeading (document self.old.source.text.now self.old.source.options no_names) start atx_level self.old.reading.tree self.new.reading.tree next) }
-        ensures fits { IfOk result (λ next. (from : ℕ) → from ≤ start → IsCharBoundary self.old.source.text.now start → AddsBetween self.old.source.text.now from next self.old.reading.tree self.new.reading.tree) }
+        ensures block { IfOk result (λ next.
+            AddsHeading (document self.old.source.text.now self.old.source.options no_names) start atx_level
+            self.old.reading.tree self.new.reading.tree next) }
+        ensures fits { IfOk result (λ next. (from : ℕ) → from ≤ start → IsCharBoundary self.old.source.text.now start
+            → AddsBetween self.old.source.text.now from next self.old.reading.tree self.new.reading.tree) }
     {
         heading::parse_atx_heading(
             self.source,
@@ -73,7 +80,9 @@ impl<'a> FirstPass<'a> {
         ensures allocs { OnOk result (self.new.allocs ≡ self.old.allocs) }
         ensures reading { OnOk result (self.new.reading ≡ with_tree self.old.reading self.new.reading.tree) }
         ensures block { OnOk result (self.new.reading.tree ≡ added self.old.reading.tree (rule_block ix hrule_size)) }
-        ensures fits { OnOk result ((from : ℕ) → from ≤ ix → IsCharBoundary self.old.source.text.now ix → IsCharBoundary self.old.source.text.now (ix + hrule_size) → AddsBetween self.old.source.text.now from (ix + hrule_size) self.old.reading.tree self.new.reading.tree) }
+        ensures fits { OnOk result ((from : ℕ) → from ≤ ix → IsCharBoundary self.old.source.text.now ix
+            → IsCharBoundary self.old.source.text.now (ix + hrule_size)
+            → AddsBetween self.old.source.text.now from (ix + hrule_size) self.old.reading.tree self.new.reading.tree) }
         ensures behind { IfOk result (λ next. next ≡ ix + hrule_size) }
     {
         self.source.is_short();

@@ -16,7 +16,9 @@ impl<'a> FirstPass<'a> {
         ensures source { self.new.source ≡ self.old.source }
         ensures allocs { self.new.allocs ≡ self.old.allocs }
         ensures reading { self.new.reading ≡ popped ix self.old.reading }
-        ensures order { (at : ℕ) → at ≤ ix → ix ≤ length self.old.source.text.now → IsCharBoundary self.old.source.text.now ix → IsOrderedAt self.old.source.text.now self.old.reading at → IsOrderedAt self.old.source.text.now self.new.reading ix }
+        ensures order { (at : ℕ) → at ≤ ix → ix ≤ length self.old.source.text.now
+            → IsCharBoundary self.old.source.text.now ix → IsOrderedAt self.old.source.text.now self.old.reading at
+            → IsOrderedAt self.old.source.text.now self.new.reading ix }
     {
         self.reading.pop(ix);
     }
@@ -27,7 +29,8 @@ impl<'a> FirstPass<'a> {
         ensures source { self.new.source ≡ self.old.source }
         ensures allocs { self.new.allocs ≡ self.old.allocs }
         ensures reading { self.new.reading ≡ item_finished self.old.reading }
-        ensures order { (at : ℕ) → IsOrderedAt self.old.source.text.now self.old.reading at → IsOrderedAt self.old.source.text.now self.new.reading at }
+        ensures order { (at : ℕ) → IsOrderedAt self.old.source.text.now self.old.reading at
+            → IsOrderedAt self.old.source.text.now self.new.reading at }
     {
         self.reading.finish_empty_list_item();
     }
@@ -38,7 +41,9 @@ impl<'a> FirstPass<'a> {
         ensures source { self.new.source ≡ self.old.source }
         ensures allocs { self.new.allocs ≡ self.old.allocs }
         ensures reading { self.new.reading ≡ list_finished ix self.old.reading }
-        ensures order { (at : ℕ) → at ≤ ix → ix ≤ length self.old.source.text.now → IsCharBoundary self.old.source.text.now ix → IsOrderedAt self.old.source.text.now self.old.reading at → IsOrderedAt self.old.source.text.now self.new.reading ix }
+        ensures order { (at : ℕ) → at ≤ ix → ix ≤ length self.old.source.text.now
+            → IsCharBoundary self.old.source.text.now ix → IsOrderedAt self.old.source.text.now self.old.reading at
+            → IsOrderedAt self.old.source.text.now self.new.reading ix }
     {
         self.reading.finish_list(ix);
     }
@@ -49,7 +54,9 @@ impl<'a> FirstPass<'a> {
         ensures source { OnOk result (self.new.source ≡ self.old.source) }
         ensures allocs { OnOk result (self.new.allocs ≡ self.old.allocs) }
         ensures reading { OnOk result (self.new.reading ≡ list_continued start ch index self.old.reading) }
-        ensures order { OnOk result ((at : ℕ) → at ≤ start → start ≤ length self.old.source.text.now → IsCharBoundary self.old.source.text.now start → IsOrderedAt self.old.source.text.now self.old.reading at → IsOrderedAt self.old.source.text.now self.new.reading start) }
+        ensures order { OnOk result ((at : ℕ) → at ≤ start → start ≤ length self.old.source.text.now
+            → IsCharBoundary self.old.source.text.now start → IsOrderedAt self.old.source.text.now self.old.reading at
+            → IsOrderedAt self.old.source.text.now self.new.reading start) }
     {
         self.reading.continue_list(start, ch, index)
     }

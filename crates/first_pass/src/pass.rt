@@ -32,14 +32,13 @@ ghost use Rattle.first_pass_grammar.specs.Names.{Names, Extends};
 use crate::containers::{Behind, close_containers, enter_line, open_containers};
 use crate::raw::read_blank_behind;
 use first_pass_below::flank::TableParseMode;
-use first_pass_walk::walk::special_bytes;
 use first_pass_grammar::Kind;
 use first_pass_items::item::Item;
 use first_pass_items::option_set::Options;
-use first_pass_open::indentation::scan_indentation;
-use first_pass_names::items::Allocations;
-use first_pass_open::source::Source;
 use first_pass_lists::reading::Reading;
+use first_pass_names::items::Allocations;
+use first_pass_open::indentation::scan_indentation;
+use first_pass_open::source::Source;
 use first_pass_scan::line_start::LineStart;
 use first_pass_scan::metadata_search::MetadataEnds;
 use first_pass_scan::places::{next_line, rest_of};
@@ -49,6 +48,7 @@ use first_pass_text::kinds::kind_at;
 use first_pass_tokens::line::append_line;
 use first_pass_tree::forest::Tree;
 use first_pass_tree::tree_index::TreeIndex;
+use first_pass_walk::walk::special_bytes;
 use std::alloc::{AllocError, Global};
 use std::cmp::max;
 
@@ -85,7 +85,8 @@ impl<'a> FirstPass<'a> {
         ensures text { IfOk result (λ pass. pass.source.text.now ≡ text.now) }
         ensures options { IfOk result (λ pass. pass.source.options ≡ options) }
         ensures tables { IfOk result (λ pass. tables pass.allocs ≡ no_tables) }
-        ensures ready { IfOk result (λ pass. (names : Names) → Ready (document text.now options names) pass.reading (lines_from text.now 0)) }
+        ensures ready { IfOk result (λ pass. (names : Names)
+            → Ready (document text.now options names) pass.reading (lines_from text.now 0)) }
         ensures order { IfOk result (λ pass. IsOrderedAt text.now pass.reading 0) }
     {
         // A guess at how many nodes the text will have: pages of it that are never reached cost nothing.
@@ -121,9 +122,13 @@ impl<'a> FirstPass<'a> {
         ensures tables { OnOk result (tables self.new.allocs ≡ tables self.old.allocs) }
         ensures later { IfOk result (λ next. (start_ix < next) × (next ≤ length self.old.source.text.now)) }
         ensures boundary { IfOk result (λ next. IsCharBoundary self.old.source.text.now next) }
-        ensures ready { IfOk result (λ next. (names : Names) → Extends names (names_of self.new.allocs) → Ready (document self.old.source.text.now self.old.source.options names) self.old.reading (lines_from self.old.source.text.now start_ix)
-            → Ready (document self.old.source.text.now self.old.source.options names) self.new.reading (lines_from self.old.source.text.now next)) }
-        ensures order { IfOk result (λ next. IsOrderedAt self.old.source.text.now self.old.reading start_ix → IsOrderedAt self.old.source.text.now self.new.reading next) }
+        ensures ready { IfOk result (λ next. (names : Names) → Extends names (names_of self.new.allocs)
+            → Ready (document self.old.source.text.now self.old.source.options names) self.old.reading
+            (lines_from self.old.source.text.now start_ix)
+            → Ready (document self.old.source.text.now self.old.source.options names) self.new.reading
+            (lines_from self.old.source.text.now next)) }
+        ensures order { IfOk result (λ next. IsOrderedAt self.old.source.text.now self.old.reading start_ix
+            → IsOrderedAt self.old.source.text.now self.new.reading next) }
     {
         let Some(mut line_start) = enter_line(&mut self.reading, self.source, start_ix) else {
             return Ok(next_line(self.source.text.as_bytes(), start_ix));
@@ -155,9 +160,13 @@ impl<'a> FirstPass<'a> {
         ensures tables { OnOk result (tables self.new.allocs ≡ tables self.old.allocs) }
         ensures later { IfOk result (λ next. start ≤ next) }
         ensures boundary { IfOk result (λ next. IsCharBoundary self.old.source.text.now next) }
-        ensures ready { IfOk result (λ next. (names : Names) → Extends names (names_of self.new.allocs) → ReadyTagged (document self.old.source.text.now self.old.source.options names) self.old.reading (lines_from self.old.source.text.now start)
-            → Ready (document self.old.source.text.now self.old.source.options names) self.new.reading (lines_from self.old.source.text.now next)) }
-        ensures order { IfOk result (λ next. IsOrderedTo self.old.source.text.now self.old.reading.tree start → IsOrderedAt self.old.source.text.now self.new.reading next) }
+        ensures ready { IfOk result (λ next. (names : Names) → Extends names (names_of self.new.allocs)
+            → ReadyTagged (document self.old.source.text.now self.old.source.options names) self.old.reading
+            (lines_from self.old.source.text.now start)
+            → Ready (document self.old.source.text.now self.old.source.options names) self.new.reading
+            (lines_from self.old.source.text.now next)) }
+        ensures order { IfOk result (λ next. IsOrderedTo self.old.source.text.now self.old.reading.tree start
+            → IsOrderedAt self.old.source.text.now self.new.reading next) }
     {
         match lazy_leaf(self.alloc, self.source, start, &self.reading.tree)? {
             None => Ok(start),
@@ -184,9 +193,15 @@ impl<'a> FirstPass<'a> {
         ensures allocs { OnOk result (self.new.allocs ≡ self.old.allocs) }
         ensures later { IfOk result (λ next. line_end (place_at start_ix line_start.entry) ≤ next) }
         ensures boundary { IfOk result (λ next. IsCharBoundary self.old.source.text.now next) }
-        ensures ready { IfOk result (λ next. (names : Names) → ReadyText (document self.old.source.text.now self.old.source.options names) self.old.reading marker (place_at start_ix line_start.entry) (lines_from self.old.source.text.now (line_end (place_at start_ix line_start.entry)))
-            → Ready (document self.old.source.text.now self.old.source.options names) self.new.reading (lines_from self.old.source.text.now next)) }
-        ensures order { IfOk result (λ next. OrderedText self.old.source.text.now self.old.reading.tree marker (offset (place_at start_ix line_start.entry)) → IsOrderedAt self.old.source.text.now self.new.reading next) }
+        ensures ready { IfOk result (λ next. (names : Names)
+            → ReadyText (document self.old.source.text.now self.old.source.options names) self.old.reading marker
+            (place_at start_ix line_start.entry) (lines_from self.old.source.text.now
+            (line_end (place_at start_ix line_start.entry)))
+            → Ready (document self.old.source.text.now self.old.source.options names) self.new.reading
+            (lines_from self.old.source.text.now next)) }
+        ensures order { IfOk result (λ next. OrderedText self.old.source.text.now self.old.reading.tree marker
+            (offset (place_at start_ix line_start.entry))
+            → IsOrderedAt self.old.source.text.now self.new.reading next) }
     {
         self.source.is_short();
         let mut line_start = line_start;
@@ -211,9 +226,14 @@ impl<'a> FirstPass<'a> {
         ensures later { IfOk result (λ next. line_end (place_at start_ix line_start.entry) ≤ next) }
         ensures boundary { IfOk result (λ next. IsCharBoundary self.old.source.text.now next) }
         ensures ready { IfOk result (λ next. (names : Names) → Extends names (names_of self.new.allocs) →
-            ReadyLeaf (document self.old.source.text.now self.old.source.options names) self.old.reading (place_at start_ix line_start.entry) (lines_from self.old.source.text.now (line_end (place_at start_ix line_start.entry)))
-            → Ready (document self.old.source.text.now self.old.source.options names) self.new.reading (lines_from self.old.source.text.now next)) }
-        ensures order { IfOk result (λ next. IsCharBoundary self.old.source.text.now start_ix → IsOrderedTo self.old.source.text.now self.old.reading.tree (line_or self.old.reading.tree start_ix (offset (place_at start_ix line_start.entry)))
+            ReadyLeaf (document self.old.source.text.now self.old.source.options names) self.old.reading
+            (place_at start_ix line_start.entry)
+            (lines_from self.old.source.text.now (line_end (place_at start_ix line_start.entry)))
+            → Ready (document self.old.source.text.now self.old.source.options names) self.new.reading
+            (lines_from self.old.source.text.now next)) }
+        ensures order { IfOk result (λ next. IsCharBoundary self.old.source.text.now start_ix
+            → IsOrderedTo self.old.source.text.now self.old.reading.tree (line_or self.old.reading.tree start_ix
+            (offset (place_at start_ix line_start.entry)))
             → IsOrderedAt self.old.source.text.now self.new.reading next) }
     {
         self.source.is_short();
@@ -253,9 +273,14 @@ impl<'a> FirstPass<'a> {
         ensures later { IfOk result (λ next. line_end (place_at start_ix before.entry) ≤ next) }
         ensures boundary { IfOk result (λ next. IsCharBoundary self.old.source.text.now next) }
         ensures ready { IfOk result (λ next. (names : Names) → Extends names (names_of self.new.allocs) →
-            ReadyLeaf (document self.old.source.text.now self.old.source.options names) self.old.reading (place_at start_ix before.entry) (lines_from self.old.source.text.now (line_end (place_at start_ix before.entry)))
-            → Ready (document self.old.source.text.now self.old.source.options names) self.new.reading (lines_from self.old.source.text.now next)) }
-        ensures order { IfOk result (λ next. IsCharBoundary self.old.source.text.now start_ix → IsOrderedTo self.old.source.text.now self.old.reading.tree (line_or self.old.reading.tree start_ix (offset (place_at start_ix before.entry)))
+            ReadyLeaf (document self.old.source.text.now self.old.source.options names) self.old.reading
+            (place_at start_ix before.entry)
+            (lines_from self.old.source.text.now (line_end (place_at start_ix before.entry)))
+            → Ready (document self.old.source.text.now self.old.source.options names) self.new.reading
+            (lines_from self.old.source.text.now next)) }
+        ensures order { IfOk result (λ next. IsCharBoundary self.old.source.text.now start_ix
+            → IsOrderedTo self.old.source.text.now self.old.reading.tree (line_or self.old.reading.tree start_ix
+            (offset (place_at start_ix before.entry)))
             → IsOrderedAt self.old.source.text.now self.new.reading next) }
     {
         self.reading.tree.is_forest();
@@ -304,9 +329,13 @@ impl<'a> FirstPass<'a> {
         ensures empty_item { OnOk result (self.new.reading.empty_item ≡ self.old.reading.empty_item) }
         ensures names { OnOk result (Extends (names_of self.new.allocs) (names_of self.old.allocs)) }
         ensures tables { OnOk result (tables self.new.allocs ≡ tables self.old.allocs) }
-        ensures block { IfOk result (λ next. AddsKind self.old.source.text.now self.old.source.options (names_of self.new.allocs) (place_at start_ix before.entry) kind self.new.reading.blank self.old.reading.tree self.new.reading.tree next) }
-        ensures boundary { IfOk result (λ next. (line_end (place_at start_ix before.entry) ≤ next) × IsCharBoundary self.old.source.text.now next) }
-        ensures fits { IfOk result (λ next. (from : ℕ) → from ≤ offset (place_at start_ix before.entry) → AddsBetween self.old.source.text.now from next self.old.reading.tree self.new.reading.tree) }
+        ensures block { IfOk result (λ next. AddsKind self.old.source.text.now self.old.source.options
+            (names_of self.new.allocs) (place_at start_ix before.entry) kind self.new.reading.blank
+            self.old.reading.tree self.new.reading.tree next) }
+        ensures boundary { IfOk result (λ next. (line_end (place_at start_ix before.entry) ≤ next)
+            × IsCharBoundary self.old.source.text.now next) }
+        ensures fits { IfOk result (λ next. (from : ℕ) → from ≤ offset (place_at start_ix before.entry)
+            → AddsBetween self.old.source.text.now from next self.old.reading.tree self.new.reading.tree) }
     {
         match kind {
             Kind::IndentedCode => {
@@ -355,12 +384,17 @@ impl<'a> FirstPass<'a> {
         ensures allocs { OnOk result (self.new.allocs ≡ self.old.allocs) }
         ensures reading { OnOk result (self.new.reading ≡ with_tree self.old.reading self.new.reading.tree) }
         ensures line { IfOk result (λ answer. AppendsLine
-            (record { options = self.old.source.options; text = text_upto self.old.source.text.now end; start = start }) self.old.reading.tree self.new.reading.tree answer) }
+            (record { options = self.old.source.options; text = text_upto self.old.source.text.now end; start = start })
+            self.old.reading.tree self.new.reading.tree answer) }
         ensures ends { IfOk result (λ answer. EndsLine
-            (record { options = self.old.source.options; text = text_upto self.old.source.text.now end; start = start }) answer) }
-        ensures boundary { IfOk result (λ answer. end ≡ None → IsCharBoundary self.old.source.text.now start → IsCharBoundary self.old.source.text.now answer.0) }
-        ensures order { IfOk result (λ answer. IfSome end (λ e. IsCharBoundary self.old.source.text.now e) → IsCharBoundary self.old.source.text.now start → (from : ℕ) → from ≤ start
-            → IsOrderedTo self.old.source.text.now self.old.reading.tree from → IsOrderedTo self.old.source.text.now self.new.reading.tree answer.0) }
+            (record { options = self.old.source.options; text = text_upto self.old.source.text.now end; start = start })
+            answer) }
+        ensures boundary { IfOk result (λ answer. end ≡ None → IsCharBoundary self.old.source.text.now start
+            → IsCharBoundary self.old.source.text.now answer.0) }
+        ensures order { IfOk result (λ answer. IfSome end (λ e. IsCharBoundary self.old.source.text.now e)
+            → IsCharBoundary self.old.source.text.now start → (from : ℕ) → from ≤ start
+            → IsOrderedTo self.old.source.text.now self.old.reading.tree from
+            → IsOrderedTo self.old.source.text.now self.new.reading.tree answer.0) }
     {
         self.reading.tree.is_forest();
         let bytes = text_upto(self.source.text, end);
@@ -383,7 +417,8 @@ pub fn run_first_pass<'a>(
     text: &'a str,
     options: Options,
 ) -> Result<(Tree<Item>, Allocations<'a>), AllocError>
-    ensures derived { IfOk result (λ answer. Derives (document text.now options (names_of answer.1)) answer.0.nodes (tables answer.1)) }
+    ensures derived { IfOk result (λ answer. Derives (document text.now options (names_of answer.1)) answer.0.nodes
+        (tables answer.1)) }
     ensures finished { IfOk result (λ answer. answer.0.spine ≡ []) }
     ensures order { IfOk result (λ answer. IsOrdered text.now answer.0.nodes) }
 {

@@ -20,11 +20,11 @@ ghost use Rattle.first_pass_text.specs.Between.{AddsBetween};
 
 use crate::pass::FirstPass;
 use first_pass_html::starts::get_html_end_tag;
-use first_pass_raw::fenced_code::Fence;
+use first_pass_lists::reading::Reading;
 use first_pass_open::open_block::BlockLines;
 use first_pass_open::source::Source;
+use first_pass_raw::fenced_code::Fence;
 use first_pass_raw::{fenced_code, html_block, indented_code, metadata_block, raw_line};
-use first_pass_lists::reading::Reading;
 use first_pass_scan::line_start::LineStart;
 use first_pass_scan::places::{next_line, rest_of};
 use std::alloc::AllocError;
@@ -46,7 +46,8 @@ impl<'a> FirstPass<'a> {
         ensures names { OnOk result (Extends (names_of self.new.allocs) (names_of self.old.allocs)) }
         ensures tables { OnOk result (tables self.new.allocs ≡ tables self.old.allocs) }
         ensures reading { OnOk result (self.new.reading ≡ with_tree self.old.reading self.new.reading.tree) }
-        ensures line { OnOk result (AppendsCode self.old.source.text.now (names_of self.new.allocs) remaining_space start end self.old.reading.tree self.new.reading.tree) }
+        ensures line { OnOk result (AppendsCode self.old.source.text.now (names_of self.new.allocs) remaining_space
+            start end self.old.reading.tree self.new.reading.tree) }
     {
         raw_line::append_code_text(
             &mut self.reading.tree,
@@ -73,7 +74,8 @@ impl<'a> FirstPass<'a> {
         ensures names { OnOk result (Extends (names_of self.new.allocs) (names_of self.old.allocs)) }
         ensures tables { OnOk result (tables self.new.allocs ≡ tables self.old.allocs) }
         ensures reading { OnOk result (self.new.reading ≡ with_tree self.old.reading self.new.reading.tree) }
-        ensures line { OnOk result (AppendsHtml self.old.source.text.now (names_of self.new.allocs) remaining_space start end self.old.reading.tree self.new.reading.tree) }
+        ensures line { OnOk result (AppendsHtml self.old.source.text.now (names_of self.new.allocs) remaining_space
+            start end self.old.reading.tree self.new.reading.tree) }
     {
         raw_line::append_html_line(
             &mut self.reading.tree,
@@ -100,10 +102,14 @@ impl<'a> FirstPass<'a> {
         ensures empty_item { OnOk result (self.new.reading.empty_item ≡ self.old.reading.empty_item) }
         ensures names { OnOk result (Extends (names_of self.new.allocs) (names_of self.old.allocs)) }
         ensures tables { OnOk result (tables self.new.allocs ≡ tables self.old.allocs) }
-        ensures block { IfOk result (λ next. (p : Place) → IsPlaceAt self.old.source.text.now start_ix p → p.rest.owed ≡ remaining_space
-            → AddsIndented self.old.source.text.now self.old.source.options (names_of self.new.allocs) p self.old.reading.tree self.new.reading.tree next self.new.reading.blank) }
-        ensures boundary { IfOk result (λ next. (behind_line_at self.old.source.text.now start_ix ≤ next) × IsCharBoundary self.old.source.text.now next) }
-        ensures fits { IfOk result (λ next. (from : ℕ) → from ≤ start_ix → AddsBetween self.old.source.text.now from next self.old.reading.tree self.new.reading.tree) }
+        ensures block { IfOk result (λ next. (p : Place) → IsPlaceAt self.old.source.text.now start_ix p
+            → p.rest.owed ≡ remaining_space
+            → AddsIndented self.old.source.text.now self.old.source.options
+            (names_of self.new.allocs) p self.old.reading.tree self.new.reading.tree next self.new.reading.blank) }
+        ensures boundary { IfOk result (λ next. (behind_line_at self.old.source.text.now start_ix ≤ next)
+            × IsCharBoundary self.old.source.text.now next) }
+        ensures fits { IfOk result (λ next. (from : ℕ) → from ≤ start_ix
+            → AddsBetween self.old.source.text.now from next self.old.reading.tree self.new.reading.tree) }
     {
         let (next, blank) = indented_code::parse_indented_code_block(
             &mut self.reading.tree,
@@ -130,9 +136,13 @@ impl<'a> FirstPass<'a> {
         ensures empty_item { OnOk result (self.new.reading.empty_item ≡ self.old.reading.empty_item) }
         ensures names { OnOk result (Extends (names_of self.new.allocs) (names_of self.old.allocs)) }
         ensures tables { OnOk result (tables self.new.allocs ≡ tables self.old.allocs) }
-        ensures block { IfOk result (λ next. AddsKind self.old.source.text.now self.old.source.options (names_of self.new.allocs) (place_at start_ix before.entry) IndentedCode self.new.reading.blank self.old.reading.tree self.new.reading.tree next) }
-        ensures boundary { IfOk result (λ next. (line_end (place_at start_ix before.entry) ≤ next) × IsCharBoundary self.old.source.text.now next) }
-        ensures fits { IfOk result (λ next. (from : ℕ) → from ≤ offset (place_at start_ix before.entry) → AddsBetween self.old.source.text.now from next self.old.reading.tree self.new.reading.tree) }
+        ensures block { IfOk result (λ next. AddsKind self.old.source.text.now self.old.source.options
+            (names_of self.new.allocs) (place_at start_ix before.entry) IndentedCode self.new.reading.blank
+            self.old.reading.tree self.new.reading.tree next) }
+        ensures boundary { IfOk result (λ next. (line_end (place_at start_ix before.entry) ≤ next)
+            × IsCharBoundary self.old.source.text.now next) }
+        ensures fits { IfOk result (λ next. (from : ℕ) → from ≤ offset (place_at start_ix before.entry)
+            → AddsBetween self.old.source.text.now from next self.old.reading.tree self.new.reading.tree) }
     {
         self.source.is_short();
         let mut line_start = before;
@@ -158,10 +168,15 @@ impl<'a> FirstPass<'a> {
         ensures names { OnOk result (Extends (names_of self.new.allocs) (names_of self.old.allocs)) }
         ensures tables { OnOk result (tables self.new.allocs ≡ tables self.old.allocs) }
         ensures reading { OnOk result (self.new.reading ≡ with_tree self.old.reading self.new.reading.tree) }
-        ensures block { IfOk result (λ next. let e = fenced_behind self.old.source.text.now (path_of self.old.reading.tree) indent fence_ch n_fence_char start_ix in
-            AddsRaw self.old.source.text.now self.old.source.options (names_of self.new.allocs) (λ d. IsFencedCode d start_ix n_fence_char e.places e.«end») e.left self.old.reading.tree self.new.reading.tree next) }
-        ensures boundary { IfOk result (λ next. (behind_line_at self.old.source.text.now start_ix ≤ next) × IsCharBoundary self.old.source.text.now next) }
-        ensures fits { IfOk result (λ next. (from : ℕ) → from ≤ start_ix → AddsBetween self.old.source.text.now from next self.old.reading.tree self.new.reading.tree) }
+        ensures block { IfOk result (λ next. let e = fenced_behind self.old.source.text.now
+            (path_of self.old.reading.tree) indent fence_ch n_fence_char start_ix in
+            AddsRaw self.old.source.text.now self.old.source.options (names_of self.new.allocs) (λ d.
+            IsFencedCode d start_ix n_fence_char e.places e.«end») e.left self.old.reading.tree self.new.reading.tree
+            next) }
+        ensures boundary { IfOk result (λ next. (behind_line_at self.old.source.text.now start_ix ≤ next)
+            × IsCharBoundary self.old.source.text.now next) }
+        ensures fits { IfOk result (λ next. (from : ℕ) → from ≤ start_ix
+            → AddsBetween self.old.source.text.now from next self.old.reading.tree self.new.reading.tree) }
     {
         let fence = Fence {
             indent,
@@ -193,10 +208,15 @@ impl<'a> FirstPass<'a> {
         ensures names { OnOk result (Extends (names_of self.new.allocs) (names_of self.old.allocs)) }
         ensures tables { OnOk result (tables self.new.allocs ≡ tables self.old.allocs) }
         ensures reading { OnOk result (self.new.reading ≡ with_tree self.old.reading self.new.reading.tree) }
-        ensures block { IfOk result (λ next. let e = metadata_behind self.old.source.text.now (path_of self.old.reading.tree) metadata_block_ch start_ix in
-            AddsRaw self.old.source.text.now self.old.source.options (names_of self.new.allocs) (λ d. IsMetadata d start_ix metadata_block_ch e.places e.«end») e.left self.old.reading.tree self.new.reading.tree next) }
-        ensures boundary { IfOk result (λ next. (behind_line_at self.old.source.text.now start_ix ≤ next) × IsCharBoundary self.old.source.text.now next) }
-        ensures fits { IfOk result (λ next. (from : ℕ) → from ≤ start_ix → AddsBetween self.old.source.text.now from next self.old.reading.tree self.new.reading.tree) }
+        ensures block { IfOk result (λ next. let e = metadata_behind self.old.source.text.now
+            (path_of self.old.reading.tree) metadata_block_ch start_ix in
+            AddsRaw self.old.source.text.now self.old.source.options (names_of self.new.allocs) (λ d.
+            IsMetadata d start_ix metadata_block_ch e.places e.«end») e.left self.old.reading.tree self.new.reading.tree
+            next) }
+        ensures boundary { IfOk result (λ next. (behind_line_at self.old.source.text.now start_ix ≤ next)
+            × IsCharBoundary self.old.source.text.now next) }
+        ensures fits { IfOk result (λ next. (from : ℕ) → from ≤ start_ix
+            → AddsBetween self.old.source.text.now from next self.old.reading.tree self.new.reading.tree) }
     {
         let next = metadata_block::parse_metadata_block(
             &mut self.reading.tree,
@@ -226,10 +246,15 @@ impl<'a> FirstPass<'a> {
         ensures names { OnOk result (Extends (names_of self.new.allocs) (names_of self.old.allocs)) }
         ensures tables { OnOk result (tables self.new.allocs ≡ tables self.old.allocs) }
         ensures reading { OnOk result (self.new.reading ≡ with_tree self.old.reading self.new.reading.tree) }
-        ensures block { IfOk result (λ next. (p : Place) → IsPlaceAt self.old.source.text.now start_ix p → let e = html_to_end self.old.source.text.now (path_of self.old.reading.tree) html_end_tag.now p in
-            AddsRaw self.old.source.text.now self.old.source.options (names_of self.new.allocs) (λ d. IsHtml d start_ix (max remaining_space indent) e.places e.«end») e.left self.old.reading.tree self.new.reading.tree next) }
-        ensures boundary { IfOk result (λ next. (behind_line_at self.old.source.text.now start_ix ≤ next) × IsCharBoundary self.old.source.text.now next) }
-        ensures fits { IfOk result (λ next. (from : ℕ) → from ≤ start_ix → AddsBetween self.old.source.text.now from next self.old.reading.tree self.new.reading.tree) }
+        ensures block { IfOk result (λ next. (p : Place) → IsPlaceAt self.old.source.text.now start_ix p
+            → let e = html_to_end self.old.source.text.now (path_of self.old.reading.tree) html_end_tag.now p in
+            AddsRaw self.old.source.text.now self.old.source.options (names_of self.new.allocs) (λ d.
+            IsHtml d start_ix (max remaining_space indent) e.places e.«end») e.left self.old.reading.tree
+            self.new.reading.tree next) }
+        ensures boundary { IfOk result (λ next. (behind_line_at self.old.source.text.now start_ix ≤ next)
+            × IsCharBoundary self.old.source.text.now next) }
+        ensures fits { IfOk result (λ next. (from : ℕ) → from ≤ start_ix
+            → AddsBetween self.old.source.text.now from next self.old.reading.tree self.new.reading.tree) }
     {
         let next = html_block::parse_html_block_type_1_to_5(
             &mut self.reading.tree,
@@ -256,10 +281,15 @@ impl<'a> FirstPass<'a> {
         ensures names { OnOk result (Extends (names_of self.new.allocs) (names_of self.old.allocs)) }
         ensures tables { OnOk result (tables self.new.allocs ≡ tables self.old.allocs) }
         ensures reading { OnOk result (self.new.reading ≡ with_tree self.old.reading self.new.reading.tree) }
-        ensures block { IfOk result (λ next. (tag : List ℕ) → html_end (drop 1 (drop start_ix self.old.source.text.now)) ≡ Some tag → (p : Place) → IsPlaceAt self.old.source.text.now start_ix p → let e = html_to_end self.old.source.text.now (path_of self.old.reading.tree) tag p in
-            AddsRaw self.old.source.text.now self.old.source.options (names_of self.new.allocs) (λ d. IsHtml d start_ix columns e.places e.«end») e.left self.old.reading.tree self.new.reading.tree next) }
-        ensures boundary { IfOk result (λ next. (behind_line_at self.old.source.text.now start_ix ≤ next) × IsCharBoundary self.old.source.text.now next) }
-        ensures fits { IfOk result (λ next. (from : ℕ) → from ≤ start_ix → AddsBetween self.old.source.text.now from next self.old.reading.tree self.new.reading.tree) }
+        ensures block { IfOk result (λ next. (tag : List ℕ) → html_end (drop 1 (drop start_ix self.old.source.text.now))
+            ≡ Some tag → (p : Place) → IsPlaceAt self.old.source.text.now start_ix p
+            → let e = html_to_end self.old.source.text.now (path_of self.old.reading.tree) tag p in
+            AddsRaw self.old.source.text.now self.old.source.options (names_of self.new.allocs) (λ d.
+            IsHtml d start_ix columns e.places e.«end») e.left self.old.reading.tree self.new.reading.tree next) }
+        ensures boundary { IfOk result (λ next. (behind_line_at self.old.source.text.now start_ix ≤ next)
+            × IsCharBoundary self.old.source.text.now next) }
+        ensures fits { IfOk result (λ next. (from : ℕ) → from ≤ start_ix
+            → AddsBetween self.old.source.text.now from next self.old.reading.tree self.new.reading.tree) }
     {
         let tag = get_html_end_tag(rest_of(self.source.text.as_bytes(), start_ix + 1)).unwrap();
         let next = self.parse_html_block_type_1_to_5(start_ix, tag, 0, columns)?;
@@ -282,10 +312,16 @@ impl<'a> FirstPass<'a> {
         ensures names { OnOk result (Extends (names_of self.new.allocs) (names_of self.old.allocs)) }
         ensures tables { OnOk result (tables self.new.allocs ≡ tables self.old.allocs) }
         ensures reading { OnOk result (self.new.reading ≡ with_tree self.old.reading self.new.reading.tree) }
-        ensures block { IfOk result (λ next. (p : Place) → IsPlaceAt self.old.source.text.now start_ix p → let e = html_to_blank self.old.source.text.now (path_of self.old.reading.tree) p in
-            AddsRaw self.old.source.text.now self.old.source.options (names_of self.new.allocs) (λ d. IsHtml d start_ix (max remaining_space indent) e.places e.«end») e.left self.old.reading.tree self.new.reading.tree next) }
-        ensures boundary { IfOk result (λ next. (behind_line_at self.old.source.text.now start_ix ≤ next) × IsCharBoundary self.old.source.text.now next) }
-        ensures fits { IfOk result (λ next. (p : Place) → IsPlaceAt self.old.source.text.now start_ix p → (from : ℕ) → from ≤ start_ix → AddsBetween self.old.source.text.now from (html_to_blank self.old.source.text.now (path_of self.old.reading.tree) p).«end» self.old.reading.tree self.new.reading.tree) }
+        ensures block { IfOk result (λ next. (p : Place) → IsPlaceAt self.old.source.text.now start_ix p
+            → let e = html_to_blank self.old.source.text.now (path_of self.old.reading.tree) p in
+            AddsRaw self.old.source.text.now self.old.source.options (names_of self.new.allocs) (λ d.
+            IsHtml d start_ix (max remaining_space indent) e.places e.«end») e.left self.old.reading.tree
+            self.new.reading.tree next) }
+        ensures boundary { IfOk result (λ next. (behind_line_at self.old.source.text.now start_ix ≤ next)
+            × IsCharBoundary self.old.source.text.now next) }
+        ensures fits { IfOk result (λ next. (p : Place) → IsPlaceAt self.old.source.text.now start_ix p → (from : ℕ)
+            → from ≤ start_ix → AddsBetween self.old.source.text.now from (html_to_blank self.old.source.text.now
+            (path_of self.old.reading.tree) p).«end» self.old.reading.tree self.new.reading.tree) }
     {
         let lines = self.parse_html_to_blank(start_ix, max(remaining_space, indent))?;
         Ok(lines.next)
@@ -303,12 +339,18 @@ impl<'a> FirstPass<'a> {
         ensures names { OnOk result (Extends (names_of self.new.allocs) (names_of self.old.allocs)) }
         ensures tables { OnOk result (tables self.new.allocs ≡ tables self.old.allocs) }
         ensures reading { OnOk result (self.new.reading ≡ with_tree self.old.reading self.new.reading.tree) }
-        ensures block { IfOk result (λ lines. (p : Place) → IsPlaceAt self.old.source.text.now start_ix p → let e = html_to_blank self.old.source.text.now (path_of self.old.reading.tree) p in
-            AddsRaw self.old.source.text.now self.old.source.options (names_of self.new.allocs) (λ d. IsHtml d start_ix columns e.places e.«end») e.left self.old.reading.tree self.new.reading.tree lines.next) }
-        ensures end { IfOk result (λ lines. (p : Place) → IsPlaceAt self.old.source.text.now start_ix p → lines.«end» ≡ (html_to_blank self.old.source.text.now (path_of self.old.reading.tree) p).«end») }
-        ensures boundary { IfOk result (λ lines. (behind_line_at self.old.source.text.now start_ix ≤ lines.next) × IsCharBoundary self.old.source.text.now lines.next) }
-        ensures fits { IfOk result (λ lines. (from : ℕ) → from ≤ start_ix → AddsBetween self.old.source.text.now from lines.«end» self.old.reading.tree self.new.reading.tree) }
-        ensures within { IfOk result (λ lines. (lines.«end» ≤ length self.old.source.text.now) × IsCharBoundary self.old.source.text.now lines.«end») }
+        ensures block { IfOk result (λ lines. (p : Place) → IsPlaceAt self.old.source.text.now start_ix p
+            → let e = html_to_blank self.old.source.text.now (path_of self.old.reading.tree) p in
+            AddsRaw self.old.source.text.now self.old.source.options (names_of self.new.allocs) (λ d.
+            IsHtml d start_ix columns e.places e.«end») e.left self.old.reading.tree self.new.reading.tree lines.next) }
+        ensures end { IfOk result (λ lines. (p : Place) → IsPlaceAt self.old.source.text.now start_ix p
+            → lines.«end» ≡ (html_to_blank self.old.source.text.now (path_of self.old.reading.tree) p).«end») }
+        ensures boundary { IfOk result (λ lines. (behind_line_at self.old.source.text.now start_ix ≤ lines.next)
+            × IsCharBoundary self.old.source.text.now lines.next) }
+        ensures fits { IfOk result (λ lines. (from : ℕ) → from ≤ start_ix
+            → AddsBetween self.old.source.text.now from lines.«end» self.old.reading.tree self.new.reading.tree) }
+        ensures within { IfOk result (λ lines. (lines.«end» ≤ length self.old.source.text.now)
+            × IsCharBoundary self.old.source.text.now lines.«end») }
     {
         let lines = html_block::parse_html_block_type_6_or_7(
             &mut self.reading.tree,

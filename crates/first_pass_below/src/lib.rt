@@ -11,8 +11,10 @@ pub use first_pass_walk::walk;
 mod tests {
     use crate::below::Options;
     use crate::flank::{TableParseMode, delim_run_can_close, delim_run_can_open};
-    use first_pass_walk::walk::{LoopInstruction, iterate_special_bytes, next_special, special_bytes};
     use bitflags::Flags;
+    use first_pass_walk::walk::{
+        LoopInstruction, iterate_special_bytes, next_special, special_bytes,
+    };
     use std::test::Fail;
 
     #[test]

@@ -12,7 +12,8 @@ use first_pass_scan::places::rest_of;
 /// the closing tag of `<pre`, `<script`, `<style` or `<textarea` in lower case, `-->`, `?>`, `]]>` or
 /// `>`. `None` where no block of these kinds begins. CommonMark 4.6.
 pub fn get_html_end_tag(bytes: &[u8]) -> Option<&'static str>
-    ensures value { MatchOption result (starts.html_end bytes.now ≡ None) (λ text. starts.html_end bytes.now ≡ Some text.now) }
+    ensures value { MatchOption result (starts.html_end bytes.now ≡ None) (λ text. starts.html_end bytes.now
+        ≡ Some text.now) }
 {
     let [first, rest @ ..] = bytes else {
         return None;

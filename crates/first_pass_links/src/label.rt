@@ -99,8 +99,10 @@ where
     requires text { IsUtf8 bytes.now }
     requires no_bracket { is_bracket (slice_index bytes.now at) ≡ false }
     ensures some { IfOk result (λ answer. IfSome answer (λ unit. IsUnit bytes.now at unit)) }
-    ensures reads { IfOk result (λ answer. IfSome answer (λ unit. (prefix : List ℕ → Option ℕ) → AnswersWith prefix (F.post linebreak_handler.now) → Reads prefix in_table bytes.now at unit)) }
-    ensures none { IfOk result (λ answer. answer ≡ None → (prefix : List ℕ → Option ℕ) → AnswersWith prefix (F.post linebreak_handler.now) → IsBlankRest prefix bytes.now at) }
+    ensures reads { IfOk result (λ answer. IfSome answer (λ unit. (prefix : List ℕ → Option ℕ)
+        → AnswersWith prefix (F.post linebreak_handler.now) → Reads prefix in_table bytes.now at unit)) }
+    ensures none { IfOk result (λ answer. answer ≡ None → (prefix : List ℕ → Option ℕ)
+        → AnswersWith prefix (F.post linebreak_handler.now) → IsBlankRest prefix bytes.now at) }
 {
     if is_ascii_white(bytes[at]) {
         return match scan_white_run(bytes, at, linebreak_handler)? {
@@ -130,8 +132,10 @@ where
     requires white { is_ascii_white (slice_index bytes.now at) ≡ true }
     ensures some { IfOk result (λ answer. IfSome answer (λ run. EndsWhiteRun bytes.now at run.0 run.1)) }
     ensures ends { IfOk result (λ answer. IfSome answer (λ run. is_ascii_white (slice_index bytes.now run.0) ≡ false)) }
-    ensures reads { IfOk result (λ answer. IfSome answer (λ run. (prefix : List ℕ → Option ℕ) → AnswersWith prefix (F.post linebreak_handler.now) → IsWhiteRun prefix bytes.now at run.0 run.1)) }
-    ensures none { IfOk result (λ answer. answer ≡ None → (prefix : List ℕ → Option ℕ) → AnswersWith prefix (F.post linebreak_handler.now) → IsBlankRest prefix bytes.now at) }
+    ensures reads { IfOk result (λ answer. IfSome answer (λ run. (prefix : List ℕ → Option ℕ)
+        → AnswersWith prefix (F.post linebreak_handler.now) → IsWhiteRun prefix bytes.now at run.0 run.1)) }
+    ensures none { IfOk result (λ answer. answer ≡ None → (prefix : List ℕ → Option ℕ)
+        → AnswersWith prefix (F.post linebreak_handler.now) → IsBlankRest prefix bytes.now at) }
 {
     let mut next = at;
     let mut characters = 0;
@@ -160,9 +164,11 @@ where
     requires text { IsUtf8 bytes.now }
     requires white { is_ascii_white (slice_index bytes.now at) ≡ true }
     ensures some { IfOk result (λ answer. IfSome answer (λ next. (at < next) × IsCharBoundary bytes.now next)) }
-    ensures reads { IfOk result (λ answer. IfSome answer (λ next. (prefix : List ℕ → Option ℕ) → AnswersWith prefix (F.post linebreak_handler.now)
+    ensures reads { IfOk result (λ answer. IfSome answer (λ next. (prefix : List ℕ → Option ℕ)
+        → AnswersWith prefix (F.post linebreak_handler.now)
         → left_at prefix bytes.now at ≡ (at, slice_index bytes.now at) ∷ left_at prefix bytes.now next)) }
-    ensures none { IfOk result (λ answer. answer ≡ None → (prefix : List ℕ → Option ℕ) → AnswersWith prefix (F.post linebreak_handler.now)
+    ensures none { IfOk result (λ answer. answer ≡ None → (prefix : List ℕ → Option ℕ)
+        → AnswersWith prefix (F.post linebreak_handler.now)
         → left_at prefix bytes.now at ≡ []) }
 {
     let behind = rest_of(bytes, at + 1);

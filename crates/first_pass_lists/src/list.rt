@@ -58,7 +58,8 @@ fn inner_list(tree: &mut Tree<Item>, list_depth: usize, from: usize, to: usize) 
     requires { (from < to) × (to ≤ length tree.old.nodes) }
     ensures tree { tree.new ≡ tree.old }
     ensures within { (from ≤ result.place) × (result.place < result.past) × (result.past ≤ to) }
-    ensures deeper { (k : ℕ) → result.place < k → k < result.past → list_depth + 2 < slice_index (depths tree.old.nodes) k }
+    ensures deeper { (k : ℕ) → result.place < k → k < result.past
+        → list_depth + 2 < slice_index (depths tree.old.nodes) k }
 {
     match tree.take_subtree(from, to) {
         Some(inner) if 2 <= depth_at(tree, inner.place).saturating_sub(list_depth) => inner,
@@ -273,7 +274,8 @@ impl Reading {
         number: u64,
         indent: usize,
     ) -> Result<(), AllocError>
-        ensures { OnOk result (self.new ≡ begun start (ListItemBody indent) (list_continued start byte number self.old)) }
+        ensures { OnOk result (self.new
+            ≡ begun start (ListItemBody indent) (list_continued start byte number self.old)) }
     {
         self.continue_list(start, byte, number)?;
         self.open_node(start, ItemBody::ListItem(indent))

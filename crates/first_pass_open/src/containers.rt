@@ -57,7 +57,8 @@ pub fn scan_containers<'a>(
 ) -> usize
     ensures within { result ≤ length tree.now.spine }
     ensures taken { after (path_in tree.now.nodes (outer result tree.now.spine)) line_start.old ≡ Some line_start.new }
-    ensures stops { (m : ℕ) → result < m → m ≤ length tree.now.spine → after (path_in tree.now.nodes (outer m tree.now.spine)) line_start.old ≡ None }
+    ensures stops { (m : ℕ) → result < m → m ≤ length tree.now.spine
+        → after (path_in tree.now.nodes (outer m tree.now.spine)) line_start.old ≡ None }
     ensures front { line_start.new ≡ front (path_of tree.now) line_start.old }
 {
     tree.is_forest();
@@ -75,7 +76,8 @@ pub fn scan_containers<'a>(
 #[inline(always)]
 #[tactic(auto, unfolding(first_pass_grammar::specs::Containers::prefix))]
 pub fn scan_quote<'a>(line_start: &mut LineStart<'a>) -> Option<usize>
-    ensures { MatchOption (prefix (BlockQuote None) line_start.old) ((result ≡ None) × (line_start.new ≡ line_start.old))
+    ensures { MatchOption (prefix (BlockQuote None) line_start.old) ((result ≡ None)
+        × (line_start.new ≡ line_start.old))
         (λ next. (result ≡ Some (after_columns 3 line_start.old).taken) × (line_start.new ≡ next)) }
 {
     if line_start.is_at_inert() {

@@ -25,11 +25,7 @@ pub struct BlockLines {
 }
 
 /// Appends a block that starts at an offset, and opens it.
-pub fn open_block(
-    tree: &mut Tree<Item>,
-    start: usize,
-    body: ItemBody,
-) -> Result<(), AllocError>
+pub fn open_block(tree: &mut Tree<Item>, start: usize, body: ItemBody) -> Result<(), AllocError>
     ensures { OnOk result (tree.new ≡ opened_block tree.old start body) }
 {
     tree.append(Item {

@@ -195,7 +195,8 @@ fn append_list(
 
 /// Appends whether a run can open and close, behind other values.
 fn append_sides(line: &mut Vec<u8>, can_open: bool, can_close: bool) -> Result<(), AllocError>
-    ensures { OnOk result (line.new.items ≡ line.old.items ++ codes "," ++ flag_name can_open ++ codes "," ++ flag_name can_close ++ codes ")") }
+    ensures { OnOk result (line.new.items
+        ≡ line.old.items ++ codes "," ++ flag_name can_open ++ codes "," ++ flag_name can_close ++ codes ")") }
 {
     line.push(b',')?;
     line.extend_from_slice(flag_name(can_open).as_bytes())?;

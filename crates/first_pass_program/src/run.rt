@@ -52,8 +52,10 @@ pub fn print_blocks<R: Read, W: Write>(
     input: &mut R,
     output: &mut W,
 ) -> Result<(), BlocksFault>
-    ensures ok { OnOk result (WritesWhole words.now (R.remaining input.old) (R.remaining input.new) (W.contents output.old) (W.contents output.new)) }
-    ensures fault { IfErr result (λ fault. Leaves fault words.now (R.remaining input.old) (R.remaining input.new) (W.contents output.old) (W.contents output.new)) }
+    ensures ok { OnOk result (WritesWhole words.now (R.remaining input.old) (R.remaining input.new)
+        (W.contents output.old) (W.contents output.new)) }
+    ensures fault { IfErr result (λ fault. Leaves fault words.now (R.remaining input.old) (R.remaining input.new)
+        (W.contents output.old) (W.contents output.new)) }
 {
     let options = match parse_options(words) {
         Some(options) => options,
@@ -70,8 +72,10 @@ fn print_text<W: Write>(
     options: Options,
     output: &mut W,
 ) -> Result<(), BlocksFault>
-    ensures ok { OnOk result ((whole : List ℕ) × IsPrinted options bytes.now whole × Appends (W.contents output.old) (W.contents output.new) whole) }
-    ensures fault { IfErr result (λ fault. LeavesText fault options bytes.now (W.contents output.old) (W.contents output.new)) }
+    ensures ok { OnOk result ((whole : List ℕ) × IsPrinted options bytes.now whole
+        × Appends (W.contents output.old) (W.contents output.new) whole) }
+    ensures fault { IfErr result (λ fault. LeavesText fault options bytes.now (W.contents output.old)
+        (W.contents output.new)) }
 {
     let text = match str::from_utf8(bytes) {
         Ok(text) => text,
@@ -88,8 +92,10 @@ fn write_nodes<W: Write>(
     allocs: &Allocations<'_>,
     output: &mut W,
 ) -> Result<(), BlocksFault>
-    ensures ok { OnOk result (Appends (W.contents output.old) (W.contents output.new) (flat_map (node_line (names_of allocs.now)) nodes.now)) }
-    ensures front { OnErr result (AppendsFront (W.contents output.old) (W.contents output.new) (flat_map (node_line (names_of allocs.now)) nodes.now)) }
+    ensures ok { OnOk result (Appends (W.contents output.old) (W.contents output.new)
+        (flat_map (node_line (names_of allocs.now)) nodes.now)) }
+    ensures front { OnErr result (AppendsFront (W.contents output.old) (W.contents output.new)
+        (flat_map (node_line (names_of allocs.now)) nodes.now)) }
     ensures fault { IfErr result IsWriteFault }
 {
     let mut held = Vec::new(alloc);

@@ -13,13 +13,13 @@ ghost use Rattle.first_pass_grammar.specs.CodeBlocks.{info_string, closing_fence
 ghost use Rattle.first_pass_raw.specs.RawBlocks.{AppendsCodeLines, AddsRaw, fenced_behind, behind_line_at};
 ghost use Rattle.first_pass_grammar.specs.Completion.{lines_from};
 
-use first_pass_open::indentation::scan_indentation;
-use first_pass_names::items::Allocations;
-use first_pass_open::open_block::{BlockLines, close_block, go_on, open_block};
 use crate::raw_line::append_code_text;
 use first_pass_items::item::{Item, ItemBody};
 use first_pass_items::option_set::Options;
 use first_pass_links::escape::unescape;
+use first_pass_names::items::Allocations;
+use first_pass_open::indentation::scan_indentation;
+use first_pass_open::open_block::{BlockLines, close_block, go_on, open_block};
 use first_pass_scan::leaf_scan::scan_closing_code_fence;
 use first_pass_scan::line_start::LineStart;
 use first_pass_scan::lines::{is_ascii_white, scan_whitespace_no_nl};
@@ -48,8 +48,10 @@ pub fn parse_fenced_code_block<'a>(
 ) -> Result<usize, AllocError>
     requires boundary { IsCharBoundary text.now start_ix }
     requires fence { code_fence (drop start_ix text.now) ≡ Some (fence.count, fence.byte) }
-    ensures block { IfOk result (λ next. let e = fenced_behind text.now (path_of tree.old) fence.indent fence.byte fence.count start_ix in
-        AddsRaw text.now options (names_of allocs.new) (λ d. IsFencedCode d start_ix fence.count e.places e.«end») e.left tree.old tree.new next) }
+    ensures block { IfOk result (λ next.
+        let e = fenced_behind text.now (path_of tree.old) fence.indent fence.byte fence.count start_ix in
+        AddsRaw text.now options (names_of allocs.new) (λ d.
+        IsFencedCode d start_ix fence.count e.places e.«end») e.left tree.old tree.new next) }
     ensures boundary { IfOk result (λ next. (behind_line_at text.now start_ix ≤ next) × IsCharBoundary text.now next) }
     ensures names { OnOk result (Extends (names_of allocs.new) (names_of allocs.old)) }
     ensures tables { OnOk result (tables allocs.new ≡ tables allocs.old) }
@@ -117,7 +119,8 @@ fn fenced_lines<'a>(
     requires boundary { IsCharBoundary text.now start }
     requires apart { JoinsNone tree.old }
     ensures lines { IfOk result (λ lines. AppendsCodeLines text.now options (names_of allocs.new)
-        (fenced_lines (length text.now) (path_of tree.old) fence.indent fence.byte fence.count (lines_from text.now start)) tree.old tree.new lines.«end» lines.next) }
+        (fenced_lines (length text.now) (path_of tree.old) fence.indent fence.byte fence.count
+        (lines_from text.now start)) tree.old tree.new lines.«end» lines.next) }
     ensures boundary { IfOk result (λ lines. (start ≤ lines.next) × IsCharBoundary text.now lines.next) }
     ensures names { OnOk result (Extends (names_of allocs.new) (names_of allocs.old)) }
     ensures tables { OnOk result (tables allocs.new ≡ tables allocs.old) }

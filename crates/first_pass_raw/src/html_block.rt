@@ -9,11 +9,11 @@ ghost use Rattle.first_pass_names.specs.TableEntries.{tables, names_of};
 ghost use Rattle.first_pass_grammar.specs.HtmlBlocks.{IsHtml};
 ghost use Rattle.first_pass_raw.specs.RawBlocks.{IsPlaceAt, AppendsHtmlLines, AddsRaw, html_to_end, html_to_blank, behind_line_at};
 
-use first_pass_names::items::Allocations;
-use first_pass_open::open_block::{BlockLines, close_block, go_on, open_block};
 use crate::raw_line::append_html_line;
 use first_pass_items::item::{Item, ItemBody};
 use first_pass_items::option_set::Options;
+use first_pass_names::items::Allocations;
+use first_pass_open::open_block::{BlockLines, close_block, go_on, open_block};
 use first_pass_scan::lines::scan_blank_line;
 use first_pass_scan::places::next_line;
 use first_pass_tree::forest::Tree;
@@ -33,8 +33,10 @@ pub fn parse_html_block_type_1_to_5<'a>(
 ) -> Result<usize, AllocError>
     requires boundary { IsCharBoundary text.now start_ix }
     requires columns { columns ≤ 3 }
-    ensures block { IfOk result (λ next. (p : Place) → IsPlaceAt text.now start_ix p → let e = html_to_end text.now (path_of tree.old) html_end_tag.now p in
-        AddsRaw text.now options (names_of allocs.new) (λ d. IsHtml d start_ix columns e.places e.«end») e.left tree.old tree.new next) }
+    ensures block { IfOk result (λ next. (p : Place) → IsPlaceAt text.now start_ix p
+        → let e = html_to_end text.now (path_of tree.old) html_end_tag.now p in
+        AddsRaw text.now options (names_of allocs.new) (λ d.
+        IsHtml d start_ix columns e.places e.«end») e.left tree.old tree.new next) }
     ensures boundary { IfOk result (λ next. (behind_line_at text.now start_ix ≤ next) × IsCharBoundary text.now next) }
     ensures names { OnOk result (Extends (names_of allocs.new) (names_of allocs.old)) }
     ensures tables { OnOk result (tables allocs.new ≡ tables allocs.old) }
@@ -59,8 +61,11 @@ fn lines_to_end<'a>(
 ) -> Result<BlockLines, AllocError>
     requires boundary { IsCharBoundary text.now start }
     requires columns { columns ≤ 3 }
-    ensures lines { IfOk result (λ lines. (p : Place) → IsPlaceAt text.now start p → AppendsHtmlLines text.now options (names_of allocs.new) columns (html_to_end text.now (path_of tree.old) html_end_tag.now p) tree.old tree.new lines.«end» lines.next) }
-    ensures boundary { IfOk result (λ lines. (behind_line_at text.now start ≤ lines.next) × IsCharBoundary text.now lines.next) }
+    ensures lines { IfOk result (λ lines. (p : Place) → IsPlaceAt text.now start p
+        → AppendsHtmlLines text.now options (names_of allocs.new) columns
+        (html_to_end text.now (path_of tree.old) html_end_tag.now p) tree.old tree.new lines.«end» lines.next) }
+    ensures boundary { IfOk result (λ lines. (behind_line_at text.now start ≤ lines.next)
+        × IsCharBoundary text.now lines.next) }
     ensures names { OnOk result (Extends (names_of allocs.new) (names_of allocs.old)) }
     ensures tables { OnOk result (tables allocs.new ≡ tables allocs.old) }
 {
@@ -97,10 +102,14 @@ pub fn parse_html_block_type_6_or_7<'a>(
 ) -> Result<BlockLines, AllocError>
     requires boundary { IsCharBoundary text.now start_ix }
     requires columns { columns ≤ 3 }
-    ensures block { IfOk result (λ lines. (p : Place) → IsPlaceAt text.now start_ix p → let e = html_to_blank text.now (path_of tree.old) p in
-        AddsRaw text.now options (names_of allocs.new) (λ d. IsHtml d start_ix columns e.places e.«end») e.left tree.old tree.new lines.next) }
-    ensures ends { IfOk result (λ lines. (p : Place) → IsPlaceAt text.now start_ix p → lines.«end» ≡ (html_to_blank text.now (path_of tree.old) p).«end») }
-    ensures boundary { IfOk result (λ lines. (behind_line_at text.now start_ix ≤ lines.next) × IsCharBoundary text.now lines.next) }
+    ensures block { IfOk result (λ lines. (p : Place) → IsPlaceAt text.now start_ix p
+        → let e = html_to_blank text.now (path_of tree.old) p in
+        AddsRaw text.now options (names_of allocs.new) (λ d.
+        IsHtml d start_ix columns e.places e.«end») e.left tree.old tree.new lines.next) }
+    ensures ends { IfOk result (λ lines. (p : Place) → IsPlaceAt text.now start_ix p
+        → lines.«end» ≡ (html_to_blank text.now (path_of tree.old) p).«end») }
+    ensures boundary { IfOk result (λ lines. (behind_line_at text.now start_ix ≤ lines.next)
+        × IsCharBoundary text.now lines.next) }
     ensures names { OnOk result (Extends (names_of allocs.new) (names_of allocs.old)) }
     ensures tables { OnOk result (tables allocs.new ≡ tables allocs.old) }
     ensures utf8 { IsUtf8 text.now }
@@ -123,8 +132,11 @@ fn lines_to_blank<'a>(
 ) -> Result<BlockLines, AllocError>
     requires boundary { IsCharBoundary text.now start }
     requires columns { columns ≤ 3 }
-    ensures lines { IfOk result (λ lines. (p : Place) → IsPlaceAt text.now start p → AppendsHtmlLines text.now options (names_of allocs.new) columns (html_to_blank text.now (path_of tree.old) p) tree.old tree.new lines.«end» lines.next) }
-    ensures boundary { IfOk result (λ lines. (behind_line_at text.now start ≤ lines.next) × IsCharBoundary text.now lines.next) }
+    ensures lines { IfOk result (λ lines. (p : Place) → IsPlaceAt text.now start p
+        → AppendsHtmlLines text.now options (names_of allocs.new) columns (html_to_blank text.now (path_of tree.old) p)
+        tree.old tree.new lines.«end» lines.next) }
+    ensures boundary { IfOk result (λ lines. (behind_line_at text.now start ≤ lines.next)
+        × IsCharBoundary text.now lines.next) }
     ensures names { OnOk result (Extends (names_of allocs.new) (names_of allocs.old)) }
     ensures tables { OnOk result (tables allocs.new ≡ tables allocs.old) }
 {

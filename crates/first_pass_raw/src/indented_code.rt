@@ -9,11 +9,11 @@ ghost use Rattle.first_pass_names.specs.TableEntries.{tables, names_of};
 ghost use Rattle.first_pass_scan.specs.Lines.{is_blank_line};
 ghost use Rattle.first_pass_raw.specs.RawBlocks.{IsJustOpened, code_rest_at, IsPlaceAt, AppendsCode, AppendsIndented, AddsIndented, behind_line_at};
 
-use first_pass_names::items::Allocations;
-use first_pass_open::open_block::{BlockLines, close_block, go_on, open_block};
 use crate::raw_line::append_code_text;
 use first_pass_items::item::{Item, ItemBody};
 use first_pass_items::option_set::Options;
+use first_pass_names::items::Allocations;
+use first_pass_open::open_block::{BlockLines, close_block, go_on, open_block};
 use first_pass_scan::line_start::LineStart;
 use first_pass_scan::lines::scan_blank_line;
 use first_pass_scan::places::next_line;
@@ -35,8 +35,10 @@ pub fn parse_indented_code_block<'a>(
     requires boundary { IsCharBoundary text.now start_ix }
     requires owed { remaining_space ≤ 3 }
     requires code { is_blank_line (drop start_ix text.now) ≡ false }
-    ensures block { IfOk result (λ answer. (p : Place) → IsPlaceAt text.now start_ix p → p.rest.owed ≡ remaining_space → AddsIndented text.now options (names_of allocs.new) p tree.old tree.new answer.0 answer.1) }
-    ensures boundary { IfOk result (λ answer. (behind_line_at text.now start_ix ≤ answer.0) × IsCharBoundary text.now answer.0) }
+    ensures block { IfOk result (λ answer. (p : Place) → IsPlaceAt text.now start_ix p → p.rest.owed ≡ remaining_space
+        → AddsIndented text.now options (names_of allocs.new) p tree.old tree.new answer.0 answer.1) }
+    ensures boundary { IfOk result (λ answer. (behind_line_at text.now start_ix ≤ answer.0)
+        × IsCharBoundary text.now answer.0) }
     ensures names { OnOk result (Extends (names_of allocs.new) (names_of allocs.old)) }
     ensures tables { OnOk result (tables allocs.new ≡ tables allocs.old) }
     ensures utf8 { IsUtf8 text.now }
@@ -69,8 +71,11 @@ fn indented_lines<'a>(
     requires owed { remaining_space ≤ 3 }
     requires code { is_blank_line (drop start text.now) ≡ false }
     requires opened { IsJustOpened tree.old }
-    ensures lines { IfOk result (λ answer. (p : Place) → IsPlaceAt text.now start p → p.rest.owed ≡ remaining_space → AppendsIndented text.now options (names_of allocs.new) p tree.old tree.new answer.0.«end» answer.0.next answer.1) }
-    ensures boundary { IfOk result (λ answer. (behind_line_at text.now start ≤ answer.0.next) × IsCharBoundary text.now answer.0.next) }
+    ensures lines { IfOk result (λ answer. (p : Place) → IsPlaceAt text.now start p → p.rest.owed ≡ remaining_space
+        → AppendsIndented text.now options (names_of allocs.new) p tree.old tree.new answer.0.«end» answer.0.next
+        answer.1) }
+    ensures boundary { IfOk result (λ answer. (behind_line_at text.now start ≤ answer.0.next)
+        × IsCharBoundary text.now answer.0.next) }
     ensures names { OnOk result (Extends (names_of allocs.new) (names_of allocs.old)) }
     ensures tables { OnOk result (tables allocs.new ≡ tables allocs.old) }
 {

@@ -1,8 +1,8 @@
 //! Which lines a raw leaf block has: indented and fenced code, metadata and HTML.
 #![tactic(auto)]
 
-pub mod raw_line;
-pub mod indented_code;
 pub mod fenced_code;
-pub mod metadata_block;
 pub mod html_block;
+pub mod indented_code;
+pub mod metadata_block;
+pub mod raw_line;

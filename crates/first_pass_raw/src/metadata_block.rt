@@ -9,11 +9,11 @@ ghost use Rattle.first_pass_grammar.specs.CodeBlocks.{IsMetadata, metadata_lines
 ghost use Rattle.first_pass_raw.specs.RawBlocks.{AppendsCodeLines, AddsRaw, metadata_behind, behind_line_at};
 ghost use Rattle.first_pass_grammar.specs.Completion.{lines_from};
 
-use first_pass_names::items::Allocations;
-use first_pass_open::open_block::{BlockLines, close_block, go_on, open_block};
 use crate::raw_line::append_code_text;
 use first_pass_items::item::{Item, ItemBody, MetadataBlockKind};
 use first_pass_items::option_set::Options;
+use first_pass_names::items::Allocations;
+use first_pass_open::open_block::{BlockLines, close_block, go_on, open_block};
 use first_pass_scan::leaf_scan::scan_closing_metadata_block;
 use first_pass_scan::places::{next_line, rest_of};
 use first_pass_tree::forest::Tree;
@@ -41,8 +41,10 @@ pub fn parse_metadata_block<'a>(
     metadata_block_ch: u8,
 ) -> Result<usize, AllocError>
     requires boundary { IsCharBoundary text.now start_ix }
-    ensures block { IfOk result (λ next. let e = metadata_behind text.now (path_of tree.old) metadata_block_ch start_ix in
-        AddsRaw text.now options (names_of allocs.new) (λ d. IsMetadata d start_ix metadata_block_ch e.places e.«end») e.left tree.old tree.new next) }
+    ensures block { IfOk result (λ next.
+        let e = metadata_behind text.now (path_of tree.old) metadata_block_ch start_ix in
+        AddsRaw text.now options (names_of allocs.new) (λ d.
+        IsMetadata d start_ix metadata_block_ch e.places e.«end») e.left tree.old tree.new next) }
     ensures boundary { IfOk result (λ next. (behind_line_at text.now start_ix ≤ next) × IsCharBoundary text.now next) }
     ensures names { OnOk result (Extends (names_of allocs.new) (names_of allocs.old)) }
     ensures tables { OnOk result (tables allocs.new ≡ tables allocs.old) }
@@ -72,7 +74,8 @@ fn metadata_lines<'a>(
     requires boundary { IsCharBoundary text.now start }
     requires apart { JoinsNone tree.old }
     ensures lines { IfOk result (λ lines. AppendsCodeLines text.now options (names_of allocs.new)
-        (metadata_lines (length text.now) (path_of tree.old) byte (lines_from text.now start)) tree.old tree.new lines.«end» lines.next) }
+        (metadata_lines (length text.now) (path_of tree.old) byte (lines_from text.now start)) tree.old tree.new
+        lines.«end» lines.next) }
     ensures boundary { IfOk result (λ lines. (start ≤ lines.next) × IsCharBoundary text.now lines.next) }
     ensures names { OnOk result (Extends (names_of allocs.new) (names_of allocs.old)) }
     ensures tables { OnOk result (tables allocs.new ≡ tables allocs.old) }

@@ -8,9 +8,9 @@ ghost use Rattle.first_pass_tree.specs.Forest.{appended};
 ghost use Rattle.first_pass_names.specs.TableEntries.{tables, names_of};
 ghost use Rattle.first_pass_raw.specs.RawBlocks.{AppendsColumns, AppendsCode, AppendsHtml};
 
-use first_pass_names::items::Allocations;
 use first_pass_items::cow_str::CowStr;
 use first_pass_items::item::{Item, ItemBody};
+use first_pass_names::items::Allocations;
 use first_pass_tree::forest::Tree;
 use std::alloc::AllocError;
 
@@ -61,7 +61,8 @@ pub fn append_code_text<'a>(
     requires owed { remaining_space ≤ 3 }
     requires order { start ≤ end }
     requires within { end ≤ length text.now }
-    ensures line { OnOk result (AppendsCode text.now (names_of allocs.new) remaining_space start end tree.old tree.new) }
+    ensures line { OnOk result
+        (AppendsCode text.now (names_of allocs.new) remaining_space start end tree.old tree.new) }
     ensures names { OnOk result (Extends (names_of allocs.new) (names_of allocs.old)) }
     ensures tables { OnOk result (tables allocs.new ≡ tables allocs.old) }
 {
@@ -100,7 +101,8 @@ pub fn append_html_line<'a>(
     requires owed { remaining_space ≤ 3 }
     requires order { start ≤ end }
     requires within { end ≤ length text.now }
-    ensures line { OnOk result (AppendsHtml text.now (names_of allocs.new) remaining_space start end tree.old tree.new) }
+    ensures line { OnOk result
+        (AppendsHtml text.now (names_of allocs.new) remaining_space start end tree.old tree.new) }
     ensures names { OnOk result (Extends (names_of allocs.new) (names_of allocs.old)) }
     ensures tables { OnOk result (tables allocs.new ≡ tables allocs.old) }
 {

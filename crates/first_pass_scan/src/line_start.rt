@@ -42,7 +42,8 @@ impl<'a> Model for LineStart<'a> {
       column = s.at - s.tab_start;
     } };
 
-    ghost invariant = { λ s. (s.at ≤ length s.bytes.now) × (s.tab_start ≤ s.at) × (s.owed ≤ 3) × HasNoRule s.bytes.now s.at s.rule_free };
+    ghost invariant = { λ s. (s.at ≤ length s.bytes.now) × (s.tab_start ≤ s.at)
+        × (s.owed ≤ 3) × HasNoRule s.bytes.now s.at s.rule_free };
 }
 
 impl Drop for LineStart<'_> {
@@ -152,7 +153,8 @@ impl<'a> LineStart<'a> {
     /// Takes the block quote marker here, `>`, and one column behind it where there is one, and says
     /// whether the marker was there. None is where a column is owed. CommonMark 5.1.
     pub fn scan_blockquote_marker(&mut self) -> bool
-        ensures { MatchOption (past_quote self.old) ((result ≡ false) × (self.new ≡ self.old)) (λ next. (result ≡ true) × (self.new ≡ after_columns 1 next)) }
+        ensures { MatchOption (past_quote self.old) ((result ≡ false) × (self.new ≡ self.old)) (λ next. (result ≡ true)
+            × (self.new ≡ after_columns 1 next)) }
     {
         if self.owed == 0 && self.at < self.bytes.len() && self.bytes[self.at] == b'>' {
             self.at += 1;
@@ -168,7 +170,8 @@ impl<'a> LineStart<'a> {
     /// or no such line is here the answer is `None`, and nothing is taken.
     #[tactic(auto, unfolding(crate::specs::Markers::past_tag))]
     pub fn scan_blockquote_tag(&mut self) -> Option<BlockQuoteKind>
-        ensures { MatchOption (past_tag self.old) ((result ≡ None) × (self.new ≡ self.old)) (λ tag. (result ≡ Some tag.0) × (self.new ≡ tag.1)) }
+        ensures { MatchOption (past_tag self.old) ((result ≡ None) × (self.new ≡ self.old)) (λ tag.
+            (result ≡ Some tag.0) × (self.new ≡ tag.1)) }
     {
         if self.owed != 0 {
             return None;
@@ -185,7 +188,8 @@ impl<'a> LineStart<'a> {
     #[tactic(auto, unfolding(crate::specs::Markers::item_of))]
     pub fn scan_list_marker_with_indent(&mut self, indent: usize) -> Option<(u8, u64, usize)>
         requires { indent ≤ 3 }
-        ensures { MatchOption (item_of indent self.old) ((result ≡ None) × (self.new ≡ self.old)) (λ item. (result ≡ Some item.0) × (self.new ≡ item.1)) }
+        ensures { MatchOption (item_of indent self.old) ((result ≡ None) × (self.new ≡ self.old)) (λ item.
+            (result ≡ Some item.0) × (self.new ≡ item.1)) }
     {
         let (width, byte, number) = self.list_marker()?;
         if self.is_at_rule() {
@@ -207,7 +211,8 @@ impl<'a> LineStart<'a> {
         indent: usize,
     ) -> Option<usize>
         requires { indent ≤ 3 }
-        ensures { MatchOption (definition_of indent self.old) ((result ≡ None) × (self.new ≡ self.old)) (λ definition. (result ≡ Some definition.0) × (self.new ≡ definition.1)) }
+        ensures { MatchOption (definition_of indent self.old) ((result ≡ None) × (self.new ≡ self.old)) (λ definition.
+            (result ≡ Some definition.0) × (self.new ≡ definition.1)) }
     {
         if self.owed != 0 || self.at >= self.bytes.len() || self.bytes[self.at] != b':' {
             return None;
@@ -221,7 +226,8 @@ impl<'a> LineStart<'a> {
     /// isn't taken. Else the answer is `None`, and nothing is taken. GFM 5.3.
     #[tactic(auto, unfolding(crate::specs::Markers::task_of))]
     pub fn scan_task_list_marker(&mut self) -> Option<bool>
-        ensures { MatchOption (task_of self.old) ((result ≡ None) × (self.new ≡ self.old)) (λ task. (result ≡ Some task.0) × (self.new ≡ task.1)) }
+        ensures { MatchOption (task_of self.old) ((result ≡ None) × (self.new ≡ self.old)) (λ task.
+            (result ≡ Some task.0) × (self.new ≡ task.1)) }
     {
         let mut next = self.copy();
         let _ = next.scan_space_upto(3);
@@ -328,7 +334,8 @@ impl<'a> LineStart<'a> {
     #[tactic(auto, unfolding(crate::specs::Markers::behind_marker))]
     fn scan_behind_marker(&mut self, width: usize) -> Option<usize>
         requires { width < 2 ^ 61 }
-        ensures { MatchOption (behind_marker width self.old) (result ≡ None) (λ content. (result ≡ Some content.0) × (self.new ≡ content.1)) }
+        ensures { MatchOption (behind_marker width self.old) (result ≡ None) (λ content. (result ≡ Some content.0)
+            × (self.new ≡ content.1)) }
     {
         let ends = self.is_at_eol();
         if !self.scan_space(1) && !ends {
@@ -377,7 +384,8 @@ impl<'a> LineStart<'a> {
 
     // Takes one column, if there is one.
     fn take_column(&mut self) -> bool
-        ensures { MatchOption (next_column self.old) ((result ≡ false) × (self.new ≡ self.old)) (λ next. (result ≡ true) × (self.new ≡ next)) }
+        ensures { MatchOption (next_column self.old) ((result ≡ false) × (self.new ≡ self.old)) (λ next. (result ≡ true)
+            × (self.new ≡ next)) }
     {
         if 0 < self.owed {
             self.owed -= 1;

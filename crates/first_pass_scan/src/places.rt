@@ -22,7 +22,8 @@ pub fn next_line(text: &[u8], start: usize) -> usize
     ensures value { result ≡ start + line_len (drop start text.now) }
     ensures within { result ≤ length text.now }
     ensures later { start < length text.now → start < result }
-    ensures lines { start < length text.now → lines_at start (drop start text.now) ≡ line_place start (drop start text.now) ∷ lines_at result (drop result text.now) }
+    ensures lines { start < length text.now → lines_at start (drop start text.now)
+        ≡ line_place start (drop start text.now) ∷ lines_at result (drop result text.now) }
     ensures none { start ≡ length text.now → lines_at start (drop start text.now) ≡ [] }
 {
     start + scan_nextline(rest_of(text, start))

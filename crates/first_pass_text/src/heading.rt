@@ -88,8 +88,11 @@ pub fn parse_atx_heading(
     requires within { start ≤ length source.text.now }
     requires marks { MarksSpecial lut.now source.options }
     requires heading { atx_level_of (drop start source.text.now) ≡ Some atx_level }
-    ensures block { IfOk result (λ next. AddsHeading (document source.entry.text.now source.entry.options no_names) start atx_level tree.old tree.new next) }
-    ensures fits { IfOk result (λ next. (from : ℕ) → from ≤ start → IsCharBoundary source.entry.text.now start → AddsBetween source.entry.text.now from next tree.old tree.new) }
+    ensures block { IfOk result (λ next.
+        AddsHeading (document source.entry.text.now source.entry.options no_names) start atx_level tree.old tree.new
+        next) }
+    ensures fits { IfOk result (λ next. (from : ℕ) → from ≤ start → IsCharBoundary source.entry.text.now start
+        → AddsBetween source.entry.text.now from next tree.old tree.new) }
 {
     tree.append(Item {
         start,
@@ -115,7 +118,8 @@ fn heading_text(
     requires within { start ≤ length source.text.now }
     requires marks { MarksSpecial lut.now source.options }
     requires opened { IsJustPushed tree.old node_ix }
-    ensures line { IfOk result (λ next. AppendsHeading (document source.entry.text.now source.entry.options no_names) start tree.old tree.new next) }
+    ensures line { IfOk result (λ next.
+        AppendsHeading (document source.entry.text.now source.entry.options no_names) start tree.old tree.new next) }
 {
     let bytes = source.text.as_bytes();
     let (next, line_break) = append_line(bytes, start, source.options, lut, tree)?;

@@ -81,9 +81,11 @@ fn scan_prefixes<'a>(
 ) -> (bool, usize, LineStart<'a>)
     requires { IsCharBoundary source.text.now start }
     ensures whole { result.0 ≡ is_some (after (path_of tree.now) (line_rest (drop start source.entry.text.now))) }
-    ensures columns { result.1 ≡ min 4 (indent (front (path_of tree.now) (line_rest (drop start source.entry.text.now)))) }
+    ensures columns { result.1
+        ≡ min 4 (indent (front (path_of tree.now) (line_rest (drop start source.entry.text.now)))) }
     ensures behind { result.2 ≡ all_taken (front (path_of tree.now) (line_rest (drop start source.entry.text.now))) }
-    ensures place { IsPlaceOf source.entry.text.now (unindented (place_at start (front (path_of tree.now) (line_rest (drop start source.entry.text.now))))) }
+    ensures place { IsPlaceOf source.entry.text.now
+        (unindented (place_at start (front (path_of tree.now) (line_rest (drop start source.entry.text.now))))) }
 {
     let mut line_start = LineStart::new(rest_of(source.text.as_bytes(), start));
     let kept = scan_containers(tree, &mut line_start, source.options, false);
@@ -102,9 +104,13 @@ pub fn next_paragraph_text(
     tree: &Tree<Item>,
 ) -> Result<Option<usize>, AllocError>
     requires { IsCharBoundary source.text.now start }
-    ensures value { IfOk result (λ next. next ≡ (if ends_paragraph (path_of tree.now) (line_rest (drop start source.entry.text.now))
-        then None else Some (offset (unindented (place_at start (front (path_of tree.now) (line_rest (drop start source.entry.text.now)))))))) }
-    ensures place { OnOk result (IsPlaceOf source.entry.text.now (unindented (place_at start (front (path_of tree.now) (line_rest (drop start source.entry.text.now)))))) }
+    ensures value { IfOk result (λ next.
+        next ≡ (if ends_paragraph (path_of tree.now) (line_rest (drop start source.entry.text.now))
+        then None
+        else Some (offset (unindented (place_at start (front (path_of tree.now)
+        (line_rest (drop start source.entry.text.now)))))))) }
+    ensures place { OnOk result (IsPlaceOf source.entry.text.now
+        (unindented (place_at start (front (path_of tree.now) (line_rest (drop start source.entry.text.now)))))) }
     ensures utf8 { IsUtf8 source.entry.text.now }
 {
     let (whole, columns, line_start) = scan_prefixes(source, start, tree);
@@ -127,9 +133,11 @@ pub fn lazy_leaf<'a>(
     tree: &Tree<Item>,
 ) -> Result<Option<LineStart<'a>>, AllocError>
     requires { IsCharBoundary source.text.now start }
-    ensures value { IfOk result (λ leaf. leaf ≡ (if ends_tag (path_of tree.now) (line_rest (drop start source.entry.text.now))
+    ensures value { IfOk result (λ leaf.
+        leaf ≡ (if ends_tag (path_of tree.now) (line_rest (drop start source.entry.text.now))
         then None else Some (all_taken (front (path_of tree.now) (line_rest (drop start source.entry.text.now)))))) }
-    ensures place { OnOk result (IsPlaceOf source.entry.text.now (unindented (place_at start (front (path_of tree.now) (line_rest (drop start source.entry.text.now)))))) }
+    ensures place { OnOk result (IsPlaceOf source.entry.text.now
+        (unindented (place_at start (front (path_of tree.now) (line_rest (drop start source.entry.text.now)))))) }
     ensures utf8 { IsUtf8 source.entry.text.now }
 {
     let (whole, columns, line_start) = scan_prefixes(source, start, tree);

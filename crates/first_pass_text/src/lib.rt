@@ -2,8 +2,8 @@
 //! tokens, and the kind of a place.
 #![tactic(auto)]
 
-pub mod kinds;
-pub mod interrupt;
-pub mod paragraph;
 pub mod heading;
+pub mod interrupt;
+pub mod kinds;
+pub mod paragraph;
 pub mod rule;

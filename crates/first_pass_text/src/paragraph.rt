@@ -69,8 +69,11 @@ pub fn parse_paragraph(
     requires boundary { IsCharBoundary source.text.now start_ix }
     requires marks { MarksSpecial lut.now source.options }
     requires marker { IfSome tasklist_marker (λ x. is_text x.body ≡ false) }
-    ensures block { IfOk result (λ next. AddsParagraph (document source.entry.text.now source.entry.options no_names) start_ix tasklist_marker tree.old tree.new next) }
-    ensures fits { IfOk result (λ next. (from : ℕ) → StandsBefore source.entry.text.now from start_ix tasklist_marker → AddsBetween source.entry.text.now from next tree.old tree.new) }
+    ensures block { IfOk result (λ next.
+        AddsParagraph (document source.entry.text.now source.entry.options no_names) start_ix tasklist_marker tree.old
+        tree.new next) }
+    ensures fits { IfOk result (λ next. (from : ℕ) → StandsBefore source.entry.text.now from start_ix tasklist_marker
+        → AddsBetween source.entry.text.now from next tree.old tree.new) }
 {
     tree.is_forest();
     tree.append(Item {
@@ -98,12 +101,19 @@ fn paragraph_lines(
     requires marks { MarksSpecial lut.now source.options }
     requires apart { JoinsNone tree.old }
     ensures utf8 { OnOk result (IsUtf8 source.entry.text.now) }
-    ensures lines { IfOk result (λ next. AppendsParagraph (document source.entry.text.now source.entry.options no_names) start tree.old tree.new next) }
+    ensures lines { IfOk result (λ next.
+        AppendsParagraph (document source.entry.text.now source.entry.options no_names) start tree.old tree.new next) }
 {
     tree.is_forest();
     let mut ix = start;
     'lines: loop {
-        let (next, line_break) = append_line(source.text.as_bytes(), ix, source.options, lut, tree)?;
+        let (next, line_break) = append_line(
+            source.text.as_bytes(),
+            ix,
+            source.options,
+            lut,
+            tree,
+        )?;
         match next_paragraph_text(alloc, source, next, tree)? {
             Some(at) => {
                 append_item(tree, line_break)?;

@@ -5,8 +5,8 @@ ghost use Rattle.first_pass_tree.specs.Forest.{added};
 ghost use Rattle.first_pass_grammar.specs.Leaves.{rule_block};
 ghost use Rattle.first_pass_text.specs.Between.{AddsBetween};
 
-use first_pass_tree::forest::Tree;
 use first_pass_items::item::{Item, ItemBody};
+use first_pass_tree::forest::Tree;
 use std::alloc::AllocError;
 
 /// Appends the thematic break of `hrule_size` bytes, its line end too, that begins at the offset `ix` into a text to
@@ -14,7 +14,8 @@ use std::alloc::AllocError;
 pub fn parse_hrule(tree: &mut Tree<Item>, hrule_size: usize, ix: usize) -> Result<usize, AllocError>
     requires { ix + hrule_size < 2 ^ 64 }
     ensures block { OnOk result (tree.new ≡ added tree.old (rule_block ix hrule_size)) }
-    ensures fits { OnOk result ((text : List ℕ) (from : ℕ) → from ≤ ix → IsCharBoundary text ix → IsCharBoundary text (ix + hrule_size) → AddsBetween text from (ix + hrule_size) tree.old tree.new) }
+    ensures fits { OnOk result ((text : List ℕ) (from : ℕ) → from ≤ ix → IsCharBoundary text ix
+        → IsCharBoundary text (ix + hrule_size) → AddsBetween text from (ix + hrule_size) tree.old tree.new) }
     ensures behind { IfOk result (λ next. next ≡ ix + hrule_size) }
 {
     let end = ix + hrule_size;

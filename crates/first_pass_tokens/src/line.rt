@@ -9,11 +9,11 @@ ghost use Rattle.first_pass_tokens.specs.TreeTokens.{AppendsLine};
 ghost use Rattle.first_pass_tokens.specs.Pending.{source, pending_after, tree_after};
 
 use crate::pieces::{Piece, piece_len, special_piece};
-use first_pass_walk::walk::next_special_in_words;
 use first_pass_items::item::{Item, ItemBody};
 use first_pass_items::option_set::Options;
 use first_pass_scan::lines::{is_line_end, is_white};
 use first_pass_tree::forest::Tree;
+use first_pass_walk::walk::next_special_in_words;
 use std::alloc::AllocError;
 
 /// Appends the tokens of one line to the innermost open node: the texts of the content that begins at

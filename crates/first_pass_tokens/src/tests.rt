@@ -2,10 +2,10 @@
 
 use crate::line::append_line;
 use bitflags::Flags;
-use first_pass_walk::walk::special_bytes;
 use first_pass_items::item::{Item, ItemBody};
 use first_pass_items::option_set::Options;
 use first_pass_tree::forest::Tree;
+use first_pass_walk::walk::special_bytes;
 use std::alloc::{AllocError, Global};
 use std::test::Fail;
 

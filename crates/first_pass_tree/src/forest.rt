@@ -39,7 +39,11 @@ impl<T> Model for Tree<T> {
 
     ghost view = { λ t. record { nodes = t.nodes.items; spine = reverse t.spine.items; current = t.cur } };
 
-    ghost invariant = { λ t. IsTree (record { nodes = t.nodes.items; spine = reverse t.spine.items; current = t.cur }) t.subtrees };
+    ghost invariant = { λ t. IsTree (record {
+      nodes = t.nodes.items;
+      spine = reverse t.spine.items;
+      current = t.cur;
+    }) t.subtrees };
 }
 
 impl Tree<Item> {
@@ -232,7 +236,8 @@ impl Tree<Item> {
     /// current. An error where memory is refused; then the tree is as before.
     pub fn create_node(&mut self, item: Item) -> Result<TreeIndex, AllocError>
         requires { IsSome self.old.current }
-        ensures ok { IfOk result (λ ix. IfSome self.old.current (λ c. (ix.0 ≡ c.0 + 1) × (self.new ≡ wrapped self.old c item))) }
+        ensures ok { IfOk result (λ ix. IfSome self.old.current (λ c. (ix.0 ≡ c.0 + 1)
+            × (self.new ≡ wrapped self.old c item))) }
         ensures err { OnErr result (self.new ≡ self.old) }
     {
         let place = self.cur.unwrap().0 + 1;

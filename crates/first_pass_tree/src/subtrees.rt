@@ -65,7 +65,8 @@ impl Subtrees {
     /// are forgotten, and so is itself where no other is left: nobody will ask for it.
     pub(crate) fn note_end(&mut self, place: usize, past: usize)
         requires { place < past }
-        ensures { (ds : List ℕ) → IsSubtree ds place past → AreSubtrees ds past self.old → AreSubtrees ds past self.new }
+        ensures { (ds : List ℕ) → IsSubtree ds place past → AreSubtrees ds past self.old
+            → AreSubtrees ds past self.new }
     {
         self.cut_to(place + 1);
         let count = self.list.len();
@@ -82,7 +83,8 @@ impl Subtrees {
     /// The last one, if it stands from `from` on and before `to`. It is forgotten then.
     pub(crate) fn take_between(&mut self, from: usize, to: usize) -> Option<Subtree>
         ensures within { IfSome result (λ s. (from ≤ s.place) × (s.past ≤ to)) }
-        ensures known { IfSome result (λ s. (ds : List ℕ) → (n : ℕ) → AreSubtrees ds n self.old → IsSubtree ds s.place s.past) }
+        ensures known { IfSome result (λ s. (ds : List ℕ) → (n : ℕ) → AreSubtrees ds n self.old
+            → IsSubtree ds s.place s.past) }
         ensures rest { (ds : List ℕ) (n : ℕ) → AreSubtrees ds n self.old → AreSubtrees ds n self.new }
     {
         let last = *self.list.last()?;

@@ -1,4 +1,4 @@
-use Rattle.std.proofs.Common.{◌≡◌, ◌≤◌, ℕ, List, length, IsCharBoundary}
+use Rattle.std.proofs.Common.{◌≤◌, ℕ, List, length, IsCharBoundary}
 use Rattle.first_pass.specs.Ordered.{IsOrderedAt}
 use Rattle.first_pass.proofs.StateLemmas.{ClosedSoFar}
 use Rattle.first_pass.proofs.containers.close_containers.Given as goal

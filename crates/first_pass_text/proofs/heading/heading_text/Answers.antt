@@ -33,8 +33,10 @@ returns-then-kept-eq0 c =
     let line = same_line c.as_bytes-bytes.result.now c.args.source.text.now c.args.source.options c.args.source.options c.args.start c.args.tree.now c.append_line.new.tree (c.in_ok-next.next, c.in_ok-next.line_break) c.as_bytes-bytes.ensures.value refl c.in_ok-next.ensures.line in
     let ends = same_end c.as_bytes-bytes.result.now c.args.source.text.now c.args.source.options c.args.source.options c.args.start (c.in_ok-next.next, c.in_ok-next.line_break) c.as_bytes-bytes.ensures.value refl c.in_ok-next.ensures.ends in
     let kept = kept_of d.text _ _ _ _ _ _ c.kept_len-kept.ensures.value c.front_of.ensures c.rest_of-line.ensures.value (c.as_bytes-bytes.ensures.value) ends.place in
-    record { line = heading_empty d c.args.start c.in_ok-next.next c.args.tree.now c.append_line.new.tree c.append_last_backslash.new.tree c.in_ok-next.line_break c.args.node_ix c.requires.opened line c.in_ok-append_last_backslash.ensures
-    c.drop_children.new.self c.kept_len-kept.result c.drop_children.ensures kept c.if-kept-eq0.true ends.place; }
+    record {
+      line = heading_empty d c.args.start c.in_ok-next.next c.args.tree.now c.append_line.new.tree c.append_last_backslash.new.tree c.in_ok-next.line_break c.args.node_ix c.requires.opened line c.in_ok-append_last_backslash.ensures
+          c.drop_children.new.self c.kept_len-kept.result c.drop_children.ensures kept c.if-kept-eq0.true ends.place;
+    }
 
 pub returns : goal.returns
 returns c =
@@ -42,5 +44,7 @@ returns c =
     let line = same_line c.as_bytes-bytes.result.now c.args.source.text.now c.args.source.options c.args.source.options c.args.start c.args.tree.now c.append_line.new.tree (c.in_ok-next.next, c.in_ok-next.line_break) c.as_bytes-bytes.ensures.value refl c.in_ok-next.ensures.line in
     let ends = same_end c.as_bytes-bytes.result.now c.args.source.text.now c.args.source.options c.args.source.options c.args.start (c.in_ok-next.next, c.in_ok-next.line_break) c.as_bytes-bytes.ensures.value refl c.in_ok-next.ensures.ends in
     let kept = kept_of d.text _ _ _ _ _ _ c.kept_len-kept.ensures.value c.front_of.ensures c.rest_of-line.ensures.value (c.as_bytes-bytes.ensures.value) ends.place in
-    record { line = heading_cut d c.args.start c.in_ok-next.next c.args.tree.now c.append_line.new.tree c.append_last_backslash.new.tree c.in_ok-next.line_break c.args.node_ix c.requires.opened line c.in_ok-append_last_backslash.ensures
-    c.truncate_siblings.new.self c.kept_len-kept.result c.truncate_siblings.ensures kept c.if-kept-eq0.false ends.place; }
+    record {
+      line = heading_cut d c.args.start c.in_ok-next.next c.args.tree.now c.append_line.new.tree c.append_last_backslash.new.tree c.in_ok-next.line_break c.args.node_ix c.requires.opened line c.in_ok-append_last_backslash.ensures
+          c.truncate_siblings.new.self c.kept_len-kept.result c.truncate_siblings.ensures kept c.if-kept-eq0.false ends.place;
+    }

@@ -1,9 +1,8 @@
-use Rattle.std.proofs.Common.{◌≡◌, ◌+◌, ℕ, length, drop, IsCharBoundary, sym, ap, subst, ◌∙◌, arith}
+use Rattle.std.proofs.Common.{◌≡◌, ◌+◌, drop, IsCharBoundary, sym, ap, subst, ◌∙◌, arith}
 use Rattle.first_pass_scan.specs.Lines.{line_len}
 use Rattle.first_pass_scan.specs.Places.{place_at, offset, line_end}
 use Rattle.first_pass_scan.proofs.LineFacts.{line_len-within}
 use Rattle.first_pass_scan.proofs.PlaceFacts.{line_end_boundary}
-use Rattle.first_pass.specs.declared.containers.Behind.TheVariants.{Leaf as BehindLeaf, TaskText, NextLine, Tag}
 use Rattle.first_pass.specs.Opening.{IsBehind, OrderedBehind}
 use Rattle.first_pass.proofs.OrderSteps.{ordered_in_line}
 use Rattle.first_pass.proofs.pass.FirstPass.parse_block.Goals as goal

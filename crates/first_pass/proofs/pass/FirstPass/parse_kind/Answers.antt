@@ -1,9 +1,9 @@
-use Rattle.std.proofs.Common.{◌≡◌, inl, inr, ℕ, List, length, drop, IsUtf8, IsCharBoundary, None, false, refl, sym, ap, subst, ◌∙◌, arith}
+use Rattle.std.proofs.Common.{◌≡◌, inl, inr, ℕ, length, drop, IsCharBoundary, None, false, refl, sym, ap, subst, ◌∙◌, arith}
 use Rattle.first_pass_scan.specs.Places.{place_at, offset, line_end}
 use Rattle.first_pass_grammar.specs.Leaves.{document}
 use Rattle.first_pass_grammar.specs.Completion.{lines_from}
 use Rattle.first_pass_text.specs.Appends.{line_end_at, AddsParagraph}
-use Rattle.first_pass_lists.specs.Closing.{remembered, list_finished, blank_read}
+use Rattle.first_pass_lists.specs.Closing.{list_finished, blank_read}
 use Rattle.first_pass_lists.specs.declared.reading.Reading.{Reading}
 use Rattle.first_pass_open.specs.declared.source.Source.{Source}
 use Rattle.first_pass.specs.Opening.{line_or}
@@ -20,12 +20,12 @@ use Rattle.first_pass.proofs.KindBlocks.{is_marked, paragraph_named, columns_are
 use Rattle.first_pass.proofs.BlankBehind.{list_finished_blank, path_added, ready_behind, behind_on, ordered_behind}
 use Rattle.first_pass.specs.Adding.{behind_blank}
 use Rattle.first_pass_open.specs.Path.{path_of}
-use Rattle.first_pass_names.specs.TableEntries.{tables, names_of, no_names}
+use Rattle.first_pass_names.specs.TableEntries.{names_of, no_names}
 use Rattle.first_pass_raw.specs.RawBlocks.{IsPlaceAt, behind_line_at, html_to_blank}
 use Rattle.first_pass_grammar.specs.Names.{Extends}
 use Rattle.first_pass_grammar.specs.Kinds.{unindented, IsKind}
 use Rattle.first_pass_grammar.specs.declared.kind.Kind.TheVariants.{HtmlToBlank}
-use Rattle.first_pass_scan.specs.Places.{Place, IsPlaceOf}
+use Rattle.first_pass_scan.specs.Places.{Place}
 use Rattle.first_pass_tree.specs.Forest.{IsForest}
 use Rattle.first_pass.proofs.pass.FirstPass.parse_kind.Goals as goal
 

@@ -1,5 +1,4 @@
 use Rattle.std.proofs.Common.{◌≡◌, inr, ◌+◌, drop, Bool, true, false, Some, None, refl, sym, subst, ◌∙◌, if◌then◌else◌, ap, arith}
-use Rattle.first_pass_lists.specs.Closing.{remembered}
 use Rattle.first_pass_scan.specs.Rest.{Rest}
 use Rattle.first_pass_scan.specs.Lines.{line_len}
 use Rattle.first_pass_scan.specs.Places.{line_rest, place_at, line_end}
