@@ -1,5 +1,5 @@
 -- Rows of nodes and where they fit, as nodes are added, opened and closed.
-use Rattle.std.proofs.Common.{◌≡◌, inl, inr, ℕ, zero, suc, ◌+◌, ◌≤◌, ◌==◌, Bool, true, false, if◌then◌else◌, List, [], ◌∷◌, ◌++◌, length, Option, Some, None, IsCharBoundary, refl, sym, ap, subst, ◌∙◌, arith, append_assoc}
+use Rattle.std.proofs.Common.{◌≡◌, inl, inr, ℕ, zero, suc, ◌+◌, ◌-◌, ◌*◌, ◌<◌, ◌≤◌, ◌==◌, Bool, true, false, if◌then◌else◌, List, [], ◌∷◌, ◌++◌, length, Option, Some, None, IsCharBoundary, refl, sym, ap, subst, ◌∙◌, arith, append_assoc}
 use Rattle.std.proofs.lemmas.List.{append-nil, map-append, length-map}
 use Rattle.first_pass_items.specs.declared.item.Item.{Item}
 use Rattle.first_pass_items.specs.declared.item.ItemBody.{ItemBody}
@@ -258,11 +258,22 @@ row_of-fits text lead from to (x ∷ xs) h =
     let later = order_bound text x.«end» to xs h.4 in
     inl (record { behind = h.0; order = h.1; before = later; starts = h.2; ends = h.3 }, h.1, row_of-fits text None x.«end» to xs h.4)
 
--- A block of a chain lies between two offsets where its item does, and the chain is in order within that.
-pub block_fits : (text : List ℕ) (from to : ℕ) (x : Item) (chain : List Item) → IsBetween text from to (extent_of x) → AreInOrder text x.start x.«end» chain → FitsBetween text from to (block_of x (leaves chain))
+-- putting items deeper drops none
+pub length-at_depth : (d : ℕ) (items : List (ℕ × Item)) → length (at_depth d items) ≡ length items
+length-at_depth d [] = refl
+length-at_depth d (n ∷ items) = ap suc (length-at_depth d items)
+
+-- a block of a chain has one item more than that
+pub length-block : (x : Item) (chain : List Item) → length (block_of x (leaves chain)) ≡ suc (length chain)
+length-block x chain = ap suc (length-at_depth 1 (leaves chain) ∙ length-map chain (λ (y : Item). (0, y)))
+
+-- A block of a chain lies between two offsets where its item does, and the chain is in order within that; and it has few items where the chain has.
+pub block_fits : (text : List ℕ) (from to : ℕ) (x : Item) (chain : List Item) → IsBetween text from to (extent_of x) → AreInOrder text x.start x.«end» chain → (from < to → suc (length chain) ≤ 4 * (to - from))
+    → FitsBetween text from to (block_of x (leaves chain))
 unfolding laid Fits
-block_fits text from to x chain between order = (
+block_fits text from to x chain between order few = (
   Node (extent_of x) (row_of chain) Empty,
   ap (λ (ns : List (ℕ × Extent)). (0, extent_of x) ∷ ns) (row_of-laid 1 chain ∙ sym (append-nil (laid 1 (row_of chain)))),
   inl (between, row_of-fits text (if is_paragraph x.body then Some from else None) x.start x.«end» chain order, between.before),
+  λ apart. (let some = few apart in let size = length-block x chain in omega arith),
 )

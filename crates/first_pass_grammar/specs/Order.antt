@@ -1,5 +1,5 @@
 -- Order: which ranges lie in one another, and which behind one another (this project).
-use Rattle.std.specs.Prelude.{◌≡◌, ◌⊎◌, ℕ, suc, ◌≤◌, Bool, true, false, List, [], ◌∷◌, ◌++◌, length, map, Option, Some, None, IsCharBoundary, if◌then◌else◌}
+use Rattle.std.specs.Prelude.{◌≡◌, ◌⊎◌, ℕ, suc, ◌+◌, ◌-◌, ◌*◌, ◌<◌, ◌≤◌, Bool, true, false, List, [], ◌∷◌, ◌++◌, length, map, Option, Some, None, IsCharBoundary, if◌then◌else◌}
 use Rattle.first_pass_items.specs.declared.item.Item.{Item}
 use Rattle.first_pass_items.specs.declared.item.ItemBody.{ItemBody}
 use Rattle.first_pass_items.specs.declared.item.ItemBody.TheVariants.{Paragraph, TightParagraph, TaskListMarker}
@@ -58,9 +58,15 @@ Fits text lead from to (Node x kids next) =
     (IsBetween text from to x × Fits text (if x.paragraph then Some from else None) x.start x.«end» kids × Fits text None x.«end» to next)
     ⊎ (IsLead text lead from x × Fits text None x.start x.«end» kids × Fits text None from to next)
 
--- The items of a block, each with its depth below it, lie between two offsets in order.
+-- The items of a block, each with its depth below it, lie between two offsets in order. Where these are apart, there are at most four items for each byte
+-- between them.
 abbrev pub FitsBetween : List ℕ → ℕ → ℕ → List (ℕ × Item) → Type 0
-FitsBetween text from to items = (row : Row) × (extents items ≡ laid 0 row) × Fits text None from to row
+FitsBetween text from to items =
+    (row : Row) × (extents items ≡ laid 0 row) × Fits text None from to row × (from < to → length items ≤ 4 * (to - from))
+
+-- Nodes became others, at most four more for each byte between two offsets.
+abbrev pub GrowsBy : ℕ → ℕ → List (ℕ × Item) → List (ℕ × Item) → Type 0
+GrowsBy from to old new = length new ≤ length old + 4 * (to - from)
 
 -- The nodes of a finished tree, the root among them, lie in order between 0 and the text's length.
 abbrev pub IsOrdered : List ℕ → List (ℕ × Item) → Type 0
