@@ -1,3 +1,4 @@
+pub mod BytesLemmas
 pub mod ChainLemmas
 pub mod CutOrder
 pub mod LineLemmas

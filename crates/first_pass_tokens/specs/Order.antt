@@ -1,5 +1,5 @@
 -- Tokens one behind the other.
-use Rattle.std.specs.Prelude.{ℕ, ◌≤◌, List, [], ◌∷◌, IsCharBoundary}
+use Rattle.std.specs.Prelude.{ℕ, ◌≤◌, ◌<◌, List, [], ◌∷◌, IsCharBoundary}
 use Rattle.first_pass_items.specs.declared.item.Item.{Item}
 
 -- These items lie between two offsets, one behind the other, and each begins and ends between two characters (this project).
@@ -7,3 +7,8 @@ abbrev pub AreInOrder : List ℕ → ℕ → ℕ → List Item → Type 0
 AreInOrder text from to [] = from ≤ to
 AreInOrder text from to (x ∷ xs) =
     (from ≤ x.start) × (x.start ≤ x.«end») × IsCharBoundary text x.start × IsCharBoundary text x.«end» × AreInOrder text x.«end» to xs
+
+-- each of these items has a byte at least (this project)
+abbrev pub HaveBytes : List Item → Type 0
+HaveBytes [] = Unit
+HaveBytes (x ∷ xs) = (x.start < x.«end») × HaveBytes xs

@@ -1,0 +1,162 @@
+-- Each token of a chain has a byte, so a chain in order has at most as many tokens as bytes.
+use Rattle.std.proofs.Common.{◌≡◌, ℕ, zero, suc, ◌+◌, ◌-◌, ◌≤◌, ◌<◌, ◌==◌, ◌&&◌, Bool, true, false, List, [], ◌∷◌, ◌++◌, length, Option, Some, None, nat_lt, min, slice_index, if◌then◌else◌, refl, sym, ap, subst, arith}
+use Rattle.std.proofs.lemmas.Bool.{and_parts, cond_both, eqb-true, ltb-true}
+use Rattle.first_pass_items.specs.declared.item.Item.{Item}
+use Rattle.std.proofs.lemmas.List.{length-append}
+use Rattle.std.specs.Char.{is_ascii_punctuation}
+use Rattle.first_pass_tree.specs.declared.tree_index.TreeIndex.{TreeIndex}
+use Rattle.first_pass_walk.specs.Walk.{is_special}
+use Rattle.first_pass_tree.specs.Forest.{Forest, is_text, is_escaped, cut_item, modify, joins_at, with_end, appended}
+use Rattle.first_pass_tokens.specs.declared.pieces.Piece.{Piece}
+use Rattle.first_pass_tokens.specs.declared.pieces.Piece.TheVariants.{Left, Begins}
+use Rattle.first_pass_tokens.specs.Pieces.{Source, piece_at, special_piece, backslash_piece, size}
+use Rattle.first_pass_tokens.specs.Chains.{text_token, touches, add_token, add_tokens, add_text, is_backslash_break, close_break, cut}
+use Rattle.first_pass_tokens.specs.LineTokens.{ArePieces, IsLine, add_piece, add_pieces, text_end, line_end_len}
+use Rattle.first_pass_tokens.specs.TreeTokens.{with_token, with_tokens, AppendsLine}
+use Rattle.first_pass_tokens.specs.Order.{AreInOrder, HaveBytes}
+
+-- a chain in order has at most as many items as bytes
+pub few_in_order : (text : List ℕ) (from to : ℕ) (chain : List Item) → AreInOrder text from to chain → HaveBytes chain → length chain + from ≤ to
+few_in_order text from to [] h k = omega arith
+few_in_order text from to (x ∷ xs) h k =
+    let few = few_in_order text x.«end» to xs h.4 k.1 in
+    omega (arith, h.0, k.0)
+
+-- a token behind
+pub bytes_add : (chain : List Item) (y : Item) → y.start < y.«end» → HaveBytes chain → HaveBytes (add_token chain y)
+bytes_add [] y some h = (some, tt)
+bytes_add (x ∷ []) y some h =
+    cond_both (touches x y) (record x { «end» = y.«end» } ∷ []) (x ∷ y ∷ []) HaveBytes
+    (λ b. let behind = eqb-true x.«end» y.start (and_parts (is_text x.body) (x.«end» == y.start) (and_parts (is_text y.body) (is_text x.body && (x.«end» == y.start)) b).1).1 in
+    (omega (arith, h.0), tt))
+    (λ b. (h.0, (some, tt)))
+bytes_add (x ∷ z ∷ zs) y some h = (h.0, bytes_add (z ∷ zs) y some h.1)
+
+-- tokens behind
+pub bytes_adds : (chain tokens : List Item) → HaveBytes tokens → HaveBytes chain → HaveBytes (add_tokens chain tokens)
+bytes_adds chain [] k h = h
+bytes_adds chain (x ∷ xs) k h = bytes_adds (add_token chain x) xs k.1 (bytes_add chain x k.0 h)
+
+-- a text behind, or none
+pub bytes_text : (a b : ℕ) (escaped : Bool) (chain : List Item) → HaveBytes chain → HaveBytes (add_text a b escaped chain)
+bytes_text a b escaped chain h =
+    cond_both (nat_lt a b) (add_token chain (text_token a b escaped)) chain HaveBytes
+    (λ some. bytes_add chain (text_token a b escaped) (ltb-true a b some) h)
+    (λ none. h)
+
+-- the texts of pieces behind
+bytes_piece : (stop at : ℕ) (p : Piece) (chain : List Item) → HaveBytes chain → HaveBytes (add_piece stop at p chain)
+bytes_piece stop at (Left n) chain h = bytes_text at (min (at + n) stop) false chain h
+bytes_piece stop at (Begins dropped escaped) chain h = bytes_text (at + dropped) (min (at + (dropped + 1)) stop) escaped chain h
+
+bytes_pieces : (stop at : ℕ) (ps : List Piece) (chain : List Item) → HaveBytes chain → HaveBytes (add_pieces stop at ps chain)
+bytes_pieces stop at [] chain h = h
+bytes_pieces stop at (p ∷ ps) chain h = bytes_pieces stop (at + size p) ps (add_piece stop at p chain) (bytes_piece stop at p chain h)
+
+-- the backslash of the last line's break behind, or nothing
+pub bytes_closed : (break : Option Item) (chain : List Item) → HaveBytes chain → HaveBytes (close_break break chain)
+bytes_closed None chain h = h
+bytes_closed (Some x) chain h =
+    cond_both (is_backslash_break x.body) (add_text x.start (x.start + 1) false chain) chain HaveBytes (λ b. bytes_text x.start (x.start + 1) false chain h) (λ b. h)
+
+-- another chain behind
+pub bytes_append : (xs ys : List Item) → HaveBytes xs → HaveBytes ys → HaveBytes (xs ++ ys)
+bytes_append [] ys h k = k
+bytes_append (x ∷ xs) ys h k = (h.0, bytes_append xs ys h.1 k)
+
+-- the tokens of a line
+pub line_has_bytes : {s : Source} {tokens : List Item} {answer : ℕ × Option Item} → IsLine s tokens answer → HaveBytes tokens
+line_has_bytes {s} {tokens} {answer} line = subst HaveBytes (sym line.tokens_are) (bytes_pieces (text_end s line.content_end) s.start line.pieces [] tt)
+
+-- a chain that is cut has no more items than before
+pub cut_few : (e : ℕ) (chain : List Item) → length (cut e chain) ≤ length chain
+cut_few e [] = omega arith
+cut_few e (x ∷ xs) =
+    let few = cut_few e xs in
+    cond_both (nat_lt x.start e) (cut_item e x ∷ cut e xs) (if is_escaped x.body && (x.start == e) then text_token (e - 1) e false ∷ [] else []) (λ (ys : List Item). length ys ≤ length (x ∷ xs))
+    (λ b. omega arith)
+    (λ b. cond_both (is_escaped x.body && (x.start == e)) (text_token (e - 1) e false ∷ []) [] (λ (ys : List Item). length ys ≤ length (x ∷ xs)) (λ c. omega arith) (λ c. omega arith))
+
+-- a piece takes a byte at least
+piece_some : (s : Source) (at : ℕ) → 0 < size (piece_at s at)
+unfolding piece_at special_piece backslash_piece
+piece_some s at =
+    let holds : Piece → Type 0 = λ p. 0 < size p in
+    let left : holds (Left 1) = omega arith in
+    cond_both (is_special s.options (slice_index s.text at)) (special_piece s.text at) (Left 1) holds
+    (λ b. cond_both (slice_index s.text at == 92) (backslash_piece s.text at) (Left 1) holds
+    (λ c. cond_both (is_ascii_punctuation (slice_index s.text (at + 1))) (Begins 1 true) (Left 1) holds (λ d. omega arith) (λ d. left))
+    (λ c. left))
+    (λ b. left)
+
+-- so there are at most as many pieces as bytes
+few_pieces : (s : Source) (at : ℕ) (ps : List Piece) (end : ℕ) → ArePieces s at ps end → length ps + at ≤ end
+few_pieces s at [] end is = omega arith
+few_pieces s at (p ∷ ps) end is =
+    let some = piece_some s at in
+    let same = ap size is.1 in
+    let few = few_pieces s (at + size p) ps end is.2 in
+    omega arith
+
+-- and each gives at most one token
+few_add : (chain : List Item) (y : Item) → length (add_token chain y) ≤ length chain + 1
+few_add [] y = omega arith
+few_add (x ∷ []) y =
+    cond_both (touches x y) (record x { «end» = y.«end» } ∷ []) (x ∷ y ∷ []) (λ (ys : List Item). length ys ≤ length (x ∷ []) + 1) (λ b. omega arith) (λ b. omega arith)
+few_add (x ∷ z ∷ zs) y = (let few = few_add (z ∷ zs) y in omega arith)
+
+few_text : (a b : ℕ) (escaped : Bool) (chain : List Item) → length (add_text a b escaped chain) ≤ length chain + 1
+few_text a b escaped chain =
+    let few = few_add chain (text_token a b escaped) in
+    cond_both (nat_lt a b) (add_token chain (text_token a b escaped)) chain (λ (ys : List Item). length ys ≤ length chain + 1) (λ c. few) (λ c. omega arith)
+
+few_piece : (stop at : ℕ) (p : Piece) (chain : List Item) → length (add_piece stop at p chain) ≤ length chain + 1
+few_piece stop at (Left n) chain = few_text at (min (at + n) stop) false chain
+few_piece stop at (Begins dropped escaped) chain = few_text (at + dropped) (min (at + (dropped + 1)) stop) escaped chain
+
+few_by_pieces : (stop at : ℕ) (ps : List Piece) (chain : List Item) → length (add_pieces stop at ps chain) ≤ length chain + length ps
+few_by_pieces stop at [] chain = omega arith
+few_by_pieces stop at (p ∷ ps) chain =
+    let first = few_piece stop at p chain in
+    let rest = few_by_pieces stop (at + size p) ps (add_piece stop at p chain) in
+    omega arith
+
+-- A line has at most as many tokens as bytes.
+pub few_in_line : {s : Source} {tokens : List Item} {answer : ℕ × Option Item} → IsLine s tokens answer → length tokens + s.start ≤ answer.0
+few_in_line {s} {tokens} {answer} line =
+    let end = line.content_end in
+    let pieces = few_pieces s s.start line.pieces end line.division.divided in
+    let each = few_by_pieces (text_end s end) s.start line.pieces [] in
+    let same = ap (λ (ts : List Item). length ts) line.tokens_are in
+    let answer_is : answer.0 ≡ end + line_end_len s end = ap (λ (a : ℕ × Option Item). a.0) line.answer_is in
+    omega arith
+
+ended_length : (nodes : List (ℕ × Item)) (i : ℕ) (g : Item → Item) → length (modify nodes i g) ≡ length nodes
+ended_length [] i g = refl
+ended_length (n ∷ nodes) zero g = refl
+ended_length (n ∷ nodes) (suc i) g = ap suc (ended_length nodes i g)
+
+few_ended : (f : Forest Item) (e : ℕ) (c : Option TreeIndex) → length (with_end f e c).nodes ≤ length f.nodes + 1
+few_ended f e None = omega arith
+few_ended f e (Some c) = (let same = ended_length f.nodes c.0 (λ (x : Item). record x { «end» = e }) in omega arith)
+
+few_token : (f : Forest Item) (x : Item) → length (with_token f x).nodes ≤ length f.nodes + 1
+few_token f x =
+    let more = length-append f.nodes ((length f.spine + 1, x) ∷ []) in
+    cond_both (is_text x.body && joins_at f x.start f.current) (with_end f x.«end» f.current) (appended f x) (λ (g : Forest Item). length g.nodes ≤ length f.nodes + 1)
+    (λ b. few_ended f x.«end» f.current) (λ b. omega arith)
+
+few_tokens : (f : Forest Item) (tokens : List Item) → length (with_tokens f tokens).nodes ≤ length f.nodes + length tokens
+few_tokens f [] = omega arith
+few_tokens f (x ∷ xs) =
+    let first = few_token f x in
+    let rest = few_tokens (with_token f x) xs in
+    omega arith
+
+-- what is appended of a line has at most as many nodes as bytes
+pub few_of_line : {s : Source} {old new : Forest Item} {answer : ℕ × Option Item} → s.start ≤ length s.text → AppendsLine s old new answer → length new.nodes ≤ length old.nodes + (answer.0 - s.start)
+few_of_line {s} {old} {new} {answer} within line =
+    let few = few_in_line line.line in
+    let tree = few_tokens old line.tokens in
+    let same = ap (λ (f : Forest Item). length f.nodes) line.tree_is in
+    omega arith
