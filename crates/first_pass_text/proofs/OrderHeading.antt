@@ -17,6 +17,7 @@ use Rattle.first_pass_scan.proofs.PlaceFacts.{line_is_place, signs_keep, white_k
 use Rattle.first_pass_scan.proofs.HeadingFacts.{atx_level-signs}
 use Rattle.first_pass_tokens.specs.Chains.{add_tokens, close_break, cut}
 use Rattle.first_pass_tokens.specs.Order.{AreInOrder}
+use Rattle.first_pass_tokens.proofs.BytesLemmas.{few_in_order, bytes_adds, bytes_closed, line_has_bytes, cut_few}
 use Rattle.first_pass_tokens.proofs.LineLemmas.{ends_line as line_ends}
 use Rattle.first_pass_tokens.proofs.OrderLemmas.{order_bound, order_from, order_to}
 use Rattle.first_pass_tokens.proofs.CutOrder.{cut_in_order, line_none_escaped}
@@ -204,12 +205,25 @@ heading_in_order d start chain end_of_line within h order =
           inr (omega arith, at, cut_in_order d.text start end_of_line (start + n) whole order at (omega arith) free)
     ]))
 
+kept_few : (kept start : ℕ) (chain : List Item) → length (heading_chain kept start chain) ≤ length chain
+unfolding heading_chain
+kept_few kept start chain = cond_both (kept == 0) [] (cut (start + kept) chain) (λ (ys : List Item). length ys ≤ length chain) (λ b. omega arith) (λ b. cut_few (start + kept) chain)
+
+-- The chain of a heading has at most as many tokens as its line has bytes, where that of its line is in order.
+heading_few : (d : Document) (start : ℕ) (chain : List Item) (end_of_line : ℕ) → (h : IsHeading d start chain end_of_line) → AreInOrder d.text start end_of_line (close_break h.break (add_tokens [] h.tokens)) → length chain + start ≤ end_of_line
+heading_few d start chain end_of_line h order =
+    let whole : List Item = close_break h.break (add_tokens [] h.tokens) in
+    let few = few_in_order d.text start end_of_line whole order (bytes_closed h.break (add_tokens [] h.tokens) (bytes_adds [] h.tokens (line_has_bytes h.line) tt)) in
+    let kept = kept_few (kept_len (take (line_len (drop start d.text)) (drop start d.text))) start whole in
+    let same = ap (λ (ys : List Item). length ys) h.chain_is in
+    omega arith
+
 -- A thematic break fits in its line.
 pub rule_fits : (text : List ℕ) (from ix size : ℕ) (old new : Forest Item) → new ≡ added old (rule_block ix size) → from ≤ ix → IsCharBoundary text ix → IsCharBoundary text (ix + size) → AddsBetween text from (ix + size) old new
 rule_fits text from ix size old new tree_is behind starts ends = record {
   items = rule_block ix size;
   tree_is = tree_is;
-  fits = block_fits text from (ix + size) (record { start = ix; «end» = ix + size; body = Rule }) [] (record { behind = behind; order = omega arith; before = omega arith; starts = starts; ends = ends }) (omega arith);
+  fits = block_fits text from (ix + size) (record { start = ix; «end» = ix + size; body = Rule }) [] (record { behind = behind; order = omega arith; before = omega arith; starts = starts; ends = ends }) (omega arith) (λ some. omega arith);
 }
 
 -- The text of an ATX heading begins between characters.
@@ -240,5 +254,6 @@ heading_fits d start level old new next u b h order from behind =
       tree_is = h.tree_is;
       fits = block_fits d.text from next (record { start = start; «end» = next; body = HeadingBody level None }) h.chain
           (record { behind = behind; order = omega arith; before = omega arith; starts = b; ends = ends })
-          (order_from d.text start text_at next h.chain (heading_in_order d text_at h.chain next (omega arith) h.line order) (omega arith));
+          (order_from d.text start text_at next h.chain (heading_in_order d text_at h.chain next (omega arith) h.line order) (omega arith))
+          (let few = heading_few d text_at h.chain next h.line order in λ some. omega arith);
     }

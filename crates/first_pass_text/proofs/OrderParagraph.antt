@@ -1,5 +1,5 @@
 -- A paragraph's tokens are in order, and so is its block.
-use Rattle.std.proofs.Common.{◌≡◌, inl, inr, ℕ, ◌≤◌, List, [], ◌∷◌, ◌++◌, length, drop, Option, Some, None, IfSome, IsUtf8, IsCharBoundary, refl, sym, ap, subst, ◌∙◌, arith}
+use Rattle.std.proofs.Common.{◌≡◌, inl, inr, ℕ, ◌+◌, ◌-◌, ◌*◌, ◌<◌, ◌≤◌, suc, List, [], ◌∷◌, ◌++◌, length, drop, Option, Some, None, IfSome, IsUtf8, IsCharBoundary, refl, sym, ap, subst, ◌∙◌, arith}
 use Rattle.std.proofs.lemmas.List.{append-nil}
 use Rattle.std.proofs.lemmas.Bool.{cases_lt}
 use Rattle.first_pass_items.specs.declared.item.Item.{Item}
@@ -8,11 +8,12 @@ use Rattle.first_pass_tree.specs.Forest.{Forest}
 use Rattle.first_pass_scan.specs.Places.{Place, offset, line_rest, line_place, place_at, IsPlaceOf, start_of}
 use Rattle.first_pass_scan.proofs.LineFacts.{lines_at-line, lines_at-end}
 use Rattle.first_pass_scan.proofs.PlaceFacts.{start_of-lines}
-use Rattle.first_pass_tokens.specs.LineTokens.{IsLine, EndsLine, text_end}
+use Rattle.first_pass_tokens.specs.LineTokens.{IsLine, IsBreak, EndsLine, text_end}
 use Rattle.first_pass_tokens.specs.Chains.{add_tokens, close_break}
-use Rattle.first_pass_tokens.specs.Order.{AreInOrder}
+use Rattle.first_pass_tokens.specs.Order.{AreInOrder, HaveBytes}
+use Rattle.first_pass_tokens.proofs.BytesLemmas.{few_in_order, bytes_adds, bytes_closed, bytes_append, line_has_bytes}
 use Rattle.first_pass_tokens.proofs.LineLemmas.{ends_line}
-use Rattle.first_pass_tokens.proofs.OrderLemmas.{StandsBehind, LineInOrder, line_in_order, order_bound, order_to, order_append, order_adds, order_closed}
+use Rattle.first_pass_tokens.proofs.OrderLemmas.{StandsBehind, LineInOrder, line_in_order, line_end_place, order_bound, order_to, order_append, order_adds, order_closed}
 use Rattle.first_pass_grammar.specs.declared.kind.Container.{Container}
 use Rattle.first_pass_grammar.specs.Containers.{at_rest, front}
 use Rattle.first_pass_grammar.specs.Kinds.{unindented}
@@ -20,7 +21,7 @@ use Rattle.first_pass_grammar.specs.Leaves.{Document, content_at, add_break, IsP
 use Rattle.first_pass_grammar.specs.Completion.{lines_from}
 use Rattle.first_pass_grammar.specs.Order.{Extent, Empty, Node, extent_of, extents, laid, Fits, FitsBetween, IsBetween}
 use Rattle.first_pass_text.specs.Appends.{line_end_at, AddsParagraph}
-use Rattle.first_pass_grammar.proofs.Orders.{row_of, row_of-laid, row_of-fits}
+use Rattle.first_pass_grammar.proofs.Orders.{length-block, row_of, row_of-laid, row_of-fits}
 use Rattle.first_pass_text.specs.Between.{AddsBetween, StandsBefore}
 use Rattle.first_pass_open.specs.Path.{path_of}
 use Rattle.first_pass_text.proofs.ParagraphLemmas.{line_end-text}
@@ -88,6 +89,49 @@ pub paragraph_in_order : (d : Document) (path : List Container) (start : ℕ) (w
 paragraph_in_order d path start whole left utf8 boundary lines =
     lines_in_order d path utf8 start (lines_from d.text (line_end_at d.text start)) start [] whole left refl boundary (omega arith) lines
 
+-- a break behind has a byte
+bytes_break : (start next : ℕ) (break : Option Item) (chain : List Item) → IfSome break (IsBreak start next) → HaveBytes chain → HaveBytes (add_break break chain)
+bytes_break start next None chain b h = h
+bytes_break start next (Some x) chain b h = bytes_append chain (x ∷ []) h (b.before, tt)
+
+module _ (d : Document) (path : List Container) (utf8 : IsUtf8 d.text) where
+  lines_have_bytes : (lines : List Place) (ix : ℕ) (chain whole : List Item) (left : List Place) → lines ≡ lines_from d.text (line_end_at d.text ix) → IsCharBoundary d.text ix → HaveBytes chain
+      → IsParagraph d path ix chain lines whole left → HaveBytes whole
+  unfolding IsParagraph
+  lines_have_bytes [] ix chain whole left is boundary h (tokens, answer, line, whole_is, left_is) =
+      subst HaveBytes (sym whole_is) (bytes_closed answer.1 (add_tokens chain tokens) (bytes_adds chain tokens (line_has_bytes line) h))
+  lines_have_bytes (line ∷ lines) ix chain whole left is boundary h (tokens, answer, line_is, inl (stops, whole_is, left_is)) =
+      subst HaveBytes (sym whole_is) (bytes_closed answer.1 (add_tokens chain tokens) (bytes_adds chain tokens (line_has_bytes line_is) h))
+  lines_have_bytes (line ∷ lines) ix chain whole left is boundary h (tokens, answer, line_is, inr (goes, more)) =
+      let n : ℕ = answer.0 in
+      let e : EndsLine (content_at d ix) answer = ends_line boundary.0 line_is in
+      let ends = line_end_place utf8 boundary e in
+      let first = first_line d.text n line lines (is ∙ ap (lines_from d.text) (sym e.place)) in
+      let at : ℕ = offset (unindented (place_at n (front path (line_rest (drop n d.text))))) in
+      let at_is : offset (unindented (at_rest line (front path line.rest))) ≡ at = ap (λ (p : Place). offset (unindented (at_rest p (front path p.rest)))) first.0 in
+      let place : IsPlaceOf d.text (unindented (place_at n (front path (line_rest (drop n d.text))))) = (text_place d.text n path utf8 ends).0 in
+      let chain_next : List Item = add_break answer.1 (add_tokens chain tokens) in
+      lines_have_bytes lines at chain_next whole left (first.1 ∙ ap (lines_from d.text) (sym (line_end-text path d.text n utf8 ends))) place.boundary
+      (bytes_break ix n answer.1 (add_tokens chain tokens) e.broken (bytes_adds chain tokens (line_has_bytes line_is) h))
+      (subst (λ z. IsParagraph d path z chain_next lines whole left) at_is more)
+
+-- Each token of a paragraph has a byte.
+paragraph_has_bytes : (d : Document) (path : List Container) (start : ℕ) (whole : List Item) (left : List Place) → IsUtf8 d.text → IsCharBoundary d.text start
+    → IsParagraph d path start [] (lines_from d.text (line_end_at d.text start)) whole left → HaveBytes whole
+paragraph_has_bytes d path start whole left utf8 boundary lines =
+    lines_have_bytes d path utf8 (lines_from d.text (line_end_at d.text start)) start [] whole left refl boundary tt lines
+
+few_marked : (marker : Option Item) (chain : List Item) → length (marker_items marker ++ chain) ≤ suc (length chain)
+few_marked None chain = omega arith
+few_marked (Some x) chain = omega arith
+
+-- a paragraph has at most four nodes for each byte: itself, a marker, and its tokens
+paragraph_few : (from start next : ℕ) (marker : Option Item) (chain : List Item) → from ≤ start → length chain + start ≤ next → from < next → length (paragraph_block start next (marker_items marker ++ chain)) ≤ 4 * (next - from)
+paragraph_few from start next marker chain low few some =
+    let size = length-block (record { start = start; «end» = next; body = Paragraph }) (marker_items marker ++ chain) in
+    let marked = few_marked marker chain in
+    omega arith
+
 -- what stands below a paragraph
 kids_fit : (text : List ℕ) (from start next : ℕ) (marker : Option Item) (chain : List Item) → AreInOrder text start next chain → StandsBefore text from start marker
     → (from ≤ start) × Fits text (Some from) start next (row_of (marker_items marker ++ chain))
@@ -102,16 +146,17 @@ unfolding laid
 block_laid start next chain =
     ap (λ (row : List (ℕ × Extent)). (0, extent_of (record { start = start; «end» = next; body = Paragraph })) ∷ row) (row_of-laid 1 chain ∙ sym (append-nil (laid 1 (row_of chain))))
 
-paragraph_between : (text : List ℕ) (from start next : ℕ) (marker : Option Item) (chain : List Item) → IsCharBoundary text start → IsCharBoundary text next → AreInOrder text start next chain → StandsBefore text from start marker
+paragraph_between : (text : List ℕ) (from start next : ℕ) (marker : Option Item) (chain : List Item) → IsCharBoundary text start → IsCharBoundary text next → AreInOrder text start next chain → HaveBytes chain → StandsBefore text from start marker
     → FitsBetween text from next (paragraph_block start next (marker_items marker ++ chain))
 unfolding Fits
-paragraph_between text from start next marker chain starts ends h stands =
+paragraph_between text from start next marker chain starts ends h bytes stands =
     let kids = kids_fit text from start next marker chain h stands in
     let order = order_bound text start next chain h in
     let x : Item = record { start = start; «end» = next; body = Paragraph } in (
       Node (extent_of x) (row_of (marker_items marker ++ chain)) Empty,
       block_laid start next (marker_items marker ++ chain),
       inl (record { behind = kids.0; order = order; before = omega arith; starts = starts; ends = ends }, kids.1, omega arith),
+      paragraph_few from start next marker chain kids.0 (few_in_order text start next chain h bytes),
     )
 
 -- The block of a paragraph lies between an offset that its marker or its text stands behind, and the line behind it.
@@ -120,8 +165,9 @@ pub paragraph_fits : (d : Document) (start : ℕ) (marker : Option Item) (old ne
 paragraph_fits d start marker old new next adds utf8 boundary from stands =
     let whole = paragraph_in_order d (path_of old) start adds.chain (lines_from d.text next) utf8 boundary adds.lines in
     let order : AreInOrder d.text start next adds.chain = subst (λ to. AreInOrder d.text start to adds.chain) (start_of-lines d.text next adds.boundary.0) whole in
+    let bytes : HaveBytes adds.chain = paragraph_has_bytes d (path_of old) start adds.chain (lines_from d.text next) utf8 boundary adds.lines in
     record {
       items = paragraph_block start next (marker_items marker ++ adds.chain);
       tree_is = adds.tree_is;
-      fits = paragraph_between d.text from start next marker adds.chain boundary adds.boundary order stands;
+      fits = paragraph_between d.text from start next marker adds.chain boundary adds.boundary order bytes stands;
     }
