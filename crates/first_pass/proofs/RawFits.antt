@@ -15,7 +15,7 @@ use Rattle.first_pass_open.specs.Path.{path_of}
 use Rattle.first_pass_raw.specs.RawBlocks.{IsPlaceAt, code_behind, AddsIndented, AddsRaw, metadata_behind, fenced_behind, html_to_end, html_to_blank}
 use Rattle.first_pass_names.proofs.NameLemmas.{extends_none}
 use Rattle.first_pass_raw.proofs.IndentedLemmas.{first_at, first_is}
-use Rattle.first_pass_raw.proofs.RawOrder.{IsPlaced, fence_plain, ends_before_next, kept_last, indented_fits, fenced_fits, metadata_fits, html_fits, indented_behind_placed, fenced_behind_placed, metadata_behind_placed, to_end_placed, to_blank_placed, fenced_behind_before, metadata_behind_before, to_end_before}
+use Rattle.first_pass_raw.proofs.RawOrder.{IsPlaced, fence_plain, ends_before_next, kept_last, indented_fits, fenced_fits, metadata_fits, html_fits, indented_behind_placed, indented_behind_few, fenced_behind_placed, metadata_behind_placed, to_end_placed, to_blank_placed, fenced_behind_before, metadata_behind_before, to_end_before}
 use Rattle.first_pass_text.specs.Between.{AddsBetween}
 
 -- a place at an offset between characters
@@ -91,5 +91,5 @@ module _ (text : List ℕ) (options : Options) (names : Names) (old new : Forest
       record {
         items = a.items;
         tree_is = a.tree_is;
-        fits = indented_fits (document text options names) p all.0 a.items (start_of (length text) all.1) u (a.is names (extends_none names)) placed from next (omega arith) (omega arith);
+        fits = indented_fits (document text options names) p all.0 a.items (start_of (length text) all.1) u (a.is names (extends_none names)) placed (indented_behind_few text u (path_of old) p (place_of text start p b i)) from next (omega arith) (omega arith);
       }

@@ -1,5 +1,5 @@
 -- Raw leaf blocks are in order: each lies between two offsets with what is below it, and its lines are placed in the text one behind the other.
-use Rattle.std.proofs.Common.{◌≡◌, ◌⊎◌, inl, inr, ℕ, zero, suc, ◌+◌, ◌-◌, ◌<◌, ◌≤◌, ◌==◌, ◌&&◌, Bool, true, false, not, List, [], ◌∷◌, ◌++◌, length, drop, get_or, slice_index, nat_lt, nat_le, if◌then◌else◌, Option, Some, None, IsUtf8, IsCharBoundary, refl, sym, ap, subst, ◌∙◌, arith, length-drop, get_or-drop}
+use Rattle.std.proofs.Common.{◌≡◌, ◌⊎◌, inl, inr, ℕ, zero, suc, ◌+◌, ◌-◌, ◌*◌, ◌<◌, ◌≤◌, ◌==◌, ◌&&◌, Bool, true, false, not, List, [], ◌∷◌, ◌++◌, length, drop, get_or, slice_index, nat_lt, nat_le, if◌then◌else◌, Option, Some, None, IsUtf8, IsCharBoundary, refl, sym, ap, subst, ◌∙◌, arith, length-append, length-drop, get_or-drop}
 use Rattle.std.specs.List.{prefix_len}
 use Rattle.std.specs.Option.{option_map, option_and_then}
 use Rattle.std.proofs.lemmas.Bool.{cond_both, cases_lt, eqb-true, and_parts, or_cases, ltb-true}
@@ -13,9 +13,9 @@ use Rattle.first_pass_scan.specs.Lines.{begins, is_content, is_blank, line_len, 
 use Rattle.first_pass_scan.specs.LeafLines.{run_len, has_backquote, code_fence, three_of, closing_fence_len, closing_marks, closing_metadata_len}
 use Rattle.first_pass_scan.specs.Rest.{Rest, indent}
 use Rattle.first_pass_scan.specs.Places.{Place, offset, line_of, line_end, line_rest, line_place, place_at, moved_columns, start_of, IsPlaceOf}
-use Rattle.first_pass_scan.proofs.LineFacts.{line_len-parts, lines_at-line, lines_at-end}
+use Rattle.first_pass_scan.proofs.LineFacts.{line_len-parts, line_len-some, line_len-within, lines_at-line, lines_at-end}
 use Rattle.first_pass_scan.proofs.PlaceFacts.{line_is_place, columns_keep, columns_line_end, place_length, start_of-lines}
-use Rattle.first_pass_tokens.specs.Chains.{text_token, add_tokens}
+use Rattle.first_pass_tokens.specs.Chains.{text_token, touches, add_token, add_tokens}
 use Rattle.first_pass_tokens.specs.Order.{AreInOrder}
 use Rattle.first_pass_tokens.proofs.OrderLemmas.{order_from, order_to, order_append, order_adds}
 use Rattle.first_pass_grammar.specs.declared.kind.Container.{Container}
@@ -37,10 +37,29 @@ unfoldable pub ArePlaced : List ℕ → ℕ → List Place → ℕ → Type 0
 ArePlaced text from [] to = from ≤ to
 ArePlaced text from (p ∷ ps) to = (from ≤ offset p) × IsPlaceOf text p × ArePlaced text (line_end p) ps to
 
--- So do the lines of an extent, up to its end, which is between characters.
+-- Each of these lines, of which the first is read from an offset on, has a byte.
+unfoldable pub HaveBytes : ℕ → List Place → Type 0
+HaveBytes from [] = Unit
+HaveBytes from (p ∷ ps) = (from < line_end p) × HaveBytes (line_end p) ps
+
+-- So has each of a block's lines, but that its only line may have none.
+abbrev pub AreFew : ℕ → List Place → Type 0
+AreFew from ps = (length ps ≤ 1) ⊎ HaveBytes from ps
+
+-- The lines of an extent are so placed, up to its end, which is between characters, and are so few.
 pub record IsPlaced (text : List ℕ) (from : ℕ) (e : Lines) : Type 0 where
   pub places : ArePlaced text from e.places e.«end»
   pub boundary : IsCharBoundary text e.«end»
+  pub few : AreFew from e.places
+
+-- The lines of an extent are so placed, and each has a byte.
+pub record IsFilled (text : List ℕ) (from : ℕ) (e : Lines) : Type 0 where
+  pub places : ArePlaced text from e.places e.«end»
+  pub boundary : IsCharBoundary text e.«end»
+  pub bytes : HaveBytes from e.places
+
+pub filled_placed : (text : List ℕ) (from : ℕ) (e : Lines) → IsFilled text from e → IsPlaced text from e
+filled_placed text from e f = record { places = f.places; boundary = f.boundary; few = inr f.bytes }
 
 -- An extent ends no later than the first line begins that it leaves.
 abbrev pub EndsBefore : List ℕ → Lines → Type 0
@@ -140,11 +159,93 @@ module _ (d : Document) (u : IsUtf8 d.text) where
       html_in_order (q ∷ ps) from (line_end p) to q.rest.owed (chain ++ line) whole placed.2
       (order_append d.text from (offset p) (line_end p) chain line (order_to d.text from at (offset p) chain h placed.0) (html_line_in_order p owed line placed.1 is)) further
 
+-- A raw line has at most three items.
+columns_few : (names : Names) (owed at : ℕ) (items : List Item) → AreColumns names owed at items → length items ≤ 1
+columns_few names zero at items is = rw is (omega arith)
+columns_few names (suc n) at items is = rw is.2 (omega arith)
+
+range_few : (from to : ℕ) → length (range_text from to) ≤ 1
+range_few from to = cond_both (nat_lt from to) (text_token from to false ∷ []) [] (λ (xs : List Item). length xs ≤ 1) (λ some. omega arith) (λ none. omega arith)
+
+code_texts_few : (text : List ℕ) (from to : ℕ) → length (code_texts text from to) ≤ 2
+unfolding code_texts
+code_texts_few text from to =
+    let a = range_few from (to - 2) in
+    let b = range_few (to - 1) to in
+    let c = range_few from to in
+    let l = length-append (range_text from (to - 2)) (range_text (to - 1) to) in
+    cond_both (ends_with_both text from to) (range_text from (to - 2) ++ range_text (to - 1) to) (range_text from to) (λ (xs : List Item). length xs ≤ 2) (λ both. omega arith) (λ none. omega arith)
+
+html_items_few : (text : List ℕ) (from to : ℕ) → length (html_items text from to) ≤ 2
+unfolding html_items
+html_items_few text from to =
+    cond_both (ends_with_both text from to) (html_item from (to - 2) ∷ html_item (to - 1) to ∷ []) (html_item from to ∷ []) (λ (xs : List Item). length xs ≤ 2) (λ both. omega arith) (λ none. omega arith)
+
+-- A chain with tokens behind it has at most so many more.
+add_token_few : (chain : List Item) (y : Item) → length (add_token chain y) ≤ suc (length chain)
+add_token_few [] y = omega arith
+add_token_few (x ∷ []) y =
+    cond_both (touches x y) (record x { «end» = y.«end» } ∷ []) (x ∷ y ∷ []) (λ (xs : List Item). length xs ≤ 2) (λ joined. omega arith) (λ apart. omega arith)
+add_token_few (x ∷ z ∷ zs) y = (let f = add_token_few (z ∷ zs) y in omega arith)
+
+add_tokens_few : (xs chain : List Item) → length (add_tokens chain xs) ≤ length chain + length xs
+add_tokens_few [] chain = omega arith
+add_tokens_few (x ∷ xs) chain =
+    let f = add_token_few chain x in
+    let g = add_tokens_few xs (add_token chain x) in
+    omega arith
+
+-- So a chain of raw lines has at most three items a line.
+code_few : (d : Document) (ps : List Place) (chain whole : List Item) → AreCodeLines d chain ps whole → length whole ≤ length chain + 3 * length ps
+unfolding AreCodeLines
+code_few d [] chain whole is = rw is (omega arith)
+code_few d (p ∷ ps) chain whole (line, (columns, are, is), further) =
+    let a = columns_few d.names p.rest.owed (offset p) columns are in
+    let b = code_texts_few d.text (offset p) (line_end p) in
+    let c = ap length is ∙ length-append columns (code_texts d.text (offset p) (line_end p)) in
+    let e = add_tokens_few line chain in
+    let f = code_few d ps (add_tokens chain line) whole further in
+    omega arith
+
+html_line_few : (d : Document) (owed from to : ℕ) (items : List Item) → IsHtmlLine d owed from to items → length items ≤ 3
+html_line_few d owed from to items (columns, are, is) =
+    let a = columns_few d.names owed from columns are in
+    let b = html_items_few d.text from to in
+    let c = ap length is ∙ length-append columns (html_items d.text from to) in
+    omega arith
+
+html_few : (d : Document) (ps : List Place) (owed : ℕ) (chain whole : List Item) → AreHtmlLines d chain owed ps whole → length whole ≤ length chain + 3 * length ps
+unfolding AreHtmlLines
+html_few d [] owed chain whole is = rw is (omega arith)
+html_few d (p ∷ []) owed chain whole (line, is, whole_is) =
+    let a = html_line_few d owed (offset p) (line_end p) line is in
+    let b = ap length whole_is ∙ length-append chain line in
+    omega arith
+html_few d (p ∷ q ∷ ps) owed chain whole (line, is, further) =
+    let a = html_line_few d owed (offset p) (line_end p) line is in
+    let b = length-append chain line in
+    let c = html_few d (q ∷ ps) q.rest.owed (chain ++ line) whole further in
+    omega arith
+
+-- Lines that have bytes are no more than these.
+bytes_few : (text : List ℕ) (from to : ℕ) (ps : List Place) → HaveBytes from ps → ArePlaced text from ps to → length ps + from ≤ to
+unfolding HaveBytes ArePlaced
+bytes_few text from to [] some placed = omega arith
+bytes_few text from to (p ∷ ps) some placed =
+    let a = some.0 in
+    let f = bytes_few text (line_end p) to ps some.1 placed.2 in
+    omega arith
+
+-- So a block of raw lines has at most four items for each byte between two offsets that it lies between.
+few_by : (text : List ℕ) (from to start stop n : ℕ) (ps : List Place) → n ≤ 0 + 3 * length ps → AreFew start ps → ArePlaced text start ps stop → from ≤ start → stop ≤ to → from < to → suc n ≤ 4 * (to - from)
+few_by text from to start stop n ps least (inl one) placed behind before apart = omega arith
+few_by text from to start stop n ps least (inr some) placed behind before apart = (let k = bytes_few text start stop ps some placed in omega arith)
+
 -- a block of raw lines
 raw_fits : (text : List ℕ) (from to start stop : ℕ) (body : ItemBody) (chain : List Item) (items : List (ℕ × Item)) → items ≡ block_with start stop body chain → IsCharBoundary text start → IsCharBoundary text stop
-    → from ≤ start → start ≤ stop → stop ≤ to → AreInOrder text start stop chain → FitsBetween text from to items
-raw_fits text from to start stop body chain items is b c behind order before h =
-    subst (FitsBetween text from to) (sym is) (block_fits text from to (record { start = start; «end» = stop; body = body }) chain (record { behind = behind; order = order; before = before; starts = b; ends = c }) h)
+    → from ≤ start → start ≤ stop → stop ≤ to → AreInOrder text start stop chain → (from < to → suc (length chain) ≤ 4 * (to - from)) → FitsBetween text from to items
+raw_fits text from to start stop body chain items is b c behind order before h few =
+    subst (FitsBetween text from to) (sym is) (block_fits text from to (record { start = start; «end» = stop; body = body }) chain (record { behind = behind; order = order; before = before; starts = b; ends = c }) h few)
 
 -- what lines are left without the blank ones at the end
 kept_by : (text : List ℕ) (from to : ℕ) (p : Place) (t : Bool) (qs : List Place) → is_blank_rest p.rest ≡ t → from ≤ offset p → IsPlaceOf text p → IsCharBoundary text from
@@ -178,15 +279,42 @@ kept_last text from to (p ∷ ps) h =
     let b = placed_bound text (line_end p) to ps h.2 in
     kept_last_by text from to p (is_blank_rest p.rest) (without_blanks ps) refl (omega arith) (kept_last text (line_end p) to ps h.2)
 
+-- each of these has a byte, too
+kept_bytes_by : (from : ℕ) (p : Place) (t : Bool) (qs : List Place) → is_blank_rest p.rest ≡ t → from < line_end p → HaveBytes (line_end p) qs → HaveBytes from (unless_blank p qs)
+unfolding HaveBytes
+kept_bytes_by from p true [] e h some = rw e tt
+kept_bytes_by from p false [] e h some = rw e (h, some)
+kept_bytes_by from p t (q ∷ qs) e h some = (h, some)
+
+kept_bytes : (from : ℕ) (ps : List Place) → HaveBytes from ps → HaveBytes from (without_blanks ps)
+unfolding HaveBytes without_blanks
+kept_bytes from [] some = tt
+kept_bytes from (p ∷ ps) some = kept_bytes_by from p (is_blank_rest p.rest) (without_blanks ps) refl some.0 (kept_bytes (line_end p) ps some.1)
+
+kept_length_by : (p : Place) (t : Bool) (qs : List Place) → is_blank_rest p.rest ≡ t → length (unless_blank p qs) ≤ suc (length qs)
+kept_length_by p true [] e = rw e (omega arith)
+kept_length_by p false [] e = rw e (omega arith)
+kept_length_by p t (q ∷ qs) e = omega arith
+
+kept_length : (ps : List Place) → length (without_blanks ps) ≤ length ps
+unfolding without_blanks
+kept_length [] = omega arith
+kept_length (p ∷ ps) = (let a = kept_length_by p (is_blank_rest p.rest) (without_blanks ps) refl in let b = kept_length ps in omega arith)
+
+kept_few : (from : ℕ) (ps : List Place) → AreFew from ps → AreFew from (without_blanks ps)
+kept_few from ps (inl one) = (let k = kept_length ps in inl (omega arith))
+kept_few from ps (inr some) = inr (kept_bytes from ps some)
+
 -- Indented code fits where its lines do.
-pub indented_fits : (d : Document) (p : Place) (further : List Place) (items : List (ℕ × Item)) (limit : ℕ) → IsUtf8 d.text → IsIndentedCode d p further items → ArePlaced d.text (offset p) (p ∷ further) limit
+pub indented_fits : (d : Document) (p : Place) (further : List Place) (items : List (ℕ × Item)) (limit : ℕ) → IsUtf8 d.text → IsIndentedCode d p further items → ArePlaced d.text (offset p) (p ∷ further) limit → AreFew (offset p) (p ∷ further)
     → (from to : ℕ) → from ≤ offset p → last_end (offset p) (without_blanks (p ∷ further)) ≤ to → FitsBetween d.text from to items
 unfolding ArePlaced
-indented_fits d p further items limit u is placed from to behind before =
+indented_fits d p further items limit u is placed few from to behind before =
     let k = kept_placed d.text (offset p) limit (p ∷ further) u placed.1.boundary placed in
     raw_fits d.text from to (offset p) (last_end (offset p) (without_blanks (p ∷ further))) IndentCodeBlock is.chain items is.items_are placed.1.boundary k.1
     behind (placed_bound d.text (offset p) _ _ k.0) before
     (code_in_order d u (without_blanks (p ∷ further)) (offset p) (offset p) _ [] is.chain k.0 (omega arith) is.lines)
+    (few_by d.text from to (offset p) _ (length is.chain) (without_blanks (p ∷ further)) (code_few d (without_blanks (p ∷ further)) [] is.chain is.lines) (kept_few (offset p) (p ∷ further) few) k.0 behind before)
 
 -- So do a fenced code block, a metadata block and an HTML block.
 pub fenced_fits : (d : Document) (start count : ℕ) (e : Lines) (items : List (ℕ × Item)) → IsUtf8 d.text → IsFencedCode d start count e.places e.«end» items → IsCharBoundary d.text start → IsPlaced d.text start e
@@ -194,18 +322,21 @@ pub fenced_fits : (d : Document) (start count : ℕ) (e : Lines) (items : List (
 fenced_fits d start count e items u is b placed from to behind before =
     raw_fits d.text from to start e.«end» (FencedCodeBlock is.info) is.chain items is.items_are b placed.boundary behind (placed_bound d.text start e.«end» e.places placed.places) before
     (code_in_order d u e.places start start e.«end» [] is.chain placed.places (omega arith) is.lines)
+    (few_by d.text from to start e.«end» (length is.chain) e.places (code_few d e.places [] is.chain is.lines) placed.few placed.places behind before)
 
 pub metadata_fits : (d : Document) (start byte : ℕ) (e : Lines) (items : List (ℕ × Item)) → IsUtf8 d.text → IsMetadata d start byte e.places e.«end» items → IsCharBoundary d.text start → IsPlaced d.text start e
     → (from to : ℕ) → from ≤ start → e.«end» ≤ to → FitsBetween d.text from to items
 metadata_fits d start byte e items u is b placed from to behind before =
     raw_fits d.text from to start e.«end» (MetadataBlock (metadata_kind byte)) is.chain items is.items_are b placed.boundary behind (placed_bound d.text start e.«end» e.places placed.places) before
     (code_in_order d u e.places start start e.«end» [] is.chain placed.places (omega arith) is.lines)
+    (few_by d.text from to start e.«end» (length is.chain) e.places (code_few d e.places [] is.chain is.lines) placed.few placed.places behind before)
 
 pub html_fits : (d : Document) (start columns : ℕ) (e : Lines) (items : List (ℕ × Item)) → IsUtf8 d.text → IsHtml d start columns e.places e.«end» items → IsCharBoundary d.text start → IsPlaced d.text start e
     → (from to : ℕ) → from ≤ start → e.«end» ≤ to → FitsBetween d.text from to items
 html_fits d start columns e items u is b placed from to behind before =
     raw_fits d.text from to start e.«end» HtmlBlock is.chain items is.items_are b placed.boundary behind (placed_bound d.text start e.«end» e.places placed.places) before
     (html_in_order d u e.places start start e.«end» columns [] is.chain placed.places (omega arith) is.lines)
+    (few_by d.text from to start e.«end» (length is.chain) e.places (html_few d e.places columns [] is.chain is.lines) placed.few placed.places behind before)
 
 -- Where lines end between characters: behind some of what is left at a place, where the line ends there.
 eol_small : (b : ℕ) (bs : List ℕ) (t v : Bool) → (b == 10) ≡ t → (b == 13) ≡ v → at_line_end (b ∷ bs) ≡ true → b < 128
@@ -389,22 +520,25 @@ module _ (text : List ℕ) (u : IsUtf8 text) (path : List Container) where
     stands : IsPlaceOf text q
     here : q.line ≡ at
     same_end : line_end q ≡ behind_line_at text at
+    some : at < line_end q
 
   behind_is_boundary : (at : ℕ) → IsCharBoundary text at → IsCharBoundary text (behind_line_at text at)
   behind_is_boundary at b = subst (IsCharBoundary text) (line_start_end text at) (place_end text (line_place at (drop at text)) u (line_is_place text at b))
 
-  in_by : (at : ℕ) (q : Place) (o : Option Rest) → IsCharBoundary text at → after path (line_rest (drop at text)) ≡ o → option_map (at_rest (line_place at (drop at text))) o ≡ Some q → IsIn at q
-  in_by at q None b e h = cc
-  in_by at q (Some r) b e h =
+  in_by : (at : ℕ) (q : Place) (o : Option Rest) → at < length text → IsCharBoundary text at → after path (line_rest (drop at text)) ≡ o → option_map (at_rest (line_place at (drop at text))) o ≡ Some q → IsIn at q
+  in_by at q None w b e h = cc
+  in_by at q (Some r) w b e h =
       let same : place_at at r ≡ q = cc in
       let k = after_keeps text at path (line_rest (drop at text)) r u e (line_is_place text at b) in
-      subst (IsIn at) same (record { stands = k.0; here = refl; same_end = k.1 ∙ line_start_end text at })
+      let ends : line_end (place_at at r) ≡ behind_line_at text at = k.1 ∙ line_start_end text at in
+      let more = (line_len-within text at w).0 in
+      subst (IsIn at) same (record { stands = k.0; here = refl; same_end = ends; some = omega arith })
 
-  taken_in : (at : ℕ) (line q : Place) → IsCharBoundary text at → line ≡ line_place at (drop at text) → taken path line ≡ Some q → IsIn at q
-  taken_in at line q b e h = in_by at q (after path (line_rest (drop at text))) b refl (ap (taken path) (sym e) ∙ h)
+  taken_in : (at : ℕ) (line q : Place) → at < length text → IsCharBoundary text at → line ≡ line_place at (drop at text) → taken path line ≡ Some q → IsIn at q
+  taken_in at line q w b e h = in_by at q (after path (line_rest (drop at text))) w b refl (ap (taken path) (sym e) ∙ h)
 
   columns_in : (n at : ℕ) (q : Place) → IsIn at q → IsIn at (moved_columns n q)
-  columns_in n at q i = record { stands = columns_keep text n q u i.stands; here = i.here; same_end = columns_line_end n q ∙ i.same_end }
+  columns_in n at q i = (let same = columns_line_end n q in let some = i.some in record { stands = columns_keep text n q u i.stands; here = i.here; same_end = same ∙ i.same_end; some = omega arith })
 
   in_behind : (at : ℕ) (q : Place) → IsIn at q → at ≤ offset q
   in_behind at q i = (let h = i.here in omega arith)
@@ -414,15 +548,16 @@ module _ (text : List ℕ) (u : IsUtf8 text) (path : List Container) where
   unfolding ArePlaced
   line_placed at to q ps i further = (in_behind at q i, i.stands, subst (λ k. ArePlaced text k ps to) (sym i.same_end) further)
 
-  extent_placed : (at : ℕ) (q : Place) (e : Lines) → IsIn at q → IsPlaced text (behind_line_at text at) e → IsPlaced text at (with_line q e)
-  extent_placed at q e i further = record { places = line_placed at e.«end» q e.places i further.places; boundary = further.boundary }
+  extent_placed : (at : ℕ) (q : Place) (e : Lines) → IsIn at q → IsFilled text (behind_line_at text at) e → IsFilled text at (with_line q e)
+  unfolding HaveBytes
+  extent_placed at q e i further = record { places = line_placed at e.«end» q e.places i further.places; boundary = further.boundary; bytes = (i.some, subst (λ k. HaveBytes k e.places) (sym i.same_end) further.bytes) }
 
   -- a block that has no more lines
-  stops_placed : (at stop : ℕ) (lines : List Place) → at ≤ stop → IsCharBoundary text stop → IsPlaced text at (ends_at stop lines)
-  unfolding ArePlaced
-  stops_placed at stop lines order b = record { places = order; boundary = b }
+  stops_placed : (at stop : ℕ) (lines : List Place) → at ≤ stop → IsCharBoundary text stop → IsFilled text at (ends_at stop lines)
+  unfolding ArePlaced HaveBytes
+  stops_placed at stop lines order b = record { places = order; boundary = b; bytes = tt }
 
-  no_lines_placed : (at n : ℕ) → n ≡ length text → IsCharBoundary text at → IsPlaced text at (ends_at n [])
+  no_lines_placed : (at n : ℕ) → n ≡ length text → IsCharBoundary text at → IsFilled text at (ends_at n [])
   no_lines_placed at n e b = (let w = b.0 in stops_placed at n [] (omega arith) (subst (IsCharBoundary text) (sym e) (IsCharBoundary-end text)))
 
   -- the lines that go on with indented code
@@ -447,7 +582,7 @@ module _ (text : List ℕ) (u : IsUtf8 text) (path : List Container) where
   code_placed [] at is b = b.0
   code_placed (line ∷ lines) at is b =
       let f = first_line text at line lines is in
-      code_step at line lines (code_place path line) (code_lines path lines) (ap (λ (p : Place). p.line) f.1) (λ q h. code_in at q (taken path line) (λ q h. taken_in at line q b f.1 h) h)
+      code_step at line lines (code_place path line) (code_lines path lines) (ap (λ (p : Place). p.line) f.1) (λ q h. code_in at q (taken path line) (λ q h. taken_in at line q f.0 b f.1 h) h)
       (code_placed lines (behind_line_at text at) f.2 (behind_is_boundary at b))
 
   -- the lines of a fenced code block
@@ -465,28 +600,28 @@ module _ (text : List ℕ) (u : IsUtf8 text) (path : List Container) where
   fence_in byte count at e q i h = fence_in_by (nat_lt (indent q.rest) 4) at e q (closing_fence_len byte count (all_taken q.rest).left) (λ n g. fence_ends byte count (all_taken q.rest).left n g) i h
 
   fenced_line_placed : (columns at : ℕ) (q : Place) (o : Option ℕ) (lines : List Place) (further : Lines) → IsIn at q → ((e : ℕ) → o ≡ Some e → (at ≤ e) × IsCharBoundary text e)
-      → IsPlaced text (behind_line_at text at) further → IsPlaced text at (fenced_line columns q o lines further)
+      → IsFilled text (behind_line_at text at) further → IsFilled text at (fenced_line columns q o lines further)
   fenced_line_placed columns at q None lines further i c rest = extent_placed at (moved_columns columns q) further (columns_in columns at q i) rest
   fenced_line_placed columns at q (Some e) lines further i c rest = stops_placed at e lines (c e refl).0 (c e refl).1
 
   fenced_step : (columns byte count at : ℕ) (line : Place) (lines : List Place) (o : Option Place) (further : Lines) → line.line ≡ at → ((q : Place) → o ≡ Some q → IsIn at q) → IsCharBoundary text at
-      → IsPlaced text (behind_line_at text at) further → IsPlaced text at (fenced_by columns byte count line lines o further)
+      → IsFilled text (behind_line_at text at) further → IsFilled text at (fenced_by columns byte count line lines o further)
   fenced_step columns byte count at line lines None further start i b rest = stops_placed at line.line (line ∷ lines) (omega arith) (subst (IsCharBoundary text) (sym start) b)
   fenced_step columns byte count at line lines (Some q) further start i b rest =
       fenced_line_placed columns at q (closing_fence_end byte count q) lines further (i q refl) (λ e h. fence_in byte count at e q (i q refl) h) rest
 
-  pub fenced_placed : (columns byte count : ℕ) (lines : List Place) (at : ℕ) → lines ≡ lines_from text at → IsCharBoundary text at → IsPlaced text at (fenced_lines (length text) path columns byte count lines)
+  pub fenced_placed : (columns byte count : ℕ) (lines : List Place) (at : ℕ) → lines ≡ lines_from text at → IsCharBoundary text at → IsFilled text at (fenced_lines (length text) path columns byte count lines)
   unfolding fenced_lines
   fenced_placed columns byte count [] at is b = no_lines_placed at (length text) refl b
   fenced_placed columns byte count (line ∷ lines) at is b =
       let f = first_line text at line lines is in
-      fenced_step columns byte count at line lines (taken path line) (fenced_lines (length text) path columns byte count lines) (ap (λ (p : Place). p.line) f.1) (λ q h. taken_in at line q b f.1 h) b
+      fenced_step columns byte count at line lines (taken path line) (fenced_lines (length text) path columns byte count lines) (ap (λ (p : Place). p.line) f.1) (λ q h. taken_in at line q f.0 b f.1 h) b
       (fenced_placed columns byte count lines (behind_line_at text at) f.2 (behind_is_boundary at b))
 
   -- the lines of a metadata block
   metadata_line_placed : (at : ℕ) (line q : Place) (o : Option ℕ) (lines : List Place) (further : Lines) → line ≡ line_place at (drop at text) → IsIn at q
       → ((n : ℕ) → o ≡ Some n → (n ≤ length line.rest.left) × (at_line_end (drop n line.rest.left) ≡ true)) → IsCharBoundary text at
-      → IsPlaced text (behind_line_at text at) further → IsPlaced text at (metadata_line line q o lines further)
+      → IsFilled text (behind_line_at text at) further → IsFilled text at (metadata_line line q o lines further)
   metadata_line_placed at line q None lines further is i within b rest = extent_placed at q further i rest
   metadata_line_placed at line q (Some n) lines further is i within b rest =
       let w = within n refl in
@@ -496,74 +631,107 @@ module _ (text : List ℕ) (u : IsUtf8 text) (path : List Container) where
       stops_placed at (line.line + n) lines (omega arith) (subst (IsCharBoundary text) z (ends_between text line n (subst (IsPlaceOf text) (sym is) (line_is_place text at b)) w.0 w.1))
 
   metadata_step : (byte at : ℕ) (line : Place) (lines : List Place) (o : Option Place) (further : Lines) → line ≡ line_place at (drop at text) → ((q : Place) → o ≡ Some q → IsIn at q) → IsCharBoundary text at
-      → IsPlaced text (behind_line_at text at) further → IsPlaced text at (metadata_by byte line lines o further)
+      → IsFilled text (behind_line_at text at) further → IsFilled text at (metadata_by byte line lines o further)
   metadata_step byte at line lines None further is i b rest =
       let start = ap (λ (p : Place). p.line) is in
       stops_placed at line.line (line ∷ lines) (omega arith) (subst (IsCharBoundary text) (sym start) b)
   metadata_step byte at line lines (Some q) further is i b rest =
       metadata_line_placed at line q (closing_metadata_len byte line.rest.left) lines further is (i q refl) (λ n h. metadata_ends byte line.rest.left n h) b rest
 
-  pub metadata_placed : (byte : ℕ) (lines : List Place) (at : ℕ) → lines ≡ lines_from text at → IsCharBoundary text at → IsPlaced text at (metadata_lines (length text) path byte lines)
+  pub metadata_placed : (byte : ℕ) (lines : List Place) (at : ℕ) → lines ≡ lines_from text at → IsCharBoundary text at → IsFilled text at (metadata_lines (length text) path byte lines)
   unfolding metadata_lines
   metadata_placed byte [] at is b = no_lines_placed at (length text) refl b
   metadata_placed byte (line ∷ lines) at is b =
       let f = first_line text at line lines is in
-      metadata_step byte at line lines (taken path line) (metadata_lines (length text) path byte lines) f.1 (λ q h. taken_in at line q b f.1 h) b
+      metadata_step byte at line lines (taken path line) (metadata_lines (length text) path byte lines) f.1 (λ q h. taken_in at line q f.0 b f.1 h) b
       (metadata_placed byte lines (behind_line_at text at) f.2 (behind_is_boundary at b))
 
   -- the lines of an HTML block from a place on
-  place_placed : (p : Place) (e : Lines) → IsPlaceOf text p → IsPlaced text (line_end p) e → IsPlaced text (offset p) (with_line p e)
-  unfolding ArePlaced
-  place_placed p e i further = record { places = (omega arith, i, further.places); boundary = further.boundary }
-
-  further_placed : (at : ℕ) (q : Place) (e : Lines) → IsIn at q → IsPlaced text (offset q) e → IsPlaced text at e
-  further_placed at q e i placed = record { places = placed_from text at (offset q) e.«end» e.places (in_behind at q i) placed.places; boundary = placed.boundary }
+  place_filled : (at : ℕ) (p : Place) (e : Lines) → at ≤ offset p → at < line_end p → IsPlaceOf text p → IsFilled text (line_end p) e → IsFilled text at (with_line p e)
+  unfolding ArePlaced HaveBytes
+  place_filled at p e behind some i further = record { places = (behind, i, further.places); boundary = further.boundary; bytes = (some, further.bytes) }
 
   end_step : (tag : List ℕ) (at : ℕ) (line : Place) (lines : List Place) (o : Option Place) → line.line ≡ at → IsCharBoundary text at → ((q : Place) → o ≡ Some q → IsIn at q)
-      → ((q : Place) → IsIn at q → IsPlaced text (offset q) (until_end (length text) path tag q lines)) → IsPlaced text at (until_end_by (length text) line lines o (until_end (length text) path tag (place_or line o) lines))
+      → ((q : Place) → IsIn at q → IsFilled text at (until_end (length text) path tag q lines)) → IsFilled text at (until_end_by (length text) line lines o (until_end (length text) path tag (place_or line o) lines))
   end_step tag at line lines None start b i further = stops_placed at line.line (line ∷ lines) (omega arith) (subst (IsCharBoundary text) (sym start) b)
   end_step tag at line lines (Some q) start b i further =
-      cond_both (is_empty q.rest.left) (ends_at (length text) []) (until_end (length text) path tag q lines) (IsPlaced text at)
-      (λ none. no_lines_placed at (length text) refl b) (λ some. further_placed at q (until_end (length text) path tag q lines) (i q refl) (further q (i q refl)))
+      cond_both (is_empty q.rest.left) (ends_at (length text) []) (until_end (length text) path tag q lines) (IsFilled text at)
+      (λ none. no_lines_placed at (length text) refl b) (λ some. further q (i q refl))
 
-  pub until_end_placed : (tag : List ℕ) (lines : List Place) (p : Place) → IsPlaceOf text p → lines ≡ lines_from text (line_end p) → IsPlaced text (offset p) (until_end (length text) path tag p lines)
-  unfolding until_end
-  until_end_placed tag [] p i is = place_placed p (ends_at (length text) []) i (no_lines_placed (line_end p) (length text) refl (place_end text p u i))
-  until_end_placed tag (line ∷ lines) p i is =
+  -- the lines behind the first one, and all of them
+  end_behind : (tag : List ℕ) (lines : List Place) (p : Place) (line : Place) → IsPlaceOf text p → line ∷ lines ≡ lines_from text (line_end p)
+      → ((q : Place) → IsIn (line_end p) q → IsFilled text (line_end p) (until_end (length text) path tag q lines))
+      → IsFilled text (line_end p) (if holds tag (line_of p) then ends_at line.line (line ∷ lines) else until_end_by (length text) line lines (taken path line) (until_end (length text) path tag (place_or line (taken path line)) lines))
+  end_behind tag lines p line i is further =
       let f = first_line text (line_end p) line lines is in
       let b = place_end text p u i in
       let start = ap (λ (p : Place). p.line) f.1 in
-      place_placed p _ i
-      (cond_both (holds tag (line_of p)) (ends_at line.line (line ∷ lines)) (until_end_by (length text) line lines (taken path line) (until_end (length text) path tag (place_or line (taken path line)) lines)) (IsPlaced text (line_end p))
+      cond_both (holds tag (line_of p)) (ends_at line.line (line ∷ lines)) (until_end_by (length text) line lines (taken path line) (until_end (length text) path tag (place_or line (taken path line)) lines)) (IsFilled text (line_end p))
       (λ held. stops_placed (line_end p) line.line (line ∷ lines) (omega arith) (subst (IsCharBoundary text) (sym start) b))
-      (λ other. end_step tag (line_end p) line lines (taken path line) start b (λ q h. taken_in (line_end p) line q b f.1 h)
-      (λ q j. until_end_placed tag lines q j.stands (f.2 ∙ ap (lines_from text) (sym j.same_end)))))
+      (λ other. end_step tag (line_end p) line lines (taken path line) start b (λ q h. taken_in (line_end p) line q f.0 b f.1 h) further)
+
+  until_end_filled : (tag : List ℕ) (lines : List Place) (at : ℕ) (p : Place) → at ≤ offset p → at < line_end p → IsPlaceOf text p → lines ≡ lines_from text (line_end p) → IsFilled text at (until_end (length text) path tag p lines)
+  unfolding until_end
+  until_end_filled tag [] at p behind some i is = place_filled at p (ends_at (length text) []) behind some i (no_lines_placed (line_end p) (length text) refl (place_end text p u i))
+  until_end_filled tag (line ∷ lines) at p behind some i is =
+      let f = first_line text (line_end p) line lines is in
+      place_filled at p _ behind some i
+      (end_behind tag lines p line i is
+      (λ q j. until_end_filled tag lines (line_end p) q (in_behind (line_end p) q j) j.some j.stands (f.2 ∙ ap (lines_from text) (sym j.same_end))))
 
   blank_step : (at : ℕ) (line : Place) (lines : List Place) (o : Option Place) → line.line ≡ at → IsCharBoundary text at → ((q : Place) → o ≡ Some q → IsIn at q)
-      → ((q : Place) → IsIn at q → IsPlaced text (offset q) (until_blank (length text) path q lines)) → IsPlaced text at (until_blank_by line lines o (until_blank (length text) path (place_or line o) lines))
+      → ((q : Place) → IsIn at q → IsFilled text at (until_blank (length text) path q lines)) → IsFilled text at (until_blank_by line lines o (until_blank (length text) path (place_or line o) lines))
   blank_step at line lines None start b i further = stops_placed at line.line (line ∷ lines) (omega arith) (subst (IsCharBoundary text) (sym start) b)
   blank_step at line lines (Some q) start b i further =
-      cond_both (at_line_end q.rest.left) (ends_at line.line (line ∷ lines)) (if is_blank_rest q.rest then ends_at (offset q) (line ∷ lines) else until_blank (length text) path q lines) (IsPlaced text at)
+      cond_both (at_line_end q.rest.left) (ends_at line.line (line ∷ lines)) (if is_blank_rest q.rest then ends_at (offset q) (line ∷ lines) else until_blank (length text) path q lines) (IsFilled text at)
       (λ here. stops_placed at line.line (line ∷ lines) (omega arith) (subst (IsCharBoundary text) (sym start) b))
-      (λ other. cond_both (is_blank_rest q.rest) (ends_at (offset q) (line ∷ lines)) (until_blank (length text) path q lines) (IsPlaced text at)
+      (λ other. cond_both (is_blank_rest q.rest) (ends_at (offset q) (line ∷ lines)) (until_blank (length text) path q lines) (IsFilled text at)
       (λ blank. stops_placed at (offset q) (line ∷ lines) (in_behind at q (i q refl)) (i q refl).stands.boundary)
-      (λ more. further_placed at q (until_blank (length text) path q lines) (i q refl) (further q (i q refl))))
+      (λ more. further q (i q refl)))
 
-  pub until_blank_placed : (lines : List Place) (p : Place) → IsPlaceOf text p → lines ≡ lines_from text (line_end p) → IsPlaced text (offset p) (until_blank (length text) path p lines)
+  until_blank_filled : (lines : List Place) (at : ℕ) (p : Place) → at ≤ offset p → at < line_end p → IsPlaceOf text p → lines ≡ lines_from text (line_end p) → IsFilled text at (until_blank (length text) path p lines)
   unfolding until_blank
-  until_blank_placed [] p i is = place_placed p (ends_at (length text) []) i (no_lines_placed (line_end p) (length text) refl (place_end text p u i))
-  until_blank_placed (line ∷ lines) p i is =
+  until_blank_filled [] at p behind some i is = place_filled at p (ends_at (length text) []) behind some i (no_lines_placed (line_end p) (length text) refl (place_end text p u i))
+  until_blank_filled (line ∷ lines) at p behind some i is =
       let f = first_line text (line_end p) line lines is in
       let b = place_end text p u i in
-      place_placed p _ i (blank_step (line_end p) line lines (taken path line) (ap (λ (p : Place). p.line) f.1) b (λ q h. taken_in (line_end p) line q b f.1 h)
-      (λ q j. until_blank_placed lines q j.stands (f.2 ∙ ap (lines_from text) (sym j.same_end))))
+      place_filled at p _ behind some i (blank_step (line_end p) line lines (taken path line) (ap (λ (p : Place). p.line) f.1) b (λ q h. taken_in (line_end p) line q f.0 b f.1 h)
+      (λ q j. until_blank_filled lines (line_end p) q (in_behind (line_end p) q j) j.some j.stands (f.2 ∙ ap (lines_from text) (sym j.same_end))))
+
+  -- A block's first line has a byte where another follows.
+  only_placed : (p : Place) → IsPlaceOf text p → IsPlaced text (offset p) (with_line p (ends_at (length text) []))
+  unfolding ArePlaced
+  only_placed p i = (let f = no_lines_placed (line_end p) (length text) refl (place_end text p u i) in record { places = (omega arith, i, f.places); boundary = f.boundary; few = inl (omega arith) })
+
+  first_some : (p : Place) → IsPlaceOf text p → line_end p < length text → offset p < line_end p
+  first_some p i w =
+      let l = place_length text p i in
+      let some = line_len-some p.rest.left (omega arith) in
+      omega arith
+
+  end_placed : (tag : List ℕ) (lines : List Place) (p : Place) → IsPlaceOf text p → lines ≡ lines_from text (line_end p) → IsPlaced text (offset p) (until_end (length text) path tag p lines)
+  unfolding until_end
+  end_placed tag [] p i is = only_placed p i
+  end_placed tag (line ∷ lines) p i is =
+      filled_placed text (offset p) _ (until_end_filled tag (line ∷ lines) (offset p) p (omega arith) (first_some p i (first_line text (line_end p) line lines is).0) i is)
+
+  blank_placed : (lines : List Place) (p : Place) → IsPlaceOf text p → lines ≡ lines_from text (line_end p) → IsPlaced text (offset p) (until_blank (length text) path p lines)
+  unfolding until_blank
+  blank_placed [] p i is = only_placed p i
+  blank_placed (line ∷ lines) p i is =
+      filled_placed text (offset p) _ (until_blank_filled (line ∷ lines) (offset p) p (omega arith) (first_some p i (first_line text (line_end p) line lines is).0) i is)
 
   -- where the line of a place ends
   place_line : (p : Place) → IsPlaceOf text p → behind_line_at text (offset p) ≡ line_end p
   place_line p i = ap (λ bs. offset p + line_len bs) (sym i.left)
 
-  later_placed : (start at : ℕ) (e : Lines) → start ≤ at → IsPlaced text at e → IsPlaced text start e
-  later_placed start at e order placed = record { places = placed_from text start at e.«end» e.places order placed.places; boundary = placed.boundary }
+  later_bytes : (start at : ℕ) (ps : List Place) → start ≤ at → HaveBytes at ps → HaveBytes start ps
+  unfolding HaveBytes
+  later_bytes start at [] order some = tt
+  later_bytes start at (p ∷ ps) order some = (let a = some.0 in omega arith, some.1)
+
+  later_placed : (start at : ℕ) (e : Lines) → start ≤ at → IsFilled text at e → IsPlaced text start e
+  later_placed start at e order filled = record { places = placed_from text start at e.«end» e.places order filled.places; boundary = filled.boundary; few = inr (later_bytes start at e.places order filled.bytes) }
 
   -- The lines of each raw leaf block are placed in the text, from where it begins.
   pub indented_behind_placed : (p : Place) → IsPlaceOf text p → (let all = code_behind text path (offset p) in ArePlaced text (offset p) (p ∷ all.0) (start_of (length text) all.1))
@@ -571,6 +739,27 @@ module _ (text : List ℕ) (u : IsUtf8 text) (path : List Container) where
   indented_behind_placed p i =
       let b = behind_is_boundary (offset p) i.boundary in
       (omega arith, i, subst (λ k. let all = code_behind text path (offset p) in ArePlaced text k all.0 (start_of (length text) all.1)) (place_line p i) (code_placed (lines_from text (behind_line_at text (offset p))) (behind_line_at text (offset p)) refl b))
+
+  code_bytes_by : (at : ℕ) (lines : List Place) (line : Place) (o : Option Place) (further : List Place × List Place) → ((q : Place) → o ≡ Some q → IsIn at q) → HaveBytes (behind_line_at text at) further.0
+      → HaveBytes at (code_by lines (line ∷ lines) o further).0
+  unfolding HaveBytes
+  code_bytes_by at lines line None further i rest = tt
+  code_bytes_by at lines line (Some q) further i rest = (let j = i q refl in (j.some, subst (λ k. HaveBytes k further.0) (sym j.same_end) rest))
+
+  code_bytes : (lines : List Place) (at : ℕ) → lines ≡ lines_from text at → IsCharBoundary text at → HaveBytes at (code_lines path lines).0
+  unfolding HaveBytes code_lines
+  code_bytes [] at is b = tt
+  code_bytes (line ∷ lines) at is b =
+      let f = first_line text at line lines is in
+      code_bytes_by at lines line (code_place path line) (code_lines path lines) (λ q h. code_in at q (taken path line) (λ q h. taken_in at line q f.0 b f.1 h) h) (code_bytes lines (behind_line_at text at) f.2 (behind_is_boundary at b))
+
+  indented_few : (lines : List Place) (p : Place) → IsPlaceOf text p → lines ≡ lines_from text (line_end p) → AreFew (offset p) (p ∷ (code_lines path lines).0)
+  unfolding HaveBytes code_lines
+  indented_few [] p i is = inl (omega arith)
+  indented_few (line ∷ lines) p i is = inr (first_some p i (first_line text (line_end p) line lines is).0, code_bytes (line ∷ lines) (line_end p) is (place_end text p u i))
+
+  pub indented_behind_few : (p : Place) → IsPlaceOf text p → AreFew (offset p) (p ∷ (code_behind text path (offset p)).0)
+  indented_behind_few p i = indented_few (lines_from text (behind_line_at text (offset p))) p i (ap (lines_from text) (place_line p i))
 
   pub fenced_behind_placed : (columns byte count start : ℕ) → IsCharBoundary text start → IsPlaced text start (fenced_behind text path columns byte count start)
   fenced_behind_placed columns byte count start b =
@@ -581,10 +770,10 @@ module _ (text : List ℕ) (u : IsUtf8 text) (path : List Container) where
       later_placed start (behind_line_at text start) _ (omega arith) (metadata_placed byte (lines_from text (behind_line_at text start)) (behind_line_at text start) refl (behind_is_boundary start b))
 
   pub to_end_placed : (tag : List ℕ) (p : Place) → IsPlaceOf text p → IsPlaced text (offset p) (html_to_end text path tag p)
-  to_end_placed tag p i = until_end_placed tag (lines_from text (behind_line_at text (offset p))) p i (ap (lines_from text) (place_line p i))
+  to_end_placed tag p i = end_placed tag (lines_from text (behind_line_at text (offset p))) p i (ap (lines_from text) (place_line p i))
 
   pub to_blank_placed : (p : Place) → IsPlaceOf text p → IsPlaced text (offset p) (html_to_blank text path p)
-  to_blank_placed p i = until_blank_placed (lines_from text (behind_line_at text (offset p))) p i (ap (lines_from text) (place_line p i))
+  to_blank_placed p i = blank_placed (lines_from text (behind_line_at text (offset p))) p i (ap (lines_from text) (place_line p i))
 
   -- where the lines begin behind one
   left_start : (at : ℕ) (lines : List Place) → IsCharBoundary text at → lines ≡ lines_from text (behind_line_at text at) → start_of (length text) lines ≡ behind_line_at text at
@@ -617,7 +806,7 @@ module _ (text : List ℕ) (u : IsUtf8 text) (path : List Container) where
   fenced_before columns byte count [] at plain is b = omega arith
   fenced_before columns byte count (line ∷ lines) at plain is b =
       let f = first_line text at line lines is in
-      fenced_before_step columns byte count at line lines (taken path line) (fenced_lines (length text) path columns byte count lines) plain (λ q h. taken_in at line q b f.1 h) (left_start at lines b f.2)
+      fenced_before_step columns byte count at line lines (taken path line) (fenced_lines (length text) path columns byte count lines) plain (λ q h. taken_in at line q f.0 b f.1 h) (left_start at lines b f.2)
       (fenced_before columns byte count lines (behind_line_at text at) plain f.2 (behind_is_boundary at b))
 
   metadata_line_before : (at : ℕ) (line q : Place) (o : Option ℕ) (lines : List Place) (further : Lines) → ((n : ℕ) → o ≡ Some n → line.line + n ≤ start_of (length text) lines) → EndsBefore text further → EndsBefore text (metadata_line line q o lines further)
