@@ -1,4 +1,5 @@
 pub mod BlankBehind
+pub mod CountLemmas
 pub mod EnterLemmas
 pub mod FinishLemmas
 pub mod KindBlocks

@@ -73,7 +73,7 @@ ordered_appended text f a b x between within h =
 
 -- a block added
 pub ordered_added : (text : List ℕ) (f : Forest Item) (a b : ℕ) (items : List (ℕ × Item)) → FitsBetween text a b items → b ≤ length text → IsOrderedTo text f a → IsOrderedTo text (added f items) b
-ordered_added text f a b items (row, is, fits) within h =
+ordered_added text f a b items (row, is, fits, few) within h =
     let d : ℕ = length f.spine + 1 in
     let z : d + 0 ≡ suc (length f.spine) = omega arith in
     let block : extents (at_depth d items) ≡ laid (suc (length f.spine)) row =

@@ -1,7 +1,8 @@
 -- What is said of a container that is opened (private functions alone cite this).
-use Rattle.std.specs.Prelude.{◌≡◌, ◌⊎◌, ℕ, ◌<◌, false, List, length, Option, Some, None, if◌then◌else◌}
+use Rattle.std.specs.Prelude.{◌≡◌, ◌⊎◌, ℕ, ◌<◌, ◌≤◌, false, List, length, Option, Some, None, if◌then◌else◌}
 use Rattle.first_pass_items.specs.declared.item.Item.{Item}
 use Rattle.first_pass_tree.specs.Forest.{Forest, is_text}
+use Rattle.first_pass_grammar.specs.Order.{GrowsBy}
 use Rattle.first_pass_grammar.specs.OpenOrder.{IsOrderedTo}
 use Rattle.first_pass.specs.Ordered.{IsOrderedAt}
 use Rattle.first_pass_text.specs.Between.{StandsBefore}
@@ -97,3 +98,23 @@ OrderedBehind text r line at (Tag next) = IsOrderedTo text r.tree next
 abbrev pub OrderedIn : List ℕ → Reading → ℕ → ℕ → Option Behind → Type 0
 OrderedIn text r line at None = IsOrderedTo text r.tree (line_or r.tree line at)
 OrderedIn text r line at (Some behind) = OrderedBehind text r line at behind
+
+-- Nodes became others, at most four more for each byte of a line up to where a task list item marker may stand, which is before an offset.
+pub record GrowsText (text : List ℕ) (line : ℕ) (old new : List (ℕ × Item)) (marker : Item) (at : ℕ) : Type 0 where
+  pub from : ℕ
+  pub grows : GrowsBy line from old new
+  pub order : line ≤ from
+  pub stands : StandsBefore text from at (Some marker)
+  pub before : from < at
+
+-- how many more nodes there are, in a line that begins at an offset and whose reading has come to another, or behind it
+abbrev pub GrowsBehind : List ℕ → ℕ → List (ℕ × Item) → List (ℕ × Item) → ℕ → Behind → Type 0
+GrowsBehind text line old new at BehindLeaf = GrowsBy line at old new
+GrowsBehind text line old new at (TaskText marker) = GrowsText text line old new marker at
+GrowsBehind text line old new at (NextLine next) = GrowsBy line next old new
+GrowsBehind text line old new at (Tag next) = GrowsBy line next old new
+
+-- the same where a container was opened, or it is known what is behind the containers
+abbrev pub GrowsIn : List ℕ → ℕ → List (ℕ × Item) → List (ℕ × Item) → ℕ → Option Behind → Type 0
+GrowsIn text line old new at None = GrowsBy line at old new
+GrowsIn text line old new at (Some behind) = GrowsBehind text line old new at behind

@@ -14,7 +14,8 @@ ghost use Rattle.first_pass_scan.specs.Lines.{line_len};
 ghost use Rattle.first_pass_grammar.specs.Skeleton.{Inside, task_behind, tag_behind};
 ghost use Rattle.first_pass_grammar.specs.Completion.{lines_from};
 ghost use Rattle.first_pass.specs.State.{NoMore, Ready, ReadyAt};
-ghost use Rattle.first_pass.specs.Opening.{IsOpenedAt, ReadyIn, IsBehind, task_text, ReadyBehind, line_or, OrderedIn, OrderedBehind};
+ghost use Rattle.first_pass.specs.Opening.{IsOpenedAt, ReadyIn, IsBehind, task_text, ReadyBehind, line_or, OrderedIn, OrderedBehind, GrowsIn, GrowsBehind};
+ghost use Rattle.first_pass_grammar.specs.Order.{GrowsBy};
 ghost use Rattle.first_pass.specs.Ordered.{IsOrderedAt};
 ghost use Rattle.first_pass_grammar.specs.OpenOrder.{IsOrderedTo};
 
@@ -56,6 +57,7 @@ pub(crate) fn close_containers(reading: &mut Reading, kept: usize, ix: usize)
         → Ready d reading.new lines }
     ensures order { (text : List ℕ) → ix ≤ length text → IsCharBoundary text ix → IsOrderedAt text reading.old ix
         → IsOrderedAt text reading.new ix }
+    ensures none_added { length reading.new.tree.nodes ≡ length reading.old.tree.nodes }
 {
     while kept < reading.tree.spine_len() {
         reading.tree.is_forest();
@@ -89,6 +91,7 @@ pub(crate) fn enter_line<'a>(
         → MatchOption result
         (IsOrderedAt source.entry.text.now reading.new (start_ix + line_len (drop start_ix source.entry.text.now)))
         (λ line_start. IsOrderedTo source.entry.text.now reading.new.tree start_ix) }
+    ensures none_added { length reading.new.tree.nodes ≡ length reading.old.tree.nodes }
 {
     let mut line_start = LineStart::new(rest_of(source.text.as_bytes(), start_ix));
     let kept = scan_containers(&reading.tree, &mut line_start, source.options, false);
@@ -128,6 +131,8 @@ pub(crate) fn open_containers<'a>(
         → IsOrderedTo source.entry.text.now reading.old.tree (line_or reading.old.tree start_ix
         (offset (place_at start_ix line_start.old)))
         → OrderedBehind source.entry.text.now reading.new start_ix (offset (place_at start_ix line_start.new)) answer) }
+    ensures few { IfOk result (λ answer. GrowsBehind source.entry.text.now start_ix reading.old.tree.nodes
+        reading.new.tree.nodes (offset (place_at start_ix line_start.new)) answer) }
 {
     loop {
         if let Some(behind) = open_container(reading, source, start_ix, line_start)? {
@@ -164,6 +169,10 @@ fn open_container<'a>(
         → IsOrderedTo source.entry.text.now reading.old.tree (line_or reading.old.tree start_ix
         (offset (place_at start_ix line_start.old)))
         → OrderedIn source.entry.text.now reading.new start_ix (offset (place_at start_ix line_start.new)) answer) }
+    ensures few { IfOk result (λ answer. (first : List (ℕ × Item))
+        → GrowsBy start_ix (offset (place_at start_ix line_start.old)) first reading.old.tree.nodes
+        → GrowsIn source.entry.text.now start_ix first reading.new.tree.nodes
+        (offset (place_at start_ix line_start.new)) answer) }
 {
     reading.tree.is_forest();
     let before = start_ix + line_start.bytes_scanned();

@@ -1,6 +1,6 @@
 //! The block pass: the lines of a text, one block after the other.
 
-ghost use Rattle.std.specs.Prelude.{◌≡◌, ◌<◌, ◌≤◌, min, false, [], length, None, Some, IsSome, slice_get, IfOk, IfSome, OnOk, IsUtf8, IsCharBoundary, ℕ};
+ghost use Rattle.std.specs.Prelude.{◌≡◌, ◌<◌, ◌≤◌, ◌+◌, ◌-◌, ◌*◌, min, false, [], length, None, Some, IsSome, slice_get, IfOk, IfSome, OnOk, IsUtf8, IsCharBoundary, ℕ};
 ghost use Rattle.first_pass_scan.specs.Places.{place_at, offset, line_end, IsPlaceOf};
 ghost use Rattle.first_pass_walk.specs.Walk.{MarksSpecial};
 ghost use Rattle.first_pass_scan.specs.MetadataSearch.{IsKnownOf};
@@ -22,8 +22,8 @@ ghost use Rattle.first_pass.specs.Adding.{AddsKind, IsMarked};
 ghost use Rattle.first_pass.specs.Opening.{ReadyText, ReadyTagged, ReadyLeaf, line_or, OrderedText};
 ghost use Rattle.first_pass_lists.specs.Closing.{with_tree};
 ghost use Rattle.first_pass.specs.Ordered.{IsOrderedAt};
-ghost use Rattle.first_pass_text.specs.Between.{AddsBetween};
-ghost use Rattle.first_pass_grammar.specs.Order.{IsOrdered};
+ghost use Rattle.first_pass_text.specs.Between.{AddsBetween, StandsBefore};
+ghost use Rattle.first_pass_grammar.specs.Order.{IsOrdered, GrowsBy};
 ghost use Rattle.first_pass_grammar.specs.OpenOrder.{IsOrderedTo};
 ghost use Rattle.first_pass.specs.State.{Ready, ReadyAt};
 ghost use Rattle.first_pass_names.specs.TableEntries.{tables, no_tables, names_of};
@@ -88,6 +88,7 @@ impl<'a> FirstPass<'a> {
         ensures ready { IfOk result (λ pass. (names : Names)
             → Ready (document text.now options names) pass.reading (lines_from text.now 0)) }
         ensures order { IfOk result (λ pass. IsOrderedAt text.now pass.reading 0) }
+        ensures root { IfOk result (λ pass. length pass.reading.tree.nodes ≡ 1) }
     {
         // A guess at how many nodes the text will have: pages of it that are never reached cost nothing.
         let capacity = max(128, text.len() / 12);
@@ -113,7 +114,7 @@ impl<'a> FirstPass<'a> {
     /// Open containers that the line doesn't go on with are closed, and those that begin in it are opened.
     ///
     /// Where the nodes so far begin a derivation of the text that goes on at `start_ix`, they begin one
-    /// then that goes on at the answer.
+    /// then that goes on at the answer. At most four nodes are added for each byte that is read.
     pub fn parse_block(&mut self, start_ix: usize) -> Result<usize, AllocError>
         requires within { start_ix < length self.old.source.text.now }
         requires boundary { IsCharBoundary self.old.source.text.now start_ix }
@@ -129,6 +130,8 @@ impl<'a> FirstPass<'a> {
             (lines_from self.old.source.text.now next)) }
         ensures order { IfOk result (λ next. IsOrderedAt self.old.source.text.now self.old.reading start_ix
             → IsOrderedAt self.old.source.text.now self.new.reading next) }
+        ensures few { IfOk result (λ next. GrowsBy start_ix next self.old.reading.tree.nodes
+            self.new.reading.tree.nodes) }
     {
         let Some(mut line_start) = enter_line(&mut self.reading, self.source, start_ix) else {
             return Ok(next_line(self.source.text.as_bytes(), start_ix));
@@ -167,6 +170,8 @@ impl<'a> FirstPass<'a> {
             (lines_from self.old.source.text.now next)) }
         ensures order { IfOk result (λ next. IsOrderedTo self.old.source.text.now self.old.reading.tree start
             → IsOrderedAt self.old.source.text.now self.new.reading next) }
+        ensures few { IfOk result (λ next. GrowsBy start next self.old.reading.tree.nodes
+            self.new.reading.tree.nodes) }
     {
         match lazy_leaf(self.alloc, self.source, start, &self.reading.tree)? {
             None => Ok(start),
@@ -202,6 +207,9 @@ impl<'a> FirstPass<'a> {
         ensures order { IfOk result (λ next. OrderedText self.old.source.text.now self.old.reading.tree marker
             (offset (place_at start_ix line_start.entry))
             → IsOrderedAt self.old.source.text.now self.new.reading next) }
+        ensures few { IfOk result (λ next. (from : ℕ) → StandsBefore self.old.source.text.now from
+            (offset (place_at start_ix line_start.entry)) (Some marker) → from < next
+            → GrowsBy from next self.old.reading.tree.nodes self.new.reading.tree.nodes) }
     {
         self.source.is_short();
         let mut line_start = line_start;
@@ -235,6 +243,8 @@ impl<'a> FirstPass<'a> {
             → IsOrderedTo self.old.source.text.now self.old.reading.tree (line_or self.old.reading.tree start_ix
             (offset (place_at start_ix line_start.entry)))
             → IsOrderedAt self.old.source.text.now self.new.reading next) }
+        ensures few { IfOk result (λ next. GrowsBy (offset (place_at start_ix line_start.entry)) next
+            self.old.reading.tree.nodes self.new.reading.tree.nodes) }
     {
         self.source.is_short();
         let before = line_start.copy();
@@ -282,6 +292,8 @@ impl<'a> FirstPass<'a> {
             → IsOrderedTo self.old.source.text.now self.old.reading.tree (line_or self.old.reading.tree start_ix
             (offset (place_at start_ix before.entry)))
             → IsOrderedAt self.old.source.text.now self.new.reading next) }
+        ensures few { IfOk result (λ next. GrowsBy (offset (place_at start_ix before.entry)) next
+            self.old.reading.tree.nodes self.new.reading.tree.nodes) }
     {
         self.reading.tree.is_forest();
         match kind {
@@ -370,7 +382,8 @@ impl<'a> FirstPass<'a> {
     /// offset `start` into the text, of which nothing counts from the offset `end` on.
     ///
     /// Answers the offset behind the line's end, and its break, which is not appended; `None` where the
-    /// text ends without a line end (CommonMark 2.4, 6.7, 6.8). No mode makes a difference yet.
+    /// text ends without a line end (CommonMark 2.4, 6.7, 6.8). At most one node is added for each byte that is
+    /// read. No mode makes a difference yet.
     #[inline(always)]
     pub fn parse_line(
         &mut self,
@@ -395,6 +408,8 @@ impl<'a> FirstPass<'a> {
             → IsCharBoundary self.old.source.text.now start → (from : ℕ) → from ≤ start
             → IsOrderedTo self.old.source.text.now self.old.reading.tree from
             → IsOrderedTo self.old.source.text.now self.new.reading.tree answer.0) }
+        ensures few { IfOk result (λ answer.
+            length self.new.reading.tree.nodes ≤ length self.old.reading.tree.nodes + (answer.0 - start)) }
     {
         self.reading.tree.is_forest();
         let bytes = text_upto(self.source.text, end);
@@ -410,8 +425,8 @@ impl<'a> FirstPass<'a> {
 }
 
 /// Reads the blocks of a text: the finished tree that the block grammar derives from the text's lines
-/// under these options, and the tables of what the text defines. The one error is that a request for
-/// memory was refused.
+/// under these options, and the tables of what the text defines. The tree has at most four nodes for each
+/// byte, besides its root. The one error is that a request for memory was refused.
 pub fn run_first_pass<'a>(
     alloc: Global,
     text: &'a str,
@@ -421,6 +436,7 @@ pub fn run_first_pass<'a>(
         (tables answer.1)) }
     ensures finished { IfOk result (λ answer. answer.0.spine ≡ []) }
     ensures order { IfOk result (λ answer. IsOrdered text.now answer.0.nodes) }
+    ensures few { IfOk result (λ answer. length answer.0.nodes ≤ 1 + 4 * length text.now) }
 {
     let mut pass = FirstPass::new(alloc, text, options)?;
     let mut ix = 0;

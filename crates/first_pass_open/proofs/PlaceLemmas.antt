@@ -202,6 +202,12 @@ task_keeps text line r task u h i =
     let a = columns_shorter 3 r in
     (marked-keeps text line (after_columns 3 r) task.1 u m (columns_keep text 3 (place_at line r) u i), marked-line_end line (after_columns 3 r) task.1 m ∙ columns_line_end 3 (place_at line r), omega arith)
 
+pub task_shorter : (r : Rest) (task : Bool × Rest) → task_of r ≡ Some task → length task.1.left < length r.left
+task_shorter r task h =
+    let s = marked_shorter (after_columns 3 r) task.1 (task-marked r task h) in
+    let a = columns_shorter 3 r in
+    omega arith
+
 pub task_found : (o : Option (Bool × Rest)) (found : Option Bool) (checked : Bool) (old new : Rest) → found ≡ Some checked → MatchOption o ((found ≡ None) × (new ≡ old)) (λ task. (found ≡ Some task.0) × (new ≡ task.1)) → o ≡ Some (checked, new)
 task_found None found checked old new e h = (let z : None ≡ Some checked = sym h.0 ∙ e in cc)
 task_found (Some task) found checked old new e h = (let z : Some task.0 ≡ Some checked = sym h.0 ∙ e in let w : task.0 ≡ checked = cc in

@@ -154,8 +154,8 @@ few_tokens f (x ∷ xs) =
     omega arith
 
 -- what is appended of a line has at most as many nodes as bytes
-pub few_of_line : {s : Source} {old new : Forest Item} {answer : ℕ × Option Item} → s.start ≤ length s.text → AppendsLine s old new answer → length new.nodes ≤ length old.nodes + (answer.0 - s.start)
-few_of_line {s} {old} {new} {answer} within line =
+pub few_of_line : {s : Source} {old new : Forest Item} {answer : ℕ × Option Item} → AppendsLine s old new answer → length new.nodes ≤ length old.nodes + (answer.0 - s.start)
+few_of_line {s} {old} {new} {answer} line =
     let few = few_in_line line.line in
     let tree = few_tokens old line.tokens in
     let same = ap (λ (f : Forest Item). length f.nodes) line.tree_is in

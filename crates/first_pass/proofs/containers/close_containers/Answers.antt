@@ -1,6 +1,7 @@
-use Rattle.std.proofs.Common.{sym, subst, arith}
+use Rattle.std.proofs.Common.{refl, sym, ap, subst, ◌∙◌, arith}
 use Rattle.first_pass_lists.specs.declared.reading.Reading.{Reading}
 use Rattle.first_pass.specs.Ordered.{IsOrderedAt}
+use Rattle.first_pass.proofs.CountLemmas.{count, popped_count}
 use Rattle.first_pass.proofs.OrderLemmas.{ordered_popped}
 use Rattle.first_pass.proofs.StateLemmas.{closed_none, closed_one}
 use Rattle.first_pass.proofs.containers.close_containers.Goals as goal
@@ -9,6 +10,7 @@ pub loop-reading-init : goal.loop-reading-init
 loop-reading-init c = record {
   closed = closed_none c.args.reading.now c.args.kept c.args.ix c.requires;
   order = λ text within boundary ordered. ordered;
+  none_added = refl;
 }
 
 pub loop-reading-preserved : goal.loop-reading-preserved
@@ -21,6 +23,7 @@ loop-reading-preserved c =
       closed = one.0;
       order = λ text within boundary ordered. subst (λ (q : Reading). IsOrderedAt text q c.args.ix) (sym c.pop.ensures)
           (ordered_popped text _ c.args.ix c.args.ix (omega arith) within boundary (i.order text within boundary ordered));
+      none_added = ap count c.pop.ensures ∙ popped_count c.args.ix _ ∙ i.none_added;
     }
 
 pub loop-reading-smaller : goal.loop-reading-smaller
@@ -31,3 +34,6 @@ loop-reading-smaller c =
 
 pub returns-clause-order : goal.returns-clause-order
 returns-clause-order c = c.loop-reading.invariant.order
+
+pub returns-clause-none_added : goal.returns-clause-none_added
+returns-clause-none_added c = c.loop-reading.invariant.none_added

@@ -1,4 +1,4 @@
-use Rattle.std.proofs.Common.{◌≤◌, ℕ, List, length, IsCharBoundary}
+use Rattle.std.proofs.Common.{◌≡◌, ◌≤◌, ℕ, List, length, IsCharBoundary}
 use Rattle.first_pass.specs.Ordered.{IsOrderedAt}
 use Rattle.first_pass.proofs.StateLemmas.{ClosedSoFar}
 use Rattle.first_pass.proofs.containers.close_containers.Given as goal
@@ -8,6 +8,7 @@ abbrev pub invariant-loop-reading : goal.invariant-loop-reading
 invariant-loop-reading l = record {
   closed : ClosedSoFar l.initial.reading l.reading l.kept l.ix;
   order : (text : List ℕ) → l.ix ≤ length text → IsCharBoundary text l.ix → IsOrderedAt text l.initial.reading l.ix → IsOrderedAt text l.reading l.ix;
+  none_added : length l.reading.tree.nodes ≡ length l.initial.reading.tree.nodes;
 }
 
 abbrev pub decreases-loop-reading : goal.decreases-loop-reading

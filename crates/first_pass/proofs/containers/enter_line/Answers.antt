@@ -9,6 +9,7 @@ use Rattle.first_pass_lists.specs.declared.reading.Reading.{Reading}
 use Rattle.first_pass.specs.Ordered.{IsOrderedAt}
 use Rattle.first_pass_grammar.specs.OpenOrder.{IsOrderedTo}
 use Rattle.first_pass_scan.proofs.LineFacts.{line_len-within}
+use Rattle.first_pass.proofs.CountLemmas.{count, item_finished_count, blank_count}
 use Rattle.first_pass.proofs.OrderLemmas.{ordered_item_finished, ordered_blank_read}
 use Rattle.first_pass.proofs.OrderSteps.{ordered_tree}
 use Rattle.first_pass.specs.State.{Ready, ReadyAt}
@@ -68,3 +69,9 @@ returns-clause-order c =
     let w = c.requires.within in
     λ ordered. subst (λ (q : Reading). IsOrderedTo text q.tree start) (sym c.finish_empty_list_item.ensures)
     (ordered_tree text (item_finished closed) start (finished_none closed) (ordered_item_finished text closed start (c.close_containers.ensures.order text (omega arith) c.requires.boundary ordered)))
+
+pub returns-then-is_some-clause-none_added : goal.returns-then-is_some-clause-none_added
+returns-then-is_some-clause-none_added c = ap count c.read_blank_line.ensures ∙ blank_count c.close_containers.new.reading ∙ c.close_containers.ensures.none_added
+
+pub returns-clause-none_added : goal.returns-clause-none_added
+returns-clause-none_added c = ap count c.finish_empty_list_item.ensures ∙ item_finished_count c.close_containers.new.reading ∙ c.close_containers.ensures.none_added

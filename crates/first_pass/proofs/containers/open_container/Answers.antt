@@ -2,6 +2,7 @@ use Rattle.std.proofs.Common.{◌≡◌, ℕ, ◌+◌, length, drop, Option, Som
 use Rattle.first_pass_items.specs.declared.item.Item.{Item}
 use Rattle.first_pass_items.specs.declared.item.BlockQuoteKind.{BlockQuoteKind}
 use Rattle.first_pass_items.specs.declared.item.ItemBody.TheVariants.{BlockQuote as BlockQuoteBody, ListItem as ListItemBody}
+use Rattle.first_pass_tree.specs.Forest.{Forest}
 use Rattle.first_pass_scan.specs.Lines.{blank_len, line_len}
 use Rattle.first_pass_scan.specs.Rest.{Rest, after_columns}
 use Rattle.first_pass_scan.specs.Places.{place_at, offset, line_end, start_of}
@@ -14,14 +15,15 @@ use Rattle.first_pass_grammar.specs.Skeleton.{Inside, task_behind}
 use Rattle.first_pass_grammar.specs.Completion.{lines_from}
 use Rattle.first_pass_lists.specs.Closing.{remembered, is_list, begun, list_finished, list_continued}
 use Rattle.first_pass_lists.specs.declared.reading.Reading.{Reading}
-use Rattle.first_pass.specs.Opening.{IsOpenedAt, task_text, ReadyIn, ReadyTagged, line_or, OrderedIn}
+use Rattle.first_pass.specs.Opening.{IsOpenedAt, task_text, ReadyIn, ReadyTagged, line_or, OrderedIn, GrowsIn}
 use Rattle.first_pass.specs.Ordered.{IsOrderedAt}
 use Rattle.first_pass_grammar.specs.OpenOrder.{IsOrderedTo}
 use Rattle.first_pass_open.specs.OpenBlock.{with_child}
 use Rattle.first_pass.specs.State.{Ready, ReadyAt}
-use Rattle.first_pass_open.proofs.PlaceLemmas.{item_found, item_keeps, item_shorter, item_absent, markers_keep, mark_is_no_text, quote_taken, prefix_keeps, quote_prefix_shorter, place_end, read_end}
+use Rattle.first_pass_open.proofs.PlaceLemmas.{item_found, item_keeps, item_shorter, item_absent, behind_keeps, markers_keep, mark_is_no_text, quote_taken, prefix_keeps, quote_prefix_shorter, place_end, read_end}
 use Rattle.first_pass.proofs.LineLemmas.{list_finished_none, list_continued_none}
 use Rattle.first_pass.proofs.OrderLemmas.{ordered_later}
+use Rattle.first_pass.proofs.CountLemmas.{count, item_count, quote_count, child_count, left_before, offset_before, mark_shorter, container_count}
 use Rattle.first_pass.proofs.OrderSteps.{offset_later, ordered_on, top_begun, ordered_item, ordered_quote, mark_stands, ordered_container, ordered_empty_item, quote_stands, place_before_end}
 use Rattle.first_pass.proofs.OpenerLemmas.{item_opened, ready_item, empty_item_read, ready_empty_item, ready_quote, ready_tagged, opened_behind, ready_behind}
 use Rattle.first_pass.proofs.containers.open_container.Goals as goal
@@ -335,3 +337,75 @@ returns-in-Some-scan_quote-clause-order c =
     λ first ordered. subst (λ (q : Reading). IsOrderedTo text q.tree next) (sym c.in_ok-open_quote.ensures)
     (ordered_later text quote.tree (line + at) next (omega arith) at_end.0
     (ordered_quote text old line (offset (place_at line r)) (line + at) c.scan_tag-tag.result (omega arith) s.0 s.2.0 first s.2 c.requires.no_empty ordered))
+
+pub returns-then-is_none-clause-few : goal.returns-then-is_none-clause-few
+returns-then-is_none-clause-few c =
+    let text = c.args.source.text.now in
+    let options = c.args.source.options in
+    let line = c.args.start_ix in
+    let r : Rest = c.args.line_start.now in
+    let behind : Rest = c.scan_item.new.line_start in
+    let rest : Rest = c.scan_task-marker.new.line_start in
+    let start : ℕ = offset (place_at line r) in
+    let mid : ℕ = offset (place_at line behind) in
+    let at : ℕ = offset (place_at line rest) in
+    let marker : Option Item = c.scan_task-marker.result in
+    let old : Reading = c.args.reading.now in
+    let i = c.requires.place in
+    let j = markers_keep text _ line r _ rest c.requires.utf8 (taken c) c.scan_task-marker.ensures.rest i in
+    let k = item_keeps text line r _ c.requires.utf8 (taken c) i in
+    let first_marker = offset_before text line r behind i k.0 (item_shorter r _ (taken c)) in
+    let less = (behind_keeps text options line behind c.requires.utf8 k.0).2 in
+    let same = ap (λ (q : Rest). length q.left) c.scan_task-marker.ensures.rest in
+    let opened : Reading = item_opened start c.in-Some.byte c.in-Some.number c.in-Some.indent old in
+    λ first grows. subst (GrowsIn text line first c.open_item.new.self.tree.nodes at) (sym c.behind_marker.ensures)
+    (subst (λ (q : Reading). GrowsIn text line first q.tree.nodes at (task_text marker)) (sym (opened_is c))
+    (container_count text line start mid at first old.tree.nodes opened.tree.nodes marker grows (item_count start c.in-Some.byte c.in-Some.number c.in-Some.indent old) (omega arith) first_marker
+    (offset_later text line behind rest k.0 j.0 (omega arith))
+    (λ x some. (
+      mark_stands text options line behind rest mid marker x c.requires.utf8 k.0 (omega arith) c.scan_task-marker.ensures.marker c.scan_task-marker.ensures.rest some,
+      offset_before text line behind rest k.0 j.0 (mark_shorter options line behind rest marker x c.scan_task-marker.ensures.marker c.scan_task-marker.ensures.rest some),
+    ))))
+
+pub returns-in-Some-clause-few : goal.returns-in-Some-clause-few
+returns-in-Some-clause-few c =
+    let line = c.args.start_ix in
+    let r : Rest = c.args.line_start.now in
+    let start : ℕ = offset (place_at line r) in
+    let marker : Option Item = c.scan_task-marker.result in
+    let old : Reading = c.args.reading.now in
+    let item : Reading = c.open_item.new.self in
+    let shorter = item_shorter r _ (taken_empty c) in
+    let ends = next_is c in
+    let some = left_before (place_at line r) (omega arith) in
+    let now : item ≡ item_opened start c.in-Some.byte c.in-Some.number c.in-Some.indent old =
+    c.in_ok-open_item.ensures ∙ ap (λ n. item_opened (line + n) c.in-Some.byte c.in-Some.number c.in-Some.indent old) c.bytes_scanned.ensures in
+    let two = item_count start c.in-Some.byte c.in-Some.number c.in-Some.indent old in
+    let same = ap count now in
+    let one = child_count item.tree marker in
+    let tree = ap (λ (f : Forest Item). length f.nodes) c.in_ok-append_item.ensures in
+    λ first grows. omega arith
+
+pub returns-then-is_none-2-clause-few : goal.returns-then-is_none-2-clause-few
+returns-then-is_none-2-clause-few c =
+    let text = c.args.source.text.now in
+    let line = c.args.start_ix in
+    let r : Rest = c.args.line_start.now in
+    let inside : Rest = c.scan_quote.new.line_start in
+    let old : Reading = c.args.reading.now in
+    let i = c.requires.place in
+    let j = (prefix_keeps text line (BlockQuote None) r inside c.requires.utf8 (quote_is c).1 i).0 in
+    let later = offset_before text line r inside i j (quote_prefix_shorter r inside (quote_is c).1) in
+    let one = ap count c.in_ok-open_quote.ensures ∙ quote_count line (line + c.in-Some-scan_quote.quote) (BlockQuoteBody c.scan_tag-tag.result) old in
+    λ first grows. omega arith
+
+pub returns-in-Some-scan_quote-clause-few : goal.returns-in-Some-scan_quote-clause-few
+returns-in-Some-scan_quote-clause-few c =
+    let line = c.args.start_ix in
+    let r : Rest = c.args.line_start.now in
+    let old : Reading = c.args.reading.now in
+    let shorter = quote_prefix_shorter r c.scan_quote.new.line_start (tagged_is c).1 in
+    let some = left_before (place_at line r) (omega arith) in
+    let ends = tag_line_end c in
+    let one = ap count c.in_ok-open_quote.ensures ∙ quote_count line (line + c.in-Some-scan_quote.quote) (BlockQuoteBody c.scan_tag-tag.result) old in
+    λ first grows. omega arith

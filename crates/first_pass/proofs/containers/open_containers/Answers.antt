@@ -1,10 +1,10 @@
 use Rattle.std.proofs.Common.{◌≡◌, ℕ, Some, sym, subst}
-use Rattle.first_pass_scan.specs.Places.{place_at, line_end}
+use Rattle.first_pass_scan.specs.Places.{place_at, offset, line_end}
 use Rattle.first_pass_grammar.specs.Leaves.{document}
 use Rattle.first_pass_grammar.specs.Skeleton.{Inside}
 use Rattle.first_pass_grammar.specs.Completion.{lines_from}
 use Rattle.first_pass.specs.State.{ReadyAt}
-use Rattle.first_pass.specs.Opening.{ReadyIn, ReadyBehind}
+use Rattle.first_pass.specs.Opening.{ReadyIn, ReadyBehind, GrowsIn}
 use Rattle.first_pass.proofs.containers.open_containers.Goals as goal
 
 pub returns-in-Some-clause-ready : goal.returns-in-Some-clause-ready
@@ -18,3 +18,11 @@ returns-in-Some-clause-ready c = λ names ready.
     let is : c.in_ok-behind.field-0 ≡ Some c.in-Some.behind = cc in
     subst (λ (n : ℕ). ReadyBehind d c.open_container.new.reading p n c.in-Some.behind) e
     (subst (λ o. ReadyIn d c.open_container.new.reading p (line_end (place_at c.args.start_ix l.line_start)) o) is (c.in_ok-behind.ensures.ready names before))
+
+pub returns-in-Some-clause-few : goal.returns-in-Some-clause-few
+returns-in-Some-clause-few c =
+    let l = c.loop-behind in
+    let line = c.args.start_ix in
+    let first = c.args.reading.now.tree.nodes in
+    let is : c.in_ok-behind.field-0 ≡ Some c.in-Some.behind = cc in
+    subst (GrowsIn c.args.source.text.now line first c.open_container.new.reading.tree.nodes (offset (place_at line c.open_container.new.line_start))) is (c.in_ok-behind.ensures.few first l.invariant.few)

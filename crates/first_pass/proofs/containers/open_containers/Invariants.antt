@@ -4,6 +4,7 @@ use Rattle.first_pass_grammar.specs.Names.{Names}
 use Rattle.first_pass_grammar.specs.Leaves.{document}
 use Rattle.first_pass_grammar.specs.Skeleton.{Inside}
 use Rattle.first_pass_grammar.specs.Completion.{lines_from}
+use Rattle.first_pass_grammar.specs.Order.{GrowsBy}
 use Rattle.first_pass_grammar.specs.OpenOrder.{IsOrderedTo}
 use Rattle.first_pass.specs.Opening.{line_or}
 use Rattle.first_pass.specs.State.{ReadyAt}
@@ -19,6 +20,7 @@ invariant-loop-behind l = record {
       → ReadyAt (document l.source.text.now l.source.options names) l.reading.tree l.reading.blank (Inside (place_at l.start_ix l.line_start)) (lines_from l.source.text.now (line_end (place_at l.start_ix l.fn.line_start)));
   order : IsCharBoundary l.source.text.now l.start_ix → IsOrderedTo l.source.text.now l.initial.reading.tree (line_or l.initial.reading.tree l.start_ix (offset (place_at l.start_ix l.fn.line_start)))
       → IsOrderedTo l.source.text.now l.reading.tree (line_or l.reading.tree l.start_ix (offset (place_at l.start_ix l.line_start)));
+  few : GrowsBy l.start_ix (offset (place_at l.start_ix l.line_start)) l.initial.reading.tree.nodes l.reading.tree.nodes;
 }
 
 abbrev pub decreases-loop-behind : goal.decreases-loop-behind

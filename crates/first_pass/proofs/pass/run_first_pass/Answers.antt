@@ -24,6 +24,7 @@ loop-ix-init c = record {
   boundary = IsCharBoundary-start c.args.text.now c.utf8.text;
   ready = λ names more. c.in_ok-pass.ensures.ready names;
   order = c.in_ok-pass.ensures.order;
+  few = (let root = c.in_ok-pass.ensures.root in omega arith);
 }
 
 both_same : {t u : List ℕ} {o w : Options} → t ≡ u → o ≡ w → ◌≡◌ {A = List ℕ × Options} (t, o) (u, w)
@@ -47,6 +48,7 @@ loop-ix-preserved c =
           subst (λ (z : List ℕ × Options). Ready (document z.0 z.1 names) before (lines_from z.0 c.loop-ix.ix) → Ready (document z.0 z.1 names) behind (lines_from z.0 next)) (both_same i.same_text i.same_options) (e.ready names more)
           (i.ready names (extends_both names (names_of new.allocs) (names_of pass.allocs) more e.names));
       order = subst (λ t. IsOrderedAt t before c.loop-ix.ix → IsOrderedAt t behind next) i.same_text e.order i.order;
+      few = (let read = i.few in let grows = e.few in let later = e.later.0 in omega arith);
     }
 
 -- At the end of the text all containers are closed.
@@ -81,3 +83,11 @@ returns-clause-order c =
     let closes = c.close_containers.ensures.order text in
     let here : IsOrderedAt text now n = closes (omega arith) last (subst (IsOrderedAt text read) same i.order) in
     ordered_whole text now.tree (reached now.empty_item n) (all_closed c) here.ordered
+
+pub returns-clause-few : goal.returns-clause-few
+returns-clause-few c =
+    let i = c.loop-ix.invariant in
+    let read = i.few in
+    let within = i.order.within in
+    let closed = c.close_containers.ensures.none_added in
+    omega arith

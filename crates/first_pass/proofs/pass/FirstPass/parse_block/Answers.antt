@@ -3,8 +3,8 @@ use Rattle.first_pass_scan.specs.Lines.{line_len}
 use Rattle.first_pass_scan.specs.Places.{place_at, offset, line_end}
 use Rattle.first_pass_scan.proofs.LineFacts.{line_len-within}
 use Rattle.first_pass_scan.proofs.PlaceFacts.{line_end_boundary}
-use Rattle.first_pass.specs.Opening.{IsBehind, OrderedBehind}
-use Rattle.first_pass.proofs.OrderSteps.{ordered_in_line}
+use Rattle.first_pass.specs.Opening.{IsBehind, OrderedBehind, GrowsText, GrowsBehind}
+use Rattle.first_pass.proofs.OrderSteps.{ordered_in_line, place_before_end}
 use Rattle.first_pass.proofs.pass.FirstPass.parse_block.Goals as goal
 
 pub returns-in_default-clause-boundary : goal.returns-in_default-clause-boundary
@@ -108,3 +108,21 @@ returns-in_ok-next-in-Tag-clause-order c =
     λ ordered. c.in_ok-next-in-Tag.ensures.order
     (subst (OrderedBehind text c.open_containers.new.reading start (offset (place_at start c.open_containers.new.line_start))) c.in-Tag.is
     (c.in_ok-open_containers.ensures.order c.requires.boundary (ordered_in_line text c.enter_line.new.reading.tree start (offset p) (omega arith) high (c.in-Some.ensures.order ordered))))
+
+pub returns-in_ok-next-in-TaskText-clause-few : goal.returns-in_ok-next-in-TaskText-clause-few
+returns-in_ok-next-in-TaskText-clause-few c =
+    let text = c.args.self.now.source.text.now in
+    let start = c.args.start_ix in
+    let p = place_at start c.open_containers.new.line_start in
+    let marker = c.in-TaskText.marker in
+    let before = c.enter_line.new.reading.tree.nodes in
+    let opened = c.open_containers.new.reading.tree.nodes in
+    let g : GrowsText text start before opened marker (offset p) = subst (GrowsBehind text start before opened (offset p)) c.in-TaskText.is c.in_ok-open_containers.ensures.few in
+    let none = c.enter_line.ensures.none_added in
+    let later = c.in_ok-next-in-TaskText.ensures.later in
+    let here = place_before_end p in
+    let low = g.order in
+    let high = g.before in
+    let first = g.grows in
+    let more = c.in_ok-next-in-TaskText.ensures.few g.from g.stands (omega arith) in
+    omega arith

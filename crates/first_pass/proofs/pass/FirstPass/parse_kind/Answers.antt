@@ -24,7 +24,11 @@ use Rattle.first_pass_names.specs.TableEntries.{names_of, no_names}
 use Rattle.first_pass_raw.specs.RawBlocks.{IsPlaceAt, behind_line_at, html_to_blank}
 use Rattle.first_pass_grammar.specs.Names.{Extends}
 use Rattle.first_pass_grammar.specs.Kinds.{unindented, IsKind}
-use Rattle.first_pass_grammar.specs.declared.kind.Kind.TheVariants.{HtmlToBlank}
+use Rattle.first_pass_grammar.specs.declared.kind.Kind.{Kind}
+use Rattle.first_pass_grammar.specs.declared.kind.Kind.TheVariants.{Blank, HtmlToBlank, Paragraph}
+use Rattle.first_pass_scan.specs.Rest.{indent}
+use Rattle.first_pass_scan.proofs.PlaceFacts.{columns_line_end}
+use Rattle.first_pass.proofs.CountLemmas.{count, list_finished_count, blank_count, behind_count, block_count, leaf_left, left_before, blank_later}
 use Rattle.first_pass_scan.specs.Places.{Place}
 use Rattle.first_pass_tree.specs.Forest.{IsForest}
 use Rattle.first_pass.proofs.pass.FirstPass.parse_kind.Goals as goal
@@ -136,6 +140,39 @@ returns-in_ok-next-in-Paragraph-clause-order c =
     let adds : AddsBetween text at next (list_finished at old).tree new.reading.tree = subst (λ (z : Reading). AddsBetween text at next z.tree new.reading.tree) rem (fits at (omega arith)) in
     let none = ap (λ (r : Reading). r.empty_item) c.in_ok-next-in-Paragraph.ensures.reading ∙ ap (λ (r : Reading). r.empty_item) rem ∙ list_finished_none at old in
     λ first ordered. ordered_leaf text old new.reading c.args.start_ix (offset p) at at next (omega arith) (omega arith) (inr refl) boundary.0 boundary c.requires.no_empty ordered adds last.0 none
+
+pub returns-in-Blank-clause-few : goal.returns-in-Blank-clause-few
+returns-in-Blank-clause-few c =
+    let old : Reading = c.args.self.now.reading in
+    let same = ap count c.read_blank_line.ensures ∙ blank_count old in
+    omega arith
+
+-- no blank line
+no_blank : (k j : Kind) → k ≡ j → (j ≡ Blank → ⊥) → k ≡ Blank → ⊥
+no_blank k j is other blank = other (sym is ∙ blank)
+
+pub returns-in_ok-next-in-Paragraph-clause-few : goal.returns-in_ok-next-in-Paragraph-clause-few
+returns-in_ok-next-in-Paragraph-clause-few c =
+    let self = c.args.self.now in
+    let text = self.source.text.now in
+    let start = c.args.start_ix in
+    let p = place_at start c.args.before in
+    let at = c.args.at in
+    let next = c.in_ok-next-in-Paragraph.next in
+    let old : Reading = self.reading in
+    let q : Reading = list_finished at old in
+    let f = c.finish_list.new.self in
+    let rem : f ≡ q = c.finish_list.ensures in
+    let new = c.parse_paragraph.new.self in
+    let e = c.requires.at in
+    let later = unindented_later text start c.args.before c.requires.utf8 c.requires.place in
+    let behind = returns-in_ok-next-in-Paragraph-clause-later c in
+    let before = left_before p (leaf_left self.source.options c.args.before c.args.kind c.requires.kind (no_blank c.args.kind Paragraph c.in-Paragraph.is (λ b. cc))) in
+    let fits : (from : ℕ) → StandsBefore text from at None → AddsBetween text from next f.tree new.reading.tree = c.in_ok-next-in-Paragraph.ensures.fits in
+    let adds : AddsBetween text (offset p) next q.tree new.reading.tree = subst (λ (z : Reading). AddsBetween text (offset p) next z.tree new.reading.tree) rem (fits (offset p) (omega arith)) in
+    let block = block_count text (offset p) next q.tree new.reading.tree adds (omega arith) in
+    let same = list_finished_count at old in
+    omega arith
 
 pub parse_html_to_blank-requires-clause-boundary : goal.parse_html_to_blank-requires-clause-boundary
 parse_html_to_blank-requires-clause-boundary c =
@@ -279,6 +316,40 @@ returns-in_ok-lines-in-HtmlToBlank-clause-order c =
     (ordered_behind text read lines.«end» lines.next on.1 on.2.0 none
     (ordered_leaf text old read start (offset p) start at lines.«end» (omega arith) (omega arith) (inl (refl, first)) boundary.0 boundary c.requires.no_empty ordered fits end_boundary.0 none)))
 
+pub returns-in_ok-lines-in-HtmlToBlank-clause-few : goal.returns-in_ok-lines-in-HtmlToBlank-clause-few
+returns-in_ok-lines-in-HtmlToBlank-clause-few c =
+    let self = c.args.self.now in
+    let text = self.source.text.now in
+    let start = c.args.start_ix in
+    let p = place_at start c.args.before in
+    let u : Place = unindented p in
+    let at = c.args.at in
+    let old : Reading = self.reading in
+    let q : Reading = list_finished start old in
+    let i = all_keep text start c.args.before c.requires.utf8 c.requires.place in
+    let f = c.finish_list-in-HtmlToBlank.new.self in
+    let rem : f ≡ q = c.finish_list-in-HtmlToBlank.ensures in
+    let h = c.parse_html_to_blank.new.self in
+    let e = c.in_ok-lines-in-HtmlToBlank.ensures in
+    let lines = c.in_ok-lines-in-HtmlToBlank.lines in
+    let h_text : h.source.text.now ≡ text = ap (λ (z : Source). z.text.now) e.source in
+    let on = behind_on text lines.«end» lines.next c.requires.utf8 e.boundary.1 e.within.1 in
+    let last = on.1 in
+    let result_is : c.read_blank_behind.result ≡ behind_blank text lines.«end» lines.next = c.read_blank_behind.ensures.next ∙ ap (λ t. behind_blank t lines.«end» lines.next) h_text in
+    let later = unindented_later text start c.args.before c.requires.utf8 c.requires.place in
+    let there = c.requires.at in
+    let place : IsPlaceAt text at u = record { offset_is = sym c.requires.at; left_is = i.left ∙ ap (λ n. drop n text) (sym c.requires.at) } in
+    let ends = e.end u place in
+    let line = blank_later text (path_of f.tree) u c.requires.utf8 i in
+    let same_line : line_end u ≡ line_end p = columns_line_end (indent c.args.before) p in
+    let before = left_before p (leaf_left self.source.options c.args.before c.args.kind c.requires.kind (no_blank c.args.kind HtmlToBlank c.in-HtmlToBlank.is (λ b. cc))) in
+    let fits : AddsBetween text (offset p) lines.«end» q.tree h.reading.tree =
+    subst (λ (r : Reading). AddsBetween text (offset p) lines.«end» r.tree h.reading.tree) rem (e.fits (offset p) (omega arith)) in
+    let block = block_count text (offset p) lines.«end» q.tree h.reading.tree fits (omega arith) in
+    let same = list_finished_count start old in
+    let blank = ap count c.read_blank_behind.ensures.reading ∙ behind_count lines.«end» lines.next h.reading in
+    omega arith
+
 pub parse_marked-requires : goal.parse_marked-requires
 parse_marked-requires c =
     let self = c.args.self.now in
@@ -334,4 +405,10 @@ returns-in_ok-next-in_default c =
       order = λ first ordered.
           ordered_leaf text old new.reading start (offset p) start (offset p) next (omega arith) (omega arith) (inl (refl, first)) c.requires.place.within c.requires.place.boundary c.requires.no_empty ordered
           (subst (λ (r : Reading). AddsBetween text (offset p) next r.tree new.reading.tree) rem (e.fits (offset p) (omega arith))) last.0 none;
+      few =
+          let on = e.boundary.0 in
+          let before = left_before p (leaf_left self.source.options c.args.before c.args.kind c.requires.kind c.in_default.not-Blank) in
+          let block = block_count text (offset p) next q.tree new.reading.tree (subst (λ (r : Reading). AddsBetween text (offset p) next r.tree new.reading.tree) rem (e.fits (offset p) (omega arith))) (omega arith) in
+          let same = list_finished_count start old in
+          omega arith;
     }

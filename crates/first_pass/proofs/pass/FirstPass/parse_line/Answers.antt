@@ -3,6 +3,7 @@ use Rattle.first_pass_names.specs.TableEntries.{no_names}
 use Rattle.first_pass_grammar.specs.Leaves.{document, content_at}
 use Rattle.first_pass_text.specs.Appends.{text_upto}
 use Rattle.first_pass_tokens.specs.TreeTokens.{AppendsLine}
+use Rattle.first_pass_tokens.proofs.BytesLemmas.{few_of_line}
 use Rattle.first_pass.proofs.OrderJoin.{ordered_line}
 use Rattle.first_pass_text.proofs.ParagraphLemmas.{next_boundary, same_end}
 use Rattle.first_pass.proofs.pass.FirstPass.parse_line.Goals as goal
@@ -27,3 +28,6 @@ returns-clause-order c = λ ends boundary from low ordered.
     let answer = c.in_ok-answer.answer in
     let h : AppendsLine (content_at (document (text_upto text c.args.end) options no_names) c.args.start) old new answer = subst (λ t. AppendsLine (content_at (document t options no_names) c.args.start) old new answer) c.text_upto-bytes.ensures.value c.in_ok-answer.ensures.line in
     ordered_line (document text options no_names) c.args.start c.args.end old new answer.0 answer.1 from c.text_upto-bytes.ensures.utf8 (both_ends text c.args.start c.args.end c.requires.end ends) boundary c.is_forest.ensures h low ordered
+
+pub returns-clause-few : goal.returns-clause-few
+returns-clause-few c = few_of_line c.in_ok-answer.ensures.line

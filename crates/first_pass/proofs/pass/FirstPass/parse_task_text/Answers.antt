@@ -7,6 +7,7 @@ use Rattle.first_pass_text.specs.Appends.{line_end_at}
 use Rattle.first_pass_lists.specs.declared.reading.Reading.{Reading}
 use Rattle.first_pass.specs.State.{Ready}
 use Rattle.first_pass_open.proofs.PlaceLemmas.{all_keep, at_read}
+use Rattle.first_pass.proofs.CountLemmas.{block_count}
 use Rattle.first_pass.proofs.OrderSteps.{ordered_block, unindented_later}
 use Rattle.first_pass_names.specs.TableEntries.{no_names}
 use Rattle.first_pass.proofs.KindBlocks.{paragraph_named}
@@ -64,3 +65,15 @@ returns-clause-order c =
     let before = b.before in
     ordered_block text self.reading.tree new.reading o.from next
     (c.in_ok-next.ensures.fits o.from (o.stands.0, record { behind = b.behind; order = b.order; before = omega arith; starts = b.starts; ends = b.ends })) c.in_ok-next.ensures.block.boundary.0 ((ap (λ (r : Reading). r.empty_item) c.in_ok-next.ensures.reading) ∙ c.requires.no_empty) o.ordered
+
+pub returns-clause-few : goal.returns-clause-few
+returns-clause-few c = λ from stands apart.
+    let self = c.args.self.now in
+    let text = self.source.text.now in
+    let e = at_read c.args.start_ix c.bytes_scanned.result c.args.line_start c.scan_indentation.new.line_start c.bytes_scanned.ensures c.scan_indentation.ensures.rest in
+    let later = unindented_later text c.args.start_ix c.args.line_start c.requires.utf8 c.requires.place in
+    let new = c.parse_paragraph.new.self in
+    let b = stands.1 in
+    let before = b.before in
+    block_count text from c.in_ok-next.next self.reading.tree new.reading.tree
+    (c.in_ok-next.ensures.fits from (stands.0, record { behind = b.behind; order = b.order; before = omega arith; starts = b.starts; ends = b.ends })) apart
