@@ -1,5 +1,5 @@
 -- A container opened at a place in a line: a block quote, or a list item in its list.
-use Rattle.std.proofs.Common.{◌≡◌, ℕ, suc, ◌+◌, ◌<◌, ◌==◌, Bool, true, false, ◌||◌, List, [], ◌∷◌, ◌++◌, length, map, slice_get, Option, Some, None, refl, sym, ap, subst, ◌∙◌, arith, if◌then◌else◌, append_assoc, length-append}
+use Rattle.std.proofs.Common.{◌≡◌, ℕ, suc, ◌+◌, ◌<◌, ◌==◌, Bool, true, false, ◌||◌, List, [], ◌∷◌, ◌++◌, length, map, slice_get, Option, Some, None, MatchOption, refl, sym, ap, subst, ◌∙◌, arith, if◌then◌else◌, append_assoc, length-append}
 use Rattle.std.proofs.lemmas.List.{length-map}
 use Rattle.std.proofs.lemmas.Bool.Decides.{nat_tests}
 use Rattle.std.specs.Option.{option_map, option_and_then}
@@ -25,9 +25,10 @@ use Rattle.first_pass_grammar.proofs.Tightening.{modify-append, length-modify}
 use Rattle.first_pass_grammar.proofs.Completions.{AreBelow-more, completes-mark, completes-quote, completes-list, completes-item, completes-reflag_list}
 use Rattle.first_pass_open.specs.OpenBlock.{with_child}
 use Rattle.first_pass_lists.specs.Closing.{loosened_by, loosened_at, top_body, is_list_of, item_finished_by, item_finished, list_finished, loosened_top, list_kept, begun, list_continued, emptied}
+use Rattle.first_pass_lists.specs.declared.list.ListMarker.{ListMarker}
 use Rattle.first_pass_lists.specs.declared.reading.Reading.{Reading}
 use Rattle.first_pass_open.specs.Path.{container_of, with_container, path_in, path_of}
-use Rattle.first_pass.specs.Opening.{task_text, IsOpenedAt, ReadyIn, ReadyTagged}
+use Rattle.first_pass.specs.Opening.{marker_of, task_text, IsOpenedAt, ReadyIn, ReadyTagged}
 use Rattle.first_pass.specs.State.{frame_of, AreOpen, ReadyAt, ReadyBeforeLine, ReadyInItem, ReadyEmpty, Ready}
 use Rattle.first_pass_open.proofs.PathLemmas.{get_front}
 use Rattle.first_pass.proofs.EnterLemmas.{path_below}
@@ -262,6 +263,16 @@ module _ (d : Document) (r : Reading) (p : Place) (lines : List Place) (byte num
       let same : item_finished_by r r.empty_item ≡ r = ap (item_finished_by r) none in
       subst (λ q. ItemIsOpen (begun (offset p) (ListItemBody columns) (if is_list_of byte (top_body q.tree) then list_kept q else begun (offset p) (ListBody (list_flags true) byte number) (list_finished (offset p) q)))) (sym same)
       (item_is_open_by (is_list_of byte (top_body r.tree)) refl)
+
+-- what a list item's marker that was taken says
+pub item_found : (o : Option ((ℕ × ℕ × ℕ) × Rest)) (found : Option ListMarker) (m : ListMarker) (old new : Rest) → found ≡ Some m → MatchOption o ((found ≡ None) × (new ≡ old)) (λ item. (found ≡ Some (marker_of item.0)) × (new ≡ item.1)) → o ≡ Some ((m.byte, m.number, m.indent), new)
+item_found None found m old new e h = (let z : None ≡ Some m = sym h.0 ∙ e in cc)
+item_found (Some item) found m old new e h = (let z : Some (marker_of item.0) ≡ Some m = sym h.0 ∙ e in let w : marker_of item.0 ≡ m = cc in
+    ap (λ (k : ListMarker). Some ((k.byte, k.number, k.indent), item.1)) w ∙ ap (λ (q : Rest). Some ((m.byte, m.number, m.indent), q)) (sym h.1))
+
+pub item_absent : (o : Option ((ℕ × ℕ × ℕ) × Rest)) (found : Option ListMarker) (old new : Rest) → found ≡ None → MatchOption o ((found ≡ None) × (new ≡ old)) (λ item. (found ≡ Some (marker_of item.0)) × (new ≡ item.1)) → (o ≡ None) × (new ≡ old)
+item_absent None found old new e h = (refl, h.1)
+item_absent (Some item) found old new e h = (let z : None ≡ Some (marker_of item.0) = sym e ∙ h.0 in cc)
 
 opens_item : (d : Document) (path : List Container) (p : Place) (lines : List Place) (item : (ℕ × ℕ × ℕ) × Rest) → item_at p.rest ≡ Some item → Opens d path p lines (item_opening d path p lines item.0.0 item.0.1 item.0.2 (task_behind d.options p.line item.1))
 unfolding OpensFrom

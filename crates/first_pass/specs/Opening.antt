@@ -17,6 +17,7 @@ use Rattle.first_pass_grammar.specs.Completion.{lines_from, IsPlain}
 use Rattle.first_pass.specs.declared.containers.Behind.{Behind}
 use Rattle.first_pass.specs.declared.containers.Behind.TheVariants.{Leaf as BehindLeaf, TaskText, NextLine, Tag}
 use Rattle.first_pass_lists.specs.Closing.{top_body, is_list}
+use Rattle.first_pass_lists.specs.declared.list.ListMarker.{ListMarker}
 use Rattle.first_pass_lists.specs.declared.reading.Reading.{Reading}
 use Rattle.first_pass_open.specs.Path.{path_of}
 use Rattle.first_pass_items.specs.declared.item.BlockQuoteKind.{BlockQuoteKind}
@@ -54,6 +55,10 @@ IsBehind BehindLeaf empty r e = (item_at r ≡ None) × (prefix (BlockQuote None
 IsBehind (TaskText marker) empty r e = (is_text marker.body ≡ false) × (empty ≡ None)
 IsBehind (NextLine next) empty r e = next ≡ e
 IsBehind (Tag next) empty r e = (next ≡ e) × (empty ≡ None)
+
+-- the marker of a list item, of which these are the byte, the number and the indent
+abbrev pub marker_of : ℕ × ℕ × ℕ → ListMarker
+marker_of m = record { byte = m.0; number = m.1; indent = m.2 }
 
 -- the text of a task, where an item is one
 abbrev pub task_text : Option Item → Option Behind

@@ -14,7 +14,7 @@ ghost use Rattle.first_pass_scan.specs.Lines.{line_len};
 ghost use Rattle.first_pass_grammar.specs.Skeleton.{Inside, task_behind, tag_behind};
 ghost use Rattle.first_pass_grammar.specs.Completion.{lines_from};
 ghost use Rattle.first_pass.specs.State.{NoMore, Ready, ReadyAt};
-ghost use Rattle.first_pass.specs.Opening.{IsOpenedAt, ReadyIn, IsBehind, task_text, ReadyBehind, line_or, OrderedIn, OrderedBehind, GrowsIn, GrowsBehind};
+ghost use Rattle.first_pass.specs.Opening.{IsOpenedAt, ReadyIn, IsBehind, marker_of, task_text, ReadyBehind, line_or, OrderedIn, OrderedBehind, GrowsIn, GrowsBehind};
 ghost use Rattle.first_pass_grammar.specs.Order.{GrowsBy};
 ghost use Rattle.first_pass.specs.Ordered.{IsOrderedAt};
 ghost use Rattle.first_pass_grammar.specs.OpenOrder.{IsOrderedTo};
@@ -22,6 +22,7 @@ ghost use Rattle.first_pass_grammar.specs.OpenOrder.{IsOrderedTo};
 use bitflags::Flags;
 use first_pass_items::item::{BlockQuoteKind, Item, ItemBody};
 use first_pass_items::option_set::Options;
+use first_pass_lists::list::ListMarker;
 use first_pass_lists::reading::Reading;
 pub use first_pass_open::containers::scan_containers;
 use first_pass_open::containers::scan_quote;
@@ -176,8 +177,8 @@ fn open_container<'a>(
 {
     reading.tree.is_forest();
     let before = start_ix + line_start.bytes_scanned();
-    if let Some((byte, number, indent)) = scan_item(line_start) {
-        reading.open_item(before, byte, number, indent)?;
+    if let Some(item) = scan_item(line_start) {
+        reading.open_item(before, item)?;
         let marker = scan_task(source, start_ix, line_start);
         if scan_blank_line(line_start.left()).is_none() {
             return Ok(behind_marker(marker));
@@ -250,11 +251,11 @@ fn scan_task<'a>(
 }
 
 // Takes the list item marker here and the columns before it, where an item begins at under four columns, and
-// answers its byte, its number and its indent; takes nothing where none does.
+// answers it; takes nothing where none does.
 #[tactic(auto, unfolding(first_pass_grammar::specs::Kinds::item_at))]
-fn scan_item<'a>(line_start: &mut LineStart<'a>) -> Option<(u8, u64, usize)>
+fn scan_item<'a>(line_start: &mut LineStart<'a>) -> Option<ListMarker>
     ensures { MatchOption (item_at line_start.old) ((result ≡ None) × (line_start.new ≡ line_start.old))
-        (λ item. (result ≡ Some item.0) × (line_start.new ≡ item.1)) }
+        (λ item. (result ≡ Some (marker_of item.0)) × (line_start.new ≡ item.1)) }
 {
     if line_start.is_at_inert() {
         return None;
@@ -264,7 +265,11 @@ fn scan_item<'a>(line_start: &mut LineStart<'a>) -> Option<(u8, u64, usize)>
     if columns >= 4 {
         return None;
     }
-    let item = next.scan_list_marker_with_indent(columns)?;
+    let (byte, number, indent) = next.scan_list_marker_with_indent(columns)?;
     *line_start = next;
-    Some(item)
+    Some(ListMarker {
+        byte,
+        number,
+        indent,
+    })
 }

@@ -14,6 +14,17 @@ use first_pass_tree::subtrees::Subtree;
 use first_pass_tree::tree_index::TreeIndex;
 use std::alloc::AllocError;
 
+/// The marker of a list item.
+#[derive(Clone, Copy)]
+pub struct ListMarker {
+    /// The byte that tells its list: a bullet, or the `.` or `)` behind digits.
+    pub byte: u8,
+    /// The number that its digits write; 0 for a bullet.
+    pub number: u64,
+    /// The columns that a line needs to go on with the item.
+    pub indent: usize,
+}
+
 /// How deep the node at a place stands.
 fn depth_at(tree: &Tree<Item>, at: usize) -> usize
     requires { at < length tree.now.nodes }
@@ -266,19 +277,13 @@ impl Reading {
         }
     }
 
-    /// Opens an item that starts at the offset `start`, in the list that goes on or in a new one.
-    pub fn open_item(
-        &mut self,
-        start: usize,
-        byte: u8,
-        number: u64,
-        indent: usize,
-    ) -> Result<(), AllocError>
+    /// Opens the item of a marker that starts at the offset `start`, in the list that goes on or in a new one.
+    pub fn open_item(&mut self, start: usize, marker: ListMarker) -> Result<(), AllocError>
         ensures { OnOk result (self.new
-            ≡ begun start (ListItemBody indent) (list_continued start byte number self.old)) }
+            ≡ begun start (ListItemBody marker.indent) (list_continued start marker.byte marker.number self.old)) }
     {
-        self.continue_list(start, byte, number)?;
-        self.open_node(start, ItemBody::ListItem(indent))
+        self.continue_list(start, marker.byte, marker.number)?;
+        self.open_node(start, ItemBody::ListItem(marker.indent))
     }
 
     /// Opens a block quote of a kind at the offset `start`, in the line that begins at `line`.

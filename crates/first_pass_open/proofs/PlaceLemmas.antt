@@ -150,15 +150,6 @@ pub line_start_end : (text : List ℕ) (start : ℕ) → line_end (place_at star
 line_start_end text start = let z : start + 0 ≡ start = omega arith in ap (λ k. k + line_len (drop start text)) z
 
 -- what a list item's marker that was taken says
-pub item_found : (o : Option ((ℕ × ℕ × ℕ) × Rest)) (found : Option (ℕ × ℕ × ℕ)) (m : ℕ × ℕ × ℕ) (old new : Rest) → found ≡ Some m → MatchOption o ((found ≡ None) × (new ≡ old)) (λ item. (found ≡ Some item.0) × (new ≡ item.1)) → o ≡ Some (m, new)
-item_found None found m old new e h = (let z : None ≡ Some m = sym h.0 ∙ e in cc)
-item_found (Some item) found m old new e h = (let z : Some item.0 ≡ Some m = sym h.0 ∙ e in let w : item.0 ≡ m = cc in
-    ap (λ (k : ℕ × ℕ × ℕ). Some (k, item.1)) w ∙ ap (λ (q : Rest). Some (m, q)) (sym h.1))
-
-pub item_absent : (o : Option ((ℕ × ℕ × ℕ) × Rest)) (found : Option (ℕ × ℕ × ℕ)) (old new : Rest) → found ≡ None → MatchOption o ((found ≡ None) × (new ≡ old)) (λ item. (found ≡ Some item.0) × (new ≡ item.1)) → (o ≡ None) × (new ≡ old)
-item_absent None found old new e h = (refl, h.1)
-item_absent (Some item) found old new e h = (let z : None ≡ Some item.0 = sym e ∙ h.0 in cc)
-
 item_by : (t : Bool) (r : Rest) (item : (ℕ × ℕ × ℕ) × Rest) → (if t then item_of (indent r) (all_taken r) else None) ≡ Some item → item_of (indent r) (all_taken r) ≡ Some item
 item_by true r item h = h
 item_by false r item h = cc

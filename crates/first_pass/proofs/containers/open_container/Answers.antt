@@ -14,28 +14,29 @@ use Rattle.first_pass_grammar.specs.Leaves.{document}
 use Rattle.first_pass_grammar.specs.Skeleton.{Inside, task_behind}
 use Rattle.first_pass_grammar.specs.Completion.{lines_from}
 use Rattle.first_pass_lists.specs.Closing.{remembered, is_list, begun, list_finished, list_continued}
+use Rattle.first_pass_lists.specs.declared.list.ListMarker.{ListMarker}
 use Rattle.first_pass_lists.specs.declared.reading.Reading.{Reading}
-use Rattle.first_pass.specs.Opening.{IsOpenedAt, task_text, ReadyIn, ReadyTagged, line_or, OrderedIn, GrowsIn}
+use Rattle.first_pass.specs.Opening.{IsOpenedAt, marker_of, task_text, ReadyIn, ReadyTagged, line_or, OrderedIn, GrowsIn}
 use Rattle.first_pass.specs.Ordered.{IsOrderedAt}
 use Rattle.first_pass_grammar.specs.OpenOrder.{IsOrderedTo}
 use Rattle.first_pass_open.specs.OpenBlock.{with_child}
 use Rattle.first_pass.specs.State.{Ready, ReadyAt}
-use Rattle.first_pass_open.proofs.PlaceLemmas.{item_found, item_keeps, item_shorter, item_absent, behind_keeps, markers_keep, mark_is_no_text, quote_taken, prefix_keeps, quote_prefix_shorter, place_end, read_end}
+use Rattle.first_pass_open.proofs.PlaceLemmas.{item_keeps, item_shorter, behind_keeps, markers_keep, mark_is_no_text, quote_taken, prefix_keeps, quote_prefix_shorter, place_end, read_end}
 use Rattle.first_pass.proofs.LineLemmas.{list_finished_none, list_continued_none}
 use Rattle.first_pass.proofs.OrderLemmas.{ordered_later}
 use Rattle.first_pass.proofs.CountLemmas.{count, item_count, quote_count, child_count, left_before, offset_before, mark_shorter, container_count}
 use Rattle.first_pass.proofs.OrderSteps.{offset_later, ordered_on, top_begun, ordered_item, ordered_quote, mark_stands, ordered_container, ordered_empty_item, quote_stands, place_before_end}
-use Rattle.first_pass.proofs.OpenerLemmas.{item_opened, ready_item, empty_item_read, ready_empty_item, ready_quote, ready_tagged, opened_behind, ready_behind}
+use Rattle.first_pass.proofs.OpenerLemmas.{item_found, item_absent, item_opened, ready_item, empty_item_read, ready_empty_item, ready_quote, ready_tagged, opened_behind, ready_behind}
 use Rattle.first_pass.proofs.containers.open_container.Goals as goal
 
 pub scan_task-marker-requires-clause-place : goal.scan_task-marker-requires-clause-place
 scan_task-marker-requires-clause-place c =
-    let is = item_found _ c.scan_item.result (c.in-Some.byte, c.in-Some.number, c.in-Some.indent) c.args.line_start.now c.scan_item.new.line_start c.in-Some.is c.scan_item.ensures in
+    let is = item_found _ c.scan_item.result c.in-Some.item c.args.line_start.now c.scan_item.new.line_start c.in-Some.is c.scan_item.ensures in
     (item_keeps c.args.source.text.now c.args.start_ix c.args.line_start.now _ c.requires.utf8 is c.requires.place).0
 
 -- the item that is taken
-taken : (c : goal.After-behind_marker) → item_at c.args.line_start.now ≡ Some ((c.in-Some.byte, c.in-Some.number, c.in-Some.indent), c.scan_item.new.line_start)
-taken c = item_found _ c.scan_item.result (c.in-Some.byte, c.in-Some.number, c.in-Some.indent) c.args.line_start.now c.scan_item.new.line_start c.in-Some.is c.scan_item.ensures
+taken : (c : goal.After-behind_marker) → item_at c.args.line_start.now ≡ Some ((c.in-Some.item.byte, c.in-Some.item.number, c.in-Some.item.indent), c.scan_item.new.line_start)
+taken c = item_found _ c.scan_item.result c.in-Some.item c.args.line_start.now c.scan_item.new.line_start c.in-Some.is c.scan_item.ensures
 
 -- what stands behind its marker
 both : (o : Option Item) (r : Rest) (q : Option Item × Rest) → o ≡ q.0 → r ≡ q.1 → q ≡ (o, r)
@@ -58,14 +59,14 @@ returns-then-is_none-clause-opened c =
     (λ x is. mark_is_no_text c.args.source.options c.args.start_ix c.scan_item.new.line_start x (sym c.scan_task-marker.ensures.marker ∙ is))
     (markers_keep c.args.source.text.now _ c.args.start_ix c.args.line_start.now _ c.scan_task-marker.new.line_start c.requires.utf8 (taken c) c.scan_task-marker.ensures.rest c.requires.place).2
     (ap (λ (q : Reading). q.empty_item) c.in_ok-open_item.ensures
-    ∙ list_continued_none (c.args.start_ix + c.bytes_scanned.result) c.in-Some.byte c.in-Some.number c.args.reading.now))
+    ∙ list_continued_none (c.args.start_ix + c.bytes_scanned.result) c.in-Some.item.byte c.in-Some.item.number c.args.reading.now))
 
 -- what is remembered with the item open
 opened_is : (c : goal.After-behind_marker) → c.open_item.new.self
-    ≡ item_opened (offset (place_at c.args.start_ix c.args.line_start.now)) c.in-Some.byte c.in-Some.number c.in-Some.indent c.args.reading.now
+    ≡ item_opened (offset (place_at c.args.start_ix c.args.line_start.now)) c.in-Some.item.byte c.in-Some.item.number c.in-Some.item.indent c.args.reading.now
 opened_is c =
     c.in_ok-open_item.ensures
-    ∙ ap (λ n. item_opened (c.args.start_ix + n) c.in-Some.byte c.in-Some.number c.in-Some.indent c.args.reading.now) c.bytes_scanned.ensures
+    ∙ ap (λ n. item_opened (c.args.start_ix + n) c.in-Some.item.byte c.in-Some.item.number c.in-Some.item.indent c.args.reading.now) c.bytes_scanned.ensures
 
 pub returns-then-is_none-clause-ready : goal.returns-then-is_none-clause-ready
 returns-then-is_none-clause-ready c = λ names.
@@ -73,18 +74,18 @@ returns-then-is_none-clause-ready c = λ names.
     let d = document source.text.now source.options names in
     let p = place_at c.args.start_ix c.args.line_start.now in
     let rest : Rest = c.scan_task-marker.new.line_start in
-    let item : (ℕ × ℕ × ℕ) × Rest = ((c.in-Some.byte, c.in-Some.number, c.in-Some.indent), c.scan_item.new.line_start) in
+    let item : (ℕ × ℕ × ℕ) × Rest = ((c.in-Some.item.byte, c.in-Some.item.number, c.in-Some.item.indent), c.scan_item.new.line_start) in
     let none = c.is_none.ensures in
     let yes = c.if-is_none.true in
     let blank : is_blank_rest rest ≡ false = ap (λ bs. is_some (blank_len bs)) (sym c.left.ensures) ∙ ap is_some (sym c.scan_blank_line.ensures.value) ∙ none ∙ ap not yes in
     λ ready. let done = ready_item d c.args.reading.now p (lines_from source.text.now (line_end p)) item c.scan_task-marker.result rest c.is_forest.ensures (taken c) (task c) blank c.requires.no_empty ready in
     subst (λ o. ReadyIn d c.open_item.new.self (place_at c.args.start_ix rest) (line_end p) o) (sym c.behind_marker.ensures)
     (subst (λ (q : Reading). ReadyIn d q (place_at c.args.start_ix rest) (line_end p) (task_text c.scan_task-marker.result)) (sym (opened_is c))
-    (ready_behind d (item_opened (offset p) c.in-Some.byte c.in-Some.number c.in-Some.indent c.args.reading.now) (place_at c.args.start_ix rest) (line_end p) c.scan_task-marker.result done))
+    (ready_behind d (item_opened (offset p) c.in-Some.item.byte c.in-Some.item.number c.in-Some.item.indent c.args.reading.now) (place_at c.args.start_ix rest) (line_end p) c.scan_task-marker.result done))
 
 -- the item that is taken, where its line ends behind it
-taken_whole : (c : goal.After-bytes_scanned-in-Some) → item_at c.args.line_start.now ≡ Some ((c.in-Some.byte, c.in-Some.number, c.in-Some.indent), c.scan_item.new.line_start)
-taken_whole c = item_found _ c.scan_item.result (c.in-Some.byte, c.in-Some.number, c.in-Some.indent) c.args.line_start.now c.scan_item.new.line_start c.in-Some.is c.scan_item.ensures
+taken_whole : (c : goal.After-bytes_scanned-in-Some) → item_at c.args.line_start.now ≡ Some ((c.in-Some.item.byte, c.in-Some.item.number, c.in-Some.item.indent), c.scan_item.new.line_start)
+taken_whole c = item_found _ c.scan_item.result c.in-Some.item c.args.line_start.now c.scan_item.new.line_start c.in-Some.is c.scan_item.ensures
 
 pub overflow_add-start_ix : goal.overflow_add-start_ix
 overflow_add-start_ix c =
@@ -99,8 +100,8 @@ next_line-next-requires c =
     let l = ap length (c.as_bytes.ensures.value) in
     omega (arith, i.within)
 
-taken_empty : (c : goal.After-reading-1) → item_at c.args.line_start.now ≡ Some ((c.in-Some.byte, c.in-Some.number, c.in-Some.indent), c.scan_item.new.line_start)
-taken_empty c = item_found _ c.scan_item.result (c.in-Some.byte, c.in-Some.number, c.in-Some.indent) c.args.line_start.now c.scan_item.new.line_start c.in-Some.is c.scan_item.ensures
+taken_empty : (c : goal.After-reading-1) → item_at c.args.line_start.now ≡ Some ((c.in-Some.item.byte, c.in-Some.item.number, c.in-Some.item.indent), c.scan_item.new.line_start)
+taken_empty c = item_found _ c.scan_item.result c.in-Some.item c.args.line_start.now c.scan_item.new.line_start c.in-Some.is c.scan_item.ensures
 
 pub returns-in-Some-clause-place : goal.returns-in-Some-clause-place
 returns-in-Some-clause-place c = (markers_keep c.args.source.text.now _ c.args.start_ix c.args.line_start.now _ c.scan_task-marker.new.line_start c.requires.utf8 (taken_empty c) c.scan_task-marker.ensures.rest c.requires.place).0
@@ -129,7 +130,7 @@ returns-in-Some-clause-ready c = λ names.
     let rest : Rest = c.scan_task-marker.new.line_start in
     let marker : Option Item = c.scan_task-marker.result in
     let old : Reading = c.args.reading.now in
-    let item : (ℕ × ℕ × ℕ) × Rest = ((c.in-Some.byte, c.in-Some.number, c.in-Some.indent), c.scan_item.new.line_start) in
+    let item : (ℕ × ℕ × ℕ) × Rest = ((c.in-Some.item.byte, c.in-Some.item.number, c.in-Some.item.indent), c.scan_item.new.line_start) in
     let none = c.is_none.ensures in
     let yes = c.if-is_none.false in
     let blank : is_blank_rest rest ≡ true = ap (λ bs. is_some (blank_len bs)) (sym c.left.ensures) ∙ ap is_some (sym c.scan_blank_line.ensures.value) ∙ none ∙ ap not yes in
@@ -137,15 +138,15 @@ returns-in-Some-clause-ready c = λ names.
     let at_end = place_end text p c.requires.utf8 c.requires.place in
     let first : start_of (length text) (lines_from text (line_end p)) ≡ c.next_line-next.result = start_of-lines text (line_end p) at_end.0 ∙ sym next in
     let task = both marker rest (task_behind c.args.source.options c.args.start_ix c.scan_item.new.line_start) c.scan_task-marker.ensures.marker c.scan_task-marker.ensures.rest in
-    let now : c.open_item.new.self ≡ item_opened (offset p) c.in-Some.byte c.in-Some.number c.in-Some.indent old =
-    c.in_ok-open_item.ensures ∙ ap (λ n. item_opened (c.args.start_ix + n) c.in-Some.byte c.in-Some.number c.in-Some.indent old) c.bytes_scanned.ensures in
+    let now : c.open_item.new.self ≡ item_opened (offset p) c.in-Some.item.byte c.in-Some.item.number c.in-Some.item.indent old =
+    c.in_ok-open_item.ensures ∙ ap (λ n. item_opened (c.args.start_ix + n) c.in-Some.item.byte c.in-Some.item.number c.in-Some.item.indent old) c.bytes_scanned.ensures in
     λ ready. subst (λ n. Ready d (remembered c.append_item.new.tree (Some c.next_line-next.result) c.open_item.new.self.blank) (lines_from text n)) (sym next)
     (subst (λ t. Ready d (remembered t (Some c.next_line-next.result) c.open_item.new.self.blank) (lines_from text (line_end p))) (sym c.in_ok-append_item.ensures)
     (subst (λ (q : Reading). Ready d (empty_item_read q marker c.next_line-next.result) (lines_from text (line_end p))) (sym now)
     (ready_empty_item d old p (lines_from text (line_end p)) item marker rest c.next_line-next.result c.is_forest.ensures (taken_empty c) task blank first c.requires.no_empty ready)))
 
 -- no item, but a block quote
-quote_here : (old mid new : Rest) (found : Option (ℕ × ℕ × ℕ)) (width : Option ℕ) (at : ℕ) → found ≡ None → MatchOption (item_at old) ((found ≡ None) × (mid ≡ old)) (λ item. (found ≡ Some item.0) × (mid ≡ item.1)) → width ≡ Some at
+quote_here : (old mid new : Rest) (found : Option ListMarker) (width : Option ℕ) (at : ℕ) → found ≡ None → MatchOption (item_at old) ((found ≡ None) × (mid ≡ old)) (λ item. (found ≡ Some (marker_of item.0)) × (mid ≡ item.1)) → width ≡ Some at
     → MatchOption (prefix (BlockQuote None) mid) ((width ≡ None) × (new ≡ mid)) (λ next. (width ≡ Some (after_columns 3 mid).taken) × (new ≡ next))
     → (item_at old ≡ None) × (prefix (BlockQuote None) old ≡ Some new) × (at ≡ (after_columns 3 old).taken)
 quote_here old mid new found width at absent a taken b =
@@ -262,11 +263,11 @@ returns-then-is_none-clause-order c =
     let less = j.2 in
     let shorter = item_shorter r _ (taken c) in
     let low = offset_later text line r rest i j.0 (omega arith) in
-    let opened : Reading = item_opened start c.in-Some.byte c.in-Some.number c.in-Some.indent old in
+    let opened : Reading = item_opened start c.in-Some.item.byte c.in-Some.item.number c.in-Some.item.indent old in
     λ first ordered. subst (λ o. OrderedIn text c.open_item.new.self line (offset (place_at line rest)) o) (sym c.behind_marker.ensures)
     (subst (λ (q : Reading). OrderedIn text q line (offset (place_at line rest)) (task_text c.scan_task-marker.result)) (sym (opened_is c))
-    (ordered_container text opened line start (offset (place_at line rest)) c.scan_task-marker.result (ap is_list (top_begun start (ListItemBody c.in-Some.indent) (list_continued start c.in-Some.byte c.in-Some.number old))) low j.0.within
-    (ordered_item text old line start c.in-Some.byte c.in-Some.number c.in-Some.indent (omega arith) i.within i.boundary c.requires.no_empty ordered)
+    (ordered_container text opened line start (offset (place_at line rest)) c.scan_task-marker.result (ap is_list (top_begun start (ListItemBody c.in-Some.item.indent) (list_continued start c.in-Some.item.byte c.in-Some.item.number old))) low j.0.within
+    (ordered_item text old line start c.in-Some.item.byte c.in-Some.item.number c.in-Some.item.indent (omega arith) i.within i.boundary c.requires.no_empty ordered)
     (λ x some. mark_stands text c.args.source.options line behind rest start c.scan_task-marker.result x c.requires.utf8 k.0 (offset_later text line r behind i k.0 (omega arith)) c.scan_task-marker.ensures.marker c.scan_task-marker.ensures.rest some)))
 
 pub returns-in-Some-clause-order : goal.returns-in-Some-clause-order
@@ -290,12 +291,12 @@ returns-in-Some-clause-order c =
     let here = place_before_end (place_at line r) in
     let there = place_before_end (place_at line rest) in
     let at_end : IsCharBoundary text next = subst (IsCharBoundary text) (sym ends) (place_end text (place_at line r) c.requires.utf8 i) in
-    let now : c.open_item.new.self ≡ item_opened start c.in-Some.byte c.in-Some.number c.in-Some.indent old =
-    c.in_ok-open_item.ensures ∙ ap (λ n. item_opened (line + n) c.in-Some.byte c.in-Some.number c.in-Some.indent old) c.bytes_scanned.ensures in
+    let now : c.open_item.new.self ≡ item_opened start c.in-Some.item.byte c.in-Some.item.number c.in-Some.item.indent old =
+    c.in_ok-open_item.ensures ∙ ap (λ n. item_opened (line + n) c.in-Some.item.byte c.in-Some.item.number c.in-Some.item.indent old) c.bytes_scanned.ensures in
     λ first ordered. subst (λ t. IsOrderedAt text (remembered t (Some next) c.open_item.new.self.blank) next) (sym c.in_ok-append_item.ensures)
     (subst (λ (q : Reading). IsOrderedAt text (remembered (with_child q.tree marker) (Some next) c.open_item.new.self.blank) next) (sym now)
-    (ordered_empty_item text start (offset (place_at line rest)) next c.in-Some.indent (list_continued start c.in-Some.byte c.in-Some.number old) marker c.open_item.new.self.blank (omega arith) (omega arith) at_end.0 at_end
-    (ordered_item text old line start c.in-Some.byte c.in-Some.number c.in-Some.indent (omega arith) i.within i.boundary c.requires.no_empty ordered)
+    (ordered_empty_item text start (offset (place_at line rest)) next c.in-Some.item.indent (list_continued start c.in-Some.item.byte c.in-Some.item.number old) marker c.open_item.new.self.blank (omega arith) (omega arith) at_end.0 at_end
+    (ordered_item text old line start c.in-Some.item.byte c.in-Some.item.number c.in-Some.item.indent (omega arith) i.within i.boundary c.requires.no_empty ordered)
     (λ x some. mark_stands text c.args.source.options line behind rest start marker x c.requires.utf8 k.0 (offset_later text line r behind i k.0 (omega arith)) c.scan_task-marker.ensures.marker c.scan_task-marker.ensures.rest some)))
 
 pub returns-then-is_none-2-clause-order : goal.returns-then-is_none-2-clause-order
@@ -357,10 +358,10 @@ returns-then-is_none-clause-few c =
     let first_marker = offset_before text line r behind i k.0 (item_shorter r _ (taken c)) in
     let less = (behind_keeps text options line behind c.requires.utf8 k.0).2 in
     let same = ap (λ (q : Rest). length q.left) c.scan_task-marker.ensures.rest in
-    let opened : Reading = item_opened start c.in-Some.byte c.in-Some.number c.in-Some.indent old in
+    let opened : Reading = item_opened start c.in-Some.item.byte c.in-Some.item.number c.in-Some.item.indent old in
     λ first grows. subst (GrowsIn text line first c.open_item.new.self.tree.nodes at) (sym c.behind_marker.ensures)
     (subst (λ (q : Reading). GrowsIn text line first q.tree.nodes at (task_text marker)) (sym (opened_is c))
-    (container_count text line start mid at first old.tree.nodes opened.tree.nodes marker grows (item_count start c.in-Some.byte c.in-Some.number c.in-Some.indent old) (omega arith) first_marker
+    (container_count text line start mid at first old.tree.nodes opened.tree.nodes marker grows (item_count start c.in-Some.item.byte c.in-Some.item.number c.in-Some.item.indent old) (omega arith) first_marker
     (offset_later text line behind rest k.0 j.0 (omega arith))
     (λ x some. (
       mark_stands text options line behind rest mid marker x c.requires.utf8 k.0 (omega arith) c.scan_task-marker.ensures.marker c.scan_task-marker.ensures.rest some,
@@ -378,9 +379,9 @@ returns-in-Some-clause-few c =
     let shorter = item_shorter r _ (taken_empty c) in
     let ends = next_is c in
     let some = left_before (place_at line r) (omega arith) in
-    let now : item ≡ item_opened start c.in-Some.byte c.in-Some.number c.in-Some.indent old =
-    c.in_ok-open_item.ensures ∙ ap (λ n. item_opened (line + n) c.in-Some.byte c.in-Some.number c.in-Some.indent old) c.bytes_scanned.ensures in
-    let two = item_count start c.in-Some.byte c.in-Some.number c.in-Some.indent old in
+    let now : item ≡ item_opened start c.in-Some.item.byte c.in-Some.item.number c.in-Some.item.indent old =
+    c.in_ok-open_item.ensures ∙ ap (λ n. item_opened (line + n) c.in-Some.item.byte c.in-Some.item.number c.in-Some.item.indent old) c.bytes_scanned.ensures in
+    let two = item_count start c.in-Some.item.byte c.in-Some.item.number c.in-Some.item.indent old in
     let same = ap count now in
     let one = child_count item.tree marker in
     let tree = ap (λ (f : Forest Item). length f.nodes) c.in_ok-append_item.ensures in
