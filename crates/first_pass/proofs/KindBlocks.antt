@@ -1,5 +1,5 @@
 -- A leaf block that was added is what its kind opens at its place.
-use Rattle.std.proofs.Common.{refl, ◌≡◌, inl, inr, ℕ, ◌+◌, ◌<◌, ◌≤◌, nat_lt, Bool, true, false, List, [], ◌∷◌, length, drop, Option, Some, None, sym, ap, subst, ◌∙◌, arith, min}
+use Rattle.std.proofs.Common.{◌≡◌, inl, inr, ℕ, ◌+◌, ◌<◌, ◌≤◌, nat_lt, Bool, true, false, List, [], ◌∷◌, length, drop, Option, Some, None, sym, ap, subst, ◌∙◌, arith, min}
 use Rattle.std.proofs.lemmas.Bool.Decides.{nat_tests}
 use Rattle.first_pass_items.specs.declared.option_set.Options.{Options}
 use Rattle.first_pass_items.specs.declared.item.Item.{Item}
@@ -12,7 +12,7 @@ use Rattle.first_pass_scan.proofs.PlaceFacts.{columns_line_end}
 use Rattle.first_pass_html.specs.Starts.{html_end}
 use Rattle.first_pass_grammar.specs.declared.kind.Container.{Container}
 use Rattle.first_pass_grammar.specs.declared.kind.Kind.{Kind}
-use Rattle.first_pass_grammar.specs.declared.kind.Kind.TheVariants.{Blank, IndentedCode, Metadata, HtmlToEnd, HtmlToBlank, ThematicBreak, AtxHeading, FencedCode, Paragraph}
+use Rattle.first_pass_grammar.specs.declared.kind.Kind.TheVariants.{Blank, IndentedCode, Metadata, HtmlToEnd, HtmlToBlank, ThematicBreak, AtxHeading, FencedCode}
 use Rattle.first_pass_grammar.specs.Names.{Names, Extends}
 use Rattle.first_pass_tokens.specs.Chains.{add_tokens}
 use Rattle.first_pass_grammar.specs.Containers.{at_rest, front}
@@ -25,7 +25,10 @@ use Rattle.first_pass_grammar.specs.Completion.{lines_from}
 use Rattle.first_pass_open.specs.Path.{path_of}
 use Rattle.first_pass_names.specs.TableEntries.{no_names}
 use Rattle.first_pass_raw.specs.RawBlocks.{IsPlaceAt, behind_line_at, code_behind, AddsIndented, AddsRaw, metadata_behind, fenced_behind, html_to_end, html_to_blank}
-use Rattle.first_pass.specs.Adding.{AddsKind, IsMarked}
+use Rattle.first_pass.specs.Adding.{AddsKind}
+use Rattle.first_pass_text.specs.Found.{marked_kind}
+use Rattle.first_pass_text.specs.declared.kinds.MarkedLeaf.{MarkedLeaf}
+use Rattle.first_pass_text.specs.declared.kinds.MarkedLeaf.TheVariants.{IndentedCode as MarkedCode, Metadata as MarkedMetadata, HtmlToEnd as MarkedHtml, ThematicBreak as MarkedBreak, AtxHeading as MarkedHeading, FencedCode as MarkedFence}
 use Rattle.first_pass_text.specs.Appends.{AddsHeading, AddsParagraph}
 use Rattle.first_pass_lists.specs.Closing.{remembered, list_finished}
 use Rattle.first_pass_lists.specs.declared.reading.Reading.{Reading}
@@ -218,14 +221,11 @@ pub html_moved : (t text : List ℕ) (o options : Options) (names : Names) (star
 html_moved t text o options names start columns p f old new next a b e h =
     subst (λ z. AddsHtml text options names start columns p z new next) e (subst (λ z. AddsHtml text z names start columns p f new next) b (subst (λ z. AddsHtml z o names start columns p f new next) a h))
 
--- a kind that is none of these three is told by its mark
-pub is_marked : (k : Kind) → (k ≡ Blank → ⊥) → (k ≡ HtmlToBlank → ⊥) → (k ≡ Paragraph → ⊥) → IsMarked k
-is_marked Blank a b e = a refl
-is_marked HtmlToBlank a b e = b refl
-is_marked Paragraph a b e = e refl
-is_marked IndentedCode a b e = tt
-is_marked (Metadata byte) a b e = tt
-is_marked HtmlToEnd a b e = tt
-is_marked (ThematicBreak size) a b e = tt
-is_marked (AtxHeading level) a b e = tt
-is_marked (FencedCode count byte) a b e = tt
+-- a leaf block that begins with a mark is no blank line
+pub marked_some : (leaf : MarkedLeaf) → marked_kind leaf ≡ Blank → ⊥
+marked_some MarkedCode e = cc
+marked_some (MarkedMetadata byte) e = cc
+marked_some (MarkedHtml «end») e = cc
+marked_some (MarkedBreak size) e = cc
+marked_some (MarkedHeading level) e = cc
+marked_some (MarkedFence count byte) e = cc

@@ -5,7 +5,6 @@ use Rattle.first_pass_items.specs.declared.item.Item.{Item}
 use Rattle.first_pass_tree.specs.Forest.{Forest, added}
 use Rattle.first_pass_scan.specs.Places.{Place, line_end}
 use Rattle.first_pass_grammar.specs.declared.kind.Kind.{Kind}
-use Rattle.first_pass_grammar.specs.declared.kind.Kind.TheVariants.{Blank, HtmlToBlank, Paragraph}
 use Rattle.first_pass_grammar.specs.Names.{Names, Extends}
 use Rattle.first_pass_grammar.specs.Leaves.{document}
 use Rattle.first_pass_grammar.specs.Skeleton.{Block, Line, OpensLeaf, OpensAs}
@@ -21,13 +20,6 @@ pub record AddsKind (text : List ℕ) (options : Options) (names : Names) (p : P
   pub items : List (ℕ × Item)
   pub tree_is : new ≡ added old items
   pub opens : (more : Names) → Extends more names → OpensAs (document text options more) (path_of old) p (lines_from text (line_end p)) kind (OpensLeaf (Block p.line items gap) Line (lines_from text next))
-
--- a kind that is told from others by its mark
-abbrev pub IsMarked : Kind → Type 0
-IsMarked Blank = ⊥
-IsMarked HtmlToBlank = ⊥
-IsMarked Paragraph = ⊥
-IsMarked _ = Unit {0}
 
 -- a blank line is read too that begins before an offset, where one does
 abbrev pub behind_blank : List ℕ → ℕ → ℕ → ℕ

@@ -18,10 +18,11 @@ ghost use Rattle.first_pass_grammar.specs.Skeleton.{Inside, Line};
 ghost use Rattle.first_pass_tree.specs.Forest.{is_text};
 ghost use Rattle.first_pass_grammar.specs.Kinds.{item_at, IsKind, all_taken, unindented};
 ghost use Rattle.first_pass_scan.specs.Rest.{indent};
-ghost use Rattle.first_pass.specs.Adding.{AddsKind, IsMarked};
+ghost use Rattle.first_pass.specs.Adding.{AddsKind};
 ghost use Rattle.first_pass.specs.Opening.{ReadyText, ReadyTagged, ReadyLeaf, line_or, OrderedText};
 ghost use Rattle.first_pass_lists.specs.Closing.{with_tree};
 ghost use Rattle.first_pass.specs.Ordered.{IsOrderedAt};
+ghost use Rattle.first_pass_text.specs.Found.{HasEnd, IsFoundWith, kind_of, marked_kind};
 ghost use Rattle.first_pass_text.specs.Between.{AddsBetween, StandsBefore};
 ghost use Rattle.first_pass_grammar.specs.Order.{IsOrdered, GrowsBy};
 ghost use Rattle.first_pass_grammar.specs.OpenOrder.{IsOrderedTo};
@@ -32,7 +33,6 @@ ghost use Rattle.first_pass_grammar.specs.Names.{Names, Extends};
 use crate::containers::{Behind, close_containers, enter_line, open_containers};
 use crate::raw::read_blank_behind;
 use first_pass_below::flank::TableParseMode;
-use first_pass_grammar::Kind;
 use first_pass_items::item::Item;
 use first_pass_items::option_set::Options;
 use first_pass_lists::reading::Reading;
@@ -44,7 +44,7 @@ use first_pass_scan::metadata_search::MetadataEnds;
 use first_pass_scan::places::{next_line, rest_of};
 use first_pass_text::interrupt::lazy_leaf;
 pub use first_pass_text::interrupt::scan_paragraph_interrupt_no_table;
-use first_pass_text::kinds::kind_at;
+use first_pass_text::kinds::{Found, MarkedLeaf, kind_at};
 use first_pass_tokens::line::append_line;
 use first_pass_tree::forest::Tree;
 use first_pass_tree::tree_index::TreeIndex;
@@ -249,32 +249,33 @@ impl<'a> FirstPass<'a> {
         self.source.is_short();
         let before = line_start.copy();
         let mut line_start = line_start;
-        let (kind, columns) = kind_at(
+        let (found, columns) = kind_at(
             self.source,
             start_ix,
             &mut line_start,
             &mut self.metadata_ends,
         );
         let at = start_ix + line_start.bytes_scanned();
-        let next = self.parse_kind(start_ix, before, kind, columns, at)?;
+        let next = self.parse_kind(start_ix, before, found, columns, at)?;
         Ok(next)
     }
 
-    // Reads the leaf block of a kind that begins at a place in the line whose reading began at `start_ix`, behind so
-    // many columns, at the offset `at`; answers as `parse_block`.
+    // Reads the leaf block that was found at a place in the line whose reading began at `start_ix`, behind so many
+    // columns, at the offset `at`; answers as `parse_block`.
     #[inline(always)]
     fn parse_kind(
         &mut self,
         start_ix: usize,
         before: LineStart<'a>,
-        kind: Kind,
+        found: Found,
         columns: usize,
         at: usize,
     ) -> Result<usize, AllocError>
         requires utf8 { IsUtf8 self.old.source.text.now }
         requires place { IsPlaceOf self.old.source.text.now (place_at start_ix before) }
         requires no_empty { self.old.reading.empty_item ≡ None }
-        requires kind { IsKind self.old.source.options before kind }
+        requires kind { IsKind self.old.source.options before (kind_of found) }
+        requires end { IsFoundWith (all_taken before).left found }
         requires columns { columns ≡ min 4 (indent before) }
         requires at { at ≡ offset (unindented (place_at start_ix before)) }
         ensures source { OnOk result (self.new.source ≡ self.old.source) }
@@ -296,44 +297,44 @@ impl<'a> FirstPass<'a> {
             self.old.reading.tree.nodes self.new.reading.tree.nodes) }
     {
         self.reading.tree.is_forest();
-        match kind {
-            Kind::Blank => {
+        match found {
+            Found::Blank => {
                 self.reading.read_blank_line();
                 Ok(next_line(self.source.text.as_bytes(), at))
             }
-            Kind::Paragraph => {
+            Found::Paragraph => {
                 self.reading.finish_list(at);
                 let next = self.parse_paragraph(at, None)?;
                 Ok(next)
             }
-            Kind::HtmlToBlank => {
+            Found::HtmlToBlank => {
                 self.reading.finish_list(start_ix);
                 self.reading.tree.is_forest();
                 let lines = self.parse_html_to_blank(at, columns)?;
                 Ok(read_blank_behind(&mut self.reading, self.source, lines))
             }
-            _ => {
+            Found::Marked(leaf) => {
                 self.reading.finish_list(start_ix);
-                let next = self.parse_marked(start_ix, before, kind, columns, at)?;
+                let next = self.parse_marked(start_ix, before, leaf, columns, at)?;
                 Ok(next)
             }
         }
     }
 
-    // Appends the leaf block of a kind that begins at a place in the line whose reading began at `start_ix`, behind so
-    // many columns, at the offset `at`; no blank line, no paragraph and no HTML block that ends before a blank line.
+    // Appends the leaf block that begins with a mark at a place in the line whose reading began at `start_ix`, behind so
+    // many columns, at the offset `at`.
     fn parse_marked(
         &mut self,
         start_ix: usize,
         before: LineStart<'a>,
-        kind: Kind,
+        leaf: MarkedLeaf,
         columns: usize,
         at: usize,
     ) -> Result<usize, AllocError>
         requires utf8 { IsUtf8 self.old.source.text.now }
         requires place { IsPlaceOf self.old.source.text.now (place_at start_ix before) }
-        requires kind { IsKind self.old.source.options before kind }
-        requires marked { IsMarked kind }
+        requires kind { IsKind self.old.source.options before (marked_kind leaf) }
+        requires end { HasEnd (all_taken before).left leaf }
         requires columns { columns ≡ min 4 (indent before) }
         requires at { at ≡ offset (unindented (place_at start_ix before)) }
         requires not_blank { self.old.reading.blank ≡ false }
@@ -342,39 +343,38 @@ impl<'a> FirstPass<'a> {
         ensures names { OnOk result (Extends (names_of self.new.allocs) (names_of self.old.allocs)) }
         ensures tables { OnOk result (tables self.new.allocs ≡ tables self.old.allocs) }
         ensures block { IfOk result (λ next. AddsKind self.old.source.text.now self.old.source.options
-            (names_of self.new.allocs) (place_at start_ix before.entry) kind self.new.reading.blank
+            (names_of self.new.allocs) (place_at start_ix before.entry) (marked_kind leaf) self.new.reading.blank
             self.old.reading.tree self.new.reading.tree next) }
         ensures boundary { IfOk result (λ next. (line_end (place_at start_ix before.entry) ≤ next)
             × IsCharBoundary self.old.source.text.now next) }
         ensures fits { IfOk result (λ next. (from : ℕ) → from ≤ offset (place_at start_ix before.entry)
             → AddsBetween self.old.source.text.now from next self.old.reading.tree self.new.reading.tree) }
     {
-        match kind {
-            Kind::IndentedCode => {
+        match leaf {
+            MarkedLeaf::IndentedCode => {
                 let next = self.parse_code(start_ix, before)?;
                 Ok(next)
             }
-            Kind::Metadata(byte) => {
+            MarkedLeaf::Metadata(byte) => {
                 let next = self.parse_metadata_block(at, byte)?;
                 Ok(next)
             }
-            Kind::HtmlToEnd => {
-                let next = self.parse_html_to_end(at, columns)?;
+            MarkedLeaf::HtmlToEnd(end) => {
+                let next = self.parse_html_block_type_1_to_5(at, end, 0, columns)?;
                 Ok(next)
             }
-            Kind::ThematicBreak(size) => {
+            MarkedLeaf::ThematicBreak(size) => {
                 let next = self.parse_hrule(size, at)?;
                 Ok(next)
             }
-            Kind::AtxHeading(level) => {
+            MarkedLeaf::AtxHeading(level) => {
                 let next = self.parse_atx_heading(at, level)?;
                 Ok(next)
             }
-            Kind::FencedCode(count, byte) => {
+            MarkedLeaf::FencedCode(count, byte) => {
                 let next = self.parse_fenced_code_block(at, columns, byte, count)?;
                 Ok(next)
             }
-            Kind::Blank | Kind::HtmlToBlank | Kind::Paragraph => unreachable!(),
         }
     }
 

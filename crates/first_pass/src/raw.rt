@@ -5,10 +5,9 @@ ghost use Rattle.first_pass_scan.specs.Lines.{is_blank_line, is_content};
 ghost use Rattle.first_pass_scan.specs.LeafLines.{code_fence};
 ghost use Rattle.first_pass_scan.specs.Rest.{indent};
 ghost use Rattle.first_pass_scan.specs.Places.{Place, place_at, offset, line_end, IsPlaceOf};
-ghost use Rattle.first_pass_html.specs.Starts.{html_end};
 ghost use Rattle.first_pass_grammar.specs.declared.kind.Kind.TheVariants.{IndentedCode};
 ghost use Rattle.first_pass_grammar.specs.Names.{Extends};
-ghost use Rattle.first_pass_grammar.specs.Kinds.{is_blank_rest, begins_html_to_end};
+ghost use Rattle.first_pass_grammar.specs.Kinds.{is_blank_rest};
 ghost use Rattle.first_pass_grammar.specs.CodeBlocks.{IsFencedCode, IsMetadata};
 ghost use Rattle.first_pass_grammar.specs.HtmlBlocks.{IsHtml};
 ghost use Rattle.first_pass_open.specs.Path.{path_of};
@@ -19,14 +18,13 @@ ghost use Rattle.first_pass_lists.specs.Closing.{with_tree};
 ghost use Rattle.first_pass_text.specs.Between.{AddsBetween};
 
 use crate::pass::FirstPass;
-use first_pass_html::starts::get_html_end_tag;
 use first_pass_lists::reading::Reading;
 use first_pass_open::open_block::BlockLines;
 use first_pass_open::source::Source;
 use first_pass_raw::fenced_code::Fence;
 use first_pass_raw::{fenced_code, html_block, indented_code, metadata_block, raw_line};
 use first_pass_scan::line_start::LineStart;
-use first_pass_scan::places::{next_line, rest_of};
+use first_pass_scan::places::next_line;
 use std::alloc::AllocError;
 use std::cmp::max;
 
@@ -265,34 +263,6 @@ impl<'a> FirstPass<'a> {
             html_end_tag,
             max(remaining_space, indent),
         )?;
-        Ok(next)
-    }
-
-    // The same where its first line tells the text that ends it.
-    pub(crate) fn parse_html_to_end(
-        &mut self,
-        start_ix: usize,
-        columns: usize,
-    ) -> Result<usize, AllocError>
-        requires boundary { IsCharBoundary self.old.source.text.now start_ix }
-        requires columns { columns ≤ 3 }
-        requires html { begins_html_to_end (drop start_ix self.old.source.text.now) ≡ true }
-        ensures source { OnOk result (self.new.source ≡ self.old.source) }
-        ensures names { OnOk result (Extends (names_of self.new.allocs) (names_of self.old.allocs)) }
-        ensures tables { OnOk result (tables self.new.allocs ≡ tables self.old.allocs) }
-        ensures reading { OnOk result (self.new.reading ≡ with_tree self.old.reading self.new.reading.tree) }
-        ensures block { IfOk result (λ next. (tag : List ℕ) → html_end (drop 1 (drop start_ix self.old.source.text.now))
-            ≡ Some tag → (p : Place) → IsPlaceAt self.old.source.text.now start_ix p
-            → let e = html_to_end self.old.source.text.now (path_of self.old.reading.tree) tag p in
-            AddsRaw self.old.source.text.now self.old.source.options (names_of self.new.allocs) (λ d.
-            IsHtml d start_ix columns e.places e.«end») e.left self.old.reading.tree self.new.reading.tree next) }
-        ensures boundary { IfOk result (λ next. (behind_line_at self.old.source.text.now start_ix ≤ next)
-            × IsCharBoundary self.old.source.text.now next) }
-        ensures fits { IfOk result (λ next. (from : ℕ) → from ≤ start_ix
-            → AddsBetween self.old.source.text.now from next self.old.reading.tree self.new.reading.tree) }
-    {
-        let tag = get_html_end_tag(rest_of(self.source.text.as_bytes(), start_ix + 1)).unwrap();
-        let next = self.parse_html_block_type_1_to_5(start_ix, tag, 0, columns)?;
         Ok(next)
     }
 

@@ -1,21 +1,22 @@
 -- What the kind of a place says of what begins there.
-use Rattle.std.proofs.Common.{◌≡◌, inl, inr, ℕ, ◌+◌, ◌<◌, ◌≤◌, min, ◌&&◌, nat_lt, ◌==◌, Bool, true, false, List, length, drop, Option, Some, None, is_some, MatchOption, IfSome, IfNone, IsUtf8, refl, sym, ap, subst, ◌∙◌, if◌then◌else◌, arith}
-use Rattle.std.specs.Borrow.{Bor}
+use Rattle.std.proofs.Common.{◌≡◌, inl, inr, ℕ, ◌+◌, ◌<◌, ◌≤◌, min, nat_lt, ◌==◌, Bool, true, false, List, length, drop, Option, Some, None, is_some, IfSome, IfNone, IsUtf8, refl, sym, ap, subst, ◌∙◌, if◌then◌else◌, arith}
 use Rattle.std.proofs.lemmas.Bool.Decides.{nat_tests}
+use Rattle.std.specs.Option.{option_map}
 use Rattle.first_pass_items.specs.declared.option_set.Options.{Options}
 use Rattle.first_pass_items.specs.OptionWords.{has}
 use Rattle.first_pass_items.specs.declared.item.HeadingLevel.{HeadingLevel}
-use Rattle.first_pass_scan.specs.Lines.{is_content, begins, atx_level}
+use Rattle.first_pass_scan.specs.Lines.{is_content, atx_level}
 use Rattle.first_pass_scan.specs.LeafLines.{hrule_len, code_fence, metadata_byte}
 use Rattle.first_pass_scan.specs.Rest.{Rest, indent}
 use Rattle.first_pass_scan.specs.Places.{place_at, offset, IsPlaceOf}
 use Rattle.first_pass_open.proofs.PlaceLemmas.{all_keep}
 use Rattle.first_pass_scan.proofs.MetadataFacts.{metadata_plain}
-use Rattle.first_pass_html.specs.Starts.{html_end}
 use Rattle.first_pass_html.specs.Tags.{BeginsTagLine}
 use Rattle.first_pass_grammar.specs.declared.kind.Kind.{Kind}
 use Rattle.first_pass_grammar.specs.declared.kind.Kind.TheVariants.{Blank, IndentedCode, Metadata, HtmlToEnd, HtmlToBlank, ThematicBreak, AtxHeading, FencedCode, Paragraph}
 use Rattle.first_pass_grammar.specs.Kinds.{all_taken, is_blank_rest, heading_or, rule_or, fence_or, metadata_or, metadata_at, begins_html_to_end, begins_html_to_blank, html_kind, first_kind, last_kind, IsKindBy, IsKind}
+use Rattle.first_pass_text.specs.Found.{kind_of, IsFoundWith}
+use Rattle.first_pass_text.specs.declared.kinds.Found.{Found}
 
 -- columns that were counted up to four
 pub few_columns : (n m : ℕ) → n ≡ min 4 m → n < 4 → (nat_lt m 4 ≡ true) × (n ≡ m)
@@ -29,7 +30,7 @@ abbrev pub Says : Rest → Kind → Type 0
 Says r Blank = is_blank_rest r ≡ true
 Says r IndentedCode = (is_blank_rest r ≡ false) × (nat_lt (indent r) 4 ≡ false)
 Says r (Metadata byte) = is_content byte ≡ true
-Says r HtmlToEnd = (begins_html_to_end (all_taken r).left ≡ true) × (nat_lt (indent r) 4 ≡ true)
+Says r HtmlToEnd = nat_lt (indent r) 4 ≡ true
 Says r HtmlToBlank = nat_lt (indent r) 4 ≡ true
 Says r (ThematicBreak size) = hrule_len (all_taken r).left ≡ Some size
 Says r (AtxHeading level) = atx_level (all_taken r).left ≡ Some level
@@ -46,11 +47,11 @@ last_by r None None None a b e u = tt
 last_says : (r : Rest) → nat_lt (indent r) 4 ≡ true → Says r (last_kind (all_taken r).left)
 last_says r u = last_by r _ _ _ refl refl refl u
 
-html_by : (t v : Bool) (r : Rest) (k : Kind) → begins_html_to_end (all_taken r).left ≡ t → nat_lt (indent r) 4 ≡ true → IsKindBy r (if t then Some HtmlToEnd else (if v then Some HtmlToBlank else None)) k → Says r k
-html_by true v r k a u h = subst (Says r) (sym h) (a, u)
-html_by false true r k a u h = subst (Says r) (sym h) u
-html_by false false r k a u (inl (n, tag, h)) = subst (Says r) (sym h) u
-html_by false false r k a u (inr (none, h)) = subst (Says r) (sym h) (last_says r u)
+html_by : (t v : Bool) (r : Rest) (k : Kind) → nat_lt (indent r) 4 ≡ true → IsKindBy r (if t then Some HtmlToEnd else (if v then Some HtmlToBlank else None)) k → Says r k
+html_by true v r k u h = subst (Says r) (sym h) u
+html_by false true r k u h = subst (Says r) (sym h) u
+html_by false false r k u (inl (n, tag, h)) = subst (Says r) (sym h) u
+html_by false false r k u (inr (none, h)) = subst (Says r) (sym h) (last_says r u)
 
 plain_by : (t : Bool) (options : Options) (bs : List ℕ) (byte : ℕ) → (if t then metadata_byte (has options 128) (has options 256) bs else None) ≡ Some byte → is_content byte ≡ true
 plain_by true options bs byte h = metadata_plain (has options 128) (has options 256) bs byte h
@@ -58,7 +59,7 @@ plain_by false options bs byte h = cc
 
 metadata_by : (options : Options) (m : Option ℕ) (r : Rest) (k : Kind) → metadata_at (indent r) options (all_taken r).left ≡ m → nat_lt (indent r) 4 ≡ true → IsKindBy r (metadata_or m (html_kind (all_taken r).left)) k → Says r k
 metadata_by options (Some byte) r k e u h = subst (Says r) (sym h) (plain_by (indent r == 0) options (all_taken r).left byte e)
-metadata_by options None r k e u h = html_by (begins_html_to_end (all_taken r).left) (begins_html_to_blank (all_taken r).left) r k refl u h
+metadata_by options None r k e u h = html_by (begins_html_to_end (all_taken r).left) (begins_html_to_blank (all_taken r).left) r k u h
 
 says_by : (t u : Bool) (options : Options) (r : Rest) (k : Kind) → is_blank_rest r ≡ t → nat_lt (indent r) 4 ≡ u
     → IsKindBy r (if t then Some Blank else (if u then metadata_or (metadata_at (indent r) options (all_taken r).left) (html_kind (all_taken r).left) else Some IndentedCode)) k → Says r k
@@ -69,18 +70,6 @@ says_by false false options r k a b h = subst (Says r) (sym h) (a, b)
 pub kind_says : (options : Options) (r : Rest) (k : Kind) → IsKind options r k → Says r k
 unfolding first_kind
 kind_says options r k h = says_by (is_blank_rest r) (nat_lt (indent r) 4) options r k refl refl h
-
--- an HTML block of the kinds 1 to 5 has a text that ends it
-end_by : (o : Option (List ℕ)) → is_some o ≡ true → (text : List ℕ) × (o ≡ Some text)
-end_by None h = cc
-end_by (Some text) h = (text, refl)
-
-first_and : (a b : Bool) → (a && b) ≡ true → (a ≡ true) × (b ≡ true)
-first_and true b h = (refl, h)
-first_and false b h = cc
-
-pub html_ends : (bs : List ℕ) → begins_html_to_end bs ≡ true → (begins 60 bs ≡ true) × ((text : List ℕ) × (html_end (drop 1 bs) ≡ Some text))
-html_ends bs h = let both = first_and (begins 60 bs) (is_some (html_end (drop 1 bs))) h in (both.0, end_by (html_end (drop 1 bs)) both.1)
 
 -- the kind of a place that is blank
 pub blank_kind : (options : Options) (r : Rest) → is_blank_rest r ≡ true → IsKind options r Blank
@@ -148,9 +137,9 @@ pub tag_absent : (o : Option ℕ) (bs left : List ℕ) → is_some o ≡ false �
 tag_absent None bs left h same none = subst (λ z. (n : ℕ) → BeginsTagLine z n → ⊥) (sym same) none
 tag_absent (Some n) bs left h same none = cc
 
--- the text that ends an HTML block is the one that was found
-pub same_tag : (o : Option (Bor (List ℕ))) (t : Bor (List ℕ)) (h : Option (List ℕ)) (tag : List ℕ) → o ≡ Some t → MatchOption o (h ≡ None) (λ (x : Bor (List ℕ)). h ≡ Some x.now) → h ≡ Some tag → t.now ≡ tag
-same_tag o t h tag is value tag_is =
-    let v : h ≡ Some t.now = subst (λ (z : Option (Bor (List ℕ))). MatchOption z (h ≡ None) (λ (x : Bor (List ℕ)). h ≡ Some x.now)) is value in
-    let e : Some t.now ≡ Some tag = sym v ∙ tag_is in
-    cc
+-- what was found of an HTML block
+pub found_html : (o : Option Found) (f : Found) (h : Option Kind) (bs left : List ℕ) → o ≡ Some f → option_map kind_of o ≡ h → IfSome o (IsFoundWith bs) → left ≡ bs → (h ≡ Some (kind_of f)) × IsFoundWith left f
+found_html o f h bs left is kind with same = (
+  sym kind ∙ ap (option_map kind_of) is,
+  subst (λ z. IsFoundWith z f) (sym same) (subst (λ (z : Option Found). IfSome z (IsFoundWith bs)) is with),
+)

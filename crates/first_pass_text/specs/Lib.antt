@@ -1,3 +1,4 @@
 pub mod Appends
 pub mod Between
+pub mod Found
 pub mod Reading

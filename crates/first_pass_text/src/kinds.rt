@@ -1,15 +1,17 @@
 //! What begins at a place in a line.
 
 ghost use Rattle.std.specs.Prelude.{◌≡◌, ◌+◌, ◌≤◌, min, length, drop, Some, None, IfOk, IfSome, MatchOption};
+ghost use Rattle.std.specs.Option.{option_map};
 ghost use Rattle.first_pass_scan.specs.Rest.{indent};
 ghost use Rattle.first_pass_scan.specs.Places.{place_at, IsPlaceOf};
 ghost use Rattle.first_pass_scan.specs.MetadataSearch.{IsKnownOf};
 ghost use Rattle.first_pass_grammar.specs.Kinds.{html_kind, last_kind, metadata_at, IsKind, all_taken};
+ghost use Rattle.first_pass_text.specs.Found.{kind_of, IsFoundWith};
 
 use bitflags::Flags;
-use first_pass_grammar::Kind;
 use first_pass_html::starts::{get_html_end_tag, starts_html_block_type_6};
 use first_pass_html::tags::scan_html_type_7;
+use first_pass_items::item::HeadingLevel;
 use first_pass_items::option_set::Options;
 use first_pass_open::indentation::scan_indentation;
 use first_pass_open::source::Source;
@@ -18,35 +20,67 @@ use first_pass_scan::line_start::LineStart;
 use first_pass_scan::lines::{scan_atx_heading, scan_blank_line};
 use first_pass_scan::metadata_search::{MetadataEnds, metadata_at};
 
+/// What begins at a place of a line where no container begins, with what was found of it.
+#[derive(Clone, Copy)]
+pub enum Found {
+    /// A blank line (CommonMark 4.9).
+    Blank,
+    /// A paragraph (CommonMark 4.8).
+    Paragraph,
+    /// An HTML block that ends before a blank line: one of the kinds 6 and 7 (CommonMark 4.6).
+    HtmlToBlank,
+    /// Another leaf block.
+    Marked(MarkedLeaf),
+}
+
+/// A leaf block that is told by its indentation or by the mark that it begins with.
+#[derive(Clone, Copy)]
+pub enum MarkedLeaf {
+    /// Indented code (CommonMark 4.4).
+    IndentedCode,
+    /// A metadata block, with the byte of its marks: `-` or `+`.
+    Metadata(u8),
+    /// An HTML block of the kinds 1 to 5, with the text that ends it (CommonMark 4.6).
+    HtmlToEnd(&'static str),
+    /// A thematic break, with how many bytes it has, its line end too (CommonMark 4.1).
+    ThematicBreak(usize),
+    /// An ATX heading (CommonMark 4.2).
+    AtxHeading(HeadingLevel),
+    /// A fenced code block, with how many bytes its fence has, and which (CommonMark 4.5).
+    FencedCode(usize, u8),
+}
+
 /// The HTML block of the kinds 1 to 6 that begins here, if one does (CommonMark 4.6).
-pub fn html_kind(bytes: &[u8]) -> Option<Kind>
-    ensures { result ≡ html_kind bytes.now }
+pub fn html_kind(bytes: &[u8]) -> Option<Found>
+    ensures kind { option_map kind_of result ≡ html_kind bytes.now }
+    ensures end { IfSome result (λ found. IsFoundWith bytes.now found) }
 {
     let [b'<', rest @ ..] = bytes else {
         return None;
     };
-    if get_html_end_tag(rest).is_some() {
-        return Some(Kind::HtmlToEnd);
+    if let Some(end) = get_html_end_tag(rest) {
+        return Some(Found::Marked(MarkedLeaf::HtmlToEnd(end)));
     }
     if starts_html_block_type_6(rest) {
-        return Some(Kind::HtmlToBlank);
+        return Some(Found::HtmlToBlank);
     }
     None
 }
 
 // The thematic break, the ATX heading, the fenced code block or the paragraph that begins here.
-fn last_kind(bytes: &[u8]) -> Kind
-    ensures { result ≡ last_kind bytes.now }
+fn last_kind(bytes: &[u8]) -> Found
+    ensures kind { kind_of result ≡ last_kind bytes.now }
+    ensures end { IsFoundWith bytes.now result }
 {
     if let Some(size) = scan_hrule(bytes) {
-        return Kind::ThematicBreak(size);
+        return Found::Marked(MarkedLeaf::ThematicBreak(size));
     }
     if let Some(level) = scan_atx_heading(bytes) {
-        return Kind::AtxHeading(level);
+        return Found::Marked(MarkedLeaf::AtxHeading(level));
     }
     match scan_code_fence(bytes) {
-        Some((count, byte)) => Kind::FencedCode(count, byte),
-        None => Kind::Paragraph,
+        Some((count, byte)) => Found::Marked(MarkedLeaf::FencedCode(count, byte)),
+        None => Found::Paragraph,
     }
 }
 
@@ -72,43 +106,44 @@ fn metadata_behind(
     metadata_at(text, at, yaml, pluses, ends)
 }
 
-/// The kind of the block that begins at a place where no container does, in the line whose reading began at
-/// the offset `start` into the text; takes all columns before it, and says how many there were, but 4 where
-/// there were more (CommonMark 4).
+/// What begins at a place where no container does, in the line whose reading began at the offset `start`
+/// into the text; takes all columns before it, and says how many there were, but 4 where there were more
+/// (CommonMark 4).
 pub fn kind_at<'a>(
     source: Source<'_>,
     start: usize,
     line_start: &mut LineStart<'a>,
     ends: &mut MetadataEnds,
-) -> (Kind, usize)
+) -> (Found, usize)
     requires place { IsPlaceOf source.text.now (place_at start line_start.old) }
     requires known { IsKnownOf source.text.now ends.old }
-    ensures kind { IsKind source.entry.options line_start.old result.0 }
+    ensures kind { IsKind source.entry.options line_start.old (kind_of result.0) }
+    ensures end { IsFoundWith (all_taken line_start.old).left result.0 }
     ensures columns { result.1 ≡ min 4 (indent line_start.old) }
     ensures rest { line_start.new ≡ all_taken line_start.old }
     ensures known { IsKnownOf source.entry.text.now ends.new }
 {
     if line_start.is_at_plain() {
-        return (Kind::Paragraph, 0);
+        return (Found::Paragraph, 0);
     }
     let blank = scan_blank_line(line_start.left()).is_some();
     let columns = scan_indentation(line_start);
     if blank {
-        return (Kind::Blank, columns);
+        return (Found::Blank, columns);
     }
     if columns >= 4 {
-        return (Kind::IndentedCode, columns);
+        return (Found::Marked(MarkedLeaf::IndentedCode), columns);
     }
     let bytes = source.text.as_bytes();
     let at = start + line_start.bytes_scanned();
     if let Some(byte) = metadata_behind(bytes, at, columns, source.options, ends) {
-        return (Kind::Metadata(byte), columns);
+        return (Found::Marked(MarkedLeaf::Metadata(byte)), columns);
     }
-    if let Some(kind) = html_kind(line_start.left()) {
-        return (kind, columns);
+    if let Some(found) = html_kind(line_start.left()) {
+        return (found, columns);
     }
     if scan_html_type_7(line_start.left()).is_some() {
-        return (Kind::HtmlToBlank, columns);
+        return (Found::HtmlToBlank, columns);
     }
     (last_kind(line_start.left()), columns)
 }

@@ -1,8 +1,10 @@
 use Rattle.std.proofs.Common.{length, is_some, sym, ap, ◌∙◌, subst, arith, IsUtf8}
+use Rattle.std.specs.Option.{option_map}
 use Rattle.first_pass_scan.specs.Lines.{blank_len}
 use Rattle.first_pass_scan.specs.Rest.{Rest}
 use Rattle.first_pass_grammar.specs.Kinds.{all_taken, html_kind, last_kind, IsKind}
-use Rattle.first_pass_text.proofs.KindLemmas.{many_columns, blank_kind, code_kind, behind_columns, found_early, tag_found, tag_absent, metadata_here, html_here, tag_here, last_here}
+use Rattle.first_pass_text.specs.Found.{kind_of, IsFoundWith}
+use Rattle.first_pass_text.proofs.KindLemmas.{many_columns, blank_kind, code_kind, behind_columns, found_early, tag_found, tag_absent, metadata_here, html_here, tag_here, last_here, found_html}
 use Rattle.first_pass_open.proofs.PlainLemmas.{plain_all, plain_few}
 use Rattle.first_pass_text.proofs.PlainKinds.{plain_kind}
 use Rattle.first_pass_text.proofs.kinds.kind_at.Goals as goal
@@ -45,17 +47,27 @@ returns-in-Some-clause-kind c =
 pub returns-in-Some-html_kind-clause-kind : goal.returns-in-Some-html_kind-clause-kind
 returns-in-Some-html_kind-clause-kind c =
     let early = (found_early c.args.source.text.now c.as_bytes-bytes.result.now c.args.start c.bytes_scanned.result c.scan_indentation-columns.result c.args.source.options c.args.line_start.now _ _ (subst IsUtf8 c.as_bytes-bytes.ensures.value c.as_bytes-bytes.ensures.utf8) c.requires.place (ap (λ bs. is_some (blank_len bs)) (sym c.left.ensures) ∙ ap is_some (sym c.scan_blank_line.ensures.value) ∙ sym c.is_some-blank.ensures ∙ c.if-blank.false) c.scan_indentation-columns.ensures.columns c.scan_indentation-columns.ensures.rest c.bytes_scanned.ensures c.if-columns-ge4.false c.as_bytes-bytes.ensures.value (sym c.in_default.is ∙ c.metadata_behind.ensures.value)) in
-    html_here c.args.source.options c.args.line_start.now c.in-Some-html_kind.kind early (ap html_kind (sym (c.left-2.ensures ∙ ap (λ (q : Rest). q.left) c.scan_indentation-columns.ensures.rest)) ∙ sym c.html_kind.ensures ∙ c.in-Some-html_kind.is)
+    let same = sym (c.left-2.ensures ∙ ap (λ (q : Rest). q.left) c.scan_indentation-columns.ensures.rest) in
+    html_here c.args.source.options c.args.line_start.now (kind_of c.in-Some-html_kind.found) early (ap html_kind same ∙ (found_html c.html_kind.result c.in-Some-html_kind.found _ _ _ c.in-Some-html_kind.is c.html_kind.ensures.kind c.html_kind.ensures.«end» same).0)
+
+pub returns-in-Some-html_kind-clause-end : goal.returns-in-Some-html_kind-clause-end
+returns-in-Some-html_kind-clause-end c =
+    let same = sym (c.left-2.ensures ∙ ap (λ (q : Rest). q.left) c.scan_indentation-columns.ensures.rest) in
+    (found_html c.html_kind.result c.in-Some-html_kind.found _ _ _ c.in-Some-html_kind.is c.html_kind.ensures.kind c.html_kind.ensures.«end» same).1
 
 pub returns-then-is_some-clause-kind : goal.returns-then-is_some-clause-kind
 returns-then-is_some-clause-kind c =
     let early = (found_early c.args.source.text.now c.as_bytes-bytes.result.now c.args.start c.bytes_scanned.result c.scan_indentation-columns.result c.args.source.options c.args.line_start.now _ _ (subst IsUtf8 c.as_bytes-bytes.ensures.value c.as_bytes-bytes.ensures.utf8) c.requires.place (ap (λ bs. is_some (blank_len bs)) (sym c.left.ensures) ∙ ap is_some (sym c.scan_blank_line.ensures.value) ∙ sym c.is_some-blank.ensures ∙ c.if-blank.false) c.scan_indentation-columns.ensures.columns c.scan_indentation-columns.ensures.rest c.bytes_scanned.ensures c.if-columns-ge4.false c.as_bytes-bytes.ensures.value (sym c.in_default.is ∙ c.metadata_behind.ensures.value)) in
     let tag = tag_found c.scan_html_type_7.result _ (all_taken c.args.line_start.now).left (sym c.is_some.ensures ∙ c.if-is_some.true) (sym (c.left-3.ensures ∙ ap (λ (q : Rest). q.left) c.scan_indentation-columns.ensures.rest)) c.scan_html_type_7.ensures.tag in
-    tag_here c.args.source.options c.args.line_start.now tag.0 early (ap html_kind (sym (c.left-2.ensures ∙ ap (λ (q : Rest). q.left) c.scan_indentation-columns.ensures.rest)) ∙ sym c.html_kind.ensures ∙ c.in_default-html_kind.is) tag.1
+    tag_here c.args.source.options c.args.line_start.now tag.0 early (ap html_kind (sym (c.left-2.ensures ∙ ap (λ (q : Rest). q.left) c.scan_indentation-columns.ensures.rest)) ∙ sym c.html_kind.ensures.kind ∙ ap (option_map kind_of) c.in_default-html_kind.is) tag.1
 
 pub returns-clause-kind : goal.returns-clause-kind
 returns-clause-kind c =
     let early = (found_early c.args.source.text.now c.as_bytes-bytes.result.now c.args.start c.bytes_scanned.result c.scan_indentation-columns.result c.args.source.options c.args.line_start.now _ _ (subst IsUtf8 c.as_bytes-bytes.ensures.value c.as_bytes-bytes.ensures.utf8) c.requires.place (ap (λ bs. is_some (blank_len bs)) (sym c.left.ensures) ∙ ap is_some (sym c.scan_blank_line.ensures.value) ∙ sym c.is_some-blank.ensures ∙ c.if-blank.false) c.scan_indentation-columns.ensures.columns c.scan_indentation-columns.ensures.rest c.bytes_scanned.ensures c.if-columns-ge4.false c.as_bytes-bytes.ensures.value (sym c.in_default.is ∙ c.metadata_behind.ensures.value)) in
-    subst (IsKind c.args.source.options c.args.line_start.now) (ap last_kind (sym (c.left-4.ensures ∙ ap (λ (q : Rest). q.left) c.scan_indentation-columns.ensures.rest)) ∙ sym c.last_kind.ensures)
-    (last_here c.args.source.options c.args.line_start.now early (ap html_kind (sym (c.left-2.ensures ∙ ap (λ (q : Rest). q.left) c.scan_indentation-columns.ensures.rest)) ∙ sym c.html_kind.ensures ∙ c.in_default-html_kind.is)
+    subst (IsKind c.args.source.options c.args.line_start.now) (ap last_kind (sym (c.left-4.ensures ∙ ap (λ (q : Rest). q.left) c.scan_indentation-columns.ensures.rest)) ∙ sym c.last_kind.ensures.kind)
+    (last_here c.args.source.options c.args.line_start.now early (ap html_kind (sym (c.left-2.ensures ∙ ap (λ (q : Rest). q.left) c.scan_indentation-columns.ensures.rest)) ∙ sym c.html_kind.ensures.kind ∙ ap (option_map kind_of) c.in_default-html_kind.is)
     (tag_absent c.scan_html_type_7.result _ (all_taken c.args.line_start.now).left (sym c.is_some.ensures ∙ c.if-is_some.false) (sym (c.left-3.ensures ∙ ap (λ (q : Rest). q.left) c.scan_indentation-columns.ensures.rest)) c.scan_html_type_7.ensures.none))
+
+pub returns-clause-end : goal.returns-clause-end
+returns-clause-end c =
+    subst (λ bs. IsFoundWith bs c.last_kind.result) (c.left-4.ensures ∙ ap (λ (q : Rest). q.left) c.scan_indentation-columns.ensures.rest) c.last_kind.ensures.«end»

@@ -8,6 +8,8 @@ use Rattle.first_pass_lists.specs.declared.reading.Reading.{Reading}
 use Rattle.first_pass_open.specs.declared.source.Source.{Source}
 use Rattle.first_pass.specs.Opening.{line_or}
 use Rattle.first_pass.specs.Ordered.{IsOrderedAt}
+use Rattle.first_pass_text.specs.Found.{IsFoundWith, kind_of, marked_kind}
+use Rattle.first_pass_text.specs.declared.kinds.MarkedLeaf.{MarkedLeaf}
 use Rattle.first_pass_text.specs.Between.{AddsBetween, StandsBefore}
 use Rattle.first_pass.specs.State.{Ready}
 use Rattle.first_pass_open.proofs.PlaceLemmas.{all_keep, place_end}
@@ -16,14 +18,14 @@ use Rattle.first_pass.proofs.OrderLemmas.{ordered_none, ordered_blank_read}
 use Rattle.first_pass.proofs.OrderSteps.{line_or-below, ordered_leaf, unindented_later, place_before_end}
 use Rattle.first_pass.proofs.LeafLemmas.{ready_blank_leaf, ready_paragraph, line_end_of}
 use Rattle.first_pass_text.proofs.KindLemmas.{Says, kind_says}
-use Rattle.first_pass.proofs.KindBlocks.{is_marked, paragraph_named, columns_are, html_blank_added, AddsHtml, html_moved, adds_moved, ready_kind}
+use Rattle.first_pass.proofs.KindBlocks.{marked_some, paragraph_named, columns_are, html_blank_added, AddsHtml, html_moved, adds_moved, ready_kind}
 use Rattle.first_pass.proofs.BlankBehind.{list_finished_blank, path_added, ready_behind, behind_on, ordered_behind}
 use Rattle.first_pass.specs.Adding.{behind_blank}
 use Rattle.first_pass_open.specs.Path.{path_of}
 use Rattle.first_pass_names.specs.TableEntries.{names_of, no_names}
 use Rattle.first_pass_raw.specs.RawBlocks.{IsPlaceAt, behind_line_at, html_to_blank}
 use Rattle.first_pass_grammar.specs.Names.{Extends}
-use Rattle.first_pass_grammar.specs.Kinds.{unindented, IsKind}
+use Rattle.first_pass_grammar.specs.Kinds.{all_taken, unindented, IsKind}
 use Rattle.first_pass_grammar.specs.declared.kind.Kind.{Kind}
 use Rattle.first_pass_grammar.specs.declared.kind.Kind.TheVariants.{Blank, HtmlToBlank, Paragraph}
 use Rattle.first_pass_scan.specs.Rest.{indent}
@@ -62,7 +64,7 @@ returns-in-Blank-clause-ready c =
     let p = place_at c.args.start_ix c.args.before in
     λ names more ready. let d = document self.source.text.now self.source.options names in subst (λ q. Ready d q (lines_from self.source.text.now c.next_line.result)) (sym c.read_blank_line.ensures)
     (subst (λ n. Ready d (blank_read self.reading) (lines_from self.source.text.now n)) (sym (blank_end c))
-    (ready_blank_leaf d self.reading p (lines_from self.source.text.now (line_end p)) (subst (IsKind self.source.options c.args.before) c.in-Blank.is c.requires.kind) c.requires.no_empty ready))
+    (ready_blank_leaf d self.reading p (lines_from self.source.text.now (line_end p)) (subst (IsKind self.source.options c.args.before) (ap kind_of c.in-Blank.is) c.requires.kind) c.requires.no_empty ready))
 
 pub parse_paragraph-requires-clause-boundary : goal.parse_paragraph-requires-clause-boundary
 parse_paragraph-requires-clause-boundary c =
@@ -100,7 +102,7 @@ returns-in_ok-next-in-Paragraph-clause-ready c =
     subst (λ (r : Reading). AddsParagraph (document text self.source.options no_names) at None r.tree new.reading.tree next) rem c.in_ok-next-in-Paragraph.ensures.block in
     let item = ap (λ (r : Reading). r.empty_item) c.in_ok-next-in-Paragraph.ensures.reading ∙ ap (λ (r : Reading). r.empty_item) rem ∙ list_finished_none at old in
     let blank = ap (λ (r : Reading). r.blank) c.in_ok-next-in-Paragraph.ensures.reading ∙ ap (λ (r : Reading). r.blank) rem ∙ list_finished_blank at old in
-    λ names more ready. ready_paragraph (document text self.source.options names) old new.reading.tree p at next c.is_forest.ensures (subst (IsKind self.source.options c.args.before) c.in-Paragraph.is c.requires.kind) c.requires.at i
+    λ names more ready. ready_paragraph (document text self.source.options names) old new.reading.tree p at next c.is_forest.ensures (subst (IsKind self.source.options c.args.before) (ap kind_of c.in-Paragraph.is) c.requires.kind) c.requires.at i
     (paragraph_named text self.source.options no_names names at None q.tree new.reading.tree next block) c.requires.no_empty ready new.reading.empty_item new.reading.blank item blank
 
 pub returns-in-Blank-clause-order : goal.returns-in-Blank-clause-order
@@ -167,7 +169,7 @@ returns-in_ok-next-in-Paragraph-clause-few c =
     let e = c.requires.at in
     let later = unindented_later text start c.args.before c.requires.utf8 c.requires.place in
     let behind = returns-in_ok-next-in-Paragraph-clause-later c in
-    let before = left_before p (leaf_left self.source.options c.args.before c.args.kind c.requires.kind (no_blank c.args.kind Paragraph c.in-Paragraph.is (λ b. cc))) in
+    let before = left_before p (leaf_left self.source.options c.args.before (kind_of c.args.found) c.requires.kind (no_blank (kind_of c.args.found) Paragraph (ap kind_of c.in-Paragraph.is) (λ b. cc))) in
     let fits : (from : ℕ) → StandsBefore text from at None → AddsBetween text from next f.tree new.reading.tree = c.in_ok-next-in-Paragraph.ensures.fits in
     let adds : AddsBetween text (offset p) next q.tree new.reading.tree = subst (λ (z : Reading). AddsBetween text (offset p) next z.tree new.reading.tree) rem (fits (offset p) (omega arith)) in
     let block = block_count text (offset p) next q.tree new.reading.tree adds (omega arith) in
@@ -188,7 +190,7 @@ parse_html_to_blank-requires-clause-boundary c =
 
 pub parse_html_to_blank-requires-clause-columns : goal.parse_html_to_blank-requires-clause-columns
 parse_html_to_blank-requires-clause-columns c =
-    (columns_are c.args.columns _ c.requires.columns (subst (Says c.args.before) c.in-HtmlToBlank.is (kind_says c.args.self.now.source.options c.args.before c.args.kind c.requires.kind))).1
+    (columns_are c.args.columns _ c.requires.columns (subst (Says c.args.before) (ap kind_of c.in-HtmlToBlank.is) (kind_says c.args.self.now.source.options c.args.before (kind_of c.args.found) c.requires.kind))).1
 
 pub returns-in_ok-lines-in-HtmlToBlank-clause-later : goal.returns-in_ok-lines-in-HtmlToBlank-clause-later
 returns-in_ok-lines-in-HtmlToBlank-clause-later c =
@@ -268,7 +270,7 @@ returns-in_ok-lines-in-HtmlToBlank-clause-ready c =
     let boundary : IsCharBoundary text at = subst (IsCharBoundary text) (sym c.requires.at) i.boundary in
     let blank = ap (λ (r : Reading). r.blank) e.reading ∙ ap (λ (r : Reading). r.blank) rem ∙ list_finished_blank start old in
     let u : Place = unindented p in
-    let says = subst (Says c.args.before) c.in-HtmlToBlank.is (kind_says self.source.options c.args.before c.args.kind c.requires.kind) in
+    let says = subst (Says c.args.before) (ap kind_of c.in-HtmlToBlank.is) (kind_says self.source.options c.args.before (kind_of c.args.found) c.requires.kind) in
     let width = (columns_are c.args.columns _ c.requires.columns says).0 in
     let place : IsPlaceAt text at u = record { offset_is = sym c.requires.at; left_is = i.left ∙ ap (λ n. drop n text) (sym c.requires.at) } in
     let added_html : AddsHtml text self.source.options (names_of h.allocs) at c.args.columns u q.tree h.reading.tree lines.next =
@@ -277,7 +279,7 @@ returns-in_ok-lines-in-HtmlToBlank-clause-ready c =
     let ends : lines.«end» ≡ (html_to_blank text (path_of q.tree) u).«end» = e.end u place ∙ ap (λ (r : Reading). (html_to_blank text (path_of r.tree) u).«end») rem in
     let path : path_of h.reading.tree ≡ path_of q.tree = ap path_of added_html.tree_is ∙ path_added q.tree added_html.items (subst (λ (r : Reading). IsForest r.tree) rem c.is_forest-in-HtmlToBlank.ensures) in
     λ names more ready. let own : Extends names (names_of h.allocs) = more in
-    let done = ready_kind text self.source.options (names_of h.allocs) names old h.reading.tree p HtmlToBlank false lines.next c.is_forest.ensures (subst (IsKind self.source.options c.args.before) c.in-HtmlToBlank.is c.requires.kind) own kind c.requires.no_empty ready h.reading.empty_item h.reading.blank none blank in
+    let done = ready_kind text self.source.options (names_of h.allocs) names old h.reading.tree p HtmlToBlank false lines.next c.is_forest.ensures (subst (IsKind self.source.options c.args.before) (ap kind_of c.in-HtmlToBlank.is) c.requires.kind) own kind c.requires.no_empty ready h.reading.empty_item h.reading.blank none blank in
     let z = c.read_blank_behind.new.reading in
     subst (λ n. Ready (document text self.source.options names) z (lines_from text n)) (sym result_is)
     (subst (λ r. Ready (document text self.source.options names) r (lines_from text (behind_blank text lines.«end» lines.next))) (sym c.read_blank_behind.ensures.reading)
@@ -342,7 +344,7 @@ returns-in_ok-lines-in-HtmlToBlank-clause-few c =
     let ends = e.end u place in
     let line = blank_later text (path_of f.tree) u c.requires.utf8 i in
     let same_line : line_end u ≡ line_end p = columns_line_end (indent c.args.before) p in
-    let before = left_before p (leaf_left self.source.options c.args.before c.args.kind c.requires.kind (no_blank c.args.kind HtmlToBlank c.in-HtmlToBlank.is (λ b. cc))) in
+    let before = left_before p (leaf_left self.source.options c.args.before (kind_of c.args.found) c.requires.kind (no_blank (kind_of c.args.found) HtmlToBlank (ap kind_of c.in-HtmlToBlank.is) (λ b. cc))) in
     let fits : AddsBetween text (offset p) lines.«end» q.tree h.reading.tree =
     subst (λ (r : Reading). AddsBetween text (offset p) lines.«end» r.tree h.reading.tree) rem (e.fits (offset p) (omega arith)) in
     let block = block_count text (offset p) lines.«end» q.tree h.reading.tree fits (omega arith) in
@@ -360,20 +362,20 @@ parse_marked-requires c =
     let old : Reading = self.reading in
     let q : Reading = list_finished start old in
     let i = all_keep text start c.args.before c.requires.utf8 c.requires.place in
-    let f = c.finish_list-in_default.new.self in
-    let rem : f ≡ q = c.finish_list-in_default.ensures in
+    let f = c.finish_list-in-Marked.new.self in
+    let rem : f ≡ q = c.finish_list-in-Marked.ensures in
     record {
       utf8 = c.requires.utf8;
       place = c.requires.place;
-      kind = c.requires.kind;
-      marked = is_marked c.args.kind c.in_default.not-Blank c.in_default.not-HtmlToBlank c.in_default.not-Paragraph;
+      kind = subst (IsKind self.source.options c.args.before) (ap kind_of c.in-Marked.is) c.requires.kind;
+      «end» = subst (IsFoundWith (all_taken c.args.before).left) c.in-Marked.is c.requires.«end»;
       columns = c.requires.columns;
       at = c.requires.at;
       not_blank = ap (λ (r : Reading). r.blank) rem ∙ list_finished_blank start old;
     }
 
-pub returns-in_ok-next-in_default : goal.returns-in_ok-next-in_default
-returns-in_ok-next-in_default c =
+pub returns-in_ok-next-in-Marked : goal.returns-in_ok-next-in-Marked
+returns-in_ok-next-in-Marked c =
     let self = c.args.self.now in
     let text = self.source.text.now in
     let start = c.args.start_ix in
@@ -382,11 +384,13 @@ returns-in_ok-next-in_default c =
     let old : Reading = self.reading in
     let q : Reading = list_finished start old in
     let i = all_keep text start c.args.before c.requires.utf8 c.requires.place in
-    let f = c.finish_list-in_default.new.self in
-    let rem : f ≡ q = c.finish_list-in_default.ensures in
-    let e = c.in_ok-next-in_default.ensures in
+    let f = c.finish_list-in-Marked.new.self in
+    let rem : f ≡ q = c.finish_list-in-Marked.ensures in
+    let e = c.in_ok-next-in-Marked.ensures in
+    let leaf : MarkedLeaf = c.in-Marked.leaf in
+    let kind : IsKind self.source.options c.args.before (marked_kind leaf) = subst (IsKind self.source.options c.args.before) (ap kind_of c.in-Marked.is) c.requires.kind in
     let new = c.parse_marked.new.self in
-    let next = c.in_ok-next-in_default.next in
+    let next = c.in_ok-next-in-Marked.next in
     let none = e.empty_item ∙ ap (λ (r : Reading). r.empty_item) rem ∙ list_finished_none start old in
     let last = e.boundary.1 in
     let boundary : IsCharBoundary text at = subst (IsCharBoundary text) (sym c.requires.at) i.boundary in
@@ -399,15 +403,15 @@ returns-in_ok-next-in_default c =
       later = e.boundary.0;
       boundary = last;
       ready = λ names more ready.
-          ready_kind text self.source.options (names_of new.allocs) names old new.reading.tree p c.args.kind new.reading.blank next c.is_forest.ensures c.requires.kind more
-          (adds_moved text text self.source.options self.source.options (names_of new.allocs) p c.args.kind new.reading.blank f.tree q.tree new.reading.tree next refl refl (ap (λ (r : Reading). r.tree) rem) e.block)
+          ready_kind text self.source.options (names_of new.allocs) names old new.reading.tree p (marked_kind leaf) new.reading.blank next c.is_forest.ensures kind more
+          (adds_moved text text self.source.options self.source.options (names_of new.allocs) p (marked_kind leaf) new.reading.blank f.tree q.tree new.reading.tree next refl refl (ap (λ (r : Reading). r.tree) rem) e.block)
           c.requires.no_empty ready new.reading.empty_item new.reading.blank none refl;
       order = λ first ordered.
           ordered_leaf text old new.reading start (offset p) start (offset p) next (omega arith) (omega arith) (inl (refl, first)) c.requires.place.within c.requires.place.boundary c.requires.no_empty ordered
           (subst (λ (r : Reading). AddsBetween text (offset p) next r.tree new.reading.tree) rem (e.fits (offset p) (omega arith))) last.0 none;
       few =
           let on = e.boundary.0 in
-          let before = left_before p (leaf_left self.source.options c.args.before c.args.kind c.requires.kind c.in_default.not-Blank) in
+          let before = left_before p (leaf_left self.source.options c.args.before (marked_kind leaf) kind (marked_some leaf)) in
           let block = block_count text (offset p) next q.tree new.reading.tree (subst (λ (r : Reading). AddsBetween text (offset p) next r.tree new.reading.tree) rem (e.fits (offset p) (omega arith))) (omega arith) in
           let same = list_finished_count start old in
           omega arith;

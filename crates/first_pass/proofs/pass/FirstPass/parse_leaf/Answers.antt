@@ -9,7 +9,7 @@ use Rattle.first_pass.proofs.pass.FirstPass.parse_leaf.Goals as goal
 
 pub overflow_add-at : goal.overflow_add-at
 overflow_add-at c =
-    let w = behind_columns c.args.self.now.source.text.now c.args.start_ix c.bytes_scanned.result c.args.line_start _ c.requires.utf8 c.requires.place c.kind_at-kind.ensures.rest c.bytes_scanned.ensures in
+    let w = behind_columns c.args.self.now.source.text.now c.args.start_ix c.bytes_scanned.result c.args.line_start _ c.requires.utf8 c.requires.place c.kind_at-columns.ensures.rest c.bytes_scanned.ensures in
     omega (arith, w.0)
 
 pub returns-clause-order : goal.returns-clause-order
