@@ -15,8 +15,8 @@ use Rattle.first_pass_grammar.specs.Names.{Names}
 use Rattle.first_pass_grammar.specs.Containers.{at_rest, after, taken}
 use Rattle.first_pass_grammar.specs.Kinds.{is_blank_rest}
 use Rattle.first_pass_grammar.specs.Leaves.{Document, document}
-use Rattle.first_pass_grammar.specs.CodeBlocks.{Extent}
-use Rattle.first_pass_grammar.specs.HtmlBlocks.{place_or, until_blank_by, until_blank}
+use Rattle.first_pass_grammar.specs.Extents.{Extent, Stops, GoesOn, extent_by, extent, judged, in_containers}
+use Rattle.first_pass_grammar.specs.HtmlBlocks.{blank_judge, until_blank}
 use Rattle.first_pass_grammar.specs.Skeleton.{Line}
 use Rattle.first_pass_grammar.specs.Completion.{lines_from}
 use Rattle.first_pass_open.specs.Path.{path_of}
@@ -40,31 +40,23 @@ StopsBlank n path e =
     (e.«end» ≡ start_of n e.left)
     ⊎ ((line : Place) × (lines : List Place) × (q : Place) × (e.left ≡ line ∷ lines) × (taken path line ≡ Some q) × (is_blank_rest q.rest ≡ true) × (e.«end» ≡ offset q))
 
-stop_by : (n : ℕ) (path : List Container) (line : Place) (lines : List Place) (further : Extent) (o : Option Place) (t u : Bool) → taken path line ≡ o → ((q : Place) → o ≡ Some q → (at_line_end q.rest.left ≡ t) × (is_blank_rest q.rest ≡ u))
-    → ((q : Place) → o ≡ Some q → StopsBlank n path further) → StopsBlank n path (until_blank_by line lines o further)
-stop_by n path line lines further None t u is tests rest = inl refl
-stop_by n path line lines further (Some q) true u is tests rest = let a = (tests q refl).0 in subst (λ b. StopsBlank n path (if b then record { places = []; «end» = line.line; left = line ∷ lines } else (if is_blank_rest q.rest then record { places = []; «end» = offset q; left = line ∷ lines } else further))) (sym a) (inl refl)
-stop_by n path line lines further (Some q) false true is tests rest =
-    let a = (tests q refl).0 in
-    let b = (tests q refl).1 in
-    subst (λ z. StopsBlank n path (if z then record { places = []; «end» = line.line; left = line ∷ lines } else (if is_blank_rest q.rest then record { places = []; «end» = offset q; left = line ∷ lines } else further))) (sym a)
-    (subst (λ z. StopsBlank n path (if z then record { places = []; «end» = offset q; left = line ∷ lines } else further)) (sym b) (inr (line, lines, q, refl, is, b, refl)))
-stop_by n path line lines further (Some q) false false is tests rest =
-    let a = (tests q refl).0 in
-    let b = (tests q refl).1 in
-    subst (λ z. StopsBlank n path (if z then record { places = []; «end» = line.line; left = line ∷ lines } else (if is_blank_rest q.rest then record { places = []; «end» = offset q; left = line ∷ lines } else further))) (sym a)
-    (subst (λ z. StopsBlank n path (if z then record { places = []; «end» = offset q; left = line ∷ lines } else further)) (sym b) (rest q refl))
+stop_line : (n : ℕ) (path : List Container) (line : Place) (lines : List Place) (further : Extent) (q : Place) (t u : Bool) → taken path line ≡ Some q → is_blank_rest q.rest ≡ u → StopsBlank n path further
+    → StopsBlank n path (extent_by (if t then Stops line.line else (if u then Stops (offset q) else GoesOn q)) line lines further)
+stop_line n path line lines further q true u is blank rest = inl refl
+stop_line n path line lines further q false true is blank rest = inr (line, lines, q, refl, is, blank, refl)
+stop_line n path line lines further q false false is blank rest = rest
 
-tests_of : (o : Option Place) (line : Place) → (q : Place) → o ≡ Some q → (at_line_end q.rest.left ≡ at_line_end (place_or line o).rest.left) × (is_blank_rest q.rest ≡ is_blank_rest (place_or line o).rest)
-tests_of None line q h = cc
-tests_of (Some x) line q h = let e : q ≡ x = cc in (ap (λ (z : Place). at_line_end z.rest.left) e, ap (λ (z : Place). is_blank_rest z.rest) e)
+stop_by : (n : ℕ) (path : List Container) (line : Place) (lines : List Place) (further : Extent) (o : Option Place) → taken path line ≡ o → StopsBlank n path further → StopsBlank n path (extent_by (judged blank_judge line o) line lines further)
+stop_by n path line lines further None is rest = inl refl
+stop_by n path line lines further (Some q) is rest = stop_line n path line lines further q (at_line_end q.rest.left) (is_blank_rest q.rest) is refl rest
+
+stops_behind : (n : ℕ) (path : List Container) (lines : List Place) → StopsBlank n path (extent (in_containers path blank_judge) n lines)
+unfolding extent
+stops_behind n path [] = inl refl
+stops_behind n path (line ∷ lines) = stop_by n path line lines (extent (in_containers path blank_judge) n lines) (taken path line) refl (stops_behind n path lines)
 
 pub html_stops : (n : ℕ) (path : List Container) (p : Place) (lines : List Place) → StopsBlank n path (until_blank n path p lines)
-unfolding until_blank
-html_stops n path p [] = inl refl
-html_stops n path p (line ∷ lines) =
-    let o : Option Place = taken path line in
-    stop_by n path line lines (until_blank n path (place_or line o) lines) o _ _ refl (tests_of o line) (λ q is. html_stops n path (place_or line o) lines)
+html_stops n path p lines = stops_behind n path lines
 
 -- a block that is added changes no path
 pub path_added : (f : Forest Item) (items : List (ℕ × Item)) → IsForest f → path_of (added f items) ≡ path_of f

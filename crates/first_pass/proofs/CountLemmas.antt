@@ -21,8 +21,8 @@ use Rattle.first_pass_grammar.specs.declared.kind.Kind.{Kind}
 use Rattle.first_pass_grammar.specs.declared.kind.Kind.TheVariants.{Blank}
 use Rattle.first_pass_grammar.specs.Derivation.{list_flags}
 use Rattle.first_pass_grammar.specs.Kinds.{is_blank_rest, first_kind, IsKindBy, IsKind}
-use Rattle.first_pass_grammar.specs.CodeBlocks.{Extent, with_line}
-use Rattle.first_pass_grammar.specs.HtmlBlocks.{until_blank}
+use Rattle.first_pass_grammar.specs.Extents.{Extent, extent, in_containers}
+use Rattle.first_pass_grammar.specs.HtmlBlocks.{blank_judge}
 use Rattle.first_pass_grammar.specs.Skeleton.{task_by, task_behind}
 use Rattle.first_pass_grammar.specs.Completion.{lines_from}
 use Rattle.first_pass_grammar.specs.Order.{GrowsBy}
@@ -184,19 +184,12 @@ offset_before text line r s i j less =
     omega arith
 
 -- an HTML block ends behind its first line
-first_line : (n : ℕ) (path : List Container) (p : Place) (lines : List Place) → (e : Extent) × (until_blank n path p lines ≡ with_line p e)
-unfolding until_blank
-first_line n path p [] = (_, refl)
-first_line n path p (line ∷ lines) = (_, refl)
-
 pub blank_later : (text : List ℕ) (path : List Container) (p : Place) → IsUtf8 text → IsPlaceOf text p → line_end p ≤ (html_to_blank text path p).«end»
 unfolding ArePlaced
 blank_later text path p u i =
-    let first = first_line (length text) path p (lines_from text (behind_line_at text (offset p))) in
-    let placed : ArePlaced text (offset p) (p ∷ first.0.places) first.0.«end» = subst (λ (e : Extent). ArePlaced text (offset p) e.places e.«end») first.1 (to_blank_placed text u path p i).places in
-    let bound = placed_bound text (line_end p) first.0.«end» first.0.places placed.2 in
-    let same = ap (λ (e : Extent). e.«end») first.1 in
-    omega arith
+    let further : Extent = extent (in_containers path blank_judge) (length text) (lines_from text (behind_line_at text (offset p))) in
+    let placed : ArePlaced text (offset p) (p ∷ further.places) further.«end» = (to_blank_placed text u path p i).places in
+    placed_bound text (line_end p) further.«end» further.places placed.2
 
 -- a task list item marker has a byte
 mark_by : (line : ℕ) (r : Rest) (o : Option (Bool × Rest)) (x : Item) → ((task : Bool × Rest) → o ≡ Some task → task_of r ≡ Some task) → (task_by line r o).0 ≡ Some x → length (task_by line r o).1.left < length r.left

@@ -18,7 +18,8 @@ use Rattle.first_pass_tokens.specs.Chains.{add_tokens}
 use Rattle.first_pass_grammar.specs.Containers.{at_rest, front}
 use Rattle.first_pass_grammar.specs.Kinds.{all_taken, unindented, IsKind}
 use Rattle.first_pass_grammar.specs.Leaves.{Document, document, add_break, IsParagraph, rule_block, heading_block}
-use Rattle.first_pass_grammar.specs.CodeBlocks.{Extent, code_lines, last_is_blank, IsIndentedCode, metadata_lines, IsMetadata, fenced_lines, IsFencedCode}
+use Rattle.first_pass_grammar.specs.Extents.{Extent}
+use Rattle.first_pass_grammar.specs.CodeBlocks.{code_lines, last_is_blank, IsIndentedCode, metadata_lines, IsMetadata, fenced_lines, IsFencedCode}
 use Rattle.first_pass_grammar.specs.HtmlBlocks.{until_end, until_blank, IsHtml}
 use Rattle.first_pass_grammar.specs.Skeleton.{Block, Line, OpensLeaf, OpensAs}
 use Rattle.first_pass_grammar.specs.Completion.{lines_from}

@@ -9,7 +9,8 @@ use Rattle.first_pass_scan.specs.Places.{Place, offset, start_of, IsPlaceOf}
 use Rattle.first_pass_scan.proofs.PlaceFacts.{start_of-lines}
 use Rattle.first_pass_grammar.specs.Names.{Names}
 use Rattle.first_pass_grammar.specs.Leaves.{document}
-use Rattle.first_pass_grammar.specs.CodeBlocks.{Extent, IsFencedCode, IsMetadata}
+use Rattle.first_pass_grammar.specs.Extents.{Extent}
+use Rattle.first_pass_grammar.specs.CodeBlocks.{IsFencedCode, IsMetadata}
 use Rattle.first_pass_grammar.specs.HtmlBlocks.{IsHtml}
 use Rattle.first_pass_open.specs.Path.{path_of}
 use Rattle.first_pass_raw.specs.RawBlocks.{IsPlaceAt, code_behind, AddsIndented, AddsRaw, metadata_behind, fenced_behind, html_to_end, html_to_blank}
@@ -57,7 +58,7 @@ module _ (text : List ℕ) (options : Options) (names : Names) (old new : Forest
       let i = first_is text start 0 in
       let a = adds p i in
       let e : Extent = html_to_end text (path_of old) tag p in
-      let before = ends_before_next text e next within a.left_is (to_end_before text u (path_of old) tag p) in
+      let before = ends_before_next text e next within a.left_is (to_end_before text u (path_of old) tag p (place_of text start p b i)) in
       record {
         items = a.items;
         tree_is = a.tree_is;

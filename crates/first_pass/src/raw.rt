@@ -8,11 +8,12 @@ ghost use Rattle.first_pass_scan.specs.Places.{Place, place_at, offset, line_end
 ghost use Rattle.first_pass_grammar.specs.declared.kind.Kind.TheVariants.{IndentedCode};
 ghost use Rattle.first_pass_grammar.specs.Names.{Extends};
 ghost use Rattle.first_pass_grammar.specs.Kinds.{is_blank_rest};
+ghost use Rattle.first_pass_grammar.specs.RawLines.{range_text, range_html};
 ghost use Rattle.first_pass_grammar.specs.CodeBlocks.{IsFencedCode, IsMetadata};
 ghost use Rattle.first_pass_grammar.specs.HtmlBlocks.{IsHtml};
 ghost use Rattle.first_pass_open.specs.Path.{path_of};
 ghost use Rattle.first_pass_names.specs.TableEntries.{tables, names_of};
-ghost use Rattle.first_pass_raw.specs.RawBlocks.{AppendsCode, AppendsHtml, IsPlaceAt, AddsIndented, AddsRaw, behind_line_at, fenced_behind, metadata_behind, html_to_end, html_to_blank};
+ghost use Rattle.first_pass_raw.specs.RawBlocks.{AppendsRaw, IsPlaceAt, AddsIndented, AddsRaw, behind_line_at, fenced_behind, metadata_behind, html_to_end, html_to_blank};
 ghost use Rattle.first_pass.specs.Adding.{AddsKind, behind_blank, with_blank};
 ghost use Rattle.first_pass_lists.specs.Closing.{with_tree};
 ghost use Rattle.first_pass_text.specs.Between.{AddsBetween};
@@ -22,7 +23,8 @@ use first_pass_lists::reading::Reading;
 use first_pass_open::open_block::BlockLines;
 use first_pass_open::source::Source;
 use first_pass_raw::fenced_code::Fence;
-use first_pass_raw::{fenced_code, html_block, indented_code, metadata_block, raw_line};
+use first_pass_raw::raw_line::{RawKind, append_raw_line};
+use first_pass_raw::{fenced_code, html_block, indented_code, metadata_block};
 use first_pass_scan::line_start::LineStart;
 use first_pass_scan::places::next_line;
 use std::alloc::AllocError;
@@ -44,13 +46,14 @@ impl<'a> FirstPass<'a> {
         ensures names { OnOk result (Extends (names_of self.new.allocs) (names_of self.old.allocs)) }
         ensures tables { OnOk result (tables self.new.allocs ≡ tables self.old.allocs) }
         ensures reading { OnOk result (self.new.reading ≡ with_tree self.old.reading self.new.reading.tree) }
-        ensures line { OnOk result (AppendsCode self.old.source.text.now (names_of self.new.allocs) remaining_space
-            start end self.old.reading.tree self.new.reading.tree) }
+        ensures line { OnOk result (AppendsRaw range_text self.old.source.text.now (names_of self.new.allocs)
+            remaining_space start end self.old.reading.tree self.new.reading.tree) }
     {
-        raw_line::append_code_text(
+        append_raw_line(
             &mut self.reading.tree,
             &mut self.allocs,
             self.source.text,
+            RawKind::Code,
             remaining_space,
             start,
             end,
@@ -72,13 +75,14 @@ impl<'a> FirstPass<'a> {
         ensures names { OnOk result (Extends (names_of self.new.allocs) (names_of self.old.allocs)) }
         ensures tables { OnOk result (tables self.new.allocs ≡ tables self.old.allocs) }
         ensures reading { OnOk result (self.new.reading ≡ with_tree self.old.reading self.new.reading.tree) }
-        ensures line { OnOk result (AppendsHtml self.old.source.text.now (names_of self.new.allocs) remaining_space
-            start end self.old.reading.tree self.new.reading.tree) }
+        ensures line { OnOk result (AppendsRaw range_html self.old.source.text.now (names_of self.new.allocs)
+            remaining_space start end self.old.reading.tree self.new.reading.tree) }
     {
-        raw_line::append_html_line(
+        append_raw_line(
             &mut self.reading.tree,
             &mut self.allocs,
             self.source.text,
+            RawKind::Html,
             remaining_space,
             start,
             end,

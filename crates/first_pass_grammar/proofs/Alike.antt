@@ -13,7 +13,7 @@ use Rattle.first_pass_tokens.specs.TreeTokens.{leaves}
 use Rattle.first_pass_tokens.specs.Chains.{text_token, touches, add_token, add_tokens}
 use Rattle.first_pass_grammar.specs.Names.{Names, NamesText, index_of, kind_alone, read, read_nodes}
 use Rattle.first_pass_grammar.specs.Leaves.{Document, document, block_with}
-use Rattle.first_pass_grammar.specs.RawLines.{AreColumns, ends_with_both, range_text, code_texts, AreCodeLines, html_item, html_items, AreHtmlLines, spaces}
+use Rattle.first_pass_grammar.specs.RawLines.{AreColumns, ends_with_both, Ranges, range_text, range_html, raw_items, AreRawLines, spaces}
 use Rattle.first_pass_grammar.specs.Skeleton.{Leaf, BlankLine, Block, Head, Opener, QuoteMarker, ItemMarker, From, Line, Inside, LeafAt, Blanks, TextAt, MarkAt, Opening, OpensLeaf, OpensNode, Skeleton, Nil, Then, Node}
 use Rattle.first_pass_grammar.specs.Lists.{list_byte, joins, is_quote_marker, counts_with, run_behind, has_gap, list_end, is_loosened}
 use Rattle.first_pass_grammar.specs.Derivation.{node_of, list_flags, tight_body, tightened, leaf_items, tight_of, list_item, container_items, forest_of}
@@ -115,7 +115,7 @@ tokens_alike m n chain chain' tokens tokens' h k = let a = read_tokens m chain t
 named_text : (names : Names) (ix : CowIndex) (text : List ℕ) → NamesText names ix text → option_map text_of (slice_get names.texts ix.0) ≡ Some text
 named_text names ix text (named, at, is) = rw at (ap (λ z. Some z) is)
 
--- Columns read alike, and so do the raw lines of code and of HTML.
+-- Columns read alike, and so do raw lines.
 columns_alike : (m n : Names) (owed at : ℕ) (xs ys : List Item) → AreColumns m owed at xs → AreColumns n owed at ys → AlikeChains m n xs ys
 columns_alike m n zero at xs ys h k = let e : xs ≡ [] = h in let f : ys ≡ [] = k in cc
 columns_alike m n (suc owed) at xs ys (i, names, e) (j, names', f) =
@@ -124,45 +124,35 @@ columns_alike m n (suc owed) at xs ys (i, names, e) (j, names', f) =
     let z : Item = record { start = at; «end» = at; body = SynthesizeText (record { 0 = 0 }) } in
     ap (map (read m)) e ∙ ap (λ (t : Option (List ℕ)). (z, t) ∷ []) (a ∙ sym b) ∙ sym (ap (map (read n)) f)
 
-range_free : (from to : ℕ) → HaveNoIndex (range_text from to)
-range_free from to = unless_free (nat_lt from to) (text_token from to false ∷ []) [] (refl, tt) tt
+-- a range has no index, and so the bytes of a raw line
+abbrev pub AreFree : Ranges → Type 0
+AreFree range = (from to : ℕ) → HaveNoIndex (range from to)
 
-code_free : (text : List ℕ) (from to : ℕ) → HaveNoIndex (code_texts text from to)
-unfolding code_texts
-code_free text from to =
-    unless_free (ends_with_both text from to) (range_text from (to - 2) ++ range_text (to - 1) to) (range_text from to)
-    (both_free (range_text from (to - 2)) (range_text (to - 1) to) (range_free from (to - 2)) (range_free (to - 1) to)) (range_free from to)
+pub text_free : AreFree range_text
+text_free from to = unless_free (nat_lt from to) (text_token from to false ∷ []) [] (refl, tt) tt
 
-html_free : (text : List ℕ) (from to : ℕ) → HaveNoIndex (html_items text from to)
-unfolding html_items
-html_free text from to = unless_free (ends_with_both text from to) (html_item from (to - 2) ∷ html_item (to - 1) to ∷ []) (html_item from to ∷ []) (refl, (refl, tt)) (refl, tt)
+pub html_free : AreFree range_html
+html_free from to = (refl, tt)
+
+raw_free : (range : Ranges) → AreFree range → (text : List ℕ) (from to : ℕ) → HaveNoIndex (raw_items range text from to)
+unfolding raw_items
+raw_free range free text from to =
+    unless_free (ends_with_both text from to) (range from (to - 2) ++ range (to - 1) to) (range from to)
+    (both_free (range from (to - 2)) (range (to - 1) to) (free from (to - 2)) (free (to - 1) to)) (free from to)
 
 -- columns with items behind them that have no index
-raw_alike : (m n : Names) (owed at : ℕ) (more xs ys : List Item) → HaveNoIndex more
+line_alike : (m n : Names) (owed at : ℕ) (more xs ys : List Item) → HaveNoIndex more
     → (columns : List Item) × AreColumns m owed at columns × (xs ≡ columns ++ more) → (columns : List Item) × AreColumns n owed at columns × (ys ≡ columns ++ more) → AlikeChains m n xs ys
-raw_alike m n owed at more xs ys free (c, h, e) (c', k, f) =
+line_alike m n owed at more xs ys free (c, h, e) (c', k, f) =
     ap (map (read m)) e ∙ chains_append m n c c' more more (columns_alike m n owed at c c' h k) (read_alone m n more free) ∙ sym (ap (map (read n)) f)
 
-pub code_alike : (d : Document) (n : Names) (chain chain' : List Item) (places : List Place) (w w' : List Item)
-    → AlikeChains d.names n chain chain' → AreCodeLines d chain places w → AreCodeLines (with_names d n) chain' places w' → AlikeChains d.names n w w'
-unfolding AreCodeLines
-code_alike d n chain chain' [] w w' a e f = ap (map (read d.names)) e ∙ a ∙ sym (ap (map (read n)) f)
-code_alike d n chain chain' (p ∷ ps) w w' a (line, is, more) (line', is', more') =
-    code_alike d n (add_tokens chain line) (add_tokens chain' line') ps w w'
-    (tokens_alike d.names n chain chain' line line' a (raw_alike d.names n p.rest.owed (offset p) (code_texts d.text (offset p) (line_end p)) line line' (code_free d.text (offset p) (line_end p)) is is'))
-    more more'
-
-pub html_alike : (d : Document) (n : Names) (chain chain' : List Item) (owed : ℕ) (places : List Place) (w w' : List Item)
-    → AlikeChains d.names n chain chain' → AreHtmlLines d chain owed places w → AreHtmlLines (with_names d n) chain' owed places w' → AlikeChains d.names n w w'
-unfolding AreHtmlLines
-html_alike d n chain chain' owed [] w w' a e f = ap (map (read d.names)) e ∙ a ∙ sym (ap (map (read n)) f)
-html_alike d n chain chain' owed (p ∷ []) w w' a (line, is, e) (line', is', f) =
-    ap (map (read d.names)) e
-    ∙ chains_append d.names n chain chain' line line' a (raw_alike d.names n owed (offset p) (html_items d.text (offset p) (line_end p)) line line' (html_free d.text (offset p) (line_end p)) is is')
-    ∙ sym (ap (map (read n)) f)
-html_alike d n chain chain' owed (p ∷ q ∷ ps) w w' a (line, is, more) (line', is', more') =
-    html_alike d n (chain ++ line) (chain' ++ line') q.rest.owed (q ∷ ps) w w'
-    (chains_append d.names n chain chain' line line' a (raw_alike d.names n owed (offset p) (html_items d.text (offset p) (line_end p)) line line' (html_free d.text (offset p) (line_end p)) is is'))
+pub raw_alike : (range : Ranges) → AreFree range → (d : Document) (n : Names) (chain chain' : List Item) (places : List Place) (w w' : List Item)
+    → AlikeChains d.names n chain chain' → AreRawLines range d chain places w → AreRawLines range (with_names d n) chain' places w' → AlikeChains d.names n w w'
+unfolding AreRawLines
+raw_alike range free d n chain chain' [] w w' a e f = ap (map (read d.names)) e ∙ a ∙ sym (ap (map (read n)) f)
+raw_alike range free d n chain chain' (p ∷ ps) w w' a (line, is, more) (line', is', more') =
+    raw_alike range free d n (add_tokens chain line) (add_tokens chain' line') ps w w'
+    (tokens_alike d.names n chain chain' line line' a (line_alike d.names n p.rest.owed (offset p) (raw_items range d.text (offset p) (line_end p)) line line' (raw_free range free d.text (offset p) (line_end p)) is is'))
     more more'
 
 -- blocks with chains that read alike

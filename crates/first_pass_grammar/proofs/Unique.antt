@@ -21,12 +21,14 @@ use Rattle.first_pass_grammar.specs.Names.{Names, read_nodes}
 use Rattle.first_pass_grammar.specs.Containers.{at_rest, after, front}
 use Rattle.first_pass_grammar.specs.Kinds.{unindented, is_blank_rest, quote_inside, item_at, first_kind, IsKindBy, IsKind, ends_tag}
 use Rattle.first_pass_grammar.specs.Leaves.{Document, document, add_break, IsParagraph, IsHeading, heading_text_at, heading_block, paragraph_block, marker_items}
-use Rattle.first_pass_grammar.specs.CodeBlocks.{Extent, code_lines, without_blanks, last_end, IsIndentedCode, metadata_lines, metadata_kind, IsMetadata, fenced_lines, info_string, IsFencedCode}
-use Rattle.first_pass_grammar.specs.HtmlBlocks.{until_end, until_blank, IsHtml}
+use Rattle.first_pass_grammar.specs.CodeBlocks.{code_lines, without_blanks, last_end, IsIndentedCode, metadata_lines, metadata_kind, IsMetadata, fenced_lines, info_string, IsFencedCode}
+use Rattle.first_pass_grammar.specs.HtmlBlocks.{until_end, until_blank, first_owing, IsHtml}
+use Rattle.first_pass_grammar.specs.Extents.{Extent}
 use Rattle.first_pass_grammar.specs.Skeleton.{Leaf, Block, Head, opened, From, Line, Inside, LeafAt, Blanks, TextAt, MarkAt, Opening, OpensLeaf, OpensNode, OpensParagraph, OpensExtent, OpensAs, OpensBlockAt, is_blank_behind, next_is_blank, item_head, task_by, task_behind, behind_task, task_alone, item_opening, tag_behind, behind_tag, quote_opening, OpensFrom, Opens, OpensAt, Skeleton, Nil, Then, Node, Begins, Ends, behind_first, end_before, IsLeafHere, IsNodeHere, IsSequence}
 use Rattle.first_pass_grammar.specs.Derivation.{Tables, node_of, Derives}
 use Rattle.first_pass_grammar.proofs.NoIndex.{HasNoIndex, read_alone, paragraph_free, heading_free, marked_free}
-use Rattle.first_pass_grammar.proofs.Alike.{with_names, AlikeNodes, HoldsNoIndex, AlikeOpening, Alike, code_alike, html_alike, block_alike, fence_alike, forest_alike}
+use Rattle.first_pass_grammar.specs.RawLines.{range_text, range_html}
+use Rattle.first_pass_grammar.proofs.Alike.{with_names, AlikeNodes, HoldsNoIndex, AlikeOpening, Alike, text_free, html_free, raw_alike, block_alike, fence_alike, forest_alike}
 
 -- a paragraph has one chain and leaves one list of lines
 one_paragraph : (d : Document) (n : Names) (path : List Container) (start : ℕ) (chain : List Item) (lines : List Place) (w w' : List Item) (l l' : List Place)
@@ -95,13 +97,13 @@ one_paragraph_opening d n path p lines marker o o' free (c, l, h, f) (c', l', h'
 one_code : (d : Document) (n : Names) (p : Place) (further : List Place) (xs ys : List (ℕ × Item)) → IsIndentedCode d p further xs → IsIndentedCode (with_names d n) p further ys → AlikeNodes d.names n xs ys
 one_code d n p further xs ys h k =
     ap (read_nodes d.names) h.items_are
-    ∙ block_alike d.names n (offset p) (last_end (offset p) (without_blanks (p ∷ further))) IndentCodeBlock IndentCodeBlock h.chain k.chain refl (code_alike d n [] [] (without_blanks (p ∷ further)) h.chain k.chain refl h.lines k.lines)
+    ∙ block_alike d.names n (offset p) (last_end (offset p) (without_blanks (p ∷ further))) IndentCodeBlock IndentCodeBlock h.chain k.chain refl (raw_alike range_text text_free d n [] [] (without_blanks (p ∷ further)) h.chain k.chain refl h.lines k.lines)
     ∙ sym (ap (read_nodes n) k.items_are)
 
 one_metadata : (d : Document) (n : Names) (start byte : ℕ) (places : List Place) («end» : ℕ) (xs ys : List (ℕ × Item)) → IsMetadata d start byte places «end» xs → IsMetadata (with_names d n) start byte places «end» ys → AlikeNodes d.names n xs ys
 one_metadata d n start byte places end xs ys h k =
     ap (read_nodes d.names) h.items_are
-    ∙ block_alike d.names n start end (MetadataBlock (metadata_kind byte)) (MetadataBlock (metadata_kind byte)) h.chain k.chain refl (code_alike d n [] [] places h.chain k.chain refl h.lines k.lines)
+    ∙ block_alike d.names n start end (MetadataBlock (metadata_kind byte)) (MetadataBlock (metadata_kind byte)) h.chain k.chain refl (raw_alike range_text text_free d n [] [] places h.chain k.chain refl h.lines k.lines)
     ∙ sym (ap (read_nodes n) k.items_are)
 
 one_fence : (d : Document) (n : Names) (start count : ℕ) (places : List Place) («end» : ℕ) (xs ys : List (ℕ × Item)) → IsFencedCode d start count places «end» xs → IsFencedCode (with_names d n) start count places «end» ys → AlikeNodes d.names n xs ys
@@ -110,13 +112,13 @@ one_fence d n start count places end xs ys h k =
     ap (read_nodes d.names) h.items_are
     ∙ block_alike d.names n start end (FencedCodeBlock h.info) (FencedCodeBlock k.info) h.chain k.chain
     (fence_alike d.names n start end h.info k.info info (h.names.named, h.names.at, h.names.text) (k.names.named, k.names.at, k.names.text))
-    (code_alike d n [] [] places h.chain k.chain refl h.lines k.lines)
+    (raw_alike range_text text_free d n [] [] places h.chain k.chain refl h.lines k.lines)
     ∙ sym (ap (read_nodes n) k.items_are)
 
 one_html : (d : Document) (n : Names) (start columns : ℕ) (places : List Place) («end» : ℕ) (xs ys : List (ℕ × Item)) → IsHtml d start columns places «end» xs → IsHtml (with_names d n) start columns places «end» ys → AlikeNodes d.names n xs ys
 one_html d n start columns places end xs ys h k =
     ap (read_nodes d.names) h.items_are
-    ∙ block_alike d.names n start end HtmlBlock HtmlBlock h.chain k.chain refl (html_alike d n [] [] columns places h.chain k.chain refl h.lines k.lines)
+    ∙ block_alike d.names n start end HtmlBlock HtmlBlock h.chain k.chain refl (raw_alike range_html html_free d n [] [] (first_owing columns places) h.chain k.chain refl h.lines k.lines)
     ∙ sym (ap (read_nodes n) k.items_are)
 
 one_extent : (m n : Names) (p : Place) (e : Extent) (A B : List (ℕ × Item) → Type 0) (o o' : Opening) → ((xs ys : List (ℕ × Item)) → A xs → B ys → AlikeNodes m n xs ys) → OpensExtent p e A o → OpensExtent p e B o' → AlikeOpening m n o o'

@@ -20,21 +20,8 @@ use Rattle.first_pass_grammar.specs.Names.{Names}
 use Rattle.first_pass_grammar.specs.Containers.{has_columns, taken}
 use Rattle.first_pass_grammar.specs.Kinds.{all_taken, unindented, is_blank_rest}
 use Rattle.first_pass_grammar.specs.Leaves.{Document, block_with}
-use Rattle.first_pass_grammar.specs.RawLines.{AreCodeLines}
-
--- The raw lines of a leaf block, as the places at which their texts begin; where the block ends; and the lines that it leaves.
-pub record Extent : Type 0 where
-  pub places : List Place
-  pub «end» : ℕ
-  pub left : List Place
-
--- the same with a raw line before them
-abbrev pub with_line : Place → Extent → Extent
-with_line p e = record { places = p ∷ e.places; «end» = e.«end»; left = e.left }
-
--- a block that has no more lines and ends at an offset
-abbrev pub ends_at : ℕ → List Place → Extent
-ends_at e lines = record { places = []; «end» = e; left = lines }
+use Rattle.first_pass_grammar.specs.RawLines.{range_text, AreRawLines}
+use Rattle.first_pass_grammar.specs.Extents.{Extent, Verdict, GoesOn, Closes, extent, in_containers}
 
 -- Where the text of a line begins by which indented code goes on: behind what the containers take of it, and four columns, or fewer and then the end of
 -- the line (CommonMark 4.4).
@@ -74,7 +61,7 @@ last_end e (p ∷ ps) = last_end (line_end p) ps
 -- are no part of it (CommonMark 4.4).
 pub record IsIndentedCode (d : Document) (p : Place) (further : List Place) (items : List (ℕ × Item)) : Type 0 where
   pub chain : List Item
-  pub lines : AreCodeLines d [] (without_blanks (p ∷ further)) chain
+  pub lines : AreRawLines range_text d [] (without_blanks (p ∷ further)) chain
   pub items_are : items ≡ block_with (offset p) (last_end (offset p) (without_blanks (p ∷ further))) IndentCodeBlock chain
 
 -- where a closing fence ends that a line is from a place on, at under four columns: so many of a byte at least; the end of the text closes too
@@ -82,19 +69,18 @@ pub record IsIndentedCode (d : Document) (p : Place) (further : List Place) (ite
 abbrev pub closing_fence_end : ℕ → ℕ → Place → Option ℕ
 closing_fence_end byte count p = if nat_lt (indent p.rest) 4 then option_map (λ n. offset (unindented p) + n) (closing_fence_len byte count (all_taken p.rest).left) else None
 
--- The lines of a fenced code block behind its opening fence, which stood at so many columns and has so many of a byte, in a text of n bytes: up to the
--- closing fence, or to a line that doesn't go on with the containers. Of each line as many columns are taken as the fence stood at (CommonMark 4.5).
-abbrev pub fenced_line : ℕ → Place → Option ℕ → List Place → Extent → Extent
-fenced_line columns q None lines further = with_line (moved_columns columns q) further
-fenced_line columns q (Some e) lines further = ends_at e lines
+-- What a line is to a fenced code block whose opening fence stood at so many columns and has so many of a byte: a closing fence closes it; of any other line as
+-- many columns are taken as the fence stood at (CommonMark 4.5).
+abbrev pub fence_verdict : ℕ → Place → Option ℕ → Verdict
+fence_verdict columns q None = GoesOn (moved_columns columns q)
+fence_verdict columns q (Some e) = Closes e
 
-abbrev pub fenced_by : ℕ → ℕ → ℕ → Place → List Place → Option Place → Extent → Extent
-fenced_by columns byte count line lines None further = ends_at line.line (line ∷ lines)
-fenced_by columns byte count line lines (Some q) further = fenced_line columns q (closing_fence_end byte count q) lines further
+abbrev pub fence_judge : ℕ → ℕ → ℕ → Place → Place → Verdict
+fence_judge columns byte count line q = fence_verdict columns q (closing_fence_end byte count q)
 
-unfoldable pub fenced_lines : ℕ → List Container → ℕ → ℕ → ℕ → List Place → Extent
-fenced_lines n path columns byte count [] = ends_at n []
-fenced_lines n path columns byte count (line ∷ lines) = fenced_by columns byte count line lines (taken path line) (fenced_lines n path columns byte count lines)
+-- its lines among those behind the fence's, in a text of n bytes
+abbrev pub fenced_lines : ℕ → List Container → ℕ → ℕ → ℕ → List Place → Extent
+fenced_lines n path columns byte count lines = extent (in_containers path (fence_judge columns byte count)) n lines
 
 -- what is left of a line's bytes from here on without the white space at both ends (CommonMark 4.5)
 abbrev pub trimmed : List ℕ → List ℕ
@@ -117,22 +103,20 @@ pub record IsFencedCode (d : Document) (start count : ℕ) (places : List Place)
   pub chain : List Item
   pub info : CowIndex
   pub names : NamesInfo d.names info (info_string (drop (start + count) d.text))
-  pub lines : AreCodeLines d [] places chain
+  pub lines : AreRawLines range_text d [] places chain
   pub items_are : items ≡ block_with start «end» (FencedCodeBlock info) chain
 
--- The lines of a metadata block of this byte behind its first, in a text of n bytes: up to its closing line, which is sought in the whole of each line; or
--- to a line that doesn't go on with the containers (this project).
-abbrev pub metadata_line : Place → Place → Option ℕ → List Place → Extent → Extent
-metadata_line line q None lines further = with_line q further
-metadata_line line q (Some n) lines further = ends_at (line.line + n) lines
+-- What a line is to a metadata block of this byte: a closing line, which is sought in the whole of the line, closes it (this project).
+abbrev pub metadata_verdict : Place → Place → Option ℕ → Verdict
+metadata_verdict line q None = GoesOn q
+metadata_verdict line q (Some n) = Closes (line.line + n)
 
-abbrev pub metadata_by : ℕ → Place → List Place → Option Place → Extent → Extent
-metadata_by byte line lines None further = ends_at line.line (line ∷ lines)
-metadata_by byte line lines (Some q) further = metadata_line line q (closing_metadata_len byte line.rest.left) lines further
+abbrev pub metadata_judge : ℕ → Place → Place → Verdict
+metadata_judge byte line q = metadata_verdict line q (closing_metadata_len byte line.rest.left)
 
-unfoldable pub metadata_lines : ℕ → List Container → ℕ → List Place → Extent
-metadata_lines n path byte [] = ends_at n []
-metadata_lines n path byte (line ∷ lines) = metadata_by byte line lines (taken path line) (metadata_lines n path byte lines)
+-- its lines among those behind its first, in a text of n bytes
+abbrev pub metadata_lines : ℕ → List Container → ℕ → List Place → Extent
+metadata_lines n path byte lines = extent (in_containers path (metadata_judge byte)) n lines
 
 -- the marks `---` or `+++`, by their byte
 abbrev pub metadata_kind : ℕ → MetadataBlockKind
@@ -141,5 +125,5 @@ metadata_kind byte = if nat_lt byte 45 then PlusesStyle else YamlStyle
 -- The metadata block of this byte that begins at an offset, with these raw lines and this end.
 pub record IsMetadata (d : Document) (start byte : ℕ) (places : List Place) («end» : ℕ) (items : List (ℕ × Item)) : Type 0 where
   pub chain : List Item
-  pub lines : AreCodeLines d [] places chain
+  pub lines : AreRawLines range_text d [] places chain
   pub items_are : items ≡ block_with start «end» (MetadataBlock (metadata_kind byte)) chain

@@ -1,16 +1,15 @@
 -- HTML blocks: which lines they take (CommonMark 4.6).
-use Rattle.std.specs.Prelude.{◌≡◌, ℕ, ◌||◌, Bool, true, false, List, [], ◌∷◌, Option, Some, None, if◌then◌else◌}
+use Rattle.std.specs.Prelude.{◌≡◌, ℕ, ◌||◌, Bool, true, false, List, [], ◌∷◌, if◌then◌else◌}
 use Rattle.first_pass_items.specs.declared.item.Item.{Item}
 use Rattle.first_pass_items.specs.declared.item.ItemBody.TheVariants.{HtmlBlock}
 use Rattle.first_pass_html.specs.Starts.{begins_with}
 use Rattle.first_pass_scan.specs.Lines.{at_line_end}
 use Rattle.first_pass_scan.specs.Places.{Place, offset, line_of}
 use Rattle.first_pass_grammar.specs.declared.kind.Container.{Container}
-use Rattle.first_pass_grammar.specs.Containers.{taken}
 use Rattle.first_pass_grammar.specs.Kinds.{is_blank_rest}
 use Rattle.first_pass_grammar.specs.Leaves.{Document, block_with}
-use Rattle.first_pass_grammar.specs.RawLines.{AreHtmlLines}
-use Rattle.first_pass_grammar.specs.CodeBlocks.{Extent, with_line, ends_at}
+use Rattle.first_pass_grammar.specs.RawLines.{range_html, AreRawLines}
+use Rattle.first_pass_grammar.specs.Extents.{Extent, with_line, Verdict, GoesOn, IsLast, Closes, Stops, extent_by, extent, in_containers}
 
 -- a text stands somewhere in the bytes
 unfoldable pub holds : List ℕ → List ℕ → Bool
@@ -22,38 +21,38 @@ abbrev pub is_empty : List ℕ → Bool
 is_empty [] = true
 is_empty (b ∷ bs) = false
 
--- the place in a line that goes on with the containers, else the line's start
-abbrev pub place_or : Place → Option Place → Place
-place_or line None = line
-place_or line (Some q) = q
+-- What a line is to an HTML block of the kinds 1 to 5 from a place on: the one that holds the text which ends the kind is the last (CommonMark 4.6, end conditions
+-- 1 to 5).
+abbrev pub tag_verdict : List ℕ → Place → Verdict
+tag_verdict text q = if holds text (line_of q) then IsLast q else GoesOn q
 
--- The lines of an HTML block of the kinds 1 to 5 from the one at a place on, in a text of n bytes: up to the one that holds this text; or to a line that
--- doesn't go on with the containers; or to the end of the text, which may come behind the prefix of a line (CommonMark 4.6, end conditions 1 to 5).
-abbrev pub until_end_by : ℕ → Place → List Place → Option Place → Extent → Extent
-until_end_by n line lines None further = ends_at line.line (line ∷ lines)
-until_end_by n line lines (Some q) further = if is_empty q.rest.left then ends_at n [] else further
+-- The same of a line behind the first one. Where the containers take the whole of a last line, the block ends with the text (this project).
+abbrev pub tag_judge : List ℕ → Place → Place → Verdict
+tag_judge text line q = if is_empty q.rest.left then Closes (offset q) else tag_verdict text q
 
-unfoldable pub until_end : ℕ → List Container → List ℕ → Place → List Place → Extent
-until_end n path text p [] = with_line p (ends_at n [])
-until_end n path text p (line ∷ lines) =
-    with_line p (if holds text (line_of p) then ends_at line.line (line ∷ lines)
-    else until_end_by n line lines (taken path line) (until_end n path text (place_or line (taken path line)) lines))
+-- The lines of an HTML block of the kinds 1 to 5: the one at a place, and those among the lines behind it, in a text of n bytes.
+abbrev pub until_end : ℕ → List Container → List ℕ → Place → List Place → Extent
+until_end n path text p lines = extent_by (tag_verdict text p) p lines (extent (in_containers path (tag_judge text)) n lines)
 
--- The lines of an HTML block of the kinds 6 and 7 from the one at a place on, in a text of n bytes: up to a blank line, or to one that doesn't go on with the
--- containers. Before a blank line it ends behind what the containers take of that, but where the line ends there, at its start
--- (CommonMark 4.6, end conditions 6 and 7, and this project).
-abbrev pub until_blank_by : Place → List Place → Option Place → Extent → Extent
-until_blank_by line lines None further = ends_at line.line (line ∷ lines)
-until_blank_by line lines (Some q) further =
-    if at_line_end q.rest.left then ends_at line.line (line ∷ lines)
-    else (if is_blank_rest q.rest then ends_at (offset q) (line ∷ lines) else further)
+-- What a line is to an HTML block of the kinds 6 and 7 behind its first: a blank line stops it (CommonMark 4.6, end conditions 6 and 7), behind what the
+-- containers take of that line, but where the line ends there, at its start (this project).
+abbrev pub blank_judge : Place → Place → Verdict
+blank_judge line q = if at_line_end q.rest.left then Stops line.line else (if is_blank_rest q.rest then Stops (offset q) else GoesOn q)
 
-unfoldable pub until_blank : ℕ → List Container → Place → List Place → Extent
-until_blank n path p [] = with_line p (ends_at n [])
-until_blank n path p (line ∷ lines) = with_line p (until_blank_by line lines (taken path line) (until_blank n path (place_or line (taken path line)) lines))
+-- the lines of an HTML block of the kinds 6 and 7: the one at a place, and those among the lines behind it, in a text of n bytes
+abbrev pub until_blank : ℕ → List Container → Place → List Place → Extent
+until_blank n path p lines = with_line p (extent (in_containers path blank_judge) n lines)
+
+-- a place where so many columns are owed, and places of which the first is such a one
+abbrev pub owing : ℕ → Place → Place
+owing columns p = record p { rest = record p.rest { owed = columns } }
+
+abbrev pub first_owing : ℕ → List Place → List Place
+first_owing columns [] = []
+first_owing columns (p ∷ ps) = owing columns p ∷ ps
 
 -- The HTML block that begins at an offset behind so many columns, with these raw lines and this end.
 pub record IsHtml (d : Document) (start columns : ℕ) (places : List Place) («end» : ℕ) (items : List (ℕ × Item)) : Type 0 where
   pub chain : List Item
-  pub lines : AreHtmlLines d [] columns places chain
+  pub lines : AreRawLines range_html d [] (first_owing columns places) chain
   pub items_are : items ≡ block_with start «end» HtmlBlock chain

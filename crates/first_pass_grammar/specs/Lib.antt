@@ -2,6 +2,7 @@ pub mod CodeBlocks
 pub mod Completion
 pub mod Containers
 pub mod Derivation
+pub mod Extents
 pub mod HtmlBlocks
 pub mod Kinds
 pub mod Leaves

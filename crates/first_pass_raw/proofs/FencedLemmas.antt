@@ -1,5 +1,5 @@
 -- The closing fence, the info string and the lines of a fenced code block.
-use Rattle.std.proofs.Common.{◌≡◌, inl, inr, ℕ, ◌+◌, ◌-◌, ◌<◌, ◌≤◌, ◌==◌, ◌&&◌, not, Bool, nat_lt, nat_le, true, false, List, [], ◌∷◌, length, take, drop, get_or, reverse, Option, Some, None, IsUtf8, IsCharBoundary, if◌then◌else◌, refl, sym, ap, subst, ◌∙◌, arith, length-drop, length-take-le, get_or-drop, drop-drop}
+use Rattle.std.proofs.Common.{◌≡◌, inl, inr, ℕ, ◌+◌, ◌-◌, ◌<◌, ◌≤◌, ◌==◌, ◌&&◌, not, Bool, nat_lt, nat_le, true, false, List, length, take, drop, get_or, reverse, Option, Some, None, IsUtf8, IsCharBoundary, if◌then◌else◌, refl, sym, ap, subst, ◌∙◌, arith, length-drop, length-take-le, get_or-drop, drop-drop}
 use Rattle.std.specs.Option.{option_map}
 use Rattle.std.specs.List.{prefix_len, suffix_len}
 use Rattle.std.proofs.lemmas.Bool.{cases_lt, eqb-true}
@@ -13,24 +13,22 @@ use Rattle.first_pass_items.specs.declared.item.Item.{Item}
 use Rattle.first_pass_items.specs.declared.item.ItemBody.TheVariants.{FencedCodeBlock}
 use Rattle.first_pass_items.specs.declared.option_set.Options.{Options}
 use Rattle.first_pass_tree.specs.Forest.{Forest}
-use Rattle.first_pass_tokens.specs.TreeTokens.{JoinsNone}
 use Rattle.first_pass_scan.specs.Lines.{is_white, is_ascii_white, begins, line_len}
 use Rattle.first_pass_scan.specs.LeafLines.{run_len, has_backquote, code_fence, closing_fence_len}
-use Rattle.first_pass_scan.specs.Rest.{Rest, indent, after_columns}
-use Rattle.first_pass_scan.specs.Places.{Place, line_rest, line_place, place_at, offset, moved_columns, IsPlaceOf}
+use Rattle.first_pass_scan.specs.Rest.{Rest, indent}
+use Rattle.first_pass_scan.specs.Places.{line_place, place_at, offset, IsPlaceOf}
 use Rattle.first_pass_scan.proofs.LineFacts.{line_len-fits}
-use Rattle.first_pass_scan.proofs.PlaceFacts.{line_is_place, white_keeps, prefix_keeps, columns_line_end}
-use Rattle.first_pass_grammar.specs.declared.kind.Container.{Container}
+use Rattle.first_pass_scan.proofs.PlaceFacts.{line_is_place, white_keeps, prefix_keeps}
 use Rattle.first_pass_grammar.specs.Names.{Names, Extends}
-use Rattle.first_pass_grammar.specs.Containers.{at_rest, after}
 use Rattle.first_pass_grammar.specs.Kinds.{all_taken, unindented}
 use Rattle.first_pass_grammar.specs.Leaves.{block_with}
-use Rattle.first_pass_grammar.specs.CodeBlocks.{Extent, ends_at, closing_fence_end, fenced_line, fenced_by, fenced_lines, trimmed, info_string, NamesInfo, IsFencedCode}
-use Rattle.first_pass_grammar.specs.Completion.{lines_from}
+use Rattle.first_pass_grammar.specs.CodeBlocks.{closing_fence_end, fence_judge, trimmed, info_string, NamesInfo, IsFencedCode}
+use Rattle.first_pass_grammar.specs.Extents.{Extent}
+use Rattle.first_pass_grammar.specs.RawLines.{range_text}
 use Rattle.first_pass_open.specs.OpenBlock.{opened_block, closed_by}
 use Rattle.first_pass_open.specs.Path.{path_of}
-use Rattle.first_pass_raw.specs.RawBlocks.{AppendsCode, AppendsCodeLines, AddsRaw, fenced_behind, behind_line_at}
-use Rattle.first_pass_raw.proofs.CodeLineLemmas.{CodeSoFar, code_more, code_end, code_path, code_closed, opened_path, IsLineAt, behind_path, within_line, none_left}
+use Rattle.first_pass_raw.specs.RawBlocks.{AppendsLines, AddsRaw, fenced_behind, behind_line_at}
+use Rattle.first_pass_raw.proofs.ExtentLemmas.{extent_from, lines_of, block_done}
 use Rattle.first_pass_names.proofs.NameLemmas.{extends_both}
 use Rattle.first_pass_open.proofs.PathLemmas.{AreIn}
 use Rattle.first_pass_open.proofs.PlaceLemmas.{all_keep, place_end, line_start_end}
@@ -134,88 +132,6 @@ module _ (text : List ℕ) (start from next white : ℕ) (info : IsInfo text sta
       ∙ ap (λ m. trimmed (take m (drop from text))) n
       ∙ ap (λ bs. trimmed (take (line_len bs) bs)) (ap (λ m. drop m text) info.from_is ∙ sym (drop-drop (prefix_len is_white (drop start text)) start text))
 
--- what is left of a fenced code block from a line on
-abbrev pub fenced_from : List ℕ → List Container → ℕ → ℕ → ℕ → ℕ → Extent
-fenced_from text path columns byte count at = fenced_lines (length text) path columns byte count (lines_from text at)
-
-fenced_first : (n : ℕ) (path : List Container) (columns byte count : ℕ) (line : Place) (lines : List Place) (o : Option Rest) → after path line.rest ≡ o
-    → fenced_lines n path columns byte count (line ∷ lines) ≡ fenced_by columns byte count line lines (option_map (at_rest line) o) (fenced_lines n path columns byte count lines)
-unfolding fenced_lines
-fenced_first n path columns byte count line lines o h = ap (λ t. fenced_by columns byte count line lines (option_map (at_rest line) t) (fenced_lines n path columns byte count lines)) h
-
-fenced_none : (n : ℕ) (path : List Container) (columns byte count : ℕ) → fenced_lines n path columns byte count [] ≡ ends_at n []
-unfolding fenced_lines
-fenced_none n path columns byte count = refl
-
--- at the end of the text
-fenced_at_end : (text : List ℕ) (path : List Container) (columns byte count at : ℕ) → at ≡ length text → fenced_from text path columns byte count at ≡ ends_at at (lines_from text at)
-fenced_at_end text path columns byte count at past =
-    let none = none_left text at (omega arith) in
-    ap (fenced_lines (length text) path columns byte count) none ∙ fenced_none (length text) path columns byte count ∙ ap (λ n. ends_at n []) (sym past) ∙ ap (ends_at at) (sym none)
-
-module _ (text : List ℕ) (path : List Container) (columns byte count at next : ℕ) (line : IsLineAt text at next) where
-  -- at a line that doesn't go on with the containers
-  fenced_left : after path (line_rest (drop at text)) ≡ None → fenced_from text path columns byte count at ≡ ends_at at (lines_from text at)
-  fenced_left none =
-      ap (fenced_lines (length text) path columns byte count) line.lines ∙ fenced_first (length text) path columns byte count (line_place at (drop at text)) (lines_from text next) None none
-      ∙ ap (ends_at at) (sym line.lines)
-
-  -- at a line that does
-  fenced_here : (r : Rest) (o : Option ℕ) → after path (line_rest (drop at text)) ≡ Some r → closing_fence_end byte count (place_at at r) ≡ o
-      → fenced_from text path columns byte count at ≡ fenced_line columns (place_at at r) o (lines_from text next) (fenced_from text path columns byte count next)
-  fenced_here r o some closes =
-      ap (fenced_lines (length text) path columns byte count) line.lines ∙ fenced_first (length text) path columns byte count (line_place at (drop at text)) (lines_from text next) (Some r) some
-      ∙ ap (λ t. fenced_line columns (place_at at r) t (lines_from text next) (fenced_from text path columns byte count next)) closes
-
--- the lines of a block from one on, read up to another
-abbrev pub FencedSoFar : List ℕ → Options → Names → ℕ → ℕ → ℕ → ℕ → ℕ → Forest Item → Forest Item → Type 0
-FencedSoFar text options names columns byte count start at old now = CodeSoFar text options names (fenced_from text (path_of old) columns byte count start) (fenced_from text (path_of old) columns byte count at) old now
-
-module _ (text : List ℕ) (options : Options) (names : Names) (columns byte count start at : ℕ) (old now : Forest Item) (s : FencedSoFar text options names columns byte count start at old now) where
-  abbrev whole : Extent
-  whole = fenced_from text (path_of old) columns byte count start
-
-  abbrev rest : Extent
-  rest = fenced_from text (path_of old) columns byte count at
-
-  -- the text ends
-  pub fenced_end : at ≡ length text → AppendsCodeLines text options names (fenced_from text (path_of old) columns byte count start) old now at at
-  fenced_end past = code_end text options names whole rest old now at at s (fenced_at_end text (path_of old) columns byte count at past)
-
-  module _ (next : ℕ) (there : AreIn (length old.nodes) old.spine) (line : IsLineAt text at next) where
-    same_path : path_of now ≡ path_of old
-    same_path = code_path text options names whole rest old now s there
-
-    -- the line doesn't go on with the containers
-    pub fenced_stop : (found : Option Rest) → found ≡ None → found ≡ after (path_of now) (line_rest (drop at text)) → AppendsCodeLines text options names (fenced_from text (path_of old) columns byte count start) old now at at
-    fenced_stop found none is =
-        code_end text options names whole rest old now at at s
-        (fenced_left text (path_of old) columns byte count at next line (ap (λ path. after path (line_rest (drop at text))) (sym same_path) ∙ sym is ∙ none))
-
-    module _ (r : Rest) (taken : Some r ≡ after (path_of now) (line_rest (drop at text))) (found : Option ℕ) (found_is : found ≡ closing_fence_end byte count (place_at at r)) where
-      taken_here : after (path_of old) (line_rest (drop at text)) ≡ Some r
-      taken_here = ap (λ path. after path (line_rest (drop at text))) (sym same_path) ∙ sym taken
-
-      -- the line closes the block
-      pub fenced_closed : (e : ℕ) → found ≡ Some e → AppendsCodeLines text options names (fenced_from text (path_of old) columns byte count start) old now e next
-      fenced_closed e some =
-          code_end text options names whole rest old now e next s
-          (fenced_here text (path_of old) columns byte count at next line r (Some e) taken_here (sym found_is ∙ some))
-
-      -- the line is one of the block's
-      pub fenced_more : (named : Names) (owed from : ℕ) (q : Rest) (new : Forest Item) → IsUtf8 text → JoinsNone old → found ≡ None → q ≡ after_columns columns r → Extends named names → AppendsCode text named owed from next now new
-          → owed ≡ q.owed → from ≡ at + q.taken → FencedSoFar text options named columns byte count start next old new
-      fenced_more named owed from q new u apart none e f appends owed_is from_is =
-          code_more text options names named whole rest (fenced_from text (path_of old) columns byte count next) (moved_columns columns (place_at at r)) old now new owed from next apart s
-          (fenced_here text (path_of old) columns byte count at next line r None taken_here (sym found_is ∙ none)) f appends (owed_is ∙ ap (λ (z : Rest). z.owed) e) (from_is ∙ ap (λ (z : Rest). at + z.taken) e)
-          (sym (columns_line_end columns (place_at at r) ∙ behind_path text (path_of old) at next r u line taken_here))
-
--- A line's text begins before the line ends.
-pub fenced_order : (text : List ℕ) (path : List Container) (columns at from next : ℕ) (r q : Rest) → IsUtf8 text → IsLineAt text at next → Some r ≡ after path (line_rest (drop at text)) → q ≡ after_columns columns r
-    → from ≡ at + q.taken → from ≤ next
-fenced_order text path columns at from next r q u line taken e is =
-    within_line at from next (after_columns columns r) (is ∙ ap (λ (z : Rest). at + z.taken) e) (columns_line_end columns (place_at at r) ∙ behind_path text path at next r u line (sym taken))
-
 -- a fence where a test passes
 abbrev fence_if : Bool → ℕ × ℕ → Option (ℕ × ℕ)
 fence_if t fence = if t then Some fence else None
@@ -251,16 +167,14 @@ fence_end text start n c u b h =
 pub fenced_added : (text : List ℕ) (options : Options) (named names : Names) (g opened filled new : Forest Item) (start columns byte count first e next : ℕ) (info : CowIndex) → AreIn (length g.nodes) g.spine
     → opened ≡ opened_block g start (FencedCodeBlock info) → first ≡ behind_line_at text start
     → ((more : Names) → Extends more named → NamesInfo more info (info_string (drop (start + count) text))) → Extends names named
-    → AppendsCodeLines text options names (fenced_from text (path_of opened) columns byte count first) opened filled e next → new ≡ closed_by filled e filled.spine
+    → AppendsLines range_text text options names (extent_from text (path_of opened) (fence_judge columns byte count) first) opened filled e next → new ≡ closed_by filled e filled.spine
     → (let x = fenced_behind text (path_of g) columns byte count start in AddsRaw text options names (λ d. IsFencedCode d start count x.places x.«end») x.left g new next)
 fenced_added text options named names g opened filled new start columns byte count first e next info there is first_is names_info extends lines new_is =
     let x : Extent = fenced_behind text (path_of g) columns byte count start in
-    let here : fenced_from text (path_of opened) columns byte count first ≡ x =
-    ap (λ path. fenced_from text path columns byte count first) (opened_path g opened start (FencedCodeBlock info) is refl there) ∙ ap (fenced_from text (path_of g) columns byte count) first_is in
-    let all : AppendsCodeLines text options names x opened filled e next = subst (λ y. AppendsCodeLines text options names y opened filled e next) here lines in
+    let all = lines_of range_text text options names g opened filled start first e next (FencedCodeBlock info) (fence_judge columns byte count) there is refl first_is lines in
     record {
       items = block_with start x.«end» (FencedCodeBlock info) all.chain;
-      tree_is = code_closed text options names x g opened filled start (FencedCodeBlock info) e next is all new new_is;
+      tree_is = block_done range_text text options names x g opened filled start (FencedCodeBlock info) e next is all new new_is;
       are = λ more f. record { chain = all.chain; info = info; names = names_info more (extends_both more names named f extends); lines = all.lines more f; items_are = refl };
       left_is = all.left_is;
     }

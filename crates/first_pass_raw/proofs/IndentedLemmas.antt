@@ -26,17 +26,17 @@ use Rattle.first_pass_grammar.specs.Containers.{at_rest, has_columns, after, tak
 use Rattle.first_pass_grammar.specs.Kinds.{is_blank_rest}
 use Rattle.first_pass_grammar.specs.Leaves.{Document, document, block_with}
 use Rattle.first_pass_grammar.specs.Completion.{lines_from}
-use Rattle.first_pass_grammar.specs.RawLines.{ends_with_both, range_text, code_texts, IsCodeLine, AreCodeLines}
+use Rattle.first_pass_grammar.specs.RawLines.{ends_with_both, range_text, raw_items, IsRawLine, AreRawLines}
 use Rattle.first_pass_grammar.specs.CodeBlocks.{code_place, code_by, code_lines, unless_blank, without_blanks, last_is_blank, last_end}
 use Rattle.first_pass_raw.specs.declared.indented_code.Kept.{Kept}
 use Rattle.first_pass_open.specs.OpenBlock.{begun_item, closed_by, opened_block}
 use Rattle.first_pass_open.specs.Path.{path_of}
-use Rattle.first_pass_raw.specs.RawBlocks.{AppendsCode, AppendsIndented, AddsIndented, IsJustOpened, IsPlaceAt, code_rest, code_rest_at, behind_line_at, code_behind}
+use Rattle.first_pass_raw.specs.RawBlocks.{AppendsRaw, AppendsIndented, AddsIndented, IsJustOpened, IsPlaceAt, code_rest, code_rest_at, behind_line_at, code_behind}
 use Rattle.first_pass_open.proofs.BlockLemmas.{just_pushed, still_open, block_closed}
 use Rattle.first_pass_open.proofs.PathLemmas.{open_are_in, path_of-chained, path_of-opened}
 use Rattle.first_pass_open.proofs.PlaceLemmas.{after_keeps, line_start_end, read_end}
 use Rattle.first_pass_names.proofs.NameLemmas.{extends_none, extends_both}
-use Rattle.first_pass_raw.proofs.RawLineLemmas.{texts_one, texts_two}
+use Rattle.first_pass_raw.proofs.RawLineLemmas.{raw_one, raw_two}
 
 -- a chain ends with a text, which ends at an offset
 pub record EndsWithText (chain : List Item) (to : ℕ) : Type 0 where
@@ -66,20 +66,20 @@ record LastText (texts : List Item) (to : ℕ) : Type 0 where
 range_some : (from to : ℕ) → from < to → range_text from to ≡ text_token from to false ∷ []
 range_some from to some = cond-true _ _ _ (lt-ltb from to some)
 
-last_text : (text : List ℕ) (from to : ℕ) → from < to → LastText (code_texts text from to) to
+last_text : (text : List ℕ) (from to : ℕ) → from < to → LastText (raw_items range_text text from to) to
 last_text text from to some =
     elim (cases_Bool (ends_with_both text from to)) [
-      | inl both ↦ record { before = range_text from (to - 2); from = to - 1; is = texts_two text from to both ∙ ap (λ (ys : List Item). range_text from (to - 2) ++ ys) (range_some (to - 1) to (omega arith)) }
-      | inr one ↦ record { before = []; from = from; is = texts_one text from to one ∙ range_some from to some }
+      | inl both ↦ record { before = range_text from (to - 2); from = to - 1; is = raw_two range_text text from to both ∙ ap (λ (ys : List Item). range_text from (to - 2) ++ ys) (range_some (to - 1) to (omega arith)) }
+      | inr one ↦ record { before = []; from = from; is = raw_one range_text text from to one ∙ range_some from to some }
     ]
 
 -- a chain with such a line behind it
-ends_line : (d : Document) (chain : List Item) (owed from to : ℕ) (items : List Item) → from < to → IsCodeLine d owed from to items → EndsWithText (add_tokens chain items) to
+ends_line : (d : Document) (chain : List Item) (owed from to : ℕ) (items : List Item) → from < to → IsRawLine range_text d owed from to items → EndsWithText (add_tokens chain items) to
 ends_line d chain owed from to items some (columns, are, is) =
     let l = last_text d.text from to some in
     let t : Item = text_token l.from to false in
     let e : add_tokens chain items ≡ add_token (add_tokens (add_tokens chain columns) l.before) t =
-    ap (add_tokens chain) is ∙ add_tokens-append chain columns (code_texts d.text from to) ∙ ap (add_tokens (add_tokens chain columns)) l.is ∙ add_tokens-append (add_tokens chain columns) l.before (t ∷ []) in
+    ap (add_tokens chain) is ∙ add_tokens-append chain columns (raw_items range_text d.text from to) ∙ ap (add_tokens (add_tokens chain columns)) l.is ∙ add_tokens-append (add_tokens chain columns) l.before (t ∷ []) in
     subst (λ c. EndsWithText c to) (sym e) (ends_added (add_tokens (add_tokens chain columns) l.before) t refl)
 
 -- a chain goes on with an item, whatever its end is
@@ -181,20 +181,20 @@ module _ (old : Forest Item) (opened : open_place old.spine + 1 ≡ length old.n
       (ap (λ m. Some (place_in m)) at ∙ sym (last_current old front x))
 
 -- lines of code and one more
-code_append : (d : Document) (chain : List Item) (ps qs : List Place) (mid whole : List Item) → AreCodeLines d chain ps mid → AreCodeLines d mid qs whole → AreCodeLines d chain (ps ++ qs) whole
-unfolding AreCodeLines
-code_append d chain [] qs mid whole e m = subst (λ c. AreCodeLines d c qs whole) e m
+code_append : (d : Document) (chain : List Item) (ps qs : List Place) (mid whole : List Item) → AreRawLines range_text d chain ps mid → AreRawLines range_text d mid qs whole → AreRawLines range_text d chain (ps ++ qs) whole
+unfolding AreRawLines
+code_append d chain [] qs mid whole e m = subst (λ c. AreRawLines range_text d c qs whole) e m
 code_append d chain (p ∷ ps) qs mid whole (line, is, further) m = (line, is, code_append d (add_tokens chain line) ps qs mid whole further m)
 
-one_line : (d : Document) (chain : List Item) (q : Place) (line : List Item) → IsCodeLine d q.rest.owed (offset q) (line_end q) line → AreCodeLines d chain (q ∷ []) (add_tokens chain line)
-unfolding AreCodeLines
+one_line : (d : Document) (chain : List Item) (q : Place) (line : List Item) → IsRawLine range_text d q.rest.owed (offset q) (line_end q) line → AreRawLines range_text d chain (q ∷ []) (add_tokens chain line)
+unfolding AreRawLines
 one_line d chain q line is = (line, is, refl)
 
-no_line : (d : Document) (chain : List Item) → AreCodeLines d chain [] chain
-unfolding AreCodeLines
+no_line : (d : Document) (chain : List Item) → AreRawLines range_text d chain [] chain
+unfolding AreRawLines
 no_line d chain = refl
 
-pub more_lines : (d : Document) (chain : List Item) (ps : List Place) (q : Place) (mid line : List Item) → AreCodeLines d chain ps mid → IsCodeLine d q.rest.owed (offset q) (line_end q) line → AreCodeLines d chain (ps ++ q ∷ []) (add_tokens mid line)
+pub more_lines : (d : Document) (chain : List Item) (ps : List Place) (q : Place) (mid line : List Item) → AreRawLines range_text d chain ps mid → IsRawLine range_text d q.rest.owed (offset q) (line_end q) line → AreRawLines range_text d chain (ps ++ q ∷ []) (add_tokens mid line)
 more_lines d chain ps q mid line are is = code_append d chain ps (q ∷ []) mid (add_tokens mid line) are (one_line d mid q line is)
 
 -- a blank line behind others, and one that isn't
@@ -322,19 +322,19 @@ pub record IndentedSoFar (text : List ℕ) (options : Options) (names : Names) (
   pub last : EndsWithText chain kept.«end»
   pub place : kept.last ≡ Some (record { 0 = length old.nodes + length last.front })
   pub tree_is : now ≡ chained old (add_tokens chain more)
-  pub lines : (further : Names) → Extends further names → AreCodeLines (document text options further) [] (without_blanks (p ∷ read)) chain
-  pub all : (further : Names) → Extends further names → AreCodeLines (document text options further) [] (p ∷ read) (add_tokens chain more)
+  pub lines : (further : Names) → Extends further names → AreRawLines range_text (document text options further) [] (without_blanks (p ∷ read)) chain
+  pub all : (further : Names) → Extends further names → AreRawLines range_text (document text options further) [] (p ∷ read) (add_tokens chain more)
   pub end_is : kept.«end» ≡ last_end (offset p) (without_blanks (p ∷ read))
   pub blank_is : blank ≡ last_is_blank read
   pub behind : code_behind text (path_of old) (offset p) ≡ put_before read (code_lines (path_of old) (lines_from text next))
 
 -- a raw line from a place on
-line_at : (text : List ℕ) (options : Options) (names : Names) (p : Place) (owed from to : ℕ) (old new : Forest Item) (a : AppendsCode text names owed from to old new) → p.rest.owed ≡ owed → offset p ≡ from → line_end p ≡ to
-    → (further : Names) → Extends further names → IsCodeLine (document text options further) p.rest.owed (offset p) (line_end p) a.items
+line_at : (text : List ℕ) (options : Options) (names : Names) (p : Place) (owed from to : ℕ) (old new : Forest Item) (a : AppendsRaw range_text text names owed from to old new) → p.rest.owed ≡ owed → offset p ≡ from → line_end p ≡ to
+    → (further : Names) → Extends further names → IsRawLine range_text (document text options further) p.rest.owed (offset p) (line_end p) a.items
 line_at text options names p owed from to old new a o f t further e =
-    subst (λ k. IsCodeLine (document text options further) k (offset p) (line_end p) a.items) (sym o)
-    (subst (λ k. IsCodeLine (document text options further) owed k (line_end p) a.items) (sym f)
-    (subst (λ k. IsCodeLine (document text options further) owed from k a.items) (sym t) (a.are options further e)))
+    subst (λ k. IsRawLine range_text (document text options further) k (offset p) (line_end p) a.items) (sym o)
+    (subst (λ k. IsRawLine range_text (document text options further) owed k (line_end p) a.items) (sym f)
+    (subst (λ k. IsRawLine range_text (document text options further) owed from k a.items) (sym t) (a.are options further e)))
 
 place_line_end : (text : List ℕ) (start : ℕ) (p : Place) → IsPlaceAt text start p → line_end p ≡ behind_line_at text start
 place_line_end text start p at = ap (λ bs. offset p + line_len bs) at.left_is ∙ ap (λ k. k + line_len (drop start text)) at.offset_is
@@ -345,7 +345,7 @@ current_is old now chain to e is = ap (λ (f : Forest Item). f.current) (is ∙ 
 
 -- behind the first line
 pub so_far_first : (text : List ℕ) (options : Options) (names : Names) (p : Place) (old now : Forest Item) (start owed next : ℕ) (current : Option TreeIndex) → IsPlaceAt text start p → p.rest.owed ≡ owed → is_blank_line (drop start text) ≡ false → JoinsNone old
-    → next ≡ behind_line_at text start → AppendsCode text names owed start next old now → current ≡ now.current → IndentedSoFar text options names p old now next (record { last = current; «end» = next }) false
+    → next ≡ behind_line_at text start → AppendsRaw range_text text names owed start next old now → current ≡ now.current → IndentedSoFar text options names p old now next (record { last = current; «end» = next }) false
 so_far_first text options names p old now start owed next current at o some apart next_is a c =
     let chain : List Item = add_tokens [] a.items in
     let e : line_end p ≡ next = place_line_end text start p at ∙ sym next_is in
@@ -354,7 +354,7 @@ so_far_first text options names p old now start owed next current at o some apar
     let tree : now ≡ chained old chain = a.tree_is ∙ with_tokens-chained old [] a.items apart in
     let full : is_blank_rest p.rest ≡ false = ap is_blank_line at.left_is ∙ some in
     let one = some_behind [] p full in
-    let are : (further : Names) → Extends further names → AreCodeLines (document text options further) [] (p ∷ []) chain =
+    let are : (further : Names) → Extends further names → AreRawLines range_text (document text options further) [] (p ∷ []) chain =
     λ further f. one_line (document text options further) [] p a.items (line_at text options names p owed start next old now a o at.offset_is e further f) in
     record {
       read = [];
@@ -363,7 +363,7 @@ so_far_first text options names p old now start owed next current at o some apar
       last = last;
       place = c ∙ current_is old now chain next last tree;
       tree_is = tree;
-      lines = λ further f. subst (λ ps. AreCodeLines (document text options further) [] ps chain) (sym one) (are further f);
+      lines = λ further f. subst (λ ps. AreRawLines range_text (document text options further) [] ps chain) (sym one) (are further f);
       all = are;
       end_is = sym e ∙ sym (last_line_end (offset p) [] p) ∙ ap (last_end (offset p)) (sym one);
       blank_is = sym no_last;
@@ -372,7 +372,7 @@ so_far_first text options names p old now start owed next current at o some apar
 
 module _ (text : List ℕ) (options : Options) (names more_names : Names) (p : Place) (old now new : Forest Item) (next last owed taken : ℕ) (kept : Kept) (blank : Bool) (r : Rest) (u : IsUtf8 text) (b : IsCharBoundary text next) (apart : JoinsNone old)
     (s : IndentedSoFar text options names p old now next kept blank) (goes : code_rest_at text (path_of old) next ≡ Some r) (i : IsPlaceOf text (place_at next r)) (e : Extends more_names names)
-    (owed_is : owed ≡ r.owed) (taken_is : taken ≡ r.taken) (a : AppendsCode text more_names owed (next + taken) last now new) (last_is : last ≡ behind_line_at text (next + taken)) where
+    (owed_is : owed ≡ r.owed) (taken_is : taken ≡ r.taken) (a : AppendsRaw range_text text more_names owed (next + taken) last now new) (last_is : last ≡ behind_line_at text (next + taken)) where
   -- where the text of the next line begins
   abbrev q : Place
   q = place_at next r
@@ -386,7 +386,7 @@ module _ (text : List ℕ) (options : Options) (names more_names : Names) (p : P
   tree : new ≡ chained old (add_tokens (add_tokens s.chain s.more) a.items)
   tree = a.tree_is ∙ ap (λ f. with_tokens f a.items) s.tree_is ∙ with_tokens-chained old (add_tokens s.chain s.more) a.items apart
 
-  lines_too : (further : Names) → Extends further more_names → AreCodeLines (document text options further) [] (p ∷ s.read ++ q ∷ []) (add_tokens (add_tokens s.chain s.more) a.items)
+  lines_too : (further : Names) → Extends further more_names → AreRawLines range_text (document text options further) [] (p ∷ s.read ++ q ∷ []) (add_tokens (add_tokens s.chain s.more) a.items)
   lines_too further f =
       more_lines (document text options further) [] (p ∷ s.read) q (add_tokens s.chain s.more) a.items (s.all further (extends_both further more_names names f e))
       (line_at text options more_names q owed (next + taken) last now new a (sym owed_is) (ap (λ k. next + k) (sym taken_is)) q_end further f)
@@ -409,8 +409,8 @@ module _ (text : List ℕ) (options : Options) (names more_names : Names) (p : P
         last = s.last;
         place = s.place;
         tree_is = tree ∙ ap (chained old) (sym same);
-        lines = λ further f. subst (λ ps. AreCodeLines (document text options further) [] ps s.chain) (sym kept_lines) (s.lines further (extends_both further more_names names f e));
-        all = λ further f. subst (λ c. AreCodeLines (document text options further) [] (p ∷ s.read ++ q ∷ []) c) (sym same) (lines_too further f);
+        lines = λ further f. subst (λ ps. AreRawLines range_text (document text options further) [] ps s.chain) (sym kept_lines) (s.lines further (extends_both further more_names names f e));
+        all = λ further f. subst (λ c. AreRawLines range_text (document text options further) [] (p ∷ s.read ++ q ∷ []) c) (sym same) (lines_too further f);
         end_is = s.end_is ∙ ap (last_end (offset p)) (sym kept_lines);
         blank_is = sym h ∙ sym (last_blank s.read q);
         behind = behind_too;
@@ -430,7 +430,7 @@ module _ (text : List ℕ) (options : Options) (names more_names : Names) (p : P
         last = text_last;
         place = current_is old new chain last text_last tree;
         tree_is = tree;
-        lines = λ further f. subst (λ ps. AreCodeLines (document text options further) [] ps chain) (sym full) (lines_too further f);
+        lines = λ further f. subst (λ ps. AreRawLines range_text (document text options further) [] ps chain) (sym full) (lines_too further f);
         all = lines_too;
         end_is = sym q_end ∙ sym (last_line_end (offset p) (p ∷ s.read) q) ∙ ap (last_end (offset p)) (sym full);
         blank_is = sym h ∙ sym (last_blank s.read q);
@@ -498,7 +498,7 @@ module _ (text : List ℕ) (options : Options) (names : Names) (p : Place) (old 
       record {
         chain = s.chain;
         tree_is = cut_is new cut;
-        lines = λ further f. subst (λ ps. AreCodeLines (document text options further) [] (without_blanks (p ∷ ps)) s.chain) read (s.lines further f);
+        lines = λ further f. subst (λ ps. AreRawLines range_text (document text options further) [] (without_blanks (p ∷ ps)) s.chain) read (s.lines further f);
         end_is = s.end_is ∙ ap (λ ps. last_end (offset p) (without_blanks (p ∷ ps))) read;
         blank_is = s.blank_is ∙ ap last_is_blank read;
         left_is = sym (ap (λ (l : List Place × List Place). l.1) behind);
@@ -531,7 +531,7 @@ module _ (text : List ℕ) (options : Options) (names : Names) (p : Place) (old 
         tree_is = block_closed old now (code_item start) a.chain (place_in (length old.nodes)) refl block_filled new «end» closed;
         is = λ more e. record {
           chain = a.chain;
-          lines = subst (λ ps. AreCodeLines (document text options more) [] (without_blanks (p ∷ ps)) a.chain) further (a.lines more e);
+          lines = subst (λ ps. AreRawLines range_text (document text options more) [] (without_blanks (p ∷ ps)) a.chain) further (a.lines more e);
           items_are = ap (λ s. block_with s «end» IndentCodeBlock a.chain) (sym at) ∙ ap (λ e. block_with (offset p) e IndentCodeBlock a.chain) ends;
         };
         blank_is = a.blank_is ∙ ap last_is_blank further;

@@ -1,4 +1,4 @@
-pub mod CodeLineLemmas
+pub mod ExtentLemmas
 pub mod FencedLemmas
 pub mod HtmlLemmas
 pub mod IndentedLemmas

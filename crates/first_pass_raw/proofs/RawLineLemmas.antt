@@ -9,12 +9,12 @@ use Rattle.first_pass_items.specs.declared.item.Item.{Item}
 use Rattle.first_pass_items.specs.declared.item.ItemBody.TheVariants.{SynthesizeText}
 use Rattle.first_pass_tree.specs.Forest.{Forest, appended, with_text}
 use Rattle.first_pass_tokens.specs.TreeTokens.{with_tokens, chained}
-use Rattle.first_pass_tokens.proofs.ChainLemmas.{with_tokens-append, chained-append, with_text-none, with_text-some, with_token-plain}
+use Rattle.first_pass_tokens.proofs.ChainLemmas.{with_tokens-append, with_text-none, with_text-some, with_token-plain}
 use Rattle.first_pass_grammar.specs.Names.{Names, NamesText, Extends}
-use Rattle.first_pass_grammar.specs.RawLines.{spaces, AreColumns, ends_with_both, range_text, code_texts, html_item, html_items}
+use Rattle.first_pass_grammar.specs.RawLines.{spaces, AreColumns, ends_with_both, Ranges, range_text, raw_items}
 use Rattle.first_pass_names.specs.TableEntries.{with_named}
 use Rattle.first_pass_names.proofs.NameLemmas.{extends_none}
-use Rattle.first_pass_raw.specs.RawBlocks.{AppendsColumns, AppendsCode, AppendsHtml}
+use Rattle.first_pass_raw.specs.RawBlocks.{AppendsColumns, AppendsRaw}
 
 -- with one more text
 pub extends_named : (old new : Names) (cow : CowStr) → new ≡ with_named old cow → Extends new old
@@ -69,66 +69,39 @@ range_appended f from to order =
       | inr none ↦ with_text-none f from to false (omega arith) ∙ sym (ap (with_tokens f) (cond-false _ _ _ (le-ltb from to none)))
     ]
 
-pub texts_one : (text : List ℕ) (from to : ℕ) → ends_with_both text from to ≡ false → code_texts text from to ≡ range_text from to
-unfolding code_texts
-texts_one text from to h = cond-false _ _ _ h
+pub raw_one : (range : Ranges) (text : List ℕ) (from to : ℕ) → ends_with_both text from to ≡ false → raw_items range text from to ≡ range from to
+unfolding raw_items
+raw_one range text from to h = cond-false _ _ _ h
 
-pub texts_two : (text : List ℕ) (from to : ℕ) → ends_with_both text from to ≡ true → code_texts text from to ≡ range_text from (to - 2) ++ range_text (to - 1) to
-unfolding code_texts
-texts_two text from to h = cond-true _ _ _ h
-
-html_one : (text : List ℕ) (from to : ℕ) → ends_with_both text from to ≡ false → html_items text from to ≡ html_item from to ∷ []
-unfolding html_items
-html_one text from to h = cond-false _ _ _ h
-
-html_two : (text : List ℕ) (from to : ℕ) → ends_with_both text from to ≡ true → html_items text from to ≡ html_item from (to - 2) ∷ html_item (to - 1) to ∷ []
-unfolding html_items
-html_two text from to h = cond-true _ _ _ h
+pub raw_two : (range : Ranges) (text : List ℕ) (from to : ℕ) → ends_with_both text from to ≡ true → raw_items range text from to ≡ range from (to - 2) ++ range (to - 1) to
+unfolding raw_items
+raw_two range text from to h = cond-true _ _ _ h
 
 both_order : (text : List ℕ) (from to : ℕ) → ends_with_both text from to ≡ true → from + 1 < to
 both_order text from to h = grind (arith, h)
 
-code_appended : (text : List ℕ) (names : Names) (owed from to : ℕ) (old mid new : Forest Item) → AppendsColumns names owed from old mid → new ≡ with_tokens mid (code_texts text from to) → AppendsCode text names owed from to old new
-code_appended text names owed from to old mid new c e =
+-- where a line ends with `\r\n`, it has these two bytes
+pub both_bytes : (text bytes : List ℕ) (from to : ℕ) (both : Bool) → bytes ≡ text → both ≡ ends_with_both bytes from to → both ≡ true → from + 1 < to
+both_bytes text bytes from to both same is h = both_order text from to (ap (λ bs. ends_with_both bs from to) (sym same) ∙ sym is ∙ h)
+
+raw_appended : (range : Ranges) (text : List ℕ) (names : Names) (owed from to : ℕ) (old mid new : Forest Item) → AppendsColumns names owed from old mid → new ≡ with_tokens mid (raw_items range text from to) → AppendsRaw range text names owed from to old new
+raw_appended range text names owed from to old mid new c e =
     record {
-      items = c.items ++ code_texts text from to;
-      tree_is = e ∙ ap (λ f. with_tokens f (code_texts text from to)) (c.tree_is ∙ columns_plain names owed from c.items old (c.are names (extends_none names))) ∙ sym (with_tokens-append old c.items (code_texts text from to));
+      items = c.items ++ raw_items range text from to;
+      tree_is = e ∙ ap (λ f. with_tokens f (raw_items range text from to)) (c.tree_is ∙ columns_plain names owed from c.items old (c.are names (extends_none names))) ∙ sym (with_tokens-append old c.items (raw_items range text from to));
       are = λ options more h. (c.items, c.are more h, refl);
     }
 
--- a raw line of code whose end is not `\r\n`, and one whose end is
-pub code_one : (text bytes : List ℕ) (names : Names) (owed from to : ℕ) (old mid new : Forest Item) (both : Bool) → AppendsColumns names owed from old mid → bytes ≡ text → both ≡ ends_with_both bytes from to → both ≡ false → from ≤ to
-    → new ≡ with_text mid from to false → AppendsCode text names owed from to old new
-code_one text bytes names owed from to old mid new both c same is h order e =
+-- a raw line whose end is not `\r\n`, and one whose end is
+pub line_one : (range : Ranges) (text bytes : List ℕ) (names : Names) (owed from to : ℕ) (old mid new : Forest Item) (both : Bool) → AppendsColumns names owed from old mid → bytes ≡ text → both ≡ ends_with_both bytes from to → both ≡ false
+    → new ≡ with_tokens mid (range from to) → AppendsRaw range text names owed from to old new
+line_one range text bytes names owed from to old mid new both c same is h e =
     let t : ends_with_both text from to ≡ false = ap (λ bs. ends_with_both bs from to) (sym same) ∙ sym is ∙ h in
-    code_appended text names owed from to old mid new c (e ∙ range_appended mid from to order ∙ ap (with_tokens mid) (sym (texts_one text from to t)))
+    raw_appended range text names owed from to old mid new c (e ∙ ap (with_tokens mid) (sym (raw_one range text from to t)))
 
-pub code_two : (text bytes : List ℕ) (names : Names) (owed from to : ℕ) (old mid line new : Forest Item) (both : Bool) → AppendsColumns names owed from old mid → bytes ≡ text → both ≡ ends_with_both bytes from to → both ≡ true
-    → line ≡ with_text mid from (to - 2) false → new ≡ with_text line (to - 1) to false → AppendsCode text names owed from to old new
-code_two text bytes names owed from to old mid line new both c same is h d e =
+pub line_two : (range : Ranges) (text bytes : List ℕ) (names : Names) (owed from to : ℕ) (old mid line new : Forest Item) (both : Bool) → AppendsColumns names owed from old mid → bytes ≡ text → both ≡ ends_with_both bytes from to → both ≡ true
+    → line ≡ with_tokens mid (range from (to - 2)) → new ≡ with_tokens line (range (to - 1) to) → AppendsRaw range text names owed from to old new
+line_two range text bytes names owed from to old mid line new both c same is h d e =
     let t : ends_with_both text from to ≡ true = ap (λ bs. ends_with_both bs from to) (sym same) ∙ sym is ∙ h in
-    let order = both_order text from to t in
-    code_appended text names owed from to old mid new c
-    (e ∙ ap (λ f. with_text f (to - 1) to false) (d ∙ range_appended mid from (to - 2) (omega arith)) ∙ range_appended (with_tokens mid (range_text from (to - 2))) (to - 1) to (omega arith)
-    ∙ sym (with_tokens-append mid (range_text from (to - 2)) (range_text (to - 1) to)) ∙ ap (with_tokens mid) (sym (texts_two text from to t)))
-
-html_appended : (text : List ℕ) (names : Names) (owed from to : ℕ) (old mid new : Forest Item) → AppendsColumns names owed from old mid → new ≡ chained mid (html_items text from to) → AppendsHtml text names owed from to old new
-html_appended text names owed from to old mid new c e =
-    record {
-      items = c.items ++ html_items text from to;
-      tree_is = e ∙ ap (λ f. chained f (html_items text from to)) c.tree_is ∙ chained-append old c.items (html_items text from to);
-      are = λ options more h. (c.items, c.are more h, refl);
-    }
-
--- the same as HTML
-pub html_line_one : (text bytes : List ℕ) (names : Names) (owed from to : ℕ) (old mid new : Forest Item) (both : Bool) → AppendsColumns names owed from old mid → bytes ≡ text → both ≡ ends_with_both bytes from to → both ≡ false
-    → new ≡ appended mid (html_item from to) → AppendsHtml text names owed from to old new
-html_line_one text bytes names owed from to old mid new both c same is h e =
-    let t : ends_with_both text from to ≡ false = ap (λ bs. ends_with_both bs from to) (sym same) ∙ sym is ∙ h in
-    html_appended text names owed from to old mid new c (e ∙ ap (chained mid) (sym (html_one text from to t)))
-
-pub html_line_two : (text bytes : List ℕ) (names : Names) (owed from to : ℕ) (old mid line new : Forest Item) (both : Bool) → AppendsColumns names owed from old mid → bytes ≡ text → both ≡ ends_with_both bytes from to → both ≡ true
-    → line ≡ appended mid (html_item from (to - 2)) → new ≡ appended line (html_item (to - 1) to) → AppendsHtml text names owed from to old new
-html_line_two text bytes names owed from to old mid line new both c same is h d e =
-    let t : ends_with_both text from to ≡ true = ap (λ bs. ends_with_both bs from to) (sym same) ∙ sym is ∙ h in
-    html_appended text names owed from to old mid new c (e ∙ ap (λ f. appended f (html_item (to - 1) to)) d ∙ ap (chained mid) (sym (html_two text from to t)))
+    raw_appended range text names owed from to old mid new c
+    (e ∙ ap (λ f. with_tokens f (range (to - 1) to)) d ∙ sym (with_tokens-append mid (range from (to - 2)) (range (to - 1) to)) ∙ ap (with_tokens mid) (sym (raw_two range text from to t)))

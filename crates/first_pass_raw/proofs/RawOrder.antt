@@ -23,9 +23,10 @@ use Rattle.first_pass_grammar.specs.Containers.{has_columns, at_rest, after, tak
 use Rattle.first_pass_grammar.specs.Kinds.{all_taken, unindented, is_blank_rest}
 use Rattle.first_pass_grammar.specs.Names.{Names}
 use Rattle.first_pass_grammar.specs.Leaves.{Document, block_with}
-use Rattle.first_pass_grammar.specs.RawLines.{AreColumns, ends_with_both, range_text, code_texts, IsCodeLine, AreCodeLines, html_item, html_items, IsHtmlLine, AreHtmlLines}
-use Rattle.first_pass_grammar.specs.CodeBlocks.{Extent as Lines, with_line, ends_at, code_place, code_by, code_lines, unless_blank, without_blanks, last_end, IsIndentedCode, closing_fence_end, fenced_line, fenced_by, fenced_lines, IsFencedCode, metadata_line, metadata_by, metadata_lines, metadata_kind, IsMetadata}
-use Rattle.first_pass_grammar.specs.HtmlBlocks.{holds, is_empty, place_or, until_end_by, until_end, until_blank_by, until_blank, IsHtml}
+use Rattle.first_pass_grammar.specs.RawLines.{AreColumns, ends_with_both, Ranges, range_text, range_html, raw_items, IsRawLine, AreRawLines}
+use Rattle.first_pass_grammar.specs.Extents.{Extent as Lines, with_line, ends_at, Verdict, GoesOn, IsLast, Closes, Stops, extent_by, extent, judged, in_containers}
+use Rattle.first_pass_grammar.specs.CodeBlocks.{code_place, code_by, code_lines, unless_blank, without_blanks, last_end, IsIndentedCode, closing_fence_end, fence_verdict, fence_judge, IsFencedCode, metadata_verdict, metadata_judge, metadata_kind, IsMetadata}
+use Rattle.first_pass_grammar.specs.HtmlBlocks.{holds, is_empty, tag_verdict, tag_judge, blank_judge, first_owing, IsHtml}
 use Rattle.first_pass_grammar.specs.Completion.{lines_from}
 use Rattle.first_pass_grammar.specs.Order.{FitsBetween}
 use Rattle.first_pass_grammar.proofs.Orders.{block_fits}
@@ -101,85 +102,10 @@ both_by text from to within h =
     let newline_is = eqb-true (slice_index text (to - 1)) 10 a.1 in
     (omega arith, IsCharBoundary-before_ascii text (to - 2) (omega arith) (omega arith), IsCharBoundary-before_ascii text (to - 1) (omega arith) (omega arith))
 
-range_in_order : (text : List ℕ) (from to : ℕ) → from ≤ to → IsCharBoundary text from → IsCharBoundary text to → AreInOrder text from to (range_text from to)
-range_in_order text from to order b c =
-    cond_both (nat_lt from to) (text_token from to false ∷ []) [] (AreInOrder text from to) (λ some. (omega arith, order, b, c, omega arith)) (λ none. order)
-
-code_texts_in_order : (text : List ℕ) (from to : ℕ) → from ≤ to → IsCharBoundary text from → IsCharBoundary text to → AreInOrder text from to (code_texts text from to)
-unfolding code_texts
-code_texts_in_order text from to order b c =
-    cond_both (ends_with_both text from to) (range_text from (to - 2) ++ range_text (to - 1) to) (range_text from to) (AreInOrder text from to)
-    (λ both.
-    let h = both_by text from to c.0 both in
-    let long = h.0 in
-    order_append text from (to - 2) to (range_text from (to - 2)) (range_text (to - 1) to) (range_in_order text from (to - 2) (omega arith) b h.1)
-    (order_from text (to - 2) (to - 1) to (range_text (to - 1) to) (range_in_order text (to - 1) to (omega arith) h.2 c) (omega arith)))
-    (λ none. range_in_order text from to order b c)
-
-html_items_in_order : (text : List ℕ) (from to : ℕ) → from ≤ to → IsCharBoundary text from → IsCharBoundary text to → AreInOrder text from to (html_items text from to)
-unfolding html_items
-html_items_in_order text from to order b c =
-    cond_both (ends_with_both text from to) (html_item from (to - 2) ∷ html_item (to - 1) to ∷ []) (html_item from to ∷ []) (AreInOrder text from to)
-    (λ both.
-    let h = both_by text from to c.0 both in
-    let long = h.0 in
-    (omega arith, omega arith, b, h.1, (omega arith, omega arith, h.2, c, omega arith)))
-    (λ none. (omega arith, order, b, c, omega arith))
-
--- the items of a line lie from where its text begins to where the line ends
-module _ (d : Document) (u : IsUtf8 d.text) where
-  code_line_in_order : (p : Place) (owed : ℕ) (items : List Item) → IsPlaceOf d.text p → IsCodeLine d owed (offset p) (line_end p) items → AreInOrder d.text (offset p) (line_end p) items
-  code_line_in_order p owed items i (columns, are, is) =
-      subst (AreInOrder d.text (offset p) (line_end p)) (sym is)
-      (order_append d.text (offset p) (offset p) (line_end p) columns (code_texts d.text (offset p) (line_end p)) (columns_in_order d.text d.names owed (offset p) columns i.boundary are)
-      (code_texts_in_order d.text (offset p) (line_end p) (omega arith) i.boundary (place_end d.text p u i)))
-
-  html_line_in_order : (p : Place) (owed : ℕ) (items : List Item) → IsPlaceOf d.text p → IsHtmlLine d owed (offset p) (line_end p) items → AreInOrder d.text (offset p) (line_end p) items
-  html_line_in_order p owed items i (columns, are, is) =
-      subst (AreInOrder d.text (offset p) (line_end p)) (sym is)
-      (order_append d.text (offset p) (offset p) (line_end p) columns (html_items d.text (offset p) (line_end p)) (columns_in_order d.text d.names owed (offset p) columns i.boundary are)
-      (html_items_in_order d.text (offset p) (line_end p) (omega arith) i.boundary (place_end d.text p u i)))
-
-  -- a chain of raw lines is in order
-  pub code_in_order : (ps : List Place) (from at to : ℕ) (chain whole : List Item) → ArePlaced d.text at ps to → AreInOrder d.text from at chain → AreCodeLines d chain ps whole → AreInOrder d.text from to whole
-  unfolding ArePlaced AreCodeLines
-  code_in_order [] from at to chain whole placed h is = subst (AreInOrder d.text from to) (sym is) (order_to d.text from at to chain h placed)
-  code_in_order (p ∷ ps) from at to chain whole placed h (line, is, further) =
-      code_in_order ps from (line_end p) to (add_tokens chain line) whole placed.2
-      (order_adds d.text from (offset p) (line_end p) chain line (order_to d.text from at (offset p) chain h placed.0) (code_line_in_order p p.rest.owed line placed.1 is)) further
-
-  pub html_in_order : (ps : List Place) (from at to owed : ℕ) (chain whole : List Item) → ArePlaced d.text at ps to → AreInOrder d.text from at chain → AreHtmlLines d chain owed ps whole → AreInOrder d.text from to whole
-  unfolding ArePlaced AreHtmlLines
-  html_in_order [] from at to owed chain whole placed h is = subst (AreInOrder d.text from to) (sym is) (order_to d.text from at to chain h placed)
-  html_in_order (p ∷ []) from at to owed chain whole placed h (line, is, whole_is) =
-      subst (AreInOrder d.text from to) (sym whole_is)
-      (order_to d.text from (line_end p) to (chain ++ line)
-      (order_append d.text from (offset p) (line_end p) chain line (order_to d.text from at (offset p) chain h placed.0) (html_line_in_order p owed line placed.1 is)) placed.2)
-  html_in_order (p ∷ q ∷ ps) from at to owed chain whole placed h (line, is, further) =
-      html_in_order (q ∷ ps) from (line_end p) to q.rest.owed (chain ++ line) whole placed.2
-      (order_append d.text from (offset p) (line_end p) chain line (order_to d.text from at (offset p) chain h placed.0) (html_line_in_order p owed line placed.1 is)) further
-
--- A raw line has at most three items.
+-- There is one of them at most.
 columns_few : (names : Names) (owed at : ℕ) (items : List Item) → AreColumns names owed at items → length items ≤ 1
 columns_few names zero at items is = rw is (omega arith)
 columns_few names (suc n) at items is = rw is.2 (omega arith)
-
-range_few : (from to : ℕ) → length (range_text from to) ≤ 1
-range_few from to = cond_both (nat_lt from to) (text_token from to false ∷ []) [] (λ (xs : List Item). length xs ≤ 1) (λ some. omega arith) (λ none. omega arith)
-
-code_texts_few : (text : List ℕ) (from to : ℕ) → length (code_texts text from to) ≤ 2
-unfolding code_texts
-code_texts_few text from to =
-    let a = range_few from (to - 2) in
-    let b = range_few (to - 1) to in
-    let c = range_few from to in
-    let l = length-append (range_text from (to - 2)) (range_text (to - 1) to) in
-    cond_both (ends_with_both text from to) (range_text from (to - 2) ++ range_text (to - 1) to) (range_text from to) (λ (xs : List Item). length xs ≤ 2) (λ both. omega arith) (λ none. omega arith)
-
-html_items_few : (text : List ℕ) (from to : ℕ) → length (html_items text from to) ≤ 2
-unfolding html_items
-html_items_few text from to =
-    cond_both (ends_with_both text from to) (html_item from (to - 2) ∷ html_item (to - 1) to ∷ []) (html_item from to ∷ []) (λ (xs : List Item). length xs ≤ 2) (λ both. omega arith) (λ none. omega arith)
 
 -- A chain with tokens behind it has at most so many more.
 add_token_few : (chain : List Item) (y : Item) → length (add_token chain y) ≤ suc (length chain)
@@ -195,37 +121,71 @@ add_tokens_few (x ∷ xs) chain =
     let g = add_tokens_few xs (add_token chain x) in
     omega arith
 
--- So a chain of raw lines has at most three items a line.
-code_few : (d : Document) (ps : List Place) (chain whole : List Item) → AreCodeLines d chain ps whole → length whole ≤ length chain + 3 * length ps
-unfolding AreCodeLines
-code_few d [] chain whole is = rw is (omega arith)
-code_few d (p ∷ ps) chain whole (line, (columns, are, is), further) =
-    let a = columns_few d.names p.rest.owed (offset p) columns are in
-    let b = code_texts_few d.text (offset p) (line_end p) in
-    let c = ap length is ∙ length-append columns (code_texts d.text (offset p) (line_end p)) in
-    let e = add_tokens_few line chain in
-    let f = code_few d ps (add_tokens chain line) whole further in
-    omega arith
+-- What a range of a raw line's bytes stands as is in order, and one item at most.
+record IsRange (range : Ranges) : Type 0 where
+  order : (text : List ℕ) (from to : ℕ) → from ≤ to → IsCharBoundary text from → IsCharBoundary text to → AreInOrder text from to (range from to)
+  few : (from to : ℕ) → length (range from to) ≤ 1
 
-html_line_few : (d : Document) (owed from to : ℕ) (items : List Item) → IsHtmlLine d owed from to items → length items ≤ 3
-html_line_few d owed from to items (columns, are, is) =
-    let a = columns_few d.names owed from columns are in
-    let b = html_items_few d.text from to in
-    let c = ap length is ∙ length-append columns (html_items d.text from to) in
-    omega arith
+text_range : IsRange range_text
+text_range = record {
+  order = λ text from to order b c. cond_both (nat_lt from to) (text_token from to false ∷ []) [] (AreInOrder text from to) (λ some. (omega arith, order, b, c, omega arith)) (λ none. order);
+  few = λ from to. cond_both (nat_lt from to) (text_token from to false ∷ []) [] (λ (xs : List Item). length xs ≤ 1) (λ some. omega arith) (λ none. omega arith);
+}
 
-html_few : (d : Document) (ps : List Place) (owed : ℕ) (chain whole : List Item) → AreHtmlLines d chain owed ps whole → length whole ≤ length chain + 3 * length ps
-unfolding AreHtmlLines
-html_few d [] owed chain whole is = rw is (omega arith)
-html_few d (p ∷ []) owed chain whole (line, is, whole_is) =
-    let a = html_line_few d owed (offset p) (line_end p) line is in
-    let b = ap length whole_is ∙ length-append chain line in
-    omega arith
-html_few d (p ∷ q ∷ ps) owed chain whole (line, is, further) =
-    let a = html_line_few d owed (offset p) (line_end p) line is in
-    let b = length-append chain line in
-    let c = html_few d (q ∷ ps) q.rest.owed (chain ++ line) whole further in
-    omega arith
+html_range : IsRange range_html
+html_range = record { order = λ text from to order b c. (omega arith, order, b, c, omega arith); few = λ from to. omega arith }
+
+-- A raw line lies from where its text begins to where the line ends, and has at most three items; so does a chain of them.
+module _ (range : Ranges) (r : IsRange range) where
+  raw_in_order : (text : List ℕ) (from to : ℕ) → from ≤ to → IsCharBoundary text from → IsCharBoundary text to → AreInOrder text from to (raw_items range text from to)
+  unfolding raw_items
+  raw_in_order text from to order b c =
+      cond_both (ends_with_both text from to) (range from (to - 2) ++ range (to - 1) to) (range from to) (AreInOrder text from to)
+      (λ both.
+      let h = both_by text from to c.0 both in
+      let long = h.0 in
+      order_append text from (to - 2) to (range from (to - 2)) (range (to - 1) to) (r.order text from (to - 2) (omega arith) b h.1)
+      (order_from text (to - 2) (to - 1) to (range (to - 1) to) (r.order text (to - 1) to (omega arith) h.2 c) (omega arith)))
+      (λ none. r.order text from to order b c)
+
+  raw_few : (text : List ℕ) (from to : ℕ) → length (raw_items range text from to) ≤ 2
+  unfolding raw_items
+  raw_few text from to =
+      let a = r.few from (to - 2) in
+      let b = r.few (to - 1) to in
+      let c = r.few from to in
+      let l = length-append (range from (to - 2)) (range (to - 1) to) in
+      cond_both (ends_with_both text from to) (range from (to - 2) ++ range (to - 1) to) (range from to) (λ (xs : List Item). length xs ≤ 2) (λ both. omega arith) (λ none. omega arith)
+
+  module _ (d : Document) where
+    line_in_order : (p : Place) (owed : ℕ) (items : List Item) → IsUtf8 d.text → IsPlaceOf d.text p → IsRawLine range d owed (offset p) (line_end p) items → AreInOrder d.text (offset p) (line_end p) items
+    line_in_order p owed items u i (columns, are, is) =
+        subst (AreInOrder d.text (offset p) (line_end p)) (sym is)
+        (order_append d.text (offset p) (offset p) (line_end p) columns (raw_items range d.text (offset p) (line_end p)) (columns_in_order d.text d.names owed (offset p) columns i.boundary are)
+        (raw_in_order d.text (offset p) (line_end p) (omega arith) i.boundary (place_end d.text p u i)))
+
+    lines_in_order : (ps : List Place) (from at to : ℕ) (chain whole : List Item) → IsUtf8 d.text → ArePlaced d.text at ps to → AreInOrder d.text from at chain → AreRawLines range d chain ps whole → AreInOrder d.text from to whole
+    unfolding ArePlaced AreRawLines
+    lines_in_order [] from at to chain whole u placed h is = subst (AreInOrder d.text from to) (sym is) (order_to d.text from at to chain h placed)
+    lines_in_order (p ∷ ps) from at to chain whole u placed h (line, is, further) =
+        lines_in_order ps from (line_end p) to (add_tokens chain line) whole u placed.2
+        (order_adds d.text from (offset p) (line_end p) chain line (order_to d.text from at (offset p) chain h placed.0) (line_in_order p p.rest.owed line u placed.1 is)) further
+
+    line_few : (owed from to : ℕ) (items : List Item) → IsRawLine range d owed from to items → length items ≤ 3
+    line_few owed from to items (columns, are, is) =
+        let a = columns_few d.names owed from columns are in
+        let b = raw_few d.text from to in
+        let c = ap length is ∙ length-append columns (raw_items range d.text from to) in
+        omega arith
+
+    lines_few : (ps : List Place) (chain whole : List Item) → AreRawLines range d chain ps whole → length whole ≤ length chain + 3 * length ps
+    unfolding AreRawLines
+    lines_few [] chain whole is = rw is (omega arith)
+    lines_few (p ∷ ps) chain whole (line, is, further) =
+        let a = line_few p.rest.owed (offset p) (line_end p) line is in
+        let e = add_tokens_few line chain in
+        let f = lines_few ps (add_tokens chain line) whole further in
+        omega arith
 
 -- Lines that have bytes are no more than these.
 bytes_few : (text : List ℕ) (from to : ℕ) (ps : List Place) → HaveBytes from ps → ArePlaced text from ps to → length ps + from ≤ to
@@ -241,11 +201,13 @@ few_by : (text : List ℕ) (from to start stop n : ℕ) (ps : List Place) → n 
 few_by text from to start stop n ps least (inl one) placed behind before apart = omega arith
 few_by text from to start stop n ps least (inr some) placed behind before apart = (let k = bytes_few text start stop ps some placed in omega arith)
 
--- a block of raw lines
-raw_fits : (text : List ℕ) (from to start stop : ℕ) (body : ItemBody) (chain : List Item) (items : List (ℕ × Item)) → items ≡ block_with start stop body chain → IsCharBoundary text start → IsCharBoundary text stop
-    → from ≤ start → start ≤ stop → stop ≤ to → AreInOrder text start stop chain → (from < to → suc (length chain) ≤ 4 * (to - from)) → FitsBetween text from to items
-raw_fits text from to start stop body chain items is b c behind order before h few =
-    subst (FitsBetween text from to) (sym is) (block_fits text from to (record { start = start; «end» = stop; body = body }) chain (record { behind = behind; order = order; before = before; starts = b; ends = c }) h few)
+-- A block of raw lines fits where it begins and ends.
+raw_fits : (range : Ranges) → IsRange range → (d : Document) (from to start stop : ℕ) (body : ItemBody) (ps : List Place) (chain : List Item) (items : List (ℕ × Item)) → IsUtf8 d.text → items ≡ block_with start stop body chain
+    → AreRawLines range d [] ps chain → IsCharBoundary d.text start → IsCharBoundary d.text stop → ArePlaced d.text start ps stop → AreFew start ps → from ≤ start → stop ≤ to → FitsBetween d.text from to items
+raw_fits range r d from to start stop body ps chain items u is lines b c placed few behind before =
+    subst (FitsBetween d.text from to) (sym is)
+    (block_fits d.text from to (record { start = start; «end» = stop; body = body }) chain (record { behind = behind; order = placed_bound d.text start stop ps placed; before = before; starts = b; ends = c })
+    (lines_in_order range r d ps start start stop [] chain u placed (omega arith) lines) (few_by d.text from to start stop (length chain) ps (lines_few range r d ps [] chain lines) few placed behind before))
 
 -- what lines are left without the blank ones at the end
 kept_by : (text : List ℕ) (from to : ℕ) (p : Place) (t : Bool) (qs : List Place) → is_blank_rest p.rest ≡ t → from ≤ offset p → IsPlaceOf text p → IsCharBoundary text from
@@ -310,33 +272,38 @@ pub indented_fits : (d : Document) (p : Place) (further : List Place) (items : L
     → (from to : ℕ) → from ≤ offset p → last_end (offset p) (without_blanks (p ∷ further)) ≤ to → FitsBetween d.text from to items
 unfolding ArePlaced
 indented_fits d p further items limit u is placed few from to behind before =
+    let all : List Place = without_blanks (p ∷ further) in
     let k = kept_placed d.text (offset p) limit (p ∷ further) u placed.1.boundary placed in
-    raw_fits d.text from to (offset p) (last_end (offset p) (without_blanks (p ∷ further))) IndentCodeBlock is.chain items is.items_are placed.1.boundary k.1
-    behind (placed_bound d.text (offset p) _ _ k.0) before
-    (code_in_order d u (without_blanks (p ∷ further)) (offset p) (offset p) _ [] is.chain k.0 (omega arith) is.lines)
-    (few_by d.text from to (offset p) _ (length is.chain) (without_blanks (p ∷ further)) (code_few d (without_blanks (p ∷ further)) [] is.chain is.lines) (kept_few (offset p) (p ∷ further) few) k.0 behind before)
+    raw_fits range_text text_range d from to (offset p) (last_end (offset p) all) IndentCodeBlock all is.chain items u is.items_are is.lines placed.1.boundary k.1 k.0 (kept_few (offset p) (p ∷ further) few) behind before
 
 -- So do a fenced code block, a metadata block and an HTML block.
 pub fenced_fits : (d : Document) (start count : ℕ) (e : Lines) (items : List (ℕ × Item)) → IsUtf8 d.text → IsFencedCode d start count e.places e.«end» items → IsCharBoundary d.text start → IsPlaced d.text start e
     → (from to : ℕ) → from ≤ start → e.«end» ≤ to → FitsBetween d.text from to items
 fenced_fits d start count e items u is b placed from to behind before =
-    raw_fits d.text from to start e.«end» (FencedCodeBlock is.info) is.chain items is.items_are b placed.boundary behind (placed_bound d.text start e.«end» e.places placed.places) before
-    (code_in_order d u e.places start start e.«end» [] is.chain placed.places (omega arith) is.lines)
-    (few_by d.text from to start e.«end» (length is.chain) e.places (code_few d e.places [] is.chain is.lines) placed.few placed.places behind before)
+    raw_fits range_text text_range d from to start e.«end» (FencedCodeBlock is.info) e.places is.chain items u is.items_are is.lines b placed.boundary placed.places placed.few behind before
 
 pub metadata_fits : (d : Document) (start byte : ℕ) (e : Lines) (items : List (ℕ × Item)) → IsUtf8 d.text → IsMetadata d start byte e.places e.«end» items → IsCharBoundary d.text start → IsPlaced d.text start e
     → (from to : ℕ) → from ≤ start → e.«end» ≤ to → FitsBetween d.text from to items
 metadata_fits d start byte e items u is b placed from to behind before =
-    raw_fits d.text from to start e.«end» (MetadataBlock (metadata_kind byte)) is.chain items is.items_are b placed.boundary behind (placed_bound d.text start e.«end» e.places placed.places) before
-    (code_in_order d u e.places start start e.«end» [] is.chain placed.places (omega arith) is.lines)
-    (few_by d.text from to start e.«end» (length is.chain) e.places (code_few d e.places [] is.chain is.lines) placed.few placed.places behind before)
+    raw_fits range_text text_range d from to start e.«end» (MetadataBlock (metadata_kind byte)) e.places is.chain items u is.items_are is.lines b placed.boundary placed.places placed.few behind before
+
+-- where columns are owed counts nothing
+owing_placed : (text : List ℕ) (columns from to : ℕ) (ps : List Place) → ArePlaced text from ps to → ArePlaced text from (first_owing columns ps) to
+unfolding ArePlaced
+owing_placed text columns from to [] placed = placed
+owing_placed text columns from to (p ∷ ps) (behind, i, further) = (behind, record { left = i.left; within = i.within; boundary = i.boundary }, further)
+
+owing_few : (columns from : ℕ) (ps : List Place) → AreFew from ps → AreFew from (first_owing columns ps)
+unfolding HaveBytes
+owing_few columns from [] few = few
+owing_few columns from (p ∷ ps) (inl one) = inl one
+owing_few columns from (p ∷ ps) (inr some) = inr some
 
 pub html_fits : (d : Document) (start columns : ℕ) (e : Lines) (items : List (ℕ × Item)) → IsUtf8 d.text → IsHtml d start columns e.places e.«end» items → IsCharBoundary d.text start → IsPlaced d.text start e
     → (from to : ℕ) → from ≤ start → e.«end» ≤ to → FitsBetween d.text from to items
 html_fits d start columns e items u is b placed from to behind before =
-    raw_fits d.text from to start e.«end» HtmlBlock is.chain items is.items_are b placed.boundary behind (placed_bound d.text start e.«end» e.places placed.places) before
-    (html_in_order d u e.places start start e.«end» columns [] is.chain placed.places (omega arith) is.lines)
-    (few_by d.text from to start e.«end» (length is.chain) e.places (html_few d e.places columns [] is.chain is.lines) placed.few placed.places behind before)
+    raw_fits range_html html_range d from to start e.«end» HtmlBlock (first_owing columns e.places) is.chain items u is.items_are is.lines b placed.boundary
+    (owing_placed d.text columns start e.«end» e.places placed.places) (owing_few columns start e.places placed.few) behind before
 
 -- Where lines end between characters: behind some of what is left at a place, where the line ends there.
 eol_small : (b : ℕ) (bs : List ℕ) (t v : Bool) → (b == 10) ≡ t → (b == 13) ≡ v → at_line_end (b ∷ bs) ≡ true → b < 128
@@ -516,11 +483,11 @@ first_line text at line lines is =
 -- Each of the lines from an offset on begins there or behind another line, and a place in it stands in the text, up to the same end.
 module _ (text : List ℕ) (u : IsUtf8 text) (path : List Container) where
   -- a line, where it begins, and a place in it
-  record IsIn (at : ℕ) (q : Place) : Type 0 where
-    stands : IsPlaceOf text q
-    here : q.line ≡ at
-    same_end : line_end q ≡ behind_line_at text at
-    some : at < line_end q
+  pub record IsIn (at : ℕ) (q : Place) : Type 0 where
+    pub stands : IsPlaceOf text q
+    pub here : q.line ≡ at
+    pub same_end : line_end q ≡ behind_line_at text at
+    pub some : at < line_end q
 
   behind_is_boundary : (at : ℕ) → IsCharBoundary text at → IsCharBoundary text (behind_line_at text at)
   behind_is_boundary at b = subst (IsCharBoundary text) (line_start_end text at) (place_end text (line_place at (drop at text)) u (line_is_place text at b))
@@ -585,7 +552,38 @@ module _ (text : List ℕ) (u : IsUtf8 text) (path : List Container) where
       code_step at line lines (code_place path line) (code_lines path lines) (ap (λ (p : Place). p.line) f.1) (λ q h. code_in at q (taken path line) (λ q h. taken_in at line q f.0 b f.1 h) h)
       (code_placed lines (behind_line_at text at) f.2 (behind_is_boundary at b))
 
-  -- the lines of a fenced code block
+  -- a verdict on the line that begins at an offset stays in it
+  abbrev pub IsWithin : ℕ → Verdict → Type 0
+  IsWithin at (GoesOn p) = IsIn at p
+  IsWithin at (IsLast p) = IsIn at p
+  IsWithin at (Closes e) = (at ≤ e) × IsCharBoundary text e
+  IsWithin at (Stops e) = (at ≤ e) × IsCharBoundary text e
+
+  abbrev pub StaysWithin : (Place → Place → Verdict) → Type 0
+  StaysWithin judge = (at : ℕ) (line q : Place) → line ≡ line_place at (drop at text) → IsCharBoundary text at → IsIn at q → IsWithin at (judge line q)
+
+  judged_within : (judge : Place → Place → Verdict) → StaysWithin judge → (at : ℕ) (line : Place) (o : Option Place) → line ≡ line_place at (drop at text) → IsCharBoundary text at → ((q : Place) → o ≡ Some q → IsIn at q) → IsWithin at (judged judge line o)
+  judged_within judge stays at line None is b i = (let start = ap (λ (p : Place). p.line) is in (omega arith, subst (IsCharBoundary text) (sym start) b))
+  judged_within judge stays at line (Some q) is b i = stays at line q is b (i q refl)
+
+  verdict_filled : (at : ℕ) (v : Verdict) (line : Place) (lines : List Place) (further : Lines) → IsWithin at v → IsFilled text (behind_line_at text at) further → IsFilled text at (extent_by v line lines further)
+  verdict_filled at (GoesOn p) line lines further i rest = extent_placed at p further i rest
+  verdict_filled at (IsLast p) line lines further i rest =
+      extent_placed at p (ends_at (line_end p) lines) i (let same = i.same_end in stops_placed (behind_line_at text at) (line_end p) lines (omega arith) (place_end text p u i.stands))
+  verdict_filled at (Closes e) line lines further i rest = stops_placed at e lines i.0 i.1
+  verdict_filled at (Stops e) line lines further i rest = stops_placed at e (line ∷ lines) i.0 i.1
+
+  -- So the lines of a block are placed in the text, each with a byte.
+  extent_filled : (judge : Place → Place → Verdict) → StaysWithin judge → (lines : List Place) (at : ℕ) → lines ≡ lines_from text at → IsCharBoundary text at → IsFilled text at (extent (in_containers path judge) (length text) lines)
+  unfolding extent
+  extent_filled judge stays [] at is b = no_lines_placed at (length text) refl b
+  extent_filled judge stays (line ∷ lines) at is b =
+      let f = first_line text at line lines is in
+      verdict_filled at (in_containers path judge line) line lines (extent (in_containers path judge) (length text) lines)
+      (judged_within judge stays at line (taken path line) f.1 b (λ q h. taken_in at line q f.0 b f.1 h))
+      (extent_filled judge stays lines (behind_line_at text at) f.2 (behind_is_boundary at b))
+
+  -- of a fenced code block
   fence_in_by : (t : Bool) (at e : ℕ) (q : Place) (o : Option ℕ) → ((n : ℕ) → o ≡ Some n → (n ≤ length (all_taken q.rest).left) × (at_line_end (drop n (all_taken q.rest).left) ≡ true)) → IsIn at q
       → (if t then option_map (λ n. offset (unindented q) + n) o else None) ≡ Some e → (at ≤ e) × IsCharBoundary text e
   fence_in_by false at e q o within i h = cc
@@ -599,127 +597,56 @@ module _ (text : List ℕ) (u : IsUtf8 text) (path : List Container) where
   fence_in : (byte count at e : ℕ) (q : Place) → IsIn at q → closing_fence_end byte count q ≡ Some e → (at ≤ e) × IsCharBoundary text e
   fence_in byte count at e q i h = fence_in_by (nat_lt (indent q.rest) 4) at e q (closing_fence_len byte count (all_taken q.rest).left) (λ n g. fence_ends byte count (all_taken q.rest).left n g) i h
 
-  fenced_line_placed : (columns at : ℕ) (q : Place) (o : Option ℕ) (lines : List Place) (further : Lines) → IsIn at q → ((e : ℕ) → o ≡ Some e → (at ≤ e) × IsCharBoundary text e)
-      → IsFilled text (behind_line_at text at) further → IsFilled text at (fenced_line columns q o lines further)
-  fenced_line_placed columns at q None lines further i c rest = extent_placed at (moved_columns columns q) further (columns_in columns at q i) rest
-  fenced_line_placed columns at q (Some e) lines further i c rest = stops_placed at e lines (c e refl).0 (c e refl).1
+  fence_verdict_within : (columns at : ℕ) (q : Place) (o : Option ℕ) → IsIn at q → ((e : ℕ) → o ≡ Some e → (at ≤ e) × IsCharBoundary text e) → IsWithin at (fence_verdict columns q o)
+  fence_verdict_within columns at q None i c = columns_in columns at q i
+  fence_verdict_within columns at q (Some e) i c = c e refl
 
-  fenced_step : (columns byte count at : ℕ) (line : Place) (lines : List Place) (o : Option Place) (further : Lines) → line.line ≡ at → ((q : Place) → o ≡ Some q → IsIn at q) → IsCharBoundary text at
-      → IsFilled text (behind_line_at text at) further → IsFilled text at (fenced_by columns byte count line lines o further)
-  fenced_step columns byte count at line lines None further start i b rest = stops_placed at line.line (line ∷ lines) (omega arith) (subst (IsCharBoundary text) (sym start) b)
-  fenced_step columns byte count at line lines (Some q) further start i b rest =
-      fenced_line_placed columns at q (closing_fence_end byte count q) lines further (i q refl) (λ e h. fence_in byte count at e q (i q refl) h) rest
+  fence_stays : (columns byte count : ℕ) → StaysWithin (fence_judge columns byte count)
+  fence_stays columns byte count at line q is b i = fence_verdict_within columns at q (closing_fence_end byte count q) i (λ e h. fence_in byte count at e q i h)
 
-  pub fenced_placed : (columns byte count : ℕ) (lines : List Place) (at : ℕ) → lines ≡ lines_from text at → IsCharBoundary text at → IsFilled text at (fenced_lines (length text) path columns byte count lines)
-  unfolding fenced_lines
-  fenced_placed columns byte count [] at is b = no_lines_placed at (length text) refl b
-  fenced_placed columns byte count (line ∷ lines) at is b =
-      let f = first_line text at line lines is in
-      fenced_step columns byte count at line lines (taken path line) (fenced_lines (length text) path columns byte count lines) (ap (λ (p : Place). p.line) f.1) (λ q h. taken_in at line q f.0 b f.1 h) b
-      (fenced_placed columns byte count lines (behind_line_at text at) f.2 (behind_is_boundary at b))
-
-  -- the lines of a metadata block
-  metadata_line_placed : (at : ℕ) (line q : Place) (o : Option ℕ) (lines : List Place) (further : Lines) → line ≡ line_place at (drop at text) → IsIn at q
-      → ((n : ℕ) → o ≡ Some n → (n ≤ length line.rest.left) × (at_line_end (drop n line.rest.left) ≡ true)) → IsCharBoundary text at
-      → IsFilled text (behind_line_at text at) further → IsFilled text at (metadata_line line q o lines further)
-  metadata_line_placed at line q None lines further is i within b rest = extent_placed at q further i rest
-  metadata_line_placed at line q (Some n) lines further is i within b rest =
+  -- of a metadata block
+  metadata_verdict_within : (at : ℕ) (line q : Place) (o : Option ℕ) → line ≡ line_place at (drop at text) → IsCharBoundary text at → IsIn at q
+      → ((n : ℕ) → o ≡ Some n → (n ≤ length line.rest.left) × (at_line_end (drop n line.rest.left) ≡ true)) → IsWithin at (metadata_verdict line q o)
+  metadata_verdict_within at line q None is b i within = i
+  metadata_verdict_within at line q (Some n) is b i within =
       let w = within n refl in
       let start = ap (λ (p : Place). p.line) is in
       let none = ap (λ (p : Place). p.rest.taken) is in
       let z : offset line + n ≡ line.line + n = omega arith in
-      stops_placed at (line.line + n) lines (omega arith) (subst (IsCharBoundary text) z (ends_between text line n (subst (IsPlaceOf text) (sym is) (line_is_place text at b)) w.0 w.1))
+      (omega arith, subst (IsCharBoundary text) z (ends_between text line n (subst (IsPlaceOf text) (sym is) (line_is_place text at b)) w.0 w.1))
 
-  metadata_step : (byte at : ℕ) (line : Place) (lines : List Place) (o : Option Place) (further : Lines) → line ≡ line_place at (drop at text) → ((q : Place) → o ≡ Some q → IsIn at q) → IsCharBoundary text at
-      → IsFilled text (behind_line_at text at) further → IsFilled text at (metadata_by byte line lines o further)
-  metadata_step byte at line lines None further is i b rest =
+  metadata_stays : (byte : ℕ) → StaysWithin (metadata_judge byte)
+  metadata_stays byte at line q is b i = metadata_verdict_within at line q (closing_metadata_len byte line.rest.left) is b i (λ n h. metadata_ends byte line.rest.left n h)
+
+  -- of an HTML block
+  tag_stays : (tag : List ℕ) → StaysWithin (tag_judge tag)
+  tag_stays tag at line q is b i =
+      cond_both (is_empty q.rest.left) (Closes (offset q)) (tag_verdict tag q) (IsWithin at) (λ none. (in_behind at q i, i.stands.boundary))
+      (λ some. cond_both (holds tag (line_of q)) (IsLast q) (GoesOn q) (IsWithin at) (λ held. i) (λ other. i))
+
+  blank_stays : StaysWithin blank_judge
+  blank_stays at line q is b i =
       let start = ap (λ (p : Place). p.line) is in
-      stops_placed at line.line (line ∷ lines) (omega arith) (subst (IsCharBoundary text) (sym start) b)
-  metadata_step byte at line lines (Some q) further is i b rest =
-      metadata_line_placed at line q (closing_metadata_len byte line.rest.left) lines further is (i q refl) (λ n h. metadata_ends byte line.rest.left n h) b rest
+      cond_both (at_line_end q.rest.left) (Stops line.line) (if is_blank_rest q.rest then Stops (offset q) else GoesOn q) (IsWithin at) (λ here. (omega arith, subst (IsCharBoundary text) (sym start) b))
+      (λ other. cond_both (is_blank_rest q.rest) (Stops (offset q)) (GoesOn q) (IsWithin at) (λ blank. (in_behind at q i, i.stands.boundary)) (λ more. i))
 
-  pub metadata_placed : (byte : ℕ) (lines : List Place) (at : ℕ) → lines ≡ lines_from text at → IsCharBoundary text at → IsFilled text at (metadata_lines (length text) path byte lines)
-  unfolding metadata_lines
-  metadata_placed byte [] at is b = no_lines_placed at (length text) refl b
-  metadata_placed byte (line ∷ lines) at is b =
-      let f = first_line text at line lines is in
-      metadata_step byte at line lines (taken path line) (metadata_lines (length text) path byte lines) f.1 (λ q h. taken_in at line q f.0 b f.1 h) b
-      (metadata_placed byte lines (behind_line_at text at) f.2 (behind_is_boundary at b))
-
-  -- the lines of an HTML block from a place on
-  place_filled : (at : ℕ) (p : Place) (e : Lines) → at ≤ offset p → at < line_end p → IsPlaceOf text p → IsFilled text (line_end p) e → IsFilled text at (with_line p e)
-  unfolding ArePlaced HaveBytes
-  place_filled at p e behind some i further = record { places = (behind, i, further.places); boundary = further.boundary; bytes = (some, further.bytes) }
-
-  end_step : (tag : List ℕ) (at : ℕ) (line : Place) (lines : List Place) (o : Option Place) → line.line ≡ at → IsCharBoundary text at → ((q : Place) → o ≡ Some q → IsIn at q)
-      → ((q : Place) → IsIn at q → IsFilled text at (until_end (length text) path tag q lines)) → IsFilled text at (until_end_by (length text) line lines o (until_end (length text) path tag (place_or line o) lines))
-  end_step tag at line lines None start b i further = stops_placed at line.line (line ∷ lines) (omega arith) (subst (IsCharBoundary text) (sym start) b)
-  end_step tag at line lines (Some q) start b i further =
-      cond_both (is_empty q.rest.left) (ends_at (length text) []) (until_end (length text) path tag q lines) (IsFilled text at)
-      (λ none. no_lines_placed at (length text) refl b) (λ some. further q (i q refl))
-
-  -- the lines behind the first one, and all of them
-  end_behind : (tag : List ℕ) (lines : List Place) (p : Place) (line : Place) → IsPlaceOf text p → line ∷ lines ≡ lines_from text (line_end p)
-      → ((q : Place) → IsIn (line_end p) q → IsFilled text (line_end p) (until_end (length text) path tag q lines))
-      → IsFilled text (line_end p) (if holds tag (line_of p) then ends_at line.line (line ∷ lines) else until_end_by (length text) line lines (taken path line) (until_end (length text) path tag (place_or line (taken path line)) lines))
-  end_behind tag lines p line i is further =
-      let f = first_line text (line_end p) line lines is in
-      let b = place_end text p u i in
-      let start = ap (λ (p : Place). p.line) f.1 in
-      cond_both (holds tag (line_of p)) (ends_at line.line (line ∷ lines)) (until_end_by (length text) line lines (taken path line) (until_end (length text) path tag (place_or line (taken path line)) lines)) (IsFilled text (line_end p))
-      (λ held. stops_placed (line_end p) line.line (line ∷ lines) (omega arith) (subst (IsCharBoundary text) (sym start) b))
-      (λ other. end_step tag (line_end p) line lines (taken path line) start b (λ q h. taken_in (line_end p) line q f.0 b f.1 h) further)
-
-  until_end_filled : (tag : List ℕ) (lines : List Place) (at : ℕ) (p : Place) → at ≤ offset p → at < line_end p → IsPlaceOf text p → lines ≡ lines_from text (line_end p) → IsFilled text at (until_end (length text) path tag p lines)
-  unfolding until_end
-  until_end_filled tag [] at p behind some i is = place_filled at p (ends_at (length text) []) behind some i (no_lines_placed (line_end p) (length text) refl (place_end text p u i))
-  until_end_filled tag (line ∷ lines) at p behind some i is =
-      let f = first_line text (line_end p) line lines is in
-      place_filled at p _ behind some i
-      (end_behind tag lines p line i is
-      (λ q j. until_end_filled tag lines (line_end p) q (in_behind (line_end p) q j) j.some j.stands (f.2 ∙ ap (lines_from text) (sym j.same_end))))
-
-  blank_step : (at : ℕ) (line : Place) (lines : List Place) (o : Option Place) → line.line ≡ at → IsCharBoundary text at → ((q : Place) → o ≡ Some q → IsIn at q)
-      → ((q : Place) → IsIn at q → IsFilled text at (until_blank (length text) path q lines)) → IsFilled text at (until_blank_by line lines o (until_blank (length text) path (place_or line o) lines))
-  blank_step at line lines None start b i further = stops_placed at line.line (line ∷ lines) (omega arith) (subst (IsCharBoundary text) (sym start) b)
-  blank_step at line lines (Some q) start b i further =
-      cond_both (at_line_end q.rest.left) (ends_at line.line (line ∷ lines)) (if is_blank_rest q.rest then ends_at (offset q) (line ∷ lines) else until_blank (length text) path q lines) (IsFilled text at)
-      (λ here. stops_placed at line.line (line ∷ lines) (omega arith) (subst (IsCharBoundary text) (sym start) b))
-      (λ other. cond_both (is_blank_rest q.rest) (ends_at (offset q) (line ∷ lines)) (until_blank (length text) path q lines) (IsFilled text at)
-      (λ blank. stops_placed at (offset q) (line ∷ lines) (in_behind at q (i q refl)) (i q refl).stands.boundary)
-      (λ more. further q (i q refl)))
-
-  until_blank_filled : (lines : List Place) (at : ℕ) (p : Place) → at ≤ offset p → at < line_end p → IsPlaceOf text p → lines ≡ lines_from text (line_end p) → IsFilled text at (until_blank (length text) path p lines)
-  unfolding until_blank
-  until_blank_filled [] at p behind some i is = place_filled at p (ends_at (length text) []) behind some i (no_lines_placed (line_end p) (length text) refl (place_end text p u i))
-  until_blank_filled (line ∷ lines) at p behind some i is =
-      let f = first_line text (line_end p) line lines is in
-      let b = place_end text p u i in
-      place_filled at p _ behind some i (blank_step (line_end p) line lines (taken path line) (ap (λ (p : Place). p.line) f.1) b (λ q h. taken_in (line_end p) line q f.0 b f.1 h)
-      (λ q j. until_blank_filled lines (line_end p) q (in_behind (line_end p) q j) j.some j.stands (f.2 ∙ ap (lines_from text) (sym j.same_end))))
-
-  -- A block's first line has a byte where another follows.
-  only_placed : (p : Place) → IsPlaceOf text p → IsPlaced text (offset p) (with_line p (ends_at (length text) []))
-  unfolding ArePlaced
-  only_placed p i = (let f = no_lines_placed (line_end p) (length text) refl (place_end text p u i) in record { places = (omega arith, i, f.places); boundary = f.boundary; few = inl (omega arith) })
-
+  -- a first line before them, which has a byte where another line follows
   first_some : (p : Place) → IsPlaceOf text p → line_end p < length text → offset p < line_end p
   first_some p i w =
       let l = place_length text p i in
       let some = line_len-some p.rest.left (omega arith) in
       omega arith
 
-  end_placed : (tag : List ℕ) (lines : List Place) (p : Place) → IsPlaceOf text p → lines ≡ lines_from text (line_end p) → IsPlaced text (offset p) (until_end (length text) path tag p lines)
-  unfolding until_end
-  end_placed tag [] p i is = only_placed p i
-  end_placed tag (line ∷ lines) p i is =
-      filled_placed text (offset p) _ (until_end_filled tag (line ∷ lines) (offset p) p (omega arith) (first_some p i (first_line text (line_end p) line lines is).0) i is)
+  only_placed : (p : Place) (stop : ℕ) (lines : List Place) → IsPlaceOf text p → line_end p ≤ stop → IsCharBoundary text stop → IsPlaced text (offset p) (with_line p (ends_at stop lines))
+  unfolding ArePlaced
+  only_placed p stop lines i order b = record { places = (omega arith, i, order); boundary = b; few = inl (omega arith) }
 
-  blank_placed : (lines : List Place) (p : Place) → IsPlaceOf text p → lines ≡ lines_from text (line_end p) → IsPlaced text (offset p) (until_blank (length text) path p lines)
-  unfolding until_blank
-  blank_placed [] p i is = only_placed p i
-  blank_placed (line ∷ lines) p i is =
-      filled_placed text (offset p) _ (until_blank_filled (line ∷ lines) (offset p) p (omega arith) (first_some p i (first_line text (line_end p) line lines is).0) i is)
+  first_placed : (judge : Place → Place → Verdict) → StaysWithin judge → (lines : List Place) (p : Place) → IsPlaceOf text p → lines ≡ lines_from text (line_end p) → IsPlaced text (offset p) (with_line p (extent (in_containers path judge) (length text) lines))
+  unfolding ArePlaced HaveBytes extent
+  first_placed judge stays [] p i is = (let b = place_end text p u i in let w = b.0 in only_placed p (length text) [] i w (IsCharBoundary-end text))
+  first_placed judge stays (line ∷ lines) p i is =
+      let f = extent_filled judge stays (line ∷ lines) (line_end p) is (place_end text p u i) in
+      record { places = (omega arith, i, f.places); boundary = f.boundary; few = inr (first_some p i (first_line text (line_end p) line lines is).0, f.bytes) }
 
   -- where the line of a place ends
   place_line : (p : Place) → IsPlaceOf text p → behind_line_at text (offset p) ≡ line_end p
@@ -761,19 +688,24 @@ module _ (text : List ℕ) (u : IsUtf8 text) (path : List Container) where
   pub indented_behind_few : (p : Place) → IsPlaceOf text p → AreFew (offset p) (p ∷ (code_behind text path (offset p)).0)
   indented_behind_few p i = indented_few (lines_from text (behind_line_at text (offset p))) p i (ap (lines_from text) (place_line p i))
 
+  behind_placed : (judge : Place → Place → Verdict) → StaysWithin judge → (start : ℕ) → IsCharBoundary text start → IsPlaced text start (extent (in_containers path judge) (length text) (lines_from text (behind_line_at text start)))
+  behind_placed judge stays start b =
+      later_placed start (behind_line_at text start) _ (omega arith) (extent_filled judge stays (lines_from text (behind_line_at text start)) (behind_line_at text start) refl (behind_is_boundary start b))
+
   pub fenced_behind_placed : (columns byte count start : ℕ) → IsCharBoundary text start → IsPlaced text start (fenced_behind text path columns byte count start)
-  fenced_behind_placed columns byte count start b =
-      later_placed start (behind_line_at text start) _ (omega arith) (fenced_placed columns byte count (lines_from text (behind_line_at text start)) (behind_line_at text start) refl (behind_is_boundary start b))
+  fenced_behind_placed columns byte count start b = behind_placed (fence_judge columns byte count) (fence_stays columns byte count) start b
 
   pub metadata_behind_placed : (byte start : ℕ) → IsCharBoundary text start → IsPlaced text start (metadata_behind text path byte start)
-  metadata_behind_placed byte start b =
-      later_placed start (behind_line_at text start) _ (omega arith) (metadata_placed byte (lines_from text (behind_line_at text start)) (behind_line_at text start) refl (behind_is_boundary start b))
+  metadata_behind_placed byte start b = behind_placed (metadata_judge byte) (metadata_stays byte) start b
 
   pub to_end_placed : (tag : List ℕ) (p : Place) → IsPlaceOf text p → IsPlaced text (offset p) (html_to_end text path tag p)
-  to_end_placed tag p i = end_placed tag (lines_from text (behind_line_at text (offset p))) p i (ap (lines_from text) (place_line p i))
+  to_end_placed tag p i =
+      let lines : List Place = lines_from text (behind_line_at text (offset p)) in
+      cond_both (holds tag (line_of p)) (IsLast p) (GoesOn p) (λ (v : Verdict). IsPlaced text (offset p) (extent_by v p lines (extent (in_containers path (tag_judge tag)) (length text) lines)))
+      (λ held. only_placed p (line_end p) lines i (omega arith) (place_end text p u i)) (λ other. first_placed (tag_judge tag) (tag_stays tag) lines p i (ap (lines_from text) (place_line p i)))
 
   pub to_blank_placed : (p : Place) → IsPlaceOf text p → IsPlaced text (offset p) (html_to_blank text path p)
-  to_blank_placed p i = blank_placed (lines_from text (behind_line_at text (offset p))) p i (ap (lines_from text) (place_line p i))
+  to_blank_placed p i = first_placed blank_judge blank_stays (lines_from text (behind_line_at text (offset p))) p i (ap (lines_from text) (place_line p i))
 
   -- where the lines begin behind one
   left_start : (at : ℕ) (lines : List Place) → IsCharBoundary text at → lines ≡ lines_from text (behind_line_at text at) → start_of (length text) lines ≡ behind_line_at text at
@@ -790,65 +722,75 @@ module _ (text : List ℕ) (u : IsUtf8 text) (path : List Container) where
       let end_is = i.same_end in
       omega arith
 
-  fenced_line_before : (columns at : ℕ) (q : Place) (o : Option ℕ) (lines : List Place) (further : Lines) → ((e : ℕ) → o ≡ Some e → e ≤ start_of (length text) lines) → EndsBefore text further → EndsBefore text (fenced_line columns q o lines further)
-  fenced_line_before columns at q None lines further c rest = rest
-  fenced_line_before columns at q (Some e) lines further c rest = c e refl
+  -- a verdict on the line that begins at an offset ends no block later than the first line begins that it leaves
+  abbrev pub IsBefore : ℕ → Verdict → Type 0
+  IsBefore at (GoesOn p) = Unit {0}
+  IsBefore at (IsLast p) = line_end p ≤ behind_line_at text at
+  IsBefore at (Closes e) = e ≤ behind_line_at text at
+  IsBefore at (Stops e) = e ≤ at
 
-  fenced_before_step : (columns byte count at : ℕ) (line : Place) (lines : List Place) (o : Option Place) (further : Lines) → is_content byte ≡ true → ((q : Place) → o ≡ Some q → IsIn at q) → start_of (length text) lines ≡ behind_line_at text at
-      → EndsBefore text further → EndsBefore text (fenced_by columns byte count line lines o further)
-  fenced_before_step columns byte count at line lines None further plain i is rest = omega arith
-  fenced_before_step columns byte count at line lines (Some q) further plain i is rest =
-      fenced_line_before columns at q (closing_fence_end byte count q) lines further
-      (λ e h. subst (λ k. e ≤ k) (sym is) (fence_before_by (nat_lt (indent q.rest) 4) at e q (closing_fence_len byte count (all_taken q.rest).left) (λ n g. fence_within byte count (all_taken q.rest).left n plain g) (i q refl) h)) rest
+  abbrev pub StaysBefore : (Place → Place → Verdict) → Type 0
+  StaysBefore judge = (at : ℕ) (line q : Place) → line ≡ line_place at (drop at text) → IsIn at q → IsBefore at (judge line q)
 
-  pub fenced_before : (columns byte count : ℕ) (lines : List Place) (at : ℕ) → is_content byte ≡ true → lines ≡ lines_from text at → IsCharBoundary text at → EndsBefore text (fenced_lines (length text) path columns byte count lines)
-  unfolding fenced_lines
-  fenced_before columns byte count [] at plain is b = omega arith
-  fenced_before columns byte count (line ∷ lines) at plain is b =
+  judged_before : (judge : Place → Place → Verdict) → StaysBefore judge → (at : ℕ) (line : Place) (o : Option Place) → line ≡ line_place at (drop at text) → ((q : Place) → o ≡ Some q → IsIn at q) → IsBefore at (judged judge line o)
+  judged_before judge stays at line None is i = (let start = ap (λ (p : Place). p.line) is in omega arith)
+  judged_before judge stays at line (Some q) is i = stays at line q is (i q refl)
+
+  verdict_before : (at : ℕ) (v : Verdict) (line : Place) (lines : List Place) (further : Lines) → line ≡ line_place at (drop at text) → start_of (length text) lines ≡ behind_line_at text at → IsBefore at v → EndsBefore text further
+      → EndsBefore text (extent_by v line lines further)
+  verdict_before at (GoesOn p) line lines further is left h rest = rest
+  verdict_before at (IsLast p) line lines further is left h rest = omega arith
+  verdict_before at (Closes e) line lines further is left h rest = omega arith
+  verdict_before at (Stops e) line lines further is left h rest = (let start = ap (λ (p : Place). p.line) is in omega arith)
+
+  extent_before : (judge : Place → Place → Verdict) → StaysBefore judge → (lines : List Place) (at : ℕ) → lines ≡ lines_from text at → IsCharBoundary text at → EndsBefore text (extent (in_containers path judge) (length text) lines)
+  unfolding extent
+  extent_before judge stays [] at is b = omega arith
+  extent_before judge stays (line ∷ lines) at is b =
       let f = first_line text at line lines is in
-      fenced_before_step columns byte count at line lines (taken path line) (fenced_lines (length text) path columns byte count lines) plain (λ q h. taken_in at line q f.0 b f.1 h) (left_start at lines b f.2)
-      (fenced_before columns byte count lines (behind_line_at text at) plain f.2 (behind_is_boundary at b))
+      verdict_before at (in_containers path judge line) line lines (extent (in_containers path judge) (length text) lines) f.1 (left_start at lines b f.2)
+      (judged_before judge stays at line (taken path line) f.1 (λ q h. taken_in at line q f.0 b f.1 h))
+      (extent_before judge stays lines (behind_line_at text at) f.2 (behind_is_boundary at b))
 
-  metadata_line_before : (at : ℕ) (line q : Place) (o : Option ℕ) (lines : List Place) (further : Lines) → ((n : ℕ) → o ≡ Some n → line.line + n ≤ start_of (length text) lines) → EndsBefore text further → EndsBefore text (metadata_line line q o lines further)
-  metadata_line_before at line q None lines further c rest = rest
-  metadata_line_before at line q (Some n) lines further c rest = c n refl
+  fence_before : (columns at : ℕ) (q : Place) (o : Option ℕ) → ((e : ℕ) → o ≡ Some e → e ≤ behind_line_at text at) → IsBefore at (fence_verdict columns q o)
+  fence_before columns at q None c = tt
+  fence_before columns at q (Some e) c = c e refl
 
-  metadata_before_step : (byte at : ℕ) (line : Place) (lines : List Place) (o : Option Place) (further : Lines) → is_content byte ≡ true → line ≡ line_place at (drop at text) → start_of (length text) lines ≡ behind_line_at text at
-      → EndsBefore text further → EndsBefore text (metadata_by byte line lines o further)
-  metadata_before_step byte at line lines None further plain is start rest = omega arith
-  metadata_before_step byte at line lines (Some q) further plain is start rest =
+  fence_stays_before : (columns byte count : ℕ) → is_content byte ≡ true → StaysBefore (fence_judge columns byte count)
+  fence_stays_before columns byte count plain at line q is i =
+      fence_before columns at q (closing_fence_end byte count q)
+      (λ e h. fence_before_by (nat_lt (indent q.rest) 4) at e q (closing_fence_len byte count (all_taken q.rest).left) (λ n g. fence_within byte count (all_taken q.rest).left n plain g) i h)
+
+  metadata_before : (at : ℕ) (line q : Place) (o : Option ℕ) → ((n : ℕ) → o ≡ Some n → line.line + n ≤ behind_line_at text at) → IsBefore at (metadata_verdict line q o)
+  metadata_before at line q None c = tt
+  metadata_before at line q (Some n) c = c n refl
+
+  metadata_stays_before : (byte : ℕ) → is_content byte ≡ true → StaysBefore (metadata_judge byte)
+  metadata_stays_before byte plain at line q is i =
       let here = ap (λ (p : Place). p.line) is in
       let long = ap (λ (p : Place). line_len p.rest.left) is in
-      metadata_line_before at line q (closing_metadata_len byte line.rest.left) lines further
-      (λ n h. let w = metadata_within byte line.rest.left n plain h in omega arith) rest
+      metadata_before at line q (closing_metadata_len byte line.rest.left) (λ n h. let w = metadata_within byte line.rest.left n plain h in omega arith)
 
-  pub metadata_before : (byte : ℕ) (lines : List Place) (at : ℕ) → is_content byte ≡ true → lines ≡ lines_from text at → IsCharBoundary text at → EndsBefore text (metadata_lines (length text) path byte lines)
-  unfolding metadata_lines
-  metadata_before byte [] at plain is b = omega arith
-  metadata_before byte (line ∷ lines) at plain is b =
-      let f = first_line text at line lines is in
-      metadata_before_step byte at line lines (taken path line) (metadata_lines (length text) path byte lines) plain f.1 (left_start at lines b f.2)
-      (metadata_before byte lines (behind_line_at text at) plain f.2 (behind_is_boundary at b))
-
-  end_before_step : (tag : List ℕ) (line : Place) (lines : List Place) (o : Option Place) → ((q : Place) → EndsBefore text (until_end (length text) path tag q lines))
-      → EndsBefore text (until_end_by (length text) line lines o (until_end (length text) path tag (place_or line o) lines))
-  end_before_step tag line lines None further = omega arith
-  end_before_step tag line lines (Some q) further =
-      cond_both (is_empty q.rest.left) (ends_at (length text) []) (until_end (length text) path tag q lines) (EndsBefore text) (λ none. omega arith) (λ some. further q)
-
-  pub until_end_before : (tag : List ℕ) (lines : List Place) (p : Place) → EndsBefore text (until_end (length text) path tag p lines)
-  unfolding until_end
-  until_end_before tag [] p = omega arith
-  until_end_before tag (line ∷ lines) p =
-      cond_both (holds tag (line_of p)) (ends_at line.line (line ∷ lines)) (until_end_by (length text) line lines (taken path line) (until_end (length text) path tag (place_or line (taken path line)) lines)) (EndsBefore text)
-      (λ held. omega arith) (λ other. end_before_step tag line lines (taken path line) (λ q. until_end_before tag lines q))
+  tag_stays_before : (tag : List ℕ) → StaysBefore (tag_judge tag)
+  tag_stays_before tag at line q is i =
+      let same = i.same_end in
+      cond_both (is_empty q.rest.left) (Closes (offset q)) (tag_verdict tag q) (IsBefore at) (λ none. omega arith)
+      (λ some. cond_both (holds tag (line_of q)) (IsLast q) (GoesOn q) (IsBefore at) (λ held. omega arith) (λ other. tt))
 
   -- So do the raw leaf blocks, but for an HTML block that ends behind the prefix of a blank line.
+  behind_before : (judge : Place → Place → Verdict) → StaysBefore judge → (start : ℕ) → IsCharBoundary text start → EndsBefore text (extent (in_containers path judge) (length text) (lines_from text (behind_line_at text start)))
+  behind_before judge stays start b = extent_before judge stays (lines_from text (behind_line_at text start)) (behind_line_at text start) refl (behind_is_boundary start b)
+
   pub fenced_behind_before : (columns byte count start : ℕ) → is_content byte ≡ true → IsCharBoundary text start → EndsBefore text (fenced_behind text path columns byte count start)
-  fenced_behind_before columns byte count start plain b = fenced_before columns byte count (lines_from text (behind_line_at text start)) (behind_line_at text start) plain refl (behind_is_boundary start b)
+  fenced_behind_before columns byte count start plain b = behind_before (fence_judge columns byte count) (fence_stays_before columns byte count plain) start b
 
   pub metadata_behind_before : (byte start : ℕ) → is_content byte ≡ true → IsCharBoundary text start → EndsBefore text (metadata_behind text path byte start)
-  metadata_behind_before byte start plain b = metadata_before byte (lines_from text (behind_line_at text start)) (behind_line_at text start) plain refl (behind_is_boundary start b)
+  metadata_behind_before byte start plain b = behind_before (metadata_judge byte) (metadata_stays_before byte plain) start b
 
-  pub to_end_before : (tag : List ℕ) (p : Place) → EndsBefore text (html_to_end text path tag p)
-  to_end_before tag p = until_end_before tag (lines_from text (behind_line_at text (offset p))) p
+  pub to_end_before : (tag : List ℕ) (p : Place) → IsPlaceOf text p → EndsBefore text (html_to_end text path tag p)
+  to_end_before tag p i =
+      let lines : List Place = lines_from text (behind_line_at text (offset p)) in
+      let left = left_start (offset p) lines i.boundary refl in
+      let ends = place_line p i in
+      cond_both (holds tag (line_of p)) (IsLast p) (GoesOn p) (λ (v : Verdict). EndsBefore text (extent_by v p lines (extent (in_containers path (tag_judge tag)) (length text) lines)))
+      (λ held. omega arith) (λ other. behind_before (tag_judge tag) (tag_stays_before tag) (offset p) i.boundary)

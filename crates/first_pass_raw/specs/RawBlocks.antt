@@ -9,8 +9,14 @@ use Rattle.first_pass_tokens.specs.TreeTokens.{with_tokens, chained}
 use Rattle.first_pass_grammar.specs.declared.kind.Container.{Container}
 use Rattle.first_pass_grammar.specs.Names.{Names, Extends}
 use Rattle.first_pass_grammar.specs.Leaves.{Document, document}
-use Rattle.first_pass_grammar.specs.RawLines.{AreColumns, IsCodeLine, AreCodeLines, IsHtmlLine, AreHtmlLines}
-use Rattle.first_pass_grammar.specs.CodeBlocks.{Extent, code_lines, without_blanks, last_is_blank, last_end, IsIndentedCode, fenced_lines, metadata_lines}
+use Rattle.first_pass_grammar.specs.RawLines.{AreColumns, Ranges, range_text, range_html, IsRawLine, AreRawLines}
+use Rattle.first_pass_grammar.specs.CodeBlocks.{code_lines, without_blanks, last_is_blank, last_end, IsIndentedCode, fenced_lines, metadata_lines}
+use Rattle.first_pass_grammar.specs.Extents.{Extent, Verdict}
+use Rattle.first_pass_grammar.specs.Extents as Judged
+use Rattle.first_pass_raw.specs.declared.raw_line.RawKind.{RawKind}
+use Rattle.first_pass_raw.specs.declared.raw_line.RawKind.TheVariants.{Code, Html}
+use Rattle.first_pass_raw.specs.declared.verdict.Verdict.{Verdict as Answer}
+use Rattle.first_pass_raw.specs.declared.verdict.Verdict.TheVariants.{GoesOn, IsLast, Closes, Stops}
 use Rattle.first_pass_grammar.specs.HtmlBlocks.{until_end, until_blank}
 use Rattle.first_pass_grammar.specs.Completion.{lines_from}
 use Rattle.std.specs.Option.{option_and_then}
@@ -39,17 +45,16 @@ code_rest o = option_and_then (λ r. if has_columns 4 r then Some (after_columns
 abbrev pub code_rest_at : List ℕ → List Container → ℕ → Option Rest
 code_rest_at text path start = if start == length text then None else code_rest (after path (line_rest (drop start text)))
 
--- A raw line of code stands behind the nodes of a tree, whatever more is named.
-pub record AppendsCode (text : List ℕ) (names : Names) (owed from to : ℕ) (old new : Forest Item) : Type 0 where
+-- as which items a range of a raw line's bytes is appended
+abbrev pub range_of : RawKind → Ranges
+range_of Code = range_text
+range_of Html = range_html
+
+-- A raw line stands behind the nodes of a tree, whatever more is named.
+pub record AppendsRaw (range : Ranges) (text : List ℕ) (names : Names) (owed from to : ℕ) (old new : Forest Item) : Type 0 where
   pub items : List Item
   pub tree_is : new ≡ with_tokens old items
-  pub are : (options : Options) (more : Names) → Extends more names → IsCodeLine (document text options more) owed from to items
-
--- a raw line of HTML
-pub record AppendsHtml (text : List ℕ) (names : Names) (owed from to : ℕ) (old new : Forest Item) : Type 0 where
-  pub items : List Item
-  pub tree_is : new ≡ chained old items
-  pub are : (options : Options) (more : Names) → Extends more names → IsHtmlLine (document text options more) owed from to items
+  pub are : (options : Options) (more : Names) → Extends more names → IsRawLine range (document text options more) owed from to items
 
 -- a place at an offset in the text
 pub record IsPlaceAt (text : List ℕ) (start : ℕ) (p : Place) : Type 0 where
@@ -69,7 +74,7 @@ code_behind text path start = code_lines path (lines_from text (behind_line_at t
 pub record AppendsIndented (text : List ℕ) (options : Options) (names : Names) (p : Place) (old new : Forest Item) («end» next : ℕ) (blank : Bool) : Type 0 where
   pub chain : List Item
   pub tree_is : new ≡ chained old chain
-  pub lines : (more : Names) → Extends more names → AreCodeLines (document text options more) [] (without_blanks (p ∷ (code_behind text (path_of old) (offset p)).0)) chain
+  pub lines : (more : Names) → Extends more names → AreRawLines range_text (document text options more) [] (without_blanks (p ∷ (code_behind text (path_of old) (offset p)).0)) chain
   pub end_is : «end» ≡ last_end (offset p) (without_blanks (p ∷ (code_behind text (path_of old) (offset p)).0))
   pub blank_is : blank ≡ last_is_blank (code_behind text (path_of old) (offset p)).0
   pub left_is : lines_from text next ≡ (code_behind text (path_of old) (offset p)).1
@@ -82,19 +87,18 @@ pub record AddsIndented (text : List ℕ) (options : Options) (names : Names) (p
   pub blank_is : blank ≡ last_is_blank (code_behind text (path_of old) (offset p)).0
   pub left_is : lines_from text next ≡ (code_behind text (path_of old) (offset p)).1
 
--- The raw lines of an extent stand behind the nodes of a tree, whatever more is named, as lines of code.
-pub record AppendsCodeLines (text : List ℕ) (options : Options) (names : Names) (e : Extent) (old new : Forest Item) («end» next : ℕ) : Type 0 where
-  pub chain : List Item
-  pub tree_is : new ≡ chained old chain
-  pub lines : (more : Names) → Extends more names → AreCodeLines (document text options more) [] e.places chain
-  pub end_is : «end» ≡ e.«end»
-  pub left_is : lines_from text next ≡ e.left
+-- what a line is to a block whose text, if it has one, is at a place
+abbrev pub said : Answer → Place → Verdict
+said GoesOn p = Judged.GoesOn p
+said IsLast p = Judged.IsLast p
+said (Closes e) p = Judged.Closes e
+said (Stops e) p = Judged.Stops e
 
--- the same as lines of HTML, of the first of which so many columns are owed
-pub record AppendsHtmlLines (text : List ℕ) (options : Options) (names : Names) (owed : ℕ) (e : Extent) (old new : Forest Item) («end» next : ℕ) : Type 0 where
+-- The raw lines of an extent stand behind the nodes of a tree, whatever more is named.
+pub record AppendsLines (range : Ranges) (text : List ℕ) (options : Options) (names : Names) (e : Extent) (old new : Forest Item) («end» next : ℕ) : Type 0 where
   pub chain : List Item
   pub tree_is : new ≡ chained old chain
-  pub lines : (more : Names) → Extends more names → AreHtmlLines (document text options more) [] owed e.places chain
+  pub lines : (more : Names) → Extends more names → AreRawLines range (document text options more) [] e.places chain
   pub end_is : «end» ≡ e.«end»
   pub left_is : lines_from text next ≡ e.left
 

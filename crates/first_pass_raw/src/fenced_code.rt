@@ -4,22 +4,22 @@ ghost use Rattle.std.specs.Prelude.{◌≡◌, ◌≤◌, length, drop, Some, If
 ghost use Rattle.std.specs.List.{suffix_len};
 ghost use Rattle.first_pass_scan.specs.Lines.{is_ascii_white};
 ghost use Rattle.first_pass_scan.specs.Places.{place_at, IsPlaceOf};
-ghost use Rattle.first_pass_tokens.specs.TreeTokens.{JoinsNone};
 ghost use Rattle.first_pass_grammar.specs.Names.{Extends};
 ghost use Rattle.first_pass_open.specs.Path.{path_of};
 ghost use Rattle.first_pass_names.specs.TableEntries.{tables, names_of};
 ghost use Rattle.first_pass_scan.specs.LeafLines.{code_fence};
-ghost use Rattle.first_pass_grammar.specs.CodeBlocks.{info_string, closing_fence_end, IsFencedCode, fenced_lines};
-ghost use Rattle.first_pass_raw.specs.RawBlocks.{AppendsCodeLines, AddsRaw, fenced_behind, behind_line_at};
-ghost use Rattle.first_pass_grammar.specs.Completion.{lines_from};
+ghost use Rattle.first_pass_grammar.specs.CodeBlocks.{info_string, closing_fence_end, IsFencedCode};
+ghost use Rattle.first_pass_raw.specs.RawBlocks.{AddsRaw, fenced_behind, behind_line_at};
 
-use crate::raw_line::append_code_text;
+use crate::extent::{JudgesLines, read_lines};
+use crate::raw_line::RawKind;
+use crate::verdict::Verdict;
 use first_pass_items::item::{Item, ItemBody};
 use first_pass_items::option_set::Options;
 use first_pass_links::escape::unescape;
 use first_pass_names::items::Allocations;
 use first_pass_open::indentation::scan_indentation;
-use first_pass_open::open_block::{BlockLines, close_block, go_on, open_block};
+use first_pass_open::open_block::{close_block, open_block};
 use first_pass_scan::leaf_scan::scan_closing_code_fence;
 use first_pass_scan::line_start::LineStart;
 use first_pass_scan::lines::{is_ascii_white, scan_whitespace_no_nl};
@@ -63,7 +63,7 @@ pub fn parse_fenced_code_block<'a>(
     let info_ix = allocs.allocate_cow(info)?;
     open_block(tree, start_ix, ItemBody::FencedCodeBlock(info_ix))?;
     let first = next_line(bytes, start_ix);
-    let lines = fenced_lines(tree, allocs, text, options, first, fence)?;
+    let lines = read_lines(&fence, RawKind::Code, tree, allocs, text, options, first)?;
     close_block(tree, lines.end);
     Ok(lines.next)
 }
@@ -107,38 +107,23 @@ fn closing_fence(text: &str, start: usize, line_start: LineStart<'_>, fence: Fen
     Some(at + size)
 }
 
-// The lines of a fenced code block from the one on that begins at the offset `start`.
-fn fenced_lines<'a>(
-    tree: &mut Tree<Item>,
-    allocs: &mut Allocations<'a>,
-    text: &'a str,
-    options: Options,
-    start: usize,
-    fence: Fence,
-) -> Result<BlockLines, AllocError>
-    requires boundary { IsCharBoundary text.now start }
-    requires apart { JoinsNone tree.old }
-    ensures lines { IfOk result (λ lines. AppendsCodeLines text.now options (names_of allocs.new)
-        (fenced_lines (length text.now) (path_of tree.old) fence.indent fence.byte fence.count
-        (lines_from text.now start)) tree.old tree.new lines.«end» lines.next) }
-    ensures boundary { IfOk result (λ lines. (start ≤ lines.next) × IsCharBoundary text.now lines.next) }
-    ensures names { OnOk result (Extends (names_of allocs.new) (names_of allocs.old)) }
-    ensures tables { OnOk result (tables allocs.new ≡ tables allocs.old) }
-{
-    tree.is_forest();
-    let mut ix = start;
-    while ix < text.len() {
-        let Some(mut line_start) = go_on(text, ix, tree, options) else {
-            return Ok(BlockLines { end: ix, next: ix });
-        };
-        let next = next_line(text.as_bytes(), ix);
-        if let Some(end) = closing_fence(text, ix, line_start.copy(), fence) {
-            return Ok(BlockLines { end, next });
+impl JudgesLines for Fence {
+    ghost use Rattle.first_pass_grammar.specs.CodeBlocks.{fence_judge};
+
+    ghost judges = { λ fence. fence_judge fence.indent fence.byte fence.count };
+
+    #[inline(always)]
+    fn judge(
+        &self,
+        text: &str,
+        start: usize,
+        _next: usize,
+        line_start: &mut LineStart<'_>,
+    ) -> Verdict {
+        if let Some(end) = closing_fence(text, start, line_start.copy(), *self) {
+            return Verdict::Closes(end);
         }
-        line_start.scan_space_upto(fence.indent);
-        let at = ix + line_start.bytes_scanned();
-        append_code_text(tree, allocs, text, line_start.remaining_space(), at, next)?;
-        ix = next;
+        line_start.scan_space_upto(self.indent);
+        Verdict::GoesOn
     }
-    Ok(BlockLines { end: ix, next: ix })
 }

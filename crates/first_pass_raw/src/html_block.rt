@@ -1,19 +1,21 @@
 //! HTML blocks (CommonMark 4.6).
 
-ghost use Rattle.std.specs.Prelude.{◌≡◌, ◌≤◌, ℕ, length, drop, Some, false, IfOk, OnOk, IfSome, IsUtf8, IsCharBoundary};
-ghost use Rattle.first_pass_scan.specs.Places.{Place, line_rest, place_at, offset, IsPlaceOf};
-ghost use Rattle.first_pass_tokens.specs.TreeTokens.{JoinsNone};
+ghost use Rattle.std.specs.Prelude.{◌≡◌, ◌≤◌, IfOk, OnOk, IsUtf8, IsCharBoundary};
+ghost use Rattle.first_pass_scan.specs.Places.{Place};
 ghost use Rattle.first_pass_grammar.specs.Names.{Extends};
 ghost use Rattle.first_pass_open.specs.Path.{path_of};
 ghost use Rattle.first_pass_names.specs.TableEntries.{tables, names_of};
 ghost use Rattle.first_pass_grammar.specs.HtmlBlocks.{IsHtml};
-ghost use Rattle.first_pass_raw.specs.RawBlocks.{IsPlaceAt, AppendsHtmlLines, AddsRaw, html_to_end, html_to_blank, behind_line_at};
+ghost use Rattle.first_pass_raw.specs.RawBlocks.{IsPlaceAt, AddsRaw, html_to_end, html_to_blank, behind_line_at};
 
-use crate::raw_line::append_html_line;
+use crate::extent::{JudgesLines, read_lines};
+use crate::raw_line::{RawKind, append_raw_line};
+use crate::verdict::Verdict;
 use first_pass_items::item::{Item, ItemBody};
 use first_pass_items::option_set::Options;
 use first_pass_names::items::Allocations;
-use first_pass_open::open_block::{BlockLines, close_block, go_on, open_block};
+use first_pass_open::open_block::{BlockLines, close_block, open_block};
+use first_pass_scan::line_start::LineStart;
 use first_pass_scan::lines::scan_blank_line;
 use first_pass_scan::places::next_line;
 use first_pass_tree::forest::Tree;
@@ -44,47 +46,46 @@ pub fn parse_html_block_type_1_to_5<'a>(
 {
     tree.is_forest();
     open_block(tree, start_ix, ItemBody::HtmlBlock)?;
-    let lines = lines_to_end(tree, allocs, text, options, start_ix, html_end_tag, columns)?;
+    tree.is_forest();
+    let end = next_line(text.as_bytes(), start_ix);
+    append_raw_line(tree, allocs, text, RawKind::Html, columns, start_ix, end)?;
+    if text[start_ix..end].contains(html_end_tag) {
+        close_block(tree, end);
+        return Ok(end);
+    }
+    let block = ToTag { tag: html_end_tag };
+    let lines = read_lines(&block, RawKind::Html, tree, allocs, text, options, end)?;
     close_block(tree, lines.end);
     Ok(lines.next)
 }
 
-// The lines of an HTML block from the one on whose bytes begin at the offset `start`, up to the one that holds a text.
-fn lines_to_end<'a>(
-    tree: &mut Tree<Item>,
-    allocs: &mut Allocations<'a>,
-    text: &'a str,
-    options: Options,
-    start: usize,
-    html_end_tag: &str,
-    columns: usize,
-) -> Result<BlockLines, AllocError>
-    requires boundary { IsCharBoundary text.now start }
-    requires columns { columns ≤ 3 }
-    ensures lines { IfOk result (λ lines. (p : Place) → IsPlaceAt text.now start p
-        → AppendsHtmlLines text.now options (names_of allocs.new) columns
-        (html_to_end text.now (path_of tree.old) html_end_tag.now p) tree.old tree.new lines.«end» lines.next) }
-    ensures boundary { IfOk result (λ lines. (behind_line_at text.now start ≤ lines.next)
-        × IsCharBoundary text.now lines.next) }
-    ensures names { OnOk result (Extends (names_of allocs.new) (names_of allocs.old)) }
-    ensures tables { OnOk result (tables allocs.new ≡ tables allocs.old) }
-{
-    tree.is_forest();
-    let mut at = start;
-    let mut owed = columns;
-    'lines: loop {
-        let next = next_line(text.as_bytes(), at);
-        append_html_line(tree, allocs, text, owed, at, next)?;
-        if next == text.len() || text[at..next].contains(html_end_tag) {
-            return Ok(BlockLines { end: next, next });
-        }
-        let Some(line_start) = go_on(text, next, tree, options) else {
-            return Ok(BlockLines { end: next, next });
-        };
-        at = next + line_start.bytes_scanned();
-        owed = line_start.remaining_space();
+// An HTML block that goes on to the line that holds this text.
+#[derive(Clone, Copy)]
+struct ToTag<'t> {
+    tag: &'t str,
+}
+
+impl JudgesLines for ToTag<'_> {
+    ghost use Rattle.first_pass_grammar.specs.HtmlBlocks.{tag_judge};
+
+    ghost judges = { λ block. tag_judge block.tag.now };
+
+    #[inline(always)]
+    fn judge(
+        &self,
+        text: &str,
+        start: usize,
+        next: usize,
+        line_start: &mut LineStart<'_>,
+    ) -> Verdict {
+        let at = start + line_start.bytes_scanned();
         if at == text.len() {
-            return Ok(BlockLines { end: at, next: at });
+            return Verdict::Closes(at);
+        }
+        if text[at..next].contains(self.tag) {
+            Verdict::IsLast
+        } else {
+            Verdict::GoesOn
         }
     }
 }
@@ -116,49 +117,37 @@ pub fn parse_html_block_type_6_or_7<'a>(
 {
     tree.is_forest();
     open_block(tree, start_ix, ItemBody::HtmlBlock)?;
-    let lines = lines_to_blank(tree, allocs, text, options, start_ix, columns)?;
+    tree.is_forest();
+    let next = next_line(text.as_bytes(), start_ix);
+    append_raw_line(tree, allocs, text, RawKind::Html, columns, start_ix, next)?;
+    let lines = read_lines(&ToBlank, RawKind::Html, tree, allocs, text, options, next)?;
     close_block(tree, lines.end);
     Ok(lines)
 }
 
-// The lines of an HTML block from the one on whose bytes begin at the offset `start`, up to a blank line.
-fn lines_to_blank<'a>(
-    tree: &mut Tree<Item>,
-    allocs: &mut Allocations<'a>,
-    text: &'a str,
-    options: Options,
-    start: usize,
-    columns: usize,
-) -> Result<BlockLines, AllocError>
-    requires boundary { IsCharBoundary text.now start }
-    requires columns { columns ≤ 3 }
-    ensures lines { IfOk result (λ lines. (p : Place) → IsPlaceAt text.now start p
-        → AppendsHtmlLines text.now options (names_of allocs.new) columns (html_to_blank text.now (path_of tree.old) p)
-        tree.old tree.new lines.«end» lines.next) }
-    ensures boundary { IfOk result (λ lines. (behind_line_at text.now start ≤ lines.next)
-        × IsCharBoundary text.now lines.next) }
-    ensures names { OnOk result (Extends (names_of allocs.new) (names_of allocs.old)) }
-    ensures tables { OnOk result (tables allocs.new ≡ tables allocs.old) }
-{
-    tree.is_forest();
-    let mut at = start;
-    let mut owed = columns;
-    'lines: loop {
-        let next = next_line(text.as_bytes(), at);
-        append_html_line(tree, allocs, text, owed, at, next)?;
-        if next == text.len() {
-            return Ok(BlockLines { end: next, next });
-        }
-        let Some(line_start) = go_on(text, next, tree, options) else {
-            return Ok(BlockLines { end: next, next });
-        };
+// An HTML block that goes on to a blank line.
+#[derive(Clone, Copy)]
+struct ToBlank;
+
+impl JudgesLines for ToBlank {
+    ghost use Rattle.first_pass_grammar.specs.HtmlBlocks.{blank_judge};
+
+    ghost judges = { λ block. blank_judge };
+
+    #[inline(always)]
+    fn judge(
+        &self,
+        _text: &str,
+        start: usize,
+        _next: usize,
+        line_start: &mut LineStart<'_>,
+    ) -> Verdict {
         if line_start.is_at_eol() {
-            return Ok(BlockLines { end: next, next });
+            return Verdict::Stops(start);
         }
-        at = next + line_start.bytes_scanned();
-        owed = line_start.remaining_space();
         if scan_blank_line(line_start.left()).is_some() {
-            return Ok(BlockLines { end: at, next });
+            return Verdict::Stops(start + line_start.bytes_scanned());
         }
+        Verdict::GoesOn
     }
 }

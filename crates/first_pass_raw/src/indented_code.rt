@@ -4,12 +4,13 @@ ghost use Rattle.std.specs.Prelude.{◌≡◌, ◌≤◌, length, drop, Some, fa
 ghost use Rattle.first_pass_tree.specs.Forest.{IsChild, kept_after, with_end_at};
 ghost use Rattle.first_pass_scan.specs.Places.{Place, place_at, offset, IsPlaceOf};
 ghost use Rattle.first_pass_grammar.specs.Names.{Extends};
+ghost use Rattle.first_pass_grammar.specs.RawLines.{range_text};
 ghost use Rattle.first_pass_open.specs.Path.{path_of};
 ghost use Rattle.first_pass_names.specs.TableEntries.{tables, names_of};
 ghost use Rattle.first_pass_scan.specs.Lines.{is_blank_line};
-ghost use Rattle.first_pass_raw.specs.RawBlocks.{IsJustOpened, code_rest_at, IsPlaceAt, AppendsCode, AppendsIndented, AddsIndented, behind_line_at};
+ghost use Rattle.first_pass_raw.specs.RawBlocks.{IsJustOpened, code_rest_at, IsPlaceAt, AppendsRaw, AppendsIndented, AddsIndented, behind_line_at};
 
-use crate::raw_line::append_code_text;
+use crate::raw_line::{RawKind, append_raw_line};
 use first_pass_items::item::{Item, ItemBody};
 use first_pass_items::option_set::Options;
 use first_pass_names::items::Allocations;
@@ -112,12 +113,13 @@ fn append_line<'a>(
     requires owed { owed ≤ 3 }
     ensures end { IfOk result (λ next. next ≡ behind_line_at text.now at) }
     ensures within { IfOk result (λ next. next ≤ length text.now) }
-    ensures line { IfOk result (λ next. AppendsCode text.now (names_of allocs.new) owed at next tree.old tree.new) }
+    ensures line { IfOk result (λ next. AppendsRaw range_text text.now (names_of allocs.new) owed at next tree.old
+        tree.new) }
     ensures names { OnOk result (Extends (names_of allocs.new) (names_of allocs.old)) }
     ensures tables { OnOk result (tables allocs.new ≡ tables allocs.old) }
 {
     let next = next_line(text.as_bytes(), at);
-    append_code_text(tree, allocs, text, owed, at, next)?;
+    append_raw_line(tree, allocs, text, RawKind::Code, owed, at, next)?;
     Ok(next)
 }
 

@@ -1,8 +1,10 @@
 //! Which lines a raw leaf block has: indented and fenced code, metadata and HTML.
 #![tactic(auto)]
 
+pub mod extent;
 pub mod fenced_code;
 pub mod html_block;
 pub mod indented_code;
 pub mod metadata_block;
 pub mod raw_line;
+pub mod verdict;

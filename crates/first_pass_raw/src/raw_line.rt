@@ -3,10 +3,10 @@
 ghost use Rattle.std.specs.Prelude.{◌≡◌, ◌≤◌, length, OnOk};
 ghost use Rattle.first_pass_items.specs.declared.option_set.Options.{Options};
 ghost use Rattle.first_pass_grammar.specs.Names.{Names, Extends};
-ghost use Rattle.first_pass_grammar.specs.RawLines.{ends_with_both, html_item};
-ghost use Rattle.first_pass_tree.specs.Forest.{appended};
+ghost use Rattle.first_pass_grammar.specs.RawLines.{ends_with_both};
+ghost use Rattle.first_pass_tokens.specs.TreeTokens.{with_tokens};
 ghost use Rattle.first_pass_names.specs.TableEntries.{tables, names_of};
-ghost use Rattle.first_pass_raw.specs.RawBlocks.{AppendsColumns, AppendsCode, AppendsHtml};
+ghost use Rattle.first_pass_raw.specs.RawBlocks.{range_of, AppendsColumns, AppendsRaw};
 
 use first_pass_items::cow_str::CowStr;
 use first_pass_items::item::{Item, ItemBody};
@@ -48,52 +48,43 @@ fn ends_with_both(bytes: &[u8], start: usize, end: usize) -> bool
     start + 1 < end && bytes[end - 2] == b'\r' && bytes[end - 1] == b'\n'
 }
 
-/// Appends a raw line of code or metadata to the innermost open node: the columns that are owed before it, at
-/// most 3, and its bytes from the offset `start` up to `end`, without a `\r` before a `\n` at their end.
-pub fn append_code_text<'a>(
+/// What a raw line is of, as which its bytes are appended: as texts, or as HTML.
+#[derive(Clone, Copy)]
+pub enum RawKind {
+    Code,
+    Html,
+}
+
+// Appends a range of a raw line's bytes.
+fn append_range(
     tree: &mut Tree<Item>,
-    allocs: &mut Allocations<'a>,
-    text: &str,
-    remaining_space: usize,
+    kind: RawKind,
     start: usize,
     end: usize,
 ) -> Result<(), AllocError>
-    requires owed { remaining_space ≤ 3 }
-    requires order { start ≤ end }
-    requires within { end ≤ length text.now }
-    ensures line { OnOk result
-        (AppendsCode text.now (names_of allocs.new) remaining_space start end tree.old tree.new) }
-    ensures names { OnOk result (Extends (names_of allocs.new) (names_of allocs.old)) }
-    ensures tables { OnOk result (tables allocs.new ≡ tables allocs.old) }
+    requires { start ≤ end }
+    ensures { OnOk result (tree.new ≡ with_tokens tree.old (range_of kind start end)) }
 {
-    append_columns(tree, allocs, remaining_space, start)?;
-    if ends_with_both(text.as_bytes(), start, end) {
-        tree.append_text(start, end - 2, false)?;
-        tree.append_text(end - 1, end, false)?;
-    } else {
-        tree.append_text(start, end, false)?;
+    match kind {
+        RawKind::Code => tree.append_text(start, end, false)?,
+        RawKind::Html => {
+            tree.append(Item {
+                start,
+                end,
+                body: ItemBody::Html,
+            })?;
+        }
     }
     Ok(())
 }
 
-// Appends a range as HTML.
-fn append_html(tree: &mut Tree<Item>, start: usize, end: usize) -> Result<(), AllocError>
-    ensures { OnOk result (tree.new ≡ appended tree.old (html_item start end)) }
-{
-    tree.append(Item {
-        start,
-        end,
-        body: ItemBody::Html,
-    })?;
-    Ok(())
-}
-
-/// Appends a raw line of HTML to the innermost open node: the columns that are owed before it, at most 3, and
-/// its bytes from the offset `start` up to `end`, without a `\r` before a `\n` at their end.
-pub fn append_html_line<'a>(
+/// Appends a raw line to the innermost open node: the columns that are owed before it, at most 3, and its bytes from
+/// the offset `start` up to `end`, without a `\r` before a `\n` at their end.
+pub fn append_raw_line<'a>(
     tree: &mut Tree<Item>,
     allocs: &mut Allocations<'a>,
     text: &str,
+    kind: RawKind,
     remaining_space: usize,
     start: usize,
     end: usize,
@@ -101,17 +92,17 @@ pub fn append_html_line<'a>(
     requires owed { remaining_space ≤ 3 }
     requires order { start ≤ end }
     requires within { end ≤ length text.now }
-    ensures line { OnOk result
-        (AppendsHtml text.now (names_of allocs.new) remaining_space start end tree.old tree.new) }
+    ensures line { OnOk result (AppendsRaw (range_of kind) text.now (names_of allocs.new) remaining_space start end
+        tree.old tree.new) }
     ensures names { OnOk result (Extends (names_of allocs.new) (names_of allocs.old)) }
     ensures tables { OnOk result (tables allocs.new ≡ tables allocs.old) }
 {
     append_columns(tree, allocs, remaining_space, start)?;
     if ends_with_both(text.as_bytes(), start, end) {
-        append_html(tree, start, end - 2)?;
-        append_html(tree, end - 1, end)?;
+        append_range(tree, kind, start, end - 2)?;
+        append_range(tree, kind, end - 1, end)?;
     } else {
-        append_html(tree, start, end)?;
+        append_range(tree, kind, start, end)?;
     }
     Ok(())
 }

@@ -1,12 +1,13 @@
 use Rattle.std.proofs.Common.{◌+◌, drop, length, ap, arith}
 use Rattle.first_pass_items.specs.declared.item.ItemBody.TheVariants.{FencedCodeBlock}
-use Rattle.first_pass_grammar.specs.CodeBlocks.{info_string}
+use Rattle.first_pass_grammar.specs.CodeBlocks.{fence_judge, info_string}
+use Rattle.first_pass_grammar.specs.RawLines.{range_text}
 use Rattle.first_pass_open.specs.Path.{path_of}
 use Rattle.first_pass_names.specs.TableEntries.{names_of}
 use Rattle.first_pass_open.proofs.PathLemmas.{open_are_in}
 use Rattle.first_pass_names.proofs.NameLemmas.{info_named}
-use Rattle.first_pass_raw.proofs.CodeLineLemmas.{first_read, code_open}
-use Rattle.first_pass_raw.proofs.FencedLemmas.{fence_end, fenced_from, fenced_added}
+use Rattle.first_pass_raw.proofs.ExtentLemmas.{first_read, extent_from, block_open}
+use Rattle.first_pass_raw.proofs.FencedLemmas.{fence_end, fenced_added}
 use Rattle.first_pass_raw.proofs.fenced_code.parse_fenced_code_block.Goals as goal
 
 pub overflow_add-start_ix : goal.overflow_add-start_ix
@@ -17,17 +18,17 @@ overflow_add-start_ix c =
 pub info_string-requires : goal.info_string-requires
 info_string-requires c = record { boundary = fence_end c.args.text.now c.args.start_ix c.args.fence.count c.args.fence.byte c.utf8.text c.requires.boundary c.requires.fence }
 
-pub fenced_lines-requires-clause-boundary : goal.fenced_lines-requires-clause-boundary
-fenced_lines-requires-clause-boundary c = (first_read c.args.text.now c.as_bytes-bytes.result.now c.args.start_ix _ c.utf8.text c.requires.boundary c.as_bytes-bytes.ensures.value c.next_line-first.ensures.value).1
+pub read_lines-requires-clause-boundary : goal.read_lines-requires-clause-boundary
+read_lines-requires-clause-boundary c = (first_read c.args.text.now c.as_bytes-bytes.result.now c.args.start_ix _ c.utf8.text c.requires.boundary c.as_bytes-bytes.ensures.value c.next_line-first.ensures.value).1
 
 pub close_block-requires : goal.close_block-requires
 close_block-requires c =
-    code_open c.args.text.now c.args.options (names_of c.fenced_lines.new.allocs) (fenced_from c.args.text.now (path_of c.open_block.new.tree) c.args.fence.indent c.args.fence.byte c.args.fence.count c.next_line-first.result) c.args.tree.now c.open_block.new.tree c.fenced_lines.new.tree
+    block_open range_text c.args.text.now c.args.options (names_of c.read_lines.new.allocs) (extent_from c.args.text.now (path_of c.open_block.new.tree) (fence_judge c.args.fence.indent c.args.fence.byte c.args.fence.count) c.next_line-first.result) c.args.tree.now c.open_block.new.tree c.read_lines.new.tree
     c.args.start_ix (FencedCodeBlock c.in_ok-info_ix.info_ix) c.in_ok-lines.lines.«end» c.in_ok-lines.lines.next c.in_ok-open_block.ensures c.in_ok-lines.ensures.lines
 
 pub returns-clause-block : goal.returns-clause-block
 returns-clause-block c =
-    fenced_added c.args.text.now c.args.options (names_of c.allocate_cow.new.self) (names_of c.fenced_lines.new.allocs) c.args.tree.now c.open_block.new.tree c.fenced_lines.new.tree c.close_block.new.tree
+    fenced_added c.args.text.now c.args.options (names_of c.allocate_cow.new.self) (names_of c.read_lines.new.allocs) c.args.tree.now c.open_block.new.tree c.read_lines.new.tree c.close_block.new.tree
     c.args.start_ix c.args.fence.indent c.args.fence.byte c.args.fence.count c.next_line-first.result c.in_ok-lines.lines.«end» c.in_ok-lines.lines.next c.in_ok-info_ix.info_ix
     (open_are_in c.args.tree.now.nodes c.args.tree.now.spine c.is_forest.ensures.opened) c.in_ok-open_block.ensures
     (first_read c.args.text.now c.as_bytes-bytes.result.now c.args.start_ix _ c.utf8.text c.requires.boundary c.as_bytes-bytes.ensures.value c.next_line-first.ensures.value).0

@@ -1,18 +1,19 @@
 use Rattle.std.proofs.Common.{◌≡◌, ◌≤◌, ◌-◌, length, IsCharBoundary}
 use Rattle.first_pass_grammar.specs.Names.{Extends}
 use Rattle.first_pass_names.specs.TableEntries.{tables, names_of}
-use Rattle.first_pass_raw.proofs.FencedLemmas.{FencedSoFar}
-use Rattle.first_pass_raw.proofs.fenced_code.fenced_lines.Given as goal
+use Rattle.first_pass_raw.specs.RawBlocks.{range_of}
+use Rattle.first_pass_raw.proofs.ExtentLemmas.{ReadSoFar}
+use Rattle.first_pass_raw.proofs.extent.read_lines.Given as goal
 
 -- the lines are read up to here
 abbrev pub invariant-loop-ix : goal.invariant-loop-ix
-invariant-loop-ix l = record {
+invariant-loop-ix g l = record {
   later : l.start ≤ l.ix;
   boundary : IsCharBoundary l.text l.ix;
   names : Extends (names_of l.allocs) (names_of l.initial.allocs);
   same_tables : tables l.allocs ≡ tables l.initial.allocs;
-  read : FencedSoFar l.text l.options (names_of l.allocs) l.fence.indent l.fence.byte l.fence.count l.start l.ix l.initial.tree l.tree;
+  read : ReadSoFar (range_of l.kind) l.text l.options (names_of l.allocs) (g.J.JudgesLines.judges l.judge) l.start l.ix l.initial.tree l.tree;
 }
 
 abbrev pub decreases-loop-ix : goal.decreases-loop-ix
-decreases-loop-ix l = length l.text - l.ix
+decreases-loop-ix g l = length l.text - l.ix

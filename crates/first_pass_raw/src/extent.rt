@@ -1,0 +1,89 @@
+//! The lines of a raw leaf block: each up to the first that ends it (CommonMark 4.5, 4.6).
+
+ghost use Rattle.std.specs.Prelude.{◌≡◌, ◌≤◌, length, drop, IfOk, OnOk, IsCharBoundary};
+ghost use Rattle.first_pass_scan.specs.Places.{Place, place_at, line_place, line_end, IsPlaceOf};
+ghost use Rattle.first_pass_tokens.specs.TreeTokens.{JoinsNone};
+ghost use Rattle.first_pass_grammar.specs.Names.{Extends};
+ghost use Rattle.first_pass_grammar.specs.Completion.{lines_from};
+ghost use Rattle.first_pass_grammar.specs.Extents.{Verdict as Judgement, extent, in_containers};
+ghost use Rattle.first_pass_open.specs.Path.{path_of};
+ghost use Rattle.first_pass_names.specs.TableEntries.{tables, names_of};
+ghost use Rattle.first_pass_raw.specs.RawBlocks.{range_of, said, AppendsLines};
+
+use crate::raw_line::{RawKind, append_raw_line};
+use crate::verdict::Verdict;
+use first_pass_items::item::Item;
+use first_pass_items::option_set::Options;
+use first_pass_names::items::Allocations;
+use first_pass_open::open_block::{BlockLines, go_on};
+use first_pass_scan::line_start::LineStart;
+use first_pass_scan::places::next_line;
+use first_pass_tree::forest::Tree;
+use std::alloc::AllocError;
+
+/// A kind of raw leaf block, which judges the lines that go on with the containers around it.
+pub trait JudgesLines {
+    // What a line is to the block, and the place behind its containers.
+    ghost judges: { Self → Place → Place → Judgement };
+
+    /// What the line of the text is to the block that begins at the offset `start`, before the one at `next`, and of
+    /// which this is left behind its containers. A line of the block's is left where its text begins.
+    fn judge(
+        &self,
+        text: &str,
+        start: usize,
+        next: usize,
+        line_start: &mut LineStart<'_>,
+    ) -> Verdict
+        requires place { IsPlaceOf text.now (place_at start line_start.old) }
+        requires next { next ≡ line_end (place_at start line_start.old) }
+        requires boundary { IsCharBoundary text.now next }
+        ensures verdict { judges self.now (line_place start (drop start text.now)) (place_at start line_start.old)
+            ≡ said result (place_at start line_start.new) }
+        ensures place { IsPlaceOf text.now (place_at start line_start.new) }
+        ensures next { next ≡ line_end (place_at start line_start.new) };
+}
+
+/// Appends the lines of a block from the one on that begins at the offset `start`.
+pub fn read_lines<'a, J: JudgesLines>(
+    judge: &J,
+    kind: RawKind,
+    tree: &mut Tree<Item>,
+    allocs: &mut Allocations<'a>,
+    text: &'a str,
+    options: Options,
+    start: usize,
+) -> Result<BlockLines, AllocError>
+    requires boundary { IsCharBoundary text.now start }
+    requires apart { JoinsNone tree.old }
+    ensures lines { IfOk result (λ lines. AppendsLines (range_of kind) text.now options (names_of allocs.new)
+        (extent (in_containers (path_of tree.old) (J.judges judge.now)) (length text.now) (lines_from text.now start))
+        tree.old tree.new lines.«end» lines.next) }
+    ensures boundary { IfOk result (λ lines. (start ≤ lines.next) × IsCharBoundary text.now lines.next) }
+    ensures names { OnOk result (Extends (names_of allocs.new) (names_of allocs.old)) }
+    ensures tables { OnOk result (tables allocs.new ≡ tables allocs.old) }
+{
+    tree.is_forest();
+    let mut ix = start;
+    while ix < text.len() {
+        let Some(mut line_start) = go_on(text, ix, tree, options) else {
+            return Ok(BlockLines { end: ix, next: ix });
+        };
+        let next = next_line(text.as_bytes(), ix);
+        let verdict = judge.judge(text, ix, next, &mut line_start);
+        if let Verdict::Stops(end) = verdict {
+            return Ok(BlockLines { end, next: ix });
+        }
+        if let Verdict::Closes(end) = verdict {
+            return Ok(BlockLines { end, next });
+        }
+        let at = ix + line_start.bytes_scanned();
+        let owed = line_start.remaining_space();
+        append_raw_line(tree, allocs, text, kind, owed, at, next)?;
+        if let Verdict::IsLast = verdict {
+            return Ok(BlockLines { end: next, next });
+        }
+        ix = next;
+    }
+    Ok(BlockLines { end: ix, next: ix })
+}
