@@ -8,13 +8,13 @@ ghost use Rattle.first_pass_grammar.specs.RawLines.{range_text};
 ghost use Rattle.first_pass_open.specs.Path.{path_of};
 ghost use Rattle.first_pass_names.specs.TableEntries.{tables, names_of};
 ghost use Rattle.first_pass_scan.specs.Lines.{is_blank_line};
-ghost use Rattle.first_pass_raw.specs.RawBlocks.{IsJustOpened, code_rest_at, IsPlaceAt, AppendsRaw, AppendsIndented, AddsIndented, behind_line_at};
+ghost use Rattle.first_pass_raw.specs.RawBlocks.{code_rest_at, IsPlaceAt, AppendsRaw, AddsIndented, behind_line_at};
 
 use crate::raw_line::{RawKind, append_raw_line};
 use first_pass_items::item::{Item, ItemBody};
 use first_pass_items::option_set::Options;
 use first_pass_names::items::Allocations;
-use first_pass_open::open_block::{BlockLines, close_block, go_on, open_block};
+use first_pass_open::open_block::{close_block, go_on, open_block};
 use first_pass_scan::line_start::LineStart;
 use first_pass_scan::lines::scan_blank_line;
 use first_pass_scan::places::next_line;
@@ -46,42 +46,8 @@ pub fn parse_indented_code_block<'a>(
 {
     tree.is_forest();
     open_block(tree, start_ix, ItemBody::IndentCodeBlock)?;
-    let (lines, blank) = indented_lines(tree, allocs, text, options, start_ix, remaining_space)?;
-    close_block(tree, lines.end);
-    Ok((lines.next, blank))
-}
-
-// What stays of the lines so far where only blank ones follow: the last node, and where it ends.
-#[derive(Clone, Copy)]
-struct Kept {
-    last: Option<TreeIndex>,
-    end: usize,
-}
-
-// The lines of indented code, its first from the offset `start` on, without the blank ones at the end; and whether
-// there are such.
-fn indented_lines<'a>(
-    tree: &mut Tree<Item>,
-    allocs: &mut Allocations<'a>,
-    text: &'a str,
-    options: Options,
-    start: usize,
-    remaining_space: usize,
-) -> Result<(BlockLines, bool), AllocError>
-    requires boundary { IsCharBoundary text.now start }
-    requires owed { remaining_space ≤ 3 }
-    requires code { is_blank_line (drop start text.now) ≡ false }
-    requires opened { IsJustOpened tree.old }
-    ensures lines { IfOk result (λ answer. (p : Place) → IsPlaceAt text.now start p → p.rest.owed ≡ remaining_space
-        → AppendsIndented text.now options (names_of allocs.new) p tree.old tree.new answer.0.«end» answer.0.next
-        answer.1) }
-    ensures boundary { IfOk result (λ answer. (behind_line_at text.now start ≤ answer.0.next)
-        × IsCharBoundary text.now answer.0.next) }
-    ensures names { OnOk result (Extends (names_of allocs.new) (names_of allocs.old)) }
-    ensures tables { OnOk result (tables allocs.new ≡ tables allocs.old) }
-{
     tree.is_forest();
-    let mut next = append_line(tree, allocs, text, start, remaining_space)?;
+    let mut next = append_line(tree, allocs, text, start_ix, remaining_space)?;
     let mut kept = Kept {
         last: tree.cur(),
         end: next,
@@ -94,11 +60,15 @@ fn indented_lines<'a>(
         kept = kept_line(kept, tree, blank, next);
     }
     cut_behind(tree, kept);
-    let lines = BlockLines {
-        end: kept.end,
-        next,
-    };
-    Ok((lines, blank))
+    close_block(tree, kept.end);
+    Ok((next, blank))
+}
+
+// What stays of the lines so far where only blank ones follow: the last node, and where it ends.
+#[derive(Clone, Copy)]
+struct Kept {
+    last: Option<TreeIndex>,
+    end: usize,
 }
 
 // Appends the line of code from the offset `at` on, of which so many columns are owed there, and answers where it ends.

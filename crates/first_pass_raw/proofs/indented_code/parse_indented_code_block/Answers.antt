@@ -1,15 +1,89 @@
-use Rattle.std.proofs.Common.{refl}
-use Rattle.first_pass_raw.proofs.IndentedLemmas.{first_at, first_is, just_opened, code_open, code_added}
+use Rattle.std.proofs.Common.{◌<◌, ◌≤◌, length, is_some, refl, ap, sym, subst, ◌∙◌, arith}
+use Rattle.first_pass_items.specs.declared.item.Item.{Item}
+use Rattle.first_pass_items.specs.declared.item.ItemBody.TheVariants.{IndentCodeBlock}
+use Rattle.first_pass_tree.specs.Forest.{Forest, IsForest}
+use Rattle.first_pass_scan.specs.Lines.{blank_len}
+use Rattle.first_pass_tokens.proofs.ChainLemmas.{joins_none-fresh}
+use Rattle.first_pass_open.specs.OpenBlock.{opened_block}
+use Rattle.first_pass_open.specs.Path.{path_of}
+use Rattle.first_pass_names.specs.TableEntries.{names_of}
+use Rattle.first_pass_names.proofs.NameLemmas.{extends_both}
+use Rattle.first_pass_raw.specs.RawBlocks.{AppendsRaw, behind_line_at}
+use Rattle.first_pass_raw.proofs.IndentedLemmas.{first_at, first_is, first_boundary, so_far_first, so_far_next, so_far_stop, kept_child, next_read, next_rest, opened_last, just_opened, code_open, code_added}
+use Rattle.first_pass_grammar.specs.RawLines.{range_text}
 use Rattle.first_pass_raw.proofs.indented_code.parse_indented_code_block.Goals as goal
 
-pub indented_lines-requires-clause-opened : goal.indented_lines-requires-clause-opened
-indented_lines-requires-clause-opened c = just_opened c.args.tree.now c.open_block.new.tree c.args.start_ix c.in_ok-open_block.ensures
+pub lines-init : goal.lines-init
+lines-init c =
+    let e = c.in_ok-next.ensures.«end» in
+    let opened : Forest Item = opened_block c.args.tree.now c.args.start_ix IndentCodeBlock in
+    let line = subst (λ (f : Forest Item). AppendsRaw range_text c.args.text.now (names_of c.append_line.new.allocs) c.args.remaining_space c.args.start_ix c.in_ok-next.next f c.append_line.new.tree) c.in_ok-open_block.ensures c.in_ok-next.ensures.line in
+    record {
+      boundary = first_boundary c.args.text.now c.args.start_ix c.in_ok-next.next c.utf8.text c.requires.boundary c.requires.code e;
+      from = omega arith;
+      named = c.in_ok-next.ensures.names;
+      same_tables = c.in_ok-next.ensures.tables;
+      read = λ p at o. so_far_first c.args.text.now c.args.options (names_of c.append_line.new.allocs) p opened c.append_line.new.tree c.args.start_ix c.args.remaining_space c.in_ok-next.next c.cur.result at o c.requires.code
+          (joins_none-fresh opened refl) e line c.cur.ensures;
+    }
+
+pub lines-preserved : goal.lines-preserved
+lines-preserved c =
+    let i = c.lines.invariant in
+    let text = c.args.text.now in
+    let opened : Forest Item = opened_block c.args.tree.now c.args.start_ix IndentCodeBlock in
+    let forest = subst (IsForest {T = Item}) c.in_ok-open_block.ensures c.is_forest-2.ensures in
+    let first = i.read (first_at text c.args.start_ix c.args.remaining_space) (first_is text c.args.start_ix c.args.remaining_space) refl in
+    let goes = sym (next_rest _ _ _ _ _ _ _ _ _ c.indented_line.result first forest c.indented_line.ensures.value) ∙ c.in-Some.is in
+    let read = next_read text (path_of opened) c.lines.next _ c.in_ok-next-2.next c.in-Some.line_start c.utf8.text i.boundary goes c.in-Some.ensures.place c.bytes_scanned.ensures c.in_ok-next-2.ensures.«end» in
+    let later : c.lines.next < c.in_ok-next-2.next = read.1 in
+    let from : behind_line_at text c.args.start_ix ≤ c.lines.next = i.from in
+    record {
+      boundary = read.2;
+      from = omega arith;
+      named = extends_both _ _ _ c.in_ok-next-2.ensures.names i.named;
+      same_tables = c.in_ok-next-2.ensures.tables ∙ i.same_tables;
+      read = λ p at o. so_far_next text c.args.options (names_of c.lines.allocs) (names_of c.append_line-in-Some.new.allocs) p opened c.lines.tree c.append_line-in-Some.new.tree c.lines.next c.in_ok-next-2.next _ _ c.lines.kept
+          c.lines.blank c.in-Some.line_start c.utf8.text i.boundary (joins_none-fresh opened refl) (i.read p at o) goes c.in-Some.ensures.place c.in_ok-next-2.ensures.names
+          c.remaining_space.ensures.value c.bytes_scanned.ensures c.in_ok-next-2.ensures.line c.in_ok-next-2.ensures.«end» c.is_some-blank.result c.kept_line-kept.result
+          (c.is_some-blank.ensures ∙ ap is_some (c.scan_blank_line.ensures.value ∙ ap blank_len c.left.ensures)) c.kept_line-kept.ensures;
+    }
+
+pub lines-smaller : goal.lines-smaller
+lines-smaller c =
+    let i = c.lines.invariant in
+    let text = c.args.text.now in
+    let opened : Forest Item = opened_block c.args.tree.now c.args.start_ix IndentCodeBlock in
+    let forest = subst (IsForest {T = Item}) c.in_ok-open_block.ensures c.is_forest-2.ensures in
+    let first = i.read (first_at text c.args.start_ix c.args.remaining_space) (first_is text c.args.start_ix c.args.remaining_space) refl in
+    let goes = sym (next_rest _ _ _ _ _ _ _ _ _ c.indented_line.result first forest c.indented_line.ensures.value) ∙ c.in-Some.is in
+    let read = next_read text (path_of opened) c.lines.next _ c.in_ok-next-2.next c.in-Some.line_start c.utf8.text i.boundary goes c.in-Some.ensures.place c.bytes_scanned.ensures c.in_ok-next-2.ensures.«end» in
+    let later : c.lines.next < c.in_ok-next-2.next = read.1 in
+    let within : c.in_ok-next-2.next ≤ length text = c.in_ok-next-2.ensures.within in
+    omega arith
+
+pub cut_behind-requires : goal.cut_behind-requires
+cut_behind-requires c =
+    let text = c.args.text.now in
+    let opened : Forest Item = opened_block c.args.tree.now c.args.start_ix IndentCodeBlock in
+    let first = c.lines.invariant.read (first_at text c.args.start_ix c.args.remaining_space) (first_is text c.args.start_ix c.args.remaining_space) refl in
+    kept_child _ _ _ _ _ _ _ _ _ (opened_last opened (just_opened c.args.tree.now opened c.args.start_ix refl)) first
 
 pub close_block-requires : goal.close_block-requires
 close_block-requires c =
     let text = c.args.text.now in
-    let first = c.in_ok-lines.ensures.lines (first_at text c.args.start_ix c.args.remaining_space) (first_is text c.args.start_ix c.args.remaining_space) refl in
-    code_open _ _ _ _ c.args.tree.now _ c.indented_lines.new.tree c.args.start_ix _ _ _ c.in_ok-open_block.ensures first
+    let opened : Forest Item = opened_block c.args.tree.now c.args.start_ix IndentCodeBlock in
+    let forest = subst (IsForest {T = Item}) c.in_ok-open_block.ensures c.is_forest-2.ensures in
+    let first = c.lines.invariant.read (first_at text c.args.start_ix c.args.remaining_space) (first_is text c.args.start_ix c.args.remaining_space) refl in
+    let stops = sym (next_rest _ _ _ _ _ _ _ _ _ c.indented_line.result first forest c.indented_line.ensures.value) ∙ c.in_default.is in
+    let all = so_far_stop _ _ _ _ _ _ _ _ _ (opened_last opened (just_opened c.args.tree.now opened c.args.start_ix refl)) first c.cut_behind.new.tree stops c.cut_behind.ensures in
+    code_open _ _ _ _ c.args.tree.now opened c.cut_behind.new.tree c.args.start_ix _ _ _ refl all
 
 pub returns-clause-block : goal.returns-clause-block
-returns-clause-block c p at o = code_added _ _ _ p c.args.tree.now _ c.indented_lines.new.tree c.args.start_ix _ _ _ c.in_ok-open_block.ensures (c.in_ok-lines.ensures.lines p at o) c.close_block.new.tree c.is_forest.ensures at.offset_is c.close_block.ensures
+returns-clause-block c p at o =
+    let opened : Forest Item = opened_block c.args.tree.now c.args.start_ix IndentCodeBlock in
+    let forest = subst (IsForest {T = Item}) c.in_ok-open_block.ensures c.is_forest-2.ensures in
+    let s = c.lines.invariant.read p at o in
+    let stops = sym (next_rest _ _ _ _ _ _ _ _ _ c.indented_line.result s forest c.indented_line.ensures.value) ∙ c.in_default.is in
+    let all = so_far_stop _ _ _ _ _ _ _ _ _ (opened_last opened (just_opened c.args.tree.now opened c.args.start_ix refl)) s c.cut_behind.new.tree stops c.cut_behind.ensures in
+    code_added _ _ _ p c.args.tree.now opened c.cut_behind.new.tree c.args.start_ix _ _ _ refl all c.close_block.new.tree c.is_forest.ensures at.offset_is c.close_block.ensures

@@ -1,19 +1,22 @@
 use Rattle.std.proofs.Common.{◌≡◌, ◌-◌, ◌≤◌, length, IsCharBoundary}
+use Rattle.first_pass_items.specs.declared.item.ItemBody.TheVariants.{IndentCodeBlock}
 use Rattle.first_pass_scan.specs.Places.{Place}
 use Rattle.first_pass_grammar.specs.Names.{Extends}
-use Rattle.first_pass_raw.specs.RawBlocks.{IsPlaceAt, behind_line_at}
+use Rattle.first_pass_open.specs.OpenBlock.{opened_block}
 use Rattle.first_pass_names.specs.TableEntries.{tables, names_of}
+use Rattle.first_pass_raw.specs.RawBlocks.{IsPlaceAt, behind_line_at}
 use Rattle.first_pass_raw.proofs.IndentedLemmas.{IndentedSoFar}
-use Rattle.first_pass_raw.proofs.indented_code.indented_lines.Given as goal
+use Rattle.first_pass_raw.proofs.indented_code.parse_indented_code_block.Given as goal
 
--- the lines are read up to here
+-- the block is open, and its lines are read up to here
 abbrev pub invariant-lines : goal.invariant-lines
 invariant-lines l = record {
   boundary : IsCharBoundary l.text l.next;
-  from : behind_line_at l.text l.start ≤ l.next;
+  from : behind_line_at l.text l.start_ix ≤ l.next;
   named : Extends (names_of l.allocs) (names_of l.fn.allocs);
   same_tables : tables l.allocs ≡ tables l.fn.allocs;
-  read : (p : Place) → IsPlaceAt l.text l.start p → p.rest.owed ≡ l.remaining_space → IndentedSoFar l.text l.options (names_of l.allocs) p l.fn.tree l.tree l.next l.kept l.blank;
+  read : (p : Place) → IsPlaceAt l.text l.start_ix p → p.rest.owed ≡ l.remaining_space
+      → IndentedSoFar l.text l.options (names_of l.allocs) p (opened_block l.fn.tree l.start_ix IndentCodeBlock) l.tree l.next l.kept l.blank;
 }
 
 abbrev pub decreases-lines : goal.decreases-lines
