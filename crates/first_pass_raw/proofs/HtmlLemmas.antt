@@ -33,6 +33,7 @@ use Rattle.first_pass_open.specs.OpenBlock.{closed_by, opened_block}
 use Rattle.first_pass_open.specs.Path.{path_of}
 use Rattle.first_pass_open.proofs.PathLemmas.{AreIn}
 use Rattle.first_pass_raw.specs.RawBlocks.{IsPlaceAt, AppendsRaw, AppendsLines, AddsRaw, behind_line_at, html_to_end, html_to_blank}
+use Rattle.first_pass_raw.proofs.IndentedLemmas.{first_at, first_is}
 use Rattle.first_pass_raw.proofs.ExtentLemmas.{LinesSoFar, lines_start, lines_more, lines_end, lines_path, opened_path, extent_from, block_open, block_done}
 
 -- a text that bytes begin with stands in them
@@ -129,12 +130,14 @@ html_behind d before chain (p ∷ ps) whole (line, is, further) =
     let same : add_tokens (before ++ chain) line ≡ before ++ add_tokens chain line = plain_tokens line (before ++ chain) plain ∙ append_assoc before chain line ∙ ap (λ c. before ++ c) (sym (plain_tokens line chain plain)) in
     (line, is, subst (λ c. AreRawLines range_html d c ps (before ++ whole)) (sym same) (html_behind d before (add_tokens chain line) ps whole further))
 
--- a block that was just opened has no text
-pub opened_apart : (g opened : Forest Item) (start : ℕ) → opened ≡ opened_block g start HtmlBlock → JoinsNone opened
-opened_apart g opened start is = joins_none-fresh opened (ap (λ (f : Forest Item). f.current) is)
+-- The first line of an HTML block, which begins at an offset where so many columns are owed, stands behind a tree with the block open.
+module _ (text : List ℕ) (options : Options) (named : Names) (start columns next : ℕ) (g one : Forest Item) (first : AppendsRaw range_html text named columns start next (opened_block g start HtmlBlock) one) (next_is : next ≡ behind_line_at text start) where
+  abbrev opened : Forest Item
+  opened = opened_block g start HtmlBlock
 
--- The first line of an HTML block, which begins at an offset where so many columns are owed, stands behind a tree.
-module _ (text : List ℕ) (options : Options) (named : Names) (start columns next : ℕ) (opened one : Forest Item) (first : AppendsRaw range_html text named columns start next opened one) (next_is : next ≡ behind_line_at text start) (apart : JoinsNone opened) where
+  apart : JoinsNone opened
+  apart = joins_none-fresh opened refl
+
   -- what follows is not joined to it
   pub first_apart : JoinsNone one
   first_apart = subst JoinsNone (sym first.tree_is) (plain_apart opened first.items apart (plain_line (document text options named) columns start next first.items (first.are options named (extends_none named))))
@@ -149,7 +152,13 @@ module _ (text : List ℕ) (options : Options) (named : Names) (start columns ne
         lines_more range_html text options named named whole whole further (owing columns p) opened opened one columns start next apart (lines_start range_html text options named whole opened) refl (extends_none named) first refl
         (sym i.offset_is) first_end
 
-    -- the lines behind it
+    -- a block that has it alone
+    first_alone : AppendsLines range_html text options named (with_line (owing columns p) (ends_at next (lines_from text next))) opened one next next
+    first_alone =
+        let further : Extent = ends_at next (lines_from text next) in
+        lines_end range_html text options named (with_line (owing columns p) further) further opened one next next (first_read further) refl
+
+    -- a block that has lines behind it, too
     first_then : (names : Names) (further : Extent) (two : Forest Item) (e stop : ℕ) → Extends names named → AppendsLines range_html text options names further one two e stop
         → AppendsLines range_html text options names (with_line (owing columns p) further) opened two e stop
     first_then names further two e stop extends lines =
@@ -165,13 +174,13 @@ module _ (text : List ℕ) (options : Options) (named : Names) (start columns ne
         }
 
     -- the block with its lines, closed
-    whole_added : (names : Names) (e : Extent) (further : Extent) (g two new : Forest Item) (stop left : ℕ) → opened ≡ opened_block g start HtmlBlock → e ≡ with_line p further
-        → AppendsLines range_html text options names (with_line (owing columns p) further) opened two stop left → new ≡ closed_by two stop two.spine → AddsRaw text options names (λ d. IsHtml d start columns e.places e.«end») e.left g new left
-    whole_added names e further g two new stop left is e_is lines new_is =
+    whole_added : (names : Names) (e further : Extent) (two new : Forest Item) (stop left : ℕ) → e ≡ with_line p further → AppendsLines range_html text options names (with_line (owing columns p) further) opened two stop left
+        → new ≡ closed_by two stop two.spine → AddsRaw text options names (λ d. IsHtml d start columns e.places e.«end») e.left g new left
+    whole_added names e further two new stop left e_is lines new_is =
         subst (λ (x : Extent). AddsRaw text options names (λ d. IsHtml d start columns x.places x.«end») x.left g new left) (sym e_is)
         (record {
           items = block_with start further.«end» HtmlBlock lines.chain;
-          tree_is = block_done range_html text options names (with_line (owing columns p) further) g opened two start HtmlBlock stop left is lines new new_is;
+          tree_is = block_done range_html text options names (with_line (owing columns p) further) g opened two start HtmlBlock stop left refl lines new new_is;
           are = λ more f. record { chain = lines.chain; lines = lines.lines more f; items_are = refl };
           left_is = lines.left_is;
         })
@@ -181,7 +190,7 @@ module _ (text : List ℕ) (options : Options) (named : Names) (start columns ne
     behind_first path judge = ap (extent_from text path judge) (ap (behind_line_at text) i.offset_is ∙ sym next_is)
 
     -- where the first line holds the text that ends the kind
-    pub held_extent : (path : List Container) (tag : List ℕ) → holds tag (line_of p) ≡ true → html_to_end text path tag p ≡ with_line p (ends_at next (lines_from text next))
+    held_extent : (path : List Container) (tag : List ℕ) → holds tag (line_of p) ≡ true → html_to_end text path tag p ≡ with_line p (ends_at next (lines_from text next))
     held_extent path tag held =
         ap (λ t. extent_by (if t then IsLast p else GoesOn p) p (lines_from text (behind_line_at text (offset p))) (extent_from text path (tag_judge tag) (behind_line_at text (offset p)))) held
         ∙ ap (λ k. with_line p (ends_at k (lines_from text (behind_line_at text (offset p))))) (sym first_end)
@@ -196,42 +205,39 @@ module _ (text : List ℕ) (options : Options) (named : Names) (start columns ne
     pub blank_extent : (path : List Container) → html_to_blank text path p ≡ with_line p (extent_from text path blank_judge next)
     blank_extent path = ap (with_line p) (behind_first path blank_judge)
 
-    module _ (g new : Forest Item) (is : opened ≡ opened_block g start HtmlBlock) (there : AreIn (length g.nodes) g.spine) where
-      -- it is open still behind its first line
-      pub one_open : IsSome (slice_get one.spine 0)
-      one_open =
-          let further : Extent = ends_at next (lines_from text next) in
-          block_open range_html text options named (with_line (owing columns p) further) g opened one start HtmlBlock next next is (lines_end range_html text options named (with_line (owing columns p) further) further opened one next next (first_read further) refl)
+    -- the containers around the block are those around its lines
+    path_by : AreIn (length g.nodes) g.spine → AreIn (length opened.nodes) opened.spine → path_of one ≡ path_of g
+    path_by there in_opened =
+        lines_path range_html text options named (with_line (owing columns p) (ends_at next [])) (ends_at next []) opened one (first_read (ends_at next [])) in_opened ∙ opened_path g opened start HtmlBlock refl refl there
 
-      -- and behind the others
-      pub more_open : (names : Names) (further : Extent) (two : Forest Item) (stop left : ℕ) → Extends names named → AppendsLines range_html text options names further one two stop left → IsSome (slice_get two.spine 0)
-      more_open names further two stop left extends lines =
-          block_open range_html text options names (with_line (owing columns p) further) g opened two start HtmlBlock stop left is (first_then names further two stop left extends lines)
+    -- the block has one line
+    pub html_one : (tag : List ℕ) (new : Forest Item) → holds tag (line_of p) ≡ true → new ≡ closed_by one next one.spine
+        → (let e = html_to_end text (path_of g) tag p in AddsRaw text options named (λ d. IsHtml d start columns e.places e.«end») e.left g new next)
+    html_one tag new held new_is = whole_added named (html_to_end text (path_of g) tag p) (ends_at next (lines_from text next)) one new next next (held_extent (path_of g) tag held) first_alone new_is
 
-      -- the block has one line
-      pub html_one : (tag : List ℕ) → holds tag (line_of p) ≡ true → new ≡ closed_by one next one.spine
-          → (let e = html_to_end text (path_of g) tag p in AddsRaw text options named (λ d. IsHtml d start columns e.places e.«end») e.left g new next)
-      html_one tag held new_is =
-          let further : Extent = ends_at next (lines_from text next) in
-          whole_added named (html_to_end text (path_of g) tag p) further g one new next next is (held_extent (path_of g) tag held)
-          (lines_end range_html text options named (with_line (owing columns p) further) further opened one next next (first_read further) refl) new_is
-
-      -- where the containers of the block are those of its lines
-      lines_path_is : AreIn (length opened.nodes) opened.spine → path_of one ≡ path_of g
-      lines_path_is in_opened =
-          lines_path range_html text options named (with_line (owing columns p) (ends_at next [])) (ends_at next []) opened one (first_read (ends_at next [])) in_opened ∙ opened_path g opened start HtmlBlock is refl there
-
-      -- it has those behind the first, too
-      pub html_more : (names : Names) (judge : Place → Place → Verdict) (two : Forest Item) (e : Extent) (stop left : ℕ) → AreIn (length opened.nodes) opened.spine → Extends names named
-          → AppendsLines range_html text options names (extent_from text (path_of one) judge next) one two stop left → e ≡ with_line p (extent_from text (path_of g) judge next) → new ≡ closed_by two stop two.spine
-          → AddsRaw text options names (λ d. IsHtml d start columns e.places e.«end») e.left g new left
-      html_more names judge two e stop left in_opened extends lines e_is new_is =
+    -- it has those behind the first, too
+    module _ (names : Names) (judge : Place → Place → Verdict) (two : Forest Item) (e : Extent) (stop left : ℕ) (path : path_of one ≡ path_of g) (lines : AppendsLines range_html text options names (extent_from text (path_of one) judge next) one two stop left)
+        (e_is : e ≡ with_line p (extent_from text (path_of g) judge next)) where
+      pub html_more : (new : Forest Item) → Extends names named → new ≡ closed_by two stop two.spine → AddsRaw text options names (λ d. IsHtml d start columns e.places e.«end») e.left g new left
+      html_more new extends new_is =
           let further : Extent = extent_from text (path_of g) judge next in
-          let here = subst (λ path. AppendsLines range_html text options names (extent_from text path judge next) one two stop left) (lines_path_is in_opened) lines in
-          whole_added names e further g two new stop left is e_is (first_then names further two stop left extends here) new_is
+          let here = subst (λ path. AppendsLines range_html text options names (extent_from text path judge next) one two stop left) path lines in
+          whole_added names e further two new stop left e_is (first_then names further two stop left extends here) new_is
 
       -- where it ends
-      pub html_stop : (names : Names) (judge : Place → Place → Verdict) (two : Forest Item) (e : Extent) (stop left : ℕ) → AreIn (length opened.nodes) opened.spine
-          → AppendsLines range_html text options names (extent_from text (path_of one) judge next) one two stop left → e ≡ with_line p (extent_from text (path_of g) judge next) → stop ≡ e.«end»
-      html_stop names judge two e stop left in_opened lines e_is =
-          lines.end_is ∙ ap (λ path. (extent_from text path judge next).«end») (lines_path_is in_opened) ∙ sym (ap (λ (x : Extent). x.«end») e_is)
+      pub html_stop : stop ≡ e.«end»
+      html_stop = lines.end_is ∙ ap (λ path. (extent_from text path judge next).«end») path ∙ sym (ap (λ (x : Extent). x.«end») e_is)
+
+  -- it is open still behind its first line, and behind the others
+  pub one_open : IsSome (slice_get one.spine 0)
+  one_open =
+      let p : Place = first_at text start 0 in
+      block_open range_html text options named (with_line (owing columns p) (ends_at next (lines_from text next))) g opened one start HtmlBlock next next refl (first_alone p (first_is text start 0))
+
+  pub more_open : (names : Names) (further : Extent) (two : Forest Item) (stop left : ℕ) → Extends names named → AppendsLines range_html text options names further one two stop left → IsSome (slice_get two.spine 0)
+  more_open names further two stop left extends lines =
+      let p : Place = first_at text start 0 in
+      block_open range_html text options names (with_line (owing columns p) further) g opened two start HtmlBlock stop left refl (first_then p (first_is text start 0) names further two stop left extends lines)
+
+  pub first_path : AreIn (length g.nodes) g.spine → AreIn (length opened.nodes) opened.spine → path_of one ≡ path_of g
+  first_path there in_opened = path_by (first_at text start 0) (first_is text start 0) there in_opened

@@ -29,9 +29,9 @@ use Rattle.first_pass_grammar.specs.Completion.{lines_from}
 use Rattle.first_pass_grammar.specs.RawLines.{ends_with_both, range_text, raw_items, IsRawLine, AreRawLines}
 use Rattle.first_pass_grammar.specs.CodeBlocks.{code_place, code_by, code_lines, unless_blank, without_blanks, last_is_blank, last_end}
 use Rattle.first_pass_raw.specs.declared.indented_code.Kept.{Kept}
-use Rattle.first_pass_open.specs.OpenBlock.{begun_item, closed_by, opened_block}
+use Rattle.first_pass_open.specs.OpenBlock.{IsJustPushed, begun_item, closed_by, opened_block}
 use Rattle.first_pass_open.specs.Path.{path_of}
-use Rattle.first_pass_raw.specs.RawBlocks.{AppendsRaw, AppendsIndented, AddsIndented, IsJustOpened, IsPlaceAt, code_rest, code_rest_at, behind_line_at, code_behind}
+use Rattle.first_pass_raw.specs.RawBlocks.{AppendsRaw, AddsIndented, IsPlaceAt, code_rest, code_rest_at, behind_line_at, code_behind}
 use Rattle.first_pass_open.proofs.BlockLemmas.{just_pushed, still_open, block_closed}
 use Rattle.first_pass_open.proofs.PathLemmas.{open_are_in, path_of-chained, path_of-opened}
 use Rattle.first_pass_open.proofs.PlaceLemmas.{after_keeps, line_start_end, read_end}
@@ -312,6 +312,21 @@ first_boundary text start next u b some e = subst (IsCharBoundary text) (sym e) 
 -- lines put before others that go on with indented code
 abbrev pub put_before : List Place → List Place × List Place → List Place × List Place
 put_before ps further = (ps ++ further.0, further.1)
+
+-- a block was just opened in the tree: it is the last node, and has no children
+pub record IsJustOpened (f : Forest Item) : Type 0 where
+  pub place : TreeIndex
+  pub pushed : IsJustPushed f place
+
+-- The lines of indented code stand behind the nodes of a tree, whatever more is named: its first line's text is at a place, and it ends at an offset and leaves
+-- the lines from another on.
+pub record AppendsIndented (text : List ℕ) (options : Options) (names : Names) (p : Place) (old new : Forest Item) («end» next : ℕ) (blank : Bool) : Type 0 where
+  pub chain : List Item
+  pub tree_is : new ≡ chained old chain
+  pub lines : (more : Names) → Extends more names → AreRawLines range_text (document text options more) [] (without_blanks (p ∷ (code_behind text (path_of old) (offset p)).0)) chain
+  pub end_is : «end» ≡ last_end (offset p) (without_blanks (p ∷ (code_behind text (path_of old) (offset p)).0))
+  pub blank_is : blank ≡ last_is_blank (code_behind text (path_of old) (offset p)).0
+  pub left_is : lines_from text next ≡ (code_behind text (path_of old) (offset p)).1
 
 -- The lines of indented code are read up to where another begins, its first at a place: the chain of those up to the last that isn't blank, which ends with a
 -- text, and the tokens of the blank ones behind it.

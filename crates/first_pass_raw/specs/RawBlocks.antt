@@ -1,5 +1,5 @@
 -- What the raw leaf blocks append to a tree: code, metadata and HTML.
-use Rattle.std.specs.Prelude.{◌≡◌, ℕ, ◌+◌, Bool, List, [], ◌∷◌, length, drop, Option, Some, None, ◌==◌, if◌then◌else◌}
+use Rattle.std.specs.Prelude.{◌≡◌, ℕ, ◌+◌, Bool, List, [], length, drop, Option, Some, None, ◌==◌, if◌then◌else◌}
 use Rattle.first_pass_items.specs.declared.option_set.Options.{Options}
 use Rattle.first_pass_items.specs.declared.item.Item.{Item}
 use Rattle.first_pass_tree.specs.Forest.{Forest, added}
@@ -10,7 +10,7 @@ use Rattle.first_pass_grammar.specs.declared.kind.Container.{Container}
 use Rattle.first_pass_grammar.specs.Names.{Names, Extends}
 use Rattle.first_pass_grammar.specs.Leaves.{Document, document}
 use Rattle.first_pass_grammar.specs.RawLines.{AreColumns, Ranges, range_text, range_html, IsRawLine, AreRawLines}
-use Rattle.first_pass_grammar.specs.CodeBlocks.{code_lines, without_blanks, last_is_blank, last_end, IsIndentedCode, fenced_lines, metadata_lines}
+use Rattle.first_pass_grammar.specs.CodeBlocks.{code_lines, last_is_blank, IsIndentedCode, fenced_lines, metadata_lines}
 use Rattle.first_pass_grammar.specs.Extents.{Extent, Verdict}
 use Rattle.first_pass_grammar.specs.Extents as Judged
 use Rattle.first_pass_raw.specs.declared.raw_line.RawKind.{RawKind}
@@ -20,11 +20,9 @@ use Rattle.first_pass_raw.specs.declared.verdict.Verdict.TheVariants.{GoesOn, Is
 use Rattle.first_pass_grammar.specs.HtmlBlocks.{until_end, until_blank}
 use Rattle.first_pass_grammar.specs.Completion.{lines_from}
 use Rattle.std.specs.Option.{option_and_then}
-use Rattle.first_pass_tree.specs.declared.tree_index.TreeIndex.{TreeIndex}
 use Rattle.first_pass_scan.specs.Rest.{Rest, after_columns}
 use Rattle.first_pass_scan.specs.Places.{line_rest}
 use Rattle.first_pass_grammar.specs.Containers.{has_columns, after}
-use Rattle.first_pass_open.specs.OpenBlock.{IsJustPushed}
 use Rattle.first_pass_open.specs.Path.{path_of}
 
 -- Columns that are owed stand behind the nodes of a tree, whatever more is named.
@@ -32,11 +30,6 @@ pub record AppendsColumns (names : Names) (owed at : ℕ) (old new : Forest Item
   pub items : List Item
   pub tree_is : new ≡ chained old items
   pub are : (more : Names) → Extends more names → AreColumns more owed at items
-
--- a block was just opened in the tree: it is the last node, and has no children
-pub record IsJustOpened (f : Forest Item) : Type 0 where
-  pub place : TreeIndex
-  pub pushed : IsJustPushed f place
 
 -- what is left of the line at an offset, behind its containers and four columns or fewer, where there is such a line and it goes on with indented code
 abbrev pub code_rest : Option Rest → Option Rest
@@ -68,16 +61,6 @@ behind_line_at text at = at + line_len (drop at text)
 -- the lines that go on with indented code whose first line has something at an offset, and those that it leaves
 abbrev pub code_behind : List ℕ → List Container → ℕ → List Place × List Place
 code_behind text path start = code_lines path (lines_from text (behind_line_at text start))
-
--- The lines of indented code stand behind the nodes of a tree, whatever more is named: its first line's text is at a place, and it ends at an offset and leaves
--- the lines from another on.
-pub record AppendsIndented (text : List ℕ) (options : Options) (names : Names) (p : Place) (old new : Forest Item) («end» next : ℕ) (blank : Bool) : Type 0 where
-  pub chain : List Item
-  pub tree_is : new ≡ chained old chain
-  pub lines : (more : Names) → Extends more names → AreRawLines range_text (document text options more) [] (without_blanks (p ∷ (code_behind text (path_of old) (offset p)).0)) chain
-  pub end_is : «end» ≡ last_end (offset p) (without_blanks (p ∷ (code_behind text (path_of old) (offset p)).0))
-  pub blank_is : blank ≡ last_is_blank (code_behind text (path_of old) (offset p)).0
-  pub left_is : lines_from text next ≡ (code_behind text (path_of old) (offset p)).1
 
 -- Indented code is a last child of the innermost open node.
 pub record AddsIndented (text : List ℕ) (options : Options) (names : Names) (p : Place) (old new : Forest Item) (next : ℕ) (blank : Bool) : Type 0 where

@@ -5,8 +5,12 @@ ghost use Rattle.first_pass_scan.specs.Places.{Place};
 ghost use Rattle.first_pass_grammar.specs.Names.{Extends};
 ghost use Rattle.first_pass_open.specs.Path.{path_of};
 ghost use Rattle.first_pass_names.specs.TableEntries.{tables, names_of};
+ghost use Rattle.first_pass_items.specs.declared.item.ItemBody.TheVariants.{HtmlBlock};
+ghost use Rattle.first_pass_grammar.specs.RawLines.{range_html};
 ghost use Rattle.first_pass_grammar.specs.HtmlBlocks.{IsHtml};
-ghost use Rattle.first_pass_raw.specs.RawBlocks.{IsPlaceAt, AddsRaw, html_to_end, html_to_blank, behind_line_at};
+ghost use Rattle.first_pass_tokens.specs.TreeTokens.{JoinsNone};
+ghost use Rattle.first_pass_open.specs.OpenBlock.{opened_block};
+ghost use Rattle.first_pass_raw.specs.RawBlocks.{IsPlaceAt, AppendsRaw, AddsRaw, html_to_end, html_to_blank, behind_line_at};
 
 use crate::extent::{JudgesLines, read_lines};
 use crate::raw_line::{RawKind, append_raw_line};
@@ -44,11 +48,7 @@ pub fn parse_html_block_type_1_to_5<'a>(
     ensures tables { OnOk result (tables allocs.new ≡ tables allocs.old) }
     ensures utf8 { IsUtf8 text.now }
 {
-    tree.is_forest();
-    open_block(tree, start_ix, ItemBody::HtmlBlock)?;
-    tree.is_forest();
-    let end = next_line(text.as_bytes(), start_ix);
-    append_raw_line(tree, allocs, text, RawKind::Html, columns, start_ix, end)?;
+    let end = open_html_block(tree, allocs, text, start_ix, columns)?;
     if text[start_ix..end].contains(html_end_tag) {
         close_block(tree, end);
         return Ok(end);
@@ -115,11 +115,7 @@ pub fn parse_html_block_type_6_or_7<'a>(
     ensures tables { OnOk result (tables allocs.new ≡ tables allocs.old) }
     ensures utf8 { IsUtf8 text.now }
 {
-    tree.is_forest();
-    open_block(tree, start_ix, ItemBody::HtmlBlock)?;
-    tree.is_forest();
-    let next = next_line(text.as_bytes(), start_ix);
-    append_raw_line(tree, allocs, text, RawKind::Html, columns, start_ix, next)?;
+    let next = open_html_block(tree, allocs, text, start_ix, columns)?;
     let lines = read_lines(&ToBlank, RawKind::Html, tree, allocs, text, options, next)?;
     close_block(tree, lines.end);
     Ok(lines)
@@ -150,4 +146,31 @@ impl JudgesLines for ToBlank {
         }
         Verdict::GoesOn
     }
+}
+
+// Opens the HTML block that begins at the offset `start` behind so many columns, and appends its first line. Answers
+// where that ends.
+fn open_html_block<'a>(
+    tree: &mut Tree<Item>,
+    allocs: &mut Allocations<'a>,
+    text: &str,
+    start: usize,
+    columns: usize,
+) -> Result<usize, AllocError>
+    requires boundary { IsCharBoundary text.now start }
+    requires columns { columns ≤ 3 }
+    ensures next { IfOk result (λ next. (next ≡ behind_line_at text.now start) × IsCharBoundary text.now next) }
+    ensures line { IfOk result (λ next. AppendsRaw range_html text.now (names_of allocs.new) columns start next
+        (opened_block tree.old start HtmlBlock) tree.new) }
+    ensures path { OnOk result (path_of tree.new ≡ path_of tree.old) }
+    ensures apart { OnOk result (JoinsNone tree.new) }
+    ensures names { OnOk result (Extends (names_of allocs.new) (names_of allocs.old)) }
+    ensures tables { OnOk result (tables allocs.new ≡ tables allocs.old) }
+{
+    tree.is_forest();
+    open_block(tree, start, ItemBody::HtmlBlock)?;
+    tree.is_forest();
+    let next = next_line(text.as_bytes(), start);
+    append_raw_line(tree, allocs, text, RawKind::Html, columns, start, next)?;
+    Ok(next)
 }

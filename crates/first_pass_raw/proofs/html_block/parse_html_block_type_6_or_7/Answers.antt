@@ -1,40 +1,22 @@
 use Rattle.first_pass_grammar.specs.HtmlBlocks.{blank_judge}
 use Rattle.first_pass_open.specs.Path.{path_of}
-use Rattle.first_pass_open.proofs.PathLemmas.{open_are_in}
-use Rattle.first_pass_raw.proofs.ExtentLemmas.{first_read}
-use Rattle.first_pass_raw.proofs.IndentedLemmas.{first_at, first_is}
-use Rattle.first_pass_raw.proofs.HtmlLemmas.{opened_apart, first_apart, more_open, html_more, html_stop, blank_extent}
+use Rattle.first_pass_raw.proofs.HtmlLemmas.{more_open, html_more, html_stop, blank_extent}
 use Rattle.first_pass_raw.proofs.html_block.parse_html_block_type_6_or_7.Goals as goal
-
-pub read_lines-requires-clause-boundary : goal.read_lines-requires-clause-boundary
-read_lines-requires-clause-boundary c = (first_read c.args.text.now c.as_bytes.result.now c.args.start_ix _ c.utf8.text c.requires.boundary c.as_bytes.ensures.value c.next_line-next.ensures.value).1
-
-pub read_lines-requires-clause-apart : goal.read_lines-requires-clause-apart
-read_lines-requires-clause-apart c =
-    let next = first_read c.args.text.now c.as_bytes.result.now c.args.start_ix _ c.utf8.text c.requires.boundary c.as_bytes.ensures.value c.next_line-next.ensures.value in
-    first_apart c.args.text.now c.args.options _ c.args.start_ix c.args.columns _ _ c.append_raw_line.new.tree c.in_ok-append_raw_line.ensures.line next.0 (opened_apart c.args.tree.now _ c.args.start_ix c.in_ok-open_block.ensures)
 
 pub close_block-requires : goal.close_block-requires
 close_block-requires c =
-    let next = first_read c.args.text.now c.as_bytes.result.now c.args.start_ix _ c.utf8.text c.requires.boundary c.as_bytes.ensures.value c.next_line-next.ensures.value in
-    more_open c.args.text.now c.args.options _ c.args.start_ix c.args.columns _ _ c.append_raw_line.new.tree c.in_ok-append_raw_line.ensures.line next.0 (opened_apart c.args.tree.now _ c.args.start_ix c.in_ok-open_block.ensures)
-    (first_at c.args.text.now c.args.start_ix 0) (first_is c.args.text.now c.args.start_ix 0) c.args.tree.now c.append_raw_line.new.tree c.in_ok-open_block.ensures (open_are_in c.args.tree.now.nodes c.args.tree.now.spine c.is_forest.ensures.opened)
+    more_open c.args.text.now c.args.options _ c.args.start_ix c.args.columns c.in_ok-next.next c.args.tree.now c.open_html_block.new.tree c.in_ok-next.ensures.line c.in_ok-next.ensures.next.0
     _ _ c.read_lines.new.tree c.in_ok-lines.lines.«end» c.in_ok-lines.lines.next c.in_ok-lines.ensures.names c.in_ok-lines.ensures.lines
 
 pub returns-clause-block : goal.returns-clause-block
 returns-clause-block c = λ p i.
-    let next = first_read c.args.text.now c.as_bytes.result.now c.args.start_ix _ c.utf8.text c.requires.boundary c.as_bytes.ensures.value c.next_line-next.ensures.value in
-    let apart = opened_apart c.args.tree.now _ c.args.start_ix c.in_ok-open_block.ensures in
-    html_more c.args.text.now c.args.options _ c.args.start_ix c.args.columns _ _ c.append_raw_line.new.tree c.in_ok-append_raw_line.ensures.line next.0 apart p i
-    c.args.tree.now c.close_block.new.tree c.in_ok-open_block.ensures (open_are_in c.args.tree.now.nodes c.args.tree.now.spine c.is_forest.ensures.opened)
-    _ blank_judge c.read_lines.new.tree _ c.in_ok-lines.lines.«end» c.in_ok-lines.lines.next (open_are_in c.open_block.new.tree.nodes c.open_block.new.tree.spine c.is_forest-2.ensures.opened) c.in_ok-lines.ensures.names c.in_ok-lines.ensures.lines
-    (blank_extent c.args.text.now c.args.options _ c.args.start_ix c.args.columns _ _ c.append_raw_line.new.tree c.in_ok-append_raw_line.ensures.line next.0 apart p i (path_of c.args.tree.now)) c.close_block.ensures
+    html_more c.args.text.now c.args.options _ c.args.start_ix c.args.columns c.in_ok-next.next c.args.tree.now c.open_html_block.new.tree c.in_ok-next.ensures.line c.in_ok-next.ensures.next.0 p i
+    _ blank_judge c.read_lines.new.tree _ c.in_ok-lines.lines.«end» c.in_ok-lines.lines.next c.in_ok-next.ensures.path c.in_ok-lines.ensures.lines
+    (blank_extent c.args.text.now c.args.options _ c.args.start_ix c.args.columns c.in_ok-next.next c.args.tree.now c.open_html_block.new.tree c.in_ok-next.ensures.line c.in_ok-next.ensures.next.0 p i (path_of c.args.tree.now))
+    c.close_block.new.tree c.in_ok-lines.ensures.names c.close_block.ensures
 
 pub returns-clause-ends : goal.returns-clause-ends
 returns-clause-ends c = λ p i.
-    let next = first_read c.args.text.now c.as_bytes.result.now c.args.start_ix _ c.utf8.text c.requires.boundary c.as_bytes.ensures.value c.next_line-next.ensures.value in
-    let apart = opened_apart c.args.tree.now _ c.args.start_ix c.in_ok-open_block.ensures in
-    html_stop c.args.text.now c.args.options _ c.args.start_ix c.args.columns _ _ c.append_raw_line.new.tree c.in_ok-append_raw_line.ensures.line next.0 apart p i
-    c.args.tree.now c.close_block.new.tree c.in_ok-open_block.ensures (open_are_in c.args.tree.now.nodes c.args.tree.now.spine c.is_forest.ensures.opened)
-    _ blank_judge c.read_lines.new.tree _ c.in_ok-lines.lines.«end» c.in_ok-lines.lines.next (open_are_in c.open_block.new.tree.nodes c.open_block.new.tree.spine c.is_forest-2.ensures.opened) c.in_ok-lines.ensures.lines
-    (blank_extent c.args.text.now c.args.options _ c.args.start_ix c.args.columns _ _ c.append_raw_line.new.tree c.in_ok-append_raw_line.ensures.line next.0 apart p i (path_of c.args.tree.now))
+    html_stop c.args.text.now c.args.options _ c.args.start_ix c.args.columns c.in_ok-next.next c.args.tree.now c.open_html_block.new.tree c.in_ok-next.ensures.line c.in_ok-next.ensures.next.0 p i
+    _ blank_judge c.read_lines.new.tree _ c.in_ok-lines.lines.«end» c.in_ok-lines.lines.next c.in_ok-next.ensures.path c.in_ok-lines.ensures.lines
+    (blank_extent c.args.text.now c.args.options _ c.args.start_ix c.args.columns c.in_ok-next.next c.args.tree.now c.open_html_block.new.tree c.in_ok-next.ensures.line c.in_ok-next.ensures.next.0 p i (path_of c.args.tree.now))

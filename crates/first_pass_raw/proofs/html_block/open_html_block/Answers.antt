@@ -1,0 +1,41 @@
+use Rattle.std.proofs.Common.{subst}
+use Rattle.first_pass_items.specs.declared.item.Item.{Item}
+use Rattle.first_pass_items.specs.declared.item.ItemBody.TheVariants.{HtmlBlock}
+use Rattle.first_pass_items.specs.declared.option_set.Options.{Options}
+use Rattle.first_pass_tree.specs.Forest.{Forest, IsForest}
+use Rattle.first_pass_grammar.specs.RawLines.{range_html}
+use Rattle.first_pass_open.specs.OpenBlock.{opened_block}
+use Rattle.first_pass_open.proofs.PathLemmas.{open_are_in}
+use Rattle.first_pass_names.specs.TableEntries.{names_of}
+use Rattle.first_pass_raw.specs.RawBlocks.{AppendsRaw}
+use Rattle.first_pass_raw.proofs.ExtentLemmas.{first_read}
+use Rattle.first_pass_raw.proofs.HtmlLemmas.{first_apart, first_path}
+use Rattle.first_pass_raw.proofs.html_block.open_html_block.Goals as goal
+use Rattle.first_pass_raw.proofs.html_block.open_html_block.Goals.{In_ok-append_raw_line}
+
+-- The options do not count here.
+no_options : Options
+no_options = record { 0 = 0 }
+
+line : (c : In_ok-append_raw_line) → AppendsRaw range_html c.args.text.now (names_of c.append_raw_line.new.allocs) c.args.columns c.args.start c.next_line-next.result (opened_block c.args.tree.now c.args.start HtmlBlock) c.append_raw_line.new.tree
+line c =
+    subst (λ (f : Forest Item). AppendsRaw range_html c.args.text.now (names_of c.append_raw_line.new.allocs) c.args.columns c.args.start c.next_line-next.result f c.append_raw_line.new.tree) c.in_ok-open_block.ensures c.in_ok-append_raw_line.ensures.line
+
+pub returns-clause-next : goal.returns-clause-next
+returns-clause-next c = first_read c.args.text.now c.as_bytes.result.now c.args.start _ c.utf8.text c.requires.boundary c.as_bytes.ensures.value c.next_line-next.ensures.value
+
+pub returns-clause-line : goal.returns-clause-line
+returns-clause-line c = line c
+
+pub returns-clause-path : goal.returns-clause-path
+returns-clause-path c =
+    let next = first_read c.args.text.now c.as_bytes.result.now c.args.start _ c.utf8.text c.requires.boundary c.as_bytes.ensures.value c.next_line-next.ensures.value in
+    let opened : Forest Item = opened_block c.args.tree.now c.args.start HtmlBlock in
+    let forest = subst (IsForest {T = Item}) c.in_ok-open_block.ensures c.is_forest-2.ensures in
+    first_path c.args.text.now no_options _ c.args.start c.args.columns c.next_line-next.result c.args.tree.now c.append_raw_line.new.tree (line c) next.0
+    (open_are_in c.args.tree.now.nodes c.args.tree.now.spine c.is_forest.ensures.opened) (open_are_in opened.nodes opened.spine forest.opened)
+
+pub returns-clause-apart : goal.returns-clause-apart
+returns-clause-apart c =
+    let next = first_read c.args.text.now c.as_bytes.result.now c.args.start _ c.utf8.text c.requires.boundary c.as_bytes.ensures.value c.next_line-next.ensures.value in
+    first_apart c.args.text.now no_options _ c.args.start c.args.columns c.next_line-next.result c.args.tree.now c.append_raw_line.new.tree (line c) next.0
