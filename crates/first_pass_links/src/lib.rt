@@ -6,5 +6,3 @@ pub mod entity;
 pub mod escape;
 pub mod label;
 pub mod laws;
-#[cfg(test)]
-mod tests;

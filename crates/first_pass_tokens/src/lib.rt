@@ -4,5 +4,3 @@
 pub mod laws;
 pub mod line;
 pub mod pieces;
-#[cfg(test)]
-mod tests;

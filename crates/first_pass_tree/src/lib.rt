@@ -5,6 +5,4 @@
 pub mod forest;
 mod node_list;
 pub mod subtrees;
-#[cfg(test)]
-mod tests;
 pub mod tree_index;

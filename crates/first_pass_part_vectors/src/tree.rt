@@ -1,7 +1,7 @@
-use crate::forest::Tree;
-use crate::subtrees::Subtree;
-use crate::tree_index::TreeIndex;
 use first_pass_items::item::{AlignmentIndex, Item, ItemBody, ListFlags};
+use first_pass_tree::forest::Tree;
+use first_pass_tree::subtrees::Subtree;
+use first_pass_tree::tree_index::TreeIndex;
 use std::alloc::{AllocError, Global};
 use std::process::Abort;
 use std::test::Fail;

@@ -2,11 +2,11 @@
 
 ghost use Rattle.std.specs.Prelude.{◌≡◌, ◌<◌, length, slice_index, IfSome};
 
-use crate::destination::scan_link_dest;
-use crate::entity::scan_entity;
-use crate::escape::unescape;
-use crate::label::scan_link_label_rest;
 use first_pass_items::cow_str::CowStr;
+use first_pass_links::destination::scan_link_dest;
+use first_pass_links::entity::scan_entity;
+use first_pass_links::escape::unescape;
+use first_pass_links::label::scan_link_label_rest;
 use std::alloc::{AllocError, Global};
 use std::ops::DerefStr;
 use std::test::Fail;

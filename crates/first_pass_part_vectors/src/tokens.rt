@@ -1,9 +1,9 @@
 //! Texts with their tokens.
 
-use crate::line::append_line;
 use bitflags::Flags;
 use first_pass_items::item::{Item, ItemBody};
 use first_pass_items::option_set::Options;
+use first_pass_tokens::line::append_line;
 use first_pass_tree::forest::Tree;
 use first_pass_walk::walk::special_bytes;
 use std::alloc::{AllocError, Global};
