@@ -1,33 +1,12 @@
 //! `bench [BITS [RUNS]]`: times the pass over the Markdown text on standard input.
 #![tactic(auto)]
 
-mod clock;
-#[cfg(test)]
-mod fakes;
-mod report;
-mod run;
-mod task;
-#[cfg(test)]
-mod tests;
-mod timing;
-
-use crate::clock::HostClock;
-use crate::run::bench_run;
-use first_pass_program::fault::BlocksFault;
+use first_pass_host::fault::BlocksFault;
+use first_pass_host::words::words_of;
+use first_pass_program::bench::bench_run;
+use first_pass_timing::clock::HostClock;
 use std::alloc::Global;
-use std::io::ErrorKind;
 use std::process::ExitCode;
-use std::{env, io};
-
-/// The words after the program's name.
-fn words_of<R: env::Env + AllocGlobal>(rt: &R) -> Result<Vec<String>, BlocksFault> {
-    let args = match env::args(rt) {
-        Ok(args) => args,
-        Err(error) if error.kind() == ErrorKind::InvalidData => return Err(BlocksFault::BadOptions),
-        Err(_) => return Err(BlocksFault::OutOfMemory),
-    };
-    Ok(args.skip(1).collect(rt.alloc())?)
-}
 
 fn bench(rt: &HostRuntime) -> Result<(), BlocksFault> {
     let words = words_of(rt)?;

@@ -1,2 +1,2 @@
+mod FaultLemmas
 mod Lines
-mod Words

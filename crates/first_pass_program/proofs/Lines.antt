@@ -8,7 +8,7 @@ use Rattle.std.specs.List.{flat_map}
 use Rattle.first_pass_items.specs.declared.item.Item.{Item}
 use Rattle.first_pass_grammar.specs.Names.{Names}
 use Rattle.first_pass_program.specs.Printed.{node_line}
-use Rattle.first_pass_program.specs.Runs.{AppendsFront}
+use Rattle.first_pass_host.specs.Streams.{AppendsFront}
 
 -- with the line of the next node
 pub next_line : (names : Names) (nodes : List (ℕ × Item)) (i : ℕ) (d : ℕ × Item) (done held line : List ℕ) → i < length nodes → done ++ held ≡ flat_map (node_line names) (take i nodes) → line ≡ held ++ node_line names (get_or nodes i d) → done ++ line ≡ flat_map (node_line names) (take (i + 1) nodes)

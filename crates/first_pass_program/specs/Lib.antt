@@ -1,4 +1,3 @@
-pub mod Faults
-pub mod OptionWord
+pub mod Bench
 pub mod Printed
 pub mod Runs

@@ -1,23 +1,17 @@
 -- What a run of the program reads and writes (this project).
-use Rattle.std.specs.Prelude.{◌≡◌, ◌⊎◌, ℕ, List, ◌++◌, Option, String, IsUtf8}
+use Rattle.std.specs.Prelude.{◌≡◌, ◌⊎◌, ℕ, List, Option, String, IsUtf8}
 use Rattle.std.specs.List.{flat_map}
-use Rattle.std.specs.Io.KnownBytes.{Keeps, Appends, Consumes, IsAtEnd}
+use Rattle.std.specs.Io.KnownBytes.{Keeps, Appends}
 use Rattle.first_pass_items.specs.declared.option_set.Options.{Options}
 use Rattle.first_pass_items.specs.declared.item.Item.{Item}
 use Rattle.first_pass_grammar.specs.Names.{Names}
 use Rattle.first_pass_grammar.specs.Leaves.{document}
 use Rattle.first_pass_grammar.specs.Derivation.{Derives, Tables}
-use Rattle.first_pass_program.specs.declared.fault.BlocksFault.{BlocksFault}
-use Rattle.first_pass_program.specs.declared.fault.BlocksFault.TheVariants.{OutOfMemory, NotUtf8, BadOptions, ReadFailed, WriteFailed}
-use Rattle.first_pass_program.specs.OptionWord.{StandFor}
+use Rattle.first_pass_host.specs.declared.fault.BlocksFault.{BlocksFault}
+use Rattle.first_pass_host.specs.declared.fault.BlocksFault.TheVariants.{OutOfMemory, NotUtf8, BadOptions, ReadFailed, WriteFailed}
+use Rattle.first_pass_host.specs.OptionWord.{StandFor}
+use Rattle.first_pass_host.specs.Streams.{AppendsFront, ReadsWhole}
 use Rattle.first_pass_program.specs.Printed.{node_line}
-
--- known bytes grow by a beginning of a text, which may be nothing
-pub record AppendsFront (old new : Option (List ℕ)) (text : List ℕ) : Type 0 where
-  pub written : List ℕ
-  pub left : List ℕ
-  pub split : text ≡ written ++ left
-  pub appended : Appends old new written
 
 -- the whole output for a UTF-8 text under options: the lines of the nodes that the block grammar derives
 pub record IsPrinted (options : Options) (text output : List ℕ) : Type 0 where
@@ -27,18 +21,6 @@ pub record IsPrinted (options : Options) (text output : List ℕ) : Type 0 where
   pub tables : Tables
   pub derived : Derives (document text options names) nodes tables
   pub lines : output ≡ flat_map (node_line names) nodes
-
--- a reader gives this text to its end
-abbrev pub ReadsWhole : Option (List ℕ) → Option (List ℕ) → List ℕ → Type 0
-ReadsWhole old new text = Consumes old new text × IsAtEnd new
-
--- a fault of the reads
-abbrev pub IsReadFault : BlocksFault → Type 0
-IsReadFault fault = (fault ≡ ReadFailed) ⊎ (fault ≡ OutOfMemory)
-
--- a fault of the writes
-abbrev pub IsWriteFault : BlocksFault → Type 0
-IsWriteFault fault = (fault ≡ WriteFailed) ⊎ (fault ≡ OutOfMemory)
 
 -- What a fault leaves of a text and a writer: nothing is written of a text that isn't UTF-8, nor where memory ends before the writes; else a beginning of the whole output is.
 abbrev pub LeavesText : BlocksFault → Options → List ℕ → Option (List ℕ) → Option (List ℕ) → Type 0

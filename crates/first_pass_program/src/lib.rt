@@ -1,9 +1,7 @@
-//! The work of a program over the block pass: the options' word, the input, the printed tree.
+//! The work of the programs: the printed tree of `blocks`, and the timed runs of `bench`.
 #![tactic(auto)]
 
-pub mod fault;
-pub mod input;
-pub mod option_word;
-pub mod output;
+pub mod bench;
 pub mod printed;
 pub mod run;
+pub mod timed;

@@ -3,18 +3,19 @@
 ghost use Rattle.std.specs.Prelude.{◌≡◌, ℕ, List, OnOk, OnErr, IfErr, Err};
 ghost use Rattle.std.specs.List.{flat_map};
 ghost use Rattle.std.specs.Io.KnownBytes.{Appends};
-ghost use Rattle.first_pass_program.specs.declared.fault.BlocksFault.TheVariants.{BadOptions};
-ghost use Rattle.first_pass_program.specs.OptionWord.{StandFor};
+ghost use Rattle.first_pass_host.specs.declared.fault.BlocksFault.TheVariants.{BadOptions};
+ghost use Rattle.first_pass_host.specs.OptionWord.{StandFor};
 ghost use Rattle.first_pass_names.specs.TableEntries.{names_of};
 ghost use Rattle.first_pass_program.specs.Printed.{node_line};
-ghost use Rattle.first_pass_program.specs.Runs.{AppendsFront, IsPrinted, IsWriteFault, Leaves, LeavesText, WritesWhole};
+ghost use Rattle.first_pass_program.specs.Runs.{IsPrinted, Leaves, LeavesText, WritesWhole};
+ghost use Rattle.first_pass_host.specs.Streams.{AppendsFront, IsWriteFault};
 
-use crate::fault::BlocksFault;
-use crate::input::read_whole;
-use crate::option_word::parse_options;
-use crate::output::write_whole;
 use crate::printed::append_node;
 use first_pass::pass::run_first_pass;
+use first_pass_host::fault::BlocksFault;
+use first_pass_host::input::read_whole;
+use first_pass_host::option_word::parse_options;
+use first_pass_host::output::write_whole;
 use first_pass_items::item::Item;
 use first_pass_items::option_set::Options;
 use first_pass_names::items::Allocations;

@@ -1,12 +1,37 @@
-//! A reader and a writer over memory that can fail.
+//! A clock, a reader and a writer over memory that can fail.
 
-use first_pass_program::fault::BlocksFault;
+use first_pass_host::fault::BlocksFault;
+use first_pass_program::bench::bench_run;
 use first_pass_program::run::blocks_run;
+use first_pass_timing::clock::TimeSource;
 use std::alloc::{AllocError, Global};
 use std::io;
 use std::io::{ErrorKind, Read, Write};
 use std::process::Abort;
 use std::test::Fail;
+
+/// A clock that says what it is told to, and fails behind that.
+#[derive(Drop)]
+pub struct Told<'a> {
+    pub left: &'a [u128],
+}
+
+impl TimeSource for Told<'_> {
+    ghost use Rattle.std.specs.Prelude.{Some};
+
+    ghost readings = { λ clock. Some clock.left.now };
+
+    fn nanos(&mut self) -> io::Result<u128> {
+        let all: &[u128] = self.left;
+        match all.split_first() {
+            Some((nanos, left)) => {
+                self.left = left;
+                Ok(*nanos)
+            }
+            None => Err(io::Error::from(ErrorKind::Other)),
+        }
+    }
+}
 
 /// A reader of bytes that gives at most `step` of them at a time, and fails at the read of that number.
 #[derive(Drop)]
@@ -15,6 +40,17 @@ pub struct Source<'a> {
     pub step: usize,
     pub fails_at: usize,
     pub reads: usize,
+}
+
+impl Source<'_> {
+    pub fn new(rest: &[u8], step: usize, fails_at: usize) -> Source<'_> {
+        Source {
+            rest,
+            step,
+            fails_at,
+            reads: 0,
+        }
+    }
 }
 
 impl Read for Source<'_> {
@@ -67,28 +103,41 @@ impl Write for Sink {
     }
 }
 
-/// Runs the program's work on these words. An error where memory for the words is refused.
+/// The words as a program has them.
+pub fn words_of(alloc: Global, words: &[&str]) -> Result<Vec<String>, AllocError> {
+    let mut list = Vec::new(alloc);
+    for word in words {
+        list.push(String::from_str(alloc, word)?)?;
+    }
+    Ok(list)
+}
+
+/// Runs the work of `blocks` on these words. An error where memory for the words is refused.
 pub fn run(
     alloc: Global,
     words: &[&str],
     source: &mut Source<'_>,
     sink: &mut Sink,
 ) -> Result<Result<(), BlocksFault>, AllocError> {
-    let mut list = Vec::new(alloc);
-    for word in words {
-        list.push(String::from_str(alloc, word)?)?;
-    }
+    let list = words_of(alloc, words)?;
     Ok(blocks_run(alloc, list.as_slice(), source, sink))
+}
+
+/// The same of `bench`.
+pub fn time(
+    alloc: Global,
+    words: &[&str],
+    clock: &mut Told<'_>,
+    source: &mut Source<'_>,
+    sink: &mut Sink,
+) -> Result<Result<(), BlocksFault>, AllocError> {
+    let list = words_of(alloc, words)?;
+    Ok(bench_run(clock, alloc, list.as_slice(), source, sink))
 }
 
 /// What a run without a fault writes for a text, under the option bits (none where they are empty).
 pub fn print(alloc: Global, bits: &str, text: &str) -> Result<String, Fail> {
-    let mut source = Source {
-        rest: text.as_bytes(),
-        step: usize::MAX,
-        fails_at: 0,
-        reads: 0,
-    };
+    let mut source = Source::new(text.as_bytes(), usize::MAX, 0);
     let mut sink = Sink::new(alloc, usize::MAX, 0);
     let words = [bits];
     let given = usize::from(!bits.is_empty());

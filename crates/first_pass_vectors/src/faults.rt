@@ -1,7 +1,7 @@
 //! Each fault of a run, and what is written before it.
 
 use crate::fakes::{Sink, Source, run};
-use first_pass_program::fault::BlocksFault;
+use first_pass_host::fault::BlocksFault;
 use std::alloc::{AllocError, Global};
 use std::test::Fail;
 
@@ -16,15 +16,6 @@ fn long_text(alloc: Global) -> Result<Vec<u8>, AllocError> {
     Ok(text)
 }
 
-fn source(rest: &[u8], step: usize, fails_at: usize) -> Source<'_> {
-    Source {
-        rest,
-        step,
-        fails_at,
-        reads: 0,
-    }
-}
-
 // What a run without options writes for a text that is read so many bytes at a time.
 fn write(
     alloc: Global,
@@ -32,7 +23,7 @@ fn write(
     step: usize,
     sink: &mut Sink,
 ) -> Result<Result<(), BlocksFault>, AllocError> {
-    run(alloc, &[], &mut source(text, step, 0), sink)
+    run(alloc, &[], &mut Source::new(text, step, 0), sink)
 }
 
 #[test]
@@ -58,7 +49,7 @@ fn bad_options_come_first(rt: HostRuntime) -> Result<(), Fail> {
         &["0", "0", "0"],
     ];
     for words in bad {
-        let mut input = source(b"\xff", WHOLE, 1);
+        let mut input = Source::new(b"\xff", WHOLE, 1);
         let mut sink = Sink::new(rt.alloc(), WHOLE, 1);
         let answer = run(rt.alloc(), words, &mut input, &mut sink)?;
         assert!(rt; answer == Err(BlocksFault::BadOptions), "{words:?}");
@@ -78,7 +69,7 @@ fn good_options_are_read(rt: HostRuntime) -> Result<(), Fail> {
         &["000000000000000000002"],
     ];
     for words in good {
-        let mut input = source(b"", WHOLE, 0);
+        let mut input = Source::new(b"", WHOLE, 0);
         let mut sink = Sink::new(rt.alloc(), WHOLE, 0);
         let answer = run(rt.alloc(), words, &mut input, &mut sink)?;
         assert!(rt;
@@ -99,7 +90,7 @@ fn input_is_utf8(rt: HostRuntime) -> Result<(), Fail> {
         b"\xc0\x80",
     ];
     for bytes in bad {
-        let mut input = source(bytes, 1, 0);
+        let mut input = Source::new(bytes, 1, 0);
         let mut sink = Sink::new(rt.alloc(), WHOLE, 1);
         let answer = run(rt.alloc(), &[], &mut input, &mut sink)?;
         assert!(rt; answer == Err(BlocksFault::NotUtf8), "{bytes:?}");
@@ -113,7 +104,7 @@ fn each_read_fails_in_turn(rt: HostRuntime) -> Result<(), Fail> {
     let text = long_text(rt.alloc())?;
     let mut failed = 0;
     for fails_at in 1..100 {
-        let mut input = source(text.as_slice(), 1000, fails_at);
+        let mut input = Source::new(text.as_slice(), 1000, fails_at);
         let mut sink = Sink::new(rt.alloc(), WHOLE, 0);
         let answer = run(rt.alloc(), &[], &mut input, &mut sink)?;
         if answer == Ok(()) {

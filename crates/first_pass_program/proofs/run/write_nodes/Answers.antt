@@ -2,7 +2,7 @@ use Rattle.std.proofs.Common.{◌+◌, ◌++◌, sym, ap, ◌∙◌, subst, appe
 use Rattle.std.specs.Io.KnownBytes.{Appends}
 use Rattle.std.proofs.KnownBytes.{Appends-trans}
 use Rattle.first_pass_names.specs.TableEntries.{names_of}
-use Rattle.first_pass_program.specs.Runs.{AppendsFront}
+use Rattle.first_pass_host.specs.Streams.{AppendsFront}
 use Rattle.first_pass_program.proofs.Lines.{next_line, front_of_lines, nothing, on_any, on_err_then}
 use Rattle.first_pass_program.proofs.run.write_nodes.Goals as goal
 use Rattle.first_pass_program.proofs.run.write_nodes.Goals.{then-len-ge-PIECE+in_ok-write_whole, else-len-ge-PIECE}

@@ -1,3 +1,0 @@
-mod FaultLemmas
-mod RunLemmas
-mod Words

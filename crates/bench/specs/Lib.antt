@@ -1,4 +1,0 @@
-pub mod Report
-pub mod Runs
-pub mod Task
-pub mod Timing

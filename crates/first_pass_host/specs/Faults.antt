@@ -1,0 +1,17 @@
+-- What the program `blocks` says of a fault, and the status that it ends with (this project).
+use Rattle.std.specs.Prelude.{ℕ, List, codes}
+use Rattle.first_pass_host.specs.declared.fault.BlocksFault.{BlocksFault}
+use Rattle.first_pass_host.specs.declared.fault.BlocksFault.TheVariants.{OutOfMemory, NotUtf8, BadOptions, ReadFailed, WriteFailed}
+
+-- the line on standard error, without its newline
+abbrev pub message_of : BlocksFault → List ℕ
+message_of OutOfMemory = codes "out of memory"
+message_of NotUtf8 = codes "not UTF-8"
+message_of BadOptions = codes "bad options"
+message_of ReadFailed = codes "read failed"
+message_of WriteFailed = codes "write failed"
+
+-- 1 where memory was refused, else 2
+abbrev pub status_of : BlocksFault → ℕ
+status_of OutOfMemory = 1
+status_of _ = 2

@@ -1,0 +1,3 @@
+pub mod Faults
+pub mod OptionWord
+pub mod Streams

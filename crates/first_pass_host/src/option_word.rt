@@ -1,0 +1,42 @@
+//! The word that names the options.
+
+ghost use Rattle.std.specs.Prelude.{◌≡◌, ◌==◌, ℕ, IfSome, IsNone, slice_index};
+ghost use Rattle.first_pass_host.specs.OptionWord.{StandFor, StandsFor};
+
+use bitflags::Flags;
+use first_pass_items::option_set::Options;
+
+/// The options that the words after a program's name stand for: none without a word, else those of the
+/// one word, the decimal value of their bits in one or more ASCII digits. `None` where there are more
+/// words, or another byte, or a value that is not that of known options. It takes no memory.
+pub fn parse_options(words: &[String]) -> Option<Options>
+    ensures some { IfSome result (λ options. StandFor words.now options.0) }
+    ensures none { IsNone result → (bits : ℕ) → ¬ StandFor words.now bits }
+{
+    match words {
+        [] => Some(Options::empty()),
+        [word] => options_of(word.as_str()),
+        _ => None,
+    }
+}
+
+/// The options that a word stands for: the decimal value of their bits in one or more ASCII digits.
+fn options_of(word: &str) -> Option<Options>
+    ensures some { IfSome result (λ options. StandsFor word.now options.0) }
+    ensures none { IsNone result → (bits : ℕ) → ¬ StandsFor word.now bits }
+{
+    if begins_with_plus(word) {
+        return None;
+    }
+    match word.parse::<u32>() {
+        Ok(bits) => Options::from_bits(bits),
+        Err(_) => None,
+    }
+}
+
+/// Whether a word begins with the plus sign that `parse` allows before digits.
+pub fn begins_with_plus(word: &str) -> bool
+    ensures { result ≡ (slice_index word.now 0 == 43) }
+{
+    word.as_bytes().first().copied().unwrap_or(0) == b'+'
+}

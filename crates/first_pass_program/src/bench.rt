@@ -1,0 +1,66 @@
+//! The work of the program `bench`.
+
+ghost use Rattle.std.specs.Prelude.{ℕ, List, OnOk, IfErr};
+ghost use Rattle.std.specs.Io.KnownBytes.{Appends};
+ghost use Rattle.first_pass_program.specs.Bench.{IsReported, Leaves, LeavesText, WritesReport};
+
+use crate::timed::time_runs;
+use first_pass_host::fault::BlocksFault;
+use first_pass_host::input::read_whole;
+use first_pass_host::output::write_whole;
+use first_pass_timing::clock::TimeSource;
+use first_pass_timing::report::append_report;
+use first_pass_timing::task::{Task, parse_task};
+use std::alloc::Global;
+use std::io::{Read, Write};
+use std::str;
+
+/// Reads the input to its end, runs the pass over it as the words ask (see `parse_task`), timed by the
+/// clock, and writes the line of the least time (see `append_report`).
+///
+/// Faults are found in this order: the options, before the first read and without memory; the reads;
+/// UTF-8 of the whole input; the pass and the clock, which is `ReadFailed` where it can't be read; the
+/// writes. `OutOfMemory` comes at the request that was refused.
+pub fn bench_run<T: TimeSource, R: Read, W: Write>(
+    clock: &mut T,
+    alloc: Global,
+    words: &[String],
+    input: &mut R,
+    output: &mut W,
+) -> Result<(), BlocksFault>
+    ensures ok { OnOk result (WritesReport words.now (R.remaining input.old) (R.remaining input.new)
+        (T.readings clock.old) (T.readings clock.new) (W.contents output.old) (W.contents output.new)) }
+    ensures fault { IfErr result (λ fault. Leaves fault words.now (R.remaining input.old) (R.remaining input.new)
+        (T.readings clock.old) (T.readings clock.new) (W.contents output.old) (W.contents output.new)) }
+{
+    let task = match parse_task(words) {
+        Some(task) => task,
+        None => return Err(BlocksFault::BadOptions),
+    };
+    let bytes = read_whole(alloc, input)?;
+    report_text(clock, alloc, bytes.as_slice(), task, output)
+}
+
+/// Writes the line for a text that has still to be found to be UTF-8.
+fn report_text<T: TimeSource, W: Write>(
+    clock: &mut T,
+    alloc: Global,
+    bytes: &[u8],
+    task: Task,
+    output: &mut W,
+) -> Result<(), BlocksFault>
+    ensures ok { OnOk result ((line : List ℕ)
+        × IsReported task bytes.now (T.readings clock.old) (T.readings clock.new) line
+        × Appends (W.contents output.old) (W.contents output.new) line) }
+    ensures fault { IfErr result (λ fault. LeavesText fault task bytes.now (T.readings clock.old) (T.readings clock.new)
+        (W.contents output.old) (W.contents output.new)) }
+{
+    let text = match str::from_utf8(bytes) {
+        Ok(text) => text,
+        Err(_) => return Err(BlocksFault::NotUtf8),
+    };
+    let timing = time_runs(clock, alloc, text, task.options, task.runs)?;
+    let mut line = Vec::new(alloc);
+    append_report(&mut line, text.len(), timing)?;
+    write_whole(output, line.as_slice())
+}

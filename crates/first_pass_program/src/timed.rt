@@ -1,0 +1,68 @@
+//! Runs of the pass, timed.
+
+ghost use Rattle.std.specs.Prelude.{◌∷◌, [], IfOk, IfErr};
+ghost use Rattle.std.specs.Io.KnownBytes.{Consumes};
+ghost use Rattle.first_pass_program.specs.Bench.{CountsNodes};
+ghost use Rattle.first_pass_host.specs.Streams.{IsReadFault};
+ghost use Rattle.first_pass_timing.specs.Timing.{IsTimed};
+
+use first_pass::pass::run_first_pass;
+use first_pass_host::fault::BlocksFault;
+use first_pass_items::option_set::Options;
+use first_pass_timing::clock::TimeSource;
+use first_pass_timing::timing::{Run, Timing, is_enough, read_clock};
+use std::alloc::Global;
+
+/// Runs the pass over a text as often as is asked for, and once at least; where no number is asked for,
+/// until a second has gone by and five times at least. What a run made is dropped before the next one
+/// begins. The fault is `ReadFailed` where the clock could not be read, else `OutOfMemory`.
+///
+/// That the pass runs between the two readings of a run, and is all that does, is not part of the contract.
+pub fn time_runs<T: TimeSource>(
+    clock: &mut T,
+    alloc: Global,
+    text: &str,
+    options: Options,
+    asked: Option<u32>,
+) -> Result<Timing, BlocksFault>
+    ensures nodes { IfOk result (λ timing. CountsNodes options text.now timing.nodes) }
+    ensures timed { IfOk result (λ timing.
+        IsTimed asked (T.readings clock.old) (T.readings clock.new) timing.runs timing.nanos) }
+    ensures fault { IfErr result IsReadFault }
+{
+    let first = run_once(clock, alloc, text, options)?;
+    let mut timing = Timing {
+        nodes: first.nodes,
+        runs: 1,
+        nanos: first.nanos(),
+    };
+    let mut ended = first.ended;
+    while !is_enough(asked, timing.runs, ended.saturating_sub(first.began)) {
+        let next = run_once(clock, alloc, text, options)?;
+        ended = next.ended;
+        timing = timing.with(next);
+    }
+    Ok(timing)
+}
+
+/// Runs the pass over a text once. The tree and the tables are dropped behind the second reading.
+fn run_once<T: TimeSource>(
+    clock: &mut T,
+    alloc: Global,
+    text: &str,
+    options: Options,
+) -> Result<Run, BlocksFault>
+    ensures nodes { IfOk result (λ run. CountsNodes options text.now run.nodes) }
+    ensures read { IfOk result (λ run.
+        Consumes (T.readings clock.old) (T.readings clock.new) (run.began ∷ run.ended ∷ [])) }
+    ensures fault { IfErr result IsReadFault }
+{
+    let began = read_clock(clock)?;
+    let (tree, _allocs) = run_first_pass(alloc, text, options)?;
+    let ended = read_clock(clock)?;
+    Ok(Run {
+        nodes: tree.node_count(),
+        began,
+        ended,
+    })
+}

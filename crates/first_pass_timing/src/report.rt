@@ -1,0 +1,62 @@
+//! The line that a timing is printed as.
+
+ghost use Rattle.std.specs.Prelude.{◌≡◌, ◌++◌, OnOk};
+ghost use Rattle.first_pass_timing.specs.Report.{report_line, rate, tenths, thousandths};
+
+use crate::timing::Timing;
+use itoa::{Buffer, Integer};
+use std::alloc::AllocError;
+
+/// Appends the line of a timing of the pass over a text of so many bytes.
+pub fn append_report(line: &mut Vec<u8>, bytes: usize, timing: Timing) -> Result<(), AllocError>
+    ensures { OnOk result
+        (line.new.items ≡ line.old.items ++ report_line bytes timing.nodes timing.runs timing.nanos) }
+{
+    append_number(line, bytes)?;
+    line.extend_from_slice(b" bytes, ")?;
+    append_number(line, timing.nodes)?;
+    line.extend_from_slice(b" nodes, best of ")?;
+    append_number(line, timing.runs)?;
+    line.extend_from_slice(b" runs: ")?;
+    append_thousandths(line, timing.nanos / 1000)?;
+    line.extend_from_slice(b" ms, ")?;
+    append_tenths(line, rate(bytes, timing.nanos))?;
+    line.extend_from_slice(b" MB/s\n")?;
+    Ok(())
+}
+
+/// How many tenths of a megabyte, of 10^6 bytes, are read in a second where so many bytes take so many
+/// nanoseconds, of which none count as one.
+fn rate(bytes: usize, nanos: u128) -> u128
+    ensures { result ≡ rate bytes nanos }
+{
+    bytes as u128 * 10_000 / nanos.max(1)
+}
+
+/// Appends a number of thousandths as a decimal fraction.
+fn append_thousandths(line: &mut Vec<u8>, number: u128) -> Result<(), AllocError>
+    ensures { OnOk result (line.new.items ≡ line.old.items ++ thousandths number) }
+{
+    append_number(line, number / 1000)?;
+    line.push(b'.')?;
+    append_number(line, number / 100 % 10)?;
+    append_number(line, number / 10 % 10)?;
+    append_number(line, number % 10)
+}
+
+/// Appends a number of tenths as a decimal fraction.
+fn append_tenths(line: &mut Vec<u8>, number: u128) -> Result<(), AllocError>
+    ensures { OnOk result (line.new.items ≡ line.old.items ++ tenths number) }
+{
+    append_number(line, number / 10)?;
+    line.push(b'.')?;
+    append_number(line, number % 10)
+}
+
+/// Appends a number in decimal digits.
+fn append_number<I: Integer>(line: &mut Vec<u8>, number: I) -> Result<(), AllocError>
+    ensures { OnOk result (line.new.items ≡ line.old.items ++ I.text number) }
+{
+    let mut digits = Buffer::new();
+    line.extend_from_slice(digits.format(number).as_bytes())
+}

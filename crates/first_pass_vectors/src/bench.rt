@@ -1,0 +1,324 @@
+//! Words, lines, runs under a clock that is told what to say, and each fault.
+
+use crate::fakes::{Sink, Source, Told, time, words_of};
+use bitflags::Flags;
+use first_pass_host::fault::BlocksFault;
+use first_pass_timing::report::append_report;
+use first_pass_timing::task::parse_task;
+use first_pass_timing::timing::Timing;
+use std::alloc::Global;
+use std::process::Abort;
+use std::test::Fail;
+
+/// A text of eight bytes, the tree of which has seven nodes.
+const TEXT: &[u8] = b"# a\nb\\\nc";
+
+/// Asserts what is written for a text by a clock that says this.
+fn assert_printed(
+    rt: &impl Abort,
+    alloc: Global,
+    words: &[&str],
+    told: &[u128],
+    text: &[u8],
+    want: &str,
+) -> Result<(), Fail> {
+    let mut clock = Told { left: told };
+    let mut input = Source::new(text, 3, 0);
+    let mut output = Sink::new(alloc, 20, 0);
+    let answer = time(alloc, words, &mut clock, &mut input, &mut output)?;
+    let line = String::from_utf8_lossy(alloc, output.bytes.as_slice())?;
+    assert!(rt;
+        answer == Ok(()) && line.as_str() == want,
+        "{words:?}: {line}"
+    );
+    Ok(())
+}
+
+#[test]
+fn words_ask_for_a_task(rt: HostRuntime) -> Result<(), Fail> {
+    let good: &[(&[&str], u32, Option<u32>)] = &[
+        (&[], 0, None),
+        (&["0"], 0, None),
+        (&["000"], 0, None),
+        (&["516"], 516, None),
+        (&["65534"], 65534, None),
+        (&["0", "1"], 0, Some(1)),
+        (&["128", "007"], 128, Some(7)),
+        (&["00", "4294967295"], 0, Some(4_294_967_295)),
+    ];
+    for (words, bits, runs) in good {
+        let list = words_of(rt.alloc(), words)?;
+        let task = parse_task(list.as_slice()).ok_or("a task")?;
+        assert_eq!(rt; task.options.bits(), *bits, "{words:?}");
+        assert_eq!(rt; task.runs, *runs, "{words:?}");
+    }
+    Ok(())
+}
+
+#[test]
+fn bad_options_come_first(rt: HostRuntime) -> Result<(), Fail> {
+    let bad: &[&[&str]] = &[
+        &[""],
+        &["x"],
+        &["+2"],
+        &["1"],
+        &["65536"],
+        &["1", "1"],
+        &["", "1"],
+        &["0", ""],
+        &["0", "0"],
+        &["0", "000"],
+        &["0", "none"],
+        &["0", "+1"],
+        &["0", "-1"],
+        &["0", "1 "],
+        &["0", "1.5"],
+        &["0", "4294967296"],
+        &["0", "99999999999999999999999999999999999999"],
+        &["0", "\u{662}"],
+        &["0", "1", ""],
+        &["0", "1", "1"],
+        &["0", "1", "1", "1"],
+    ];
+    for words in bad {
+        let mut clock = Told { left: &[0, 1] };
+        let mut input = Source::new(b"\xff", 3, 1);
+        let mut output = Sink::new(rt.alloc(), 20, 1);
+        let answer = time(rt.alloc(), words, &mut clock, &mut input, &mut output)?;
+        assert!(rt; answer == Err(BlocksFault::BadOptions), "{words:?}");
+        assert!(rt;
+            input.reads == 0 && clock.left.len() == 2 && output.writes == 0,
+            "{words:?}"
+        );
+    }
+    Ok(())
+}
+
+#[test]
+fn lines_of_timings(rt: HostRuntime) -> Result<(), Fail> {
+    let most = 18_446_744_073_709_551_615;
+    let lines: &[(usize, usize, u32, u128, &str)] = &[
+        (
+            10_000_113,
+            512_345,
+            14,
+            61_234_567,
+            "10000113 bytes, 512345 nodes, best of 14 runs: 61.234 ms, 163.3 MB/s\n",
+        ),
+        (
+            0,
+            1,
+            5,
+            0,
+            "0 bytes, 1 nodes, best of 5 runs: 0.000 ms, 0.0 MB/s\n",
+        ),
+        (
+            1,
+            3,
+            1,
+            0,
+            "1 bytes, 3 nodes, best of 1 runs: 0.000 ms, 1000.0 MB/s\n",
+        ),
+        (
+            1_190_000,
+            9,
+            2,
+            1_000_999_999,
+            "1190000 bytes, 9 nodes, best of 2 runs: 1000.999 ms, 1.1 MB/s\n",
+        ),
+        (
+            123_456,
+            10,
+            3,
+            9_087,
+            "123456 bytes, 10 nodes, best of 3 runs: 0.009 ms, 13586.0 MB/s\n",
+        ),
+        (
+            most,
+            most,
+            4_294_967_295,
+            1,
+            "18446744073709551615 bytes, 18446744073709551615 nodes, best of 4294967295 runs: \
+             0.000 ms, 18446744073709551615000.0 MB/s\n",
+        ),
+        (
+            most,
+            1,
+            1,
+            340_282_366_920_938_463_463_374_607_431_768_211_455,
+            "18446744073709551615 bytes, 1 nodes, best of 1 runs: \
+             340282366920938463463374607431768.211 ms, 0.0 MB/s\n",
+        ),
+    ];
+    for (bytes, nodes, runs, nanos, want) in lines {
+        let mut line = Vec::new(rt.alloc());
+        let timing = Timing {
+            nodes: *nodes,
+            runs: *runs,
+            nanos: *nanos,
+        };
+        append_report(&mut line, *bytes, timing)?;
+        let line = String::from_utf8_lossy(rt.alloc(), line.as_slice())?;
+        assert!(rt; line.as_str() == *want, "{line}");
+    }
+    Ok(())
+}
+
+#[test]
+fn as_many_runs_as_are_asked_for(rt: HostRuntime) -> Result<(), Fail> {
+    let cases: &[(&str, &[u128], &str)] = &[
+        (
+            "1",
+            &[7, 257, 300],
+            "8 bytes, 7 nodes, best of 1 runs: 0.000 ms, 32.0 MB/s\n",
+        ),
+        // The second run is the shortest.
+        (
+            "3",
+            &[100, 350, 400, 500, 900, 1_020],
+            "8 bytes, 7 nodes, best of 3 runs: 0.000 ms, 80.0 MB/s\n",
+        ),
+        // The clock goes back in the first run.
+        (
+            "2",
+            &[9_000_000, 8_000_000, 8_000_000, 9_234_567],
+            "8 bytes, 7 nodes, best of 2 runs: 0.000 ms, 8000.0 MB/s\n",
+        ),
+        // A second goes by in the first run.
+        (
+            "2",
+            &[0, 5_000_000_000, 5_000_000_000, 6_001_500_000],
+            "8 bytes, 7 nodes, best of 2 runs: 1001.500 ms, 0.0 MB/s\n",
+        ),
+    ];
+    for (runs, told, want) in cases {
+        assert_printed(&rt, rt.alloc(), &["0", runs], told, TEXT, want)?;
+    }
+    Ok(())
+}
+
+#[test]
+fn five_runs_and_a_second(rt: HostRuntime) -> Result<(), Fail> {
+    // A second goes by in the third run.
+    let five: &[u128] = &[
+        5,
+        400_000_005,
+        400_000_005,
+        800_000_005,
+        800_000_005,
+        1_200_000_005,
+        1_200_000_005,
+        1_500_000_005,
+        1_500_000_005,
+        1_900_000_005,
+        0,
+        0,
+    ];
+    // It has gone by just as the sixth run ends.
+    let six: &[u128] = &[
+        5,
+        100_000_005,
+        100_000_005,
+        200_000_005,
+        200_000_005,
+        300_000_005,
+        300_000_005,
+        400_000_005,
+        400_000_005,
+        1_000_000_004,
+        1_000_000_004,
+        1_000_000_005,
+        0,
+        0,
+    ];
+    let of_five = "8 bytes, 7 nodes, best of 5 runs: 300.000 ms, 0.0 MB/s\n";
+    let of_six = "8 bytes, 7 nodes, best of 6 runs: 0.000 ms, 8000.0 MB/s\n";
+    assert_printed(&rt, rt.alloc(), &[], five, TEXT, of_five)?;
+    assert_printed(&rt, rt.alloc(), &["0"], six, TEXT, of_six)
+}
+
+#[test]
+fn options_make_a_difference(rt: HostRuntime) -> Result<(), Fail> {
+    let text = b"+++\na\n+++\n";
+    let of_three = "10 bytes, 3 nodes, best of 1 runs: 0.000 ms, 1000.0 MB/s\n";
+    assert_printed(&rt, rt.alloc(), &["256", "1"], &[0, 10], text, of_three)?;
+    let of_seven = "10 bytes, 7 nodes, best of 1 runs: 0.000 ms, 1000.0 MB/s\n";
+    assert_printed(&rt, rt.alloc(), &["0", "1"], &[0, 10], text, of_seven)
+}
+
+#[test]
+fn input_is_utf8(rt: HostRuntime) -> Result<(), Fail> {
+    for bytes in [b"\xff".as_slice(), b"a\n\n# b\xc3".as_slice()] {
+        let mut clock = Told { left: &[0, 1] };
+        let mut input = Source::new(bytes, 3, 0);
+        let mut output = Sink::new(rt.alloc(), 20, 1);
+        let answer = time(rt.alloc(), &[], &mut clock, &mut input, &mut output)?;
+        assert!(rt; answer == Err(BlocksFault::NotUtf8), "{bytes:?}");
+        assert!(rt; clock.left.len() == 2 && output.writes == 0, "{bytes:?}");
+    }
+    Ok(())
+}
+
+// The four reads of a text of eight bytes, the last of which finds its end.
+#[test]
+fn each_read_fails_in_turn(rt: HostRuntime) -> Result<(), Fail> {
+    for fails_at in 1..6 {
+        let mut clock = Told { left: &[0, 1] };
+        let mut input = Source::new(TEXT, 3, fails_at);
+        let mut output = Sink::new(rt.alloc(), 20, 0);
+        let answer = time(rt.alloc(), &["0", "1"], &mut clock, &mut input, &mut output)?;
+        if fails_at == 5 {
+            assert!(rt; answer == Ok(()));
+            break;
+        }
+        assert!(rt; answer == Err(BlocksFault::ReadFailed), "read {fails_at}");
+        assert!(rt;
+            clock.left.len() == 2 && output.writes == 0,
+            "read {fails_at}"
+        );
+    }
+    Ok(())
+}
+
+// Two runs read the clock four times.
+#[test]
+fn each_reading_of_the_clock_fails_in_turn(rt: HostRuntime) -> Result<(), Fail> {
+    let told = [0, 1, 2, 3];
+    for count in 0..5 {
+        let mut clock = Told {
+            left: &told[..count],
+        };
+        let mut input = Source::new(TEXT, 3, 0);
+        let mut output = Sink::new(rt.alloc(), 20, 0);
+        let answer = time(rt.alloc(), &["0", "2"], &mut clock, &mut input, &mut output)?;
+        if count == 4 {
+            assert!(rt; answer == Ok(()));
+            break;
+        }
+        assert!(rt; answer == Err(BlocksFault::ReadFailed), "{count} readings");
+        assert!(rt; output.writes == 0, "{count} readings");
+    }
+    Ok(())
+}
+
+// The three writes of a line, twenty bytes at a time.
+#[test]
+fn each_write_fails_in_turn(rt: HostRuntime) -> Result<(), Fail> {
+    let whole = b"8 bytes, 7 nodes, best of 1 runs: 0.000 ms, 8000.0 MB/s\n".as_slice();
+    for fails_at in 1..5 {
+        let mut clock = Told { left: &[0, 1] };
+        let mut input = Source::new(TEXT, 3, 0);
+        let mut output = Sink::new(rt.alloc(), 20, fails_at);
+        let answer = time(rt.alloc(), &["0", "1"], &mut clock, &mut input, &mut output)?;
+        if fails_at == 4 {
+            assert!(rt; answer == Ok(()) && output.bytes.as_slice() == whole);
+            break;
+        }
+        assert!(rt; answer == Err(BlocksFault::WriteFailed), "write {fails_at}");
+        assert!(rt;
+            whole.starts_with(output.bytes.as_slice()),
+            "write {fails_at}"
+        );
+    }
+    Ok(())
+}
