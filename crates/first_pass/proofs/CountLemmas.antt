@@ -17,10 +17,8 @@ use Rattle.first_pass_scan.specs.Places.{Place, place_at, offset, line_end, IsPl
 use Rattle.first_pass_scan.proofs.LineFacts.{line_len-some}
 use Rattle.first_pass_scan.proofs.PlaceFacts.{place_length}
 use Rattle.first_pass_grammar.specs.declared.kind.Container.{Container}
-use Rattle.first_pass_grammar.specs.declared.kind.Kind.{Kind}
-use Rattle.first_pass_grammar.specs.declared.kind.Kind.TheVariants.{Blank}
 use Rattle.first_pass_grammar.specs.Derivation.{list_flags}
-use Rattle.first_pass_grammar.specs.Kinds.{is_blank_rest, first_kind, IsKindBy, IsKind}
+use Rattle.first_pass_grammar.specs.Kinds.{Kind, Blank, is_blank_rest, first_kind, IsKindBy, IsKind}
 use Rattle.first_pass_grammar.specs.Extents.{Extent, extent, in_containers}
 use Rattle.first_pass_grammar.specs.HtmlBlocks.{blank_judge}
 use Rattle.first_pass_grammar.specs.Skeleton.{task_by, task_behind}

@@ -11,12 +11,10 @@ use Rattle.first_pass_scan.specs.Places.{Place, offset, line_end, moved_columns,
 use Rattle.first_pass_scan.proofs.PlaceFacts.{columns_line_end}
 use Rattle.first_pass_html.specs.Starts.{html_end}
 use Rattle.first_pass_grammar.specs.declared.kind.Container.{Container}
-use Rattle.first_pass_grammar.specs.declared.kind.Kind.{Kind}
-use Rattle.first_pass_grammar.specs.declared.kind.Kind.TheVariants.{Blank, IndentedCode, Metadata, HtmlToEnd, HtmlToBlank, ThematicBreak, AtxHeading, FencedCode}
 use Rattle.first_pass_grammar.specs.Names.{Names, Extends}
 use Rattle.first_pass_tokens.specs.Chains.{add_tokens}
 use Rattle.first_pass_grammar.specs.Containers.{at_rest, front}
-use Rattle.first_pass_grammar.specs.Kinds.{all_taken, unindented, IsKind}
+use Rattle.first_pass_grammar.specs.Kinds.{Kind, Blank, IndentedCode, Metadata, HtmlToEnd, HtmlToBlank, ThematicBreak, AtxHeading, FencedCode, all_taken, unindented, IsKind}
 use Rattle.first_pass_grammar.specs.Leaves.{Document, document, add_break, IsParagraph, rule_block, heading_block}
 use Rattle.first_pass_grammar.specs.Extents.{Extent}
 use Rattle.first_pass_grammar.specs.CodeBlocks.{code_lines, last_is_blank, IsIndentedCode, metadata_lines, IsMetadata, fenced_lines, IsFencedCode}

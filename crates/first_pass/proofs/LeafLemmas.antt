@@ -14,10 +14,8 @@ use Rattle.first_pass_scan.specs.Places.{Place, offset, line_end, start_of, IsPl
 use Rattle.first_pass_scan.proofs.PlaceFacts.{start_of-lines, columns_line_end}
 use Rattle.first_pass_grammar.specs.declared.kind.Container.{Container}
 use Rattle.first_pass_grammar.specs.declared.kind.Container.TheVariants.{BlockQuote}
-use Rattle.first_pass_grammar.specs.declared.kind.Kind.{Kind}
-use Rattle.first_pass_grammar.specs.declared.kind.Kind.TheVariants.{Blank, ThematicBreak, AtxHeading, Paragraph}
 use Rattle.first_pass_grammar.specs.Containers.{at_rest, prefix}
-use Rattle.first_pass_grammar.specs.Kinds.{unindented, quote_inside, item_at, IsKind}
+use Rattle.first_pass_grammar.specs.Kinds.{Kind, Blank, ThematicBreak, AtxHeading, Paragraph, unindented, quote_inside, item_at, IsKind}
 use Rattle.first_pass_grammar.specs.Leaves.{Document, IsParagraph, IsHeading, heading_text_at, rule_block, heading_block, paragraph_block, marker_items}
 use Rattle.first_pass_grammar.specs.Skeleton.{BlankLine, Block, Line, Inside, LeafAt, IsLeafHere, Opening, OpensLeaf, OpensParagraph, OpensAs, OpensBlockAt, OpensFrom, Opens}
 use Rattle.first_pass_grammar.specs.Completion.{lines_from, Frame, containers_of, AreBelow, Completes}

@@ -13,9 +13,28 @@ use Rattle.first_pass_scan.specs.Places.{Place, offset, moved_columns}
 use Rattle.first_pass_scan.specs.Markers.{is_bullet, listitem, item_of}
 use Rattle.first_pass_grammar.specs.declared.kind.Container.{Container}
 use Rattle.first_pass_grammar.specs.declared.kind.Container.TheVariants.{BlockQuote}
-use Rattle.first_pass_grammar.specs.declared.kind.Kind.{Kind}
-use Rattle.first_pass_grammar.specs.declared.kind.Kind.TheVariants.{Blank, IndentedCode, Metadata, HtmlToEnd, HtmlToBlank, ThematicBreak, AtxHeading, FencedCode, Paragraph}
 use Rattle.first_pass_grammar.specs.Containers.{at_rest, prefix, after, front}
+
+-- what begins at a place of a line where no container begins
+pub data Kind : Type 0 where
+  -- a blank line (CommonMark 4.9)
+  Blank : Kind
+  -- indented code (CommonMark 4.4)
+  IndentedCode : Kind
+  -- a metadata block, with the byte of its marks: `-` or `+`
+  Metadata : ℕ → Kind
+  -- an HTML block that ends at a text, which its first line tells: one of the kinds 1 to 5 (CommonMark 4.6)
+  HtmlToEnd : Kind
+  -- an HTML block that ends before a blank line: one of the kinds 6 and 7 (CommonMark 4.6)
+  HtmlToBlank : Kind
+  -- a thematic break, with how many bytes it has, its line end too (CommonMark 4.1)
+  ThematicBreak : ℕ → Kind
+  -- an ATX heading (CommonMark 4.2)
+  AtxHeading : HeadingLevel → Kind
+  -- a fenced code block, with how many bytes its fence has, and which (CommonMark 4.5)
+  FencedCode : ℕ → ℕ → Kind
+  -- a paragraph (CommonMark 4.8)
+  Paragraph : Kind
 
 -- what is left behind all columns: from the first byte on that is no space or tab
 abbrev pub all_taken : Rest → Rest

@@ -12,9 +12,7 @@ use Rattle.first_pass_scan.specs.Places.{place_at, offset, IsPlaceOf}
 use Rattle.first_pass_open.proofs.PlaceLemmas.{all_keep}
 use Rattle.first_pass_scan.proofs.MetadataFacts.{metadata_plain}
 use Rattle.first_pass_html.specs.Tags.{BeginsTagLine}
-use Rattle.first_pass_grammar.specs.declared.kind.Kind.{Kind}
-use Rattle.first_pass_grammar.specs.declared.kind.Kind.TheVariants.{Blank, IndentedCode, Metadata, HtmlToEnd, HtmlToBlank, ThematicBreak, AtxHeading, FencedCode, Paragraph}
-use Rattle.first_pass_grammar.specs.Kinds.{all_taken, is_blank_rest, heading_or, rule_or, fence_or, metadata_or, metadata_at, begins_html_to_end, begins_html_to_blank, html_kind, first_kind, last_kind, IsKindBy, IsKind}
+use Rattle.first_pass_grammar.specs.Kinds.{Kind, Blank, IndentedCode, Metadata, HtmlToEnd, HtmlToBlank, ThematicBreak, AtxHeading, FencedCode, Paragraph, all_taken, is_blank_rest, heading_or, rule_or, fence_or, metadata_or, metadata_at, begins_html_to_end, begins_html_to_blank, html_kind, first_kind, last_kind, IsKindBy, IsKind}
 use Rattle.first_pass_text.specs.Found.{kind_of, IsFoundWith}
 use Rattle.first_pass_text.specs.declared.kinds.Found.{Found}
 

@@ -7,8 +7,7 @@ use Rattle.first_pass_scan.specs.Plain.{is_plain, begins_plain}
 use Rattle.first_pass_scan.proofs.PlainFacts.{plain_begins, plain_eol, plain_blank, plain_hrule, plain_atx, plain_fence, plain_listitem, plain_metadata, plain_indent}
 use Rattle.first_pass_html.specs.Tags.{BeginsTagLine}
 use Rattle.first_pass_open.proofs.PlainLemmas.{plain_all}
-use Rattle.first_pass_grammar.specs.declared.kind.Kind.TheVariants.{Paragraph}
-use Rattle.first_pass_grammar.specs.Kinds.{all_taken, html_kind, first_kind, last_kind, IsKindBy, IsKind, interrupts_with}
+use Rattle.first_pass_grammar.specs.Kinds.{Paragraph, all_taken, html_kind, first_kind, last_kind, IsKindBy, IsKind, interrupts_with}
 
 plain_60 : is_plain 60 ≡ false
 unfolding is_plain

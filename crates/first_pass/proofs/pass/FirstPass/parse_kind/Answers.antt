@@ -25,9 +25,7 @@ use Rattle.first_pass_open.specs.Path.{path_of}
 use Rattle.first_pass_names.specs.TableEntries.{names_of, no_names}
 use Rattle.first_pass_raw.specs.RawBlocks.{IsPlaceAt, behind_line_at, html_to_blank}
 use Rattle.first_pass_grammar.specs.Names.{Extends}
-use Rattle.first_pass_grammar.specs.Kinds.{all_taken, unindented, IsKind}
-use Rattle.first_pass_grammar.specs.declared.kind.Kind.{Kind}
-use Rattle.first_pass_grammar.specs.declared.kind.Kind.TheVariants.{Blank, HtmlToBlank, Paragraph}
+use Rattle.first_pass_grammar.specs.Kinds.{Kind, Blank, HtmlToBlank, Paragraph, all_taken, unindented, IsKind}
 use Rattle.first_pass_scan.specs.Rest.{indent}
 use Rattle.first_pass_scan.proofs.PlaceFacts.{columns_line_end}
 use Rattle.first_pass.proofs.CountLemmas.{count, list_finished_count, blank_count, behind_count, block_count, leaf_left, left_before, blank_later}

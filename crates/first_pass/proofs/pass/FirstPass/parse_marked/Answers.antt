@@ -6,8 +6,7 @@ use Rattle.first_pass_scan.specs.Lines.{atx_level}
 use Rattle.first_pass_scan.specs.LeafLines.{code_fence}
 use Rattle.first_pass_scan.specs.Places.{place_at, line_end}
 use Rattle.first_pass_html.specs.Starts.{html_end}
-use Rattle.first_pass_grammar.specs.declared.kind.Kind.TheVariants.{Metadata, HtmlToEnd, ThematicBreak, AtxHeading, FencedCode}
-use Rattle.first_pass_grammar.specs.Kinds.{all_taken, unindented}
+use Rattle.first_pass_grammar.specs.Kinds.{Metadata, HtmlToEnd, ThematicBreak, AtxHeading, FencedCode, all_taken, unindented}
 use Rattle.first_pass_grammar.specs.Extents.{Extent}
 use Rattle.first_pass_grammar.specs.HtmlBlocks.{IsHtml}
 use Rattle.first_pass_open.specs.Path.{path_of}
