@@ -51,6 +51,7 @@ pub enum MarkedLeaf {
 }
 
 /// The HTML block of the kinds 1 to 6 that begins here, if one does (CommonMark 4.6).
+#[inline(always)]
 pub fn html_kind(bytes: &[u8]) -> Option<Found>
     ensures kind { option_map kind_of result ≡ html_kind bytes.now }
     ensures end { IfSome result (λ found. IsFoundWith bytes.now found) }
