@@ -59,37 +59,6 @@ pub fn parse_html_block_type_1_to_5<'a>(
     Ok(lines.next)
 }
 
-// An HTML block that goes on to the line that holds this text.
-#[derive(Clone, Copy)]
-struct ToTag<'t> {
-    tag: &'t str,
-}
-
-impl JudgesLines for ToTag<'_> {
-    ghost use Rattle.first_pass_grammar.specs.HtmlBlocks.{tag_judge};
-
-    ghost judges = { λ block. tag_judge block.tag.now };
-
-    #[inline(always)]
-    fn judge(
-        &self,
-        text: &str,
-        start: usize,
-        next: usize,
-        line_start: &mut LineStart<'_>,
-    ) -> Verdict {
-        let at = start + line_start.bytes_scanned();
-        if at == text.len() {
-            return Verdict::Closes(at);
-        }
-        if text[at..next].contains(self.tag) {
-            Verdict::IsLast
-        } else {
-            Verdict::GoesOn
-        }
-    }
-}
-
 /// Appends the HTML block of the kinds 6 and 7 that begins at the offset `start_ix` behind so many columns, at most 3,
 /// and goes on to a blank line. Answers where it ends, which is behind what the containers take of that line, and the
 /// offset at which the line begins that is not read, or the text's length (CommonMark 4.6).
@@ -121,33 +90,6 @@ pub fn parse_html_block_type_6_or_7<'a>(
     Ok(lines)
 }
 
-// An HTML block that goes on to a blank line.
-#[derive(Clone, Copy)]
-struct ToBlank;
-
-impl JudgesLines for ToBlank {
-    ghost use Rattle.first_pass_grammar.specs.HtmlBlocks.{blank_judge};
-
-    ghost judges = { λ block. blank_judge };
-
-    #[inline(always)]
-    fn judge(
-        &self,
-        _text: &str,
-        start: usize,
-        _next: usize,
-        line_start: &mut LineStart<'_>,
-    ) -> Verdict {
-        if line_start.is_at_eol() {
-            return Verdict::Stops(start);
-        }
-        if scan_blank_line(line_start.left()).is_some() {
-            return Verdict::Stops(start + line_start.bytes_scanned());
-        }
-        Verdict::GoesOn
-    }
-}
-
 // Opens the HTML block that begins at the offset `start` behind so many columns, and appends its first line. Answers
 // where that ends.
 fn open_html_block<'a>(
@@ -173,4 +115,62 @@ fn open_html_block<'a>(
     let next = next_line(text.as_bytes(), start);
     append_raw_line(tree, allocs, text, RawKind::Html, columns, start, next)?;
     Ok(next)
+}
+
+// An HTML block that goes on to the line that holds this text.
+#[derive(Clone, Copy)]
+struct ToTag<'t> {
+    tag: &'t str,
+}
+
+impl JudgesLines for ToTag<'_> {
+    ghost use Rattle.first_pass_grammar.specs.HtmlBlocks.{tag_judge};
+
+    ghost judges = { λ block. tag_judge block.tag.now };
+
+    #[inline(always)]
+    fn judge(
+        &self,
+        text: &str,
+        start: usize,
+        next: usize,
+        line_start: &mut LineStart<'_>,
+    ) -> Verdict {
+        let at = start + line_start.bytes_scanned();
+        if at == text.len() {
+            return Verdict::Closes(at);
+        }
+        if text[at..next].contains(self.tag) {
+            Verdict::IsLast
+        } else {
+            Verdict::GoesOn
+        }
+    }
+}
+
+// An HTML block that goes on to a blank line.
+#[derive(Clone, Copy)]
+struct ToBlank;
+
+impl JudgesLines for ToBlank {
+    ghost use Rattle.first_pass_grammar.specs.HtmlBlocks.{blank_judge};
+
+    ghost judges = { λ block. blank_judge };
+
+    #[inline(always)]
+    fn judge(
+        &self,
+        _text: &str,
+        start: usize,
+        _next: usize,
+        line_start: &mut LineStart<'_>,
+    ) -> Verdict {
+        if line_start.is_at_eol() {
+            return Verdict::Stops(start);
+        }
+        if scan_blank_line(line_start.left()).is_some() {
+            return Verdict::Stops(start + line_start.bytes_scanned());
+        }
+        Verdict::GoesOn
+    }
 }
