@@ -5,11 +5,11 @@ use Rattle.std.specs.Option.{option_map}
 use Rattle.first_pass_items.specs.declared.option_set.Options.{Options}
 use Rattle.first_pass_items.specs.declared.item.Item.{Item}
 use Rattle.first_pass_tree.specs.Forest.{Forest, IsForest, added, at_depth}
-use Rattle.first_pass_scan.specs.Lines.{at_line_end, line_len}
-use Rattle.first_pass_scan.specs.Rest.{Rest}
-use Rattle.first_pass_scan.specs.Places.{Place, place_at, line_place, line_rest, offset, line_end, start_of, IsPlaceOf}
-use Rattle.first_pass_scan.proofs.LineFacts.{lines_at-line}
-use Rattle.first_pass_scan.proofs.PlaceFacts.{start_of-lines}
+use Rattle.first_pass_lines.specs.Lines.{at_line_end, line_len}
+use Rattle.first_pass_lines.specs.Rest.{Rest}
+use Rattle.first_pass_lines.specs.Places.{Place, place_at, line_place, line_rest, offset, line_end, start_of, IsPlaceOf}
+use Rattle.first_pass_lines.proofs.LineFacts.{lines_at-line}
+use Rattle.first_pass_lines.proofs.PlaceFacts.{start_of-lines}
 use Rattle.first_pass_grammar.specs.declared.kind.Container.{Container}
 use Rattle.first_pass_grammar.specs.Names.{Names}
 use Rattle.first_pass_grammar.specs.Containers.{at_rest, after, taken}

@@ -10,12 +10,12 @@ use Rattle.first_pass_items.specs.declared.item.ItemBody.{ItemBody}
 use Rattle.first_pass_items.specs.declared.item.ItemBody.TheVariants.{BlockQuote as BlockQuoteBody, List as ListBody, ListItem as ListItemBody}
 use Rattle.first_pass_tree.specs.declared.tree_index.TreeIndex.{TreeIndex}
 use Rattle.first_pass_tree.specs.Forest.{Forest, depths, body_at, at_depth}
-use Rattle.first_pass_scan.specs.Lines.{blank_len}
+use Rattle.first_pass_lines.specs.Lines.{blank_len}
 use Rattle.first_pass_scan.specs.Markers.{task_of}
-use Rattle.first_pass_scan.specs.Rest.{Rest}
-use Rattle.first_pass_scan.specs.Places.{Place, place_at, offset, line_end, IsPlaceOf}
-use Rattle.first_pass_scan.proofs.LineFacts.{line_len-some}
-use Rattle.first_pass_scan.proofs.PlaceFacts.{place_length}
+use Rattle.first_pass_lines.specs.Rest.{Rest}
+use Rattle.first_pass_lines.specs.Places.{Place, place_at, offset, line_end, IsPlaceOf}
+use Rattle.first_pass_lines.proofs.LineFacts.{line_len-some}
+use Rattle.first_pass_lines.proofs.PlaceFacts.{place_length}
 use Rattle.first_pass_grammar.specs.declared.kind.Container.{Container}
 use Rattle.first_pass_grammar.specs.Derivation.{list_flags}
 use Rattle.first_pass_grammar.specs.Kinds.{Kind, Blank, is_blank_rest, first_kind, IsKindBy, IsKind}

@@ -8,11 +8,11 @@ use Rattle.first_pass_items.specs.declared.item.ItemBody.{ItemBody}
 use Rattle.first_pass_items.specs.declared.item.ItemBody.TheVariants.{BlockQuote as BlockQuoteBody, List as ListBody, ListItem as ListItemBody}
 use Rattle.first_pass_tree.specs.declared.tree_index.TreeIndex.{TreeIndex}
 use Rattle.first_pass_tree.specs.Forest.{Forest, with_body_at, body_at}
-use Rattle.first_pass_scan.specs.Lines.{is_white, eol_len, blank_len}
-use Rattle.first_pass_scan.specs.Rest.{Rest, column_of_byte, next_column, after_columns, indent, past_quote_byte}
+use Rattle.first_pass_lines.specs.Lines.{is_white, eol_len, blank_len}
+use Rattle.first_pass_lines.specs.Rest.{Rest, column_of_byte, next_column, after_columns, indent, past_quote_byte}
 use Rattle.first_pass_scan.specs.LeafLines.{hrule_len}
 use Rattle.first_pass_scan.specs.Markers.{bullet_marker, ordered_marker, list_marker, item_by, item_of}
-use Rattle.first_pass_scan.specs.Places.{Place}
+use Rattle.first_pass_lines.specs.Places.{Place}
 use Rattle.first_pass_grammar.specs.declared.kind.Container.{Container}
 use Rattle.first_pass_grammar.specs.declared.kind.Container.TheVariants.{BlockQuote, ListItem}
 use Rattle.first_pass_grammar.specs.Containers.{at_rest, has_columns, prefix, after}

@@ -5,10 +5,10 @@ use Rattle.first_pass_items.specs.declared.option_set.Options.{Options}
 use Rattle.first_pass_items.specs.declared.item.Item.{Item}
 use Rattle.first_pass_items.specs.declared.item.HeadingLevel.{HeadingLevel}
 use Rattle.first_pass_tree.specs.Forest.{Forest, IsForest, added}
-use Rattle.first_pass_scan.specs.Lines.{line_len}
-use Rattle.first_pass_scan.specs.Rest.{indent}
-use Rattle.first_pass_scan.specs.Places.{Place, offset, line_end, moved_columns, IsPlaceOf}
-use Rattle.first_pass_scan.proofs.PlaceFacts.{columns_line_end}
+use Rattle.first_pass_lines.specs.Lines.{line_len}
+use Rattle.first_pass_lines.specs.Rest.{indent}
+use Rattle.first_pass_lines.specs.Places.{Place, offset, line_end, moved_columns, IsPlaceOf}
+use Rattle.first_pass_lines.proofs.PlaceFacts.{columns_line_end}
 use Rattle.first_pass_html.specs.Starts.{html_end}
 use Rattle.first_pass_grammar.specs.declared.kind.Container.{Container}
 use Rattle.first_pass_grammar.specs.Names.{Names, Extends}

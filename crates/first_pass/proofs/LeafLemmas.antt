@@ -7,11 +7,11 @@ use Rattle.first_pass_items.specs.declared.item.ItemBody.TheVariants.{BlockQuote
 use Rattle.first_pass_items.specs.declared.item.HeadingLevel.{HeadingLevel}
 use Rattle.first_pass_tree.specs.declared.tree_index.TreeIndex.{TreeIndex}
 use Rattle.first_pass_tree.specs.Forest.{Forest, IsForest, added, at_depth}
-use Rattle.first_pass_scan.specs.Lines.{level_number, line_len}
+use Rattle.first_pass_lines.specs.Lines.{level_number, line_len}
 use Rattle.first_pass_scan.specs.LeafLines.{hrule_len}
-use Rattle.first_pass_scan.specs.Rest.{Rest, indent}
-use Rattle.first_pass_scan.specs.Places.{Place, offset, line_end, start_of, IsPlaceOf}
-use Rattle.first_pass_scan.proofs.PlaceFacts.{start_of-lines, columns_line_end}
+use Rattle.first_pass_lines.specs.Rest.{Rest, indent}
+use Rattle.first_pass_lines.specs.Places.{Place, offset, line_end, start_of, IsPlaceOf}
+use Rattle.first_pass_lines.proofs.PlaceFacts.{start_of-lines, columns_line_end}
 use Rattle.first_pass_grammar.specs.declared.kind.Container.{Container}
 use Rattle.first_pass_grammar.specs.declared.kind.Container.TheVariants.{BlockQuote}
 use Rattle.first_pass_grammar.specs.Containers.{at_rest, prefix}

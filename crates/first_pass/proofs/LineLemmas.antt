@@ -5,11 +5,11 @@ use Rattle.first_pass_items.specs.declared.item.ItemBody.{ItemBody}
 use Rattle.first_pass_items.specs.declared.item.ItemBody.TheVariants.{List as ListBody, ListItem as ListItemBody}
 use Rattle.first_pass_tree.specs.declared.tree_index.TreeIndex.{TreeIndex}
 use Rattle.first_pass_tree.specs.Forest.{Forest, body_at}
-use Rattle.first_pass_scan.specs.Lines.{blank_len, line_len}
-use Rattle.first_pass_scan.specs.Rest.{Rest}
-use Rattle.first_pass_scan.specs.Places.{Place, line_rest, line_place, place_at, line_end, start_of, IsPlaceOf}
-use Rattle.first_pass_scan.proofs.LineFacts.{lines_at-line}
-use Rattle.first_pass_scan.proofs.PlaceFacts.{line_is_place}
+use Rattle.first_pass_lines.specs.Lines.{blank_len, line_len}
+use Rattle.first_pass_lines.specs.Rest.{Rest}
+use Rattle.first_pass_lines.specs.Places.{Place, line_rest, line_place, place_at, line_end, start_of, IsPlaceOf}
+use Rattle.first_pass_lines.proofs.LineFacts.{lines_at-line}
+use Rattle.first_pass_lines.proofs.PlaceFacts.{line_is_place}
 use Rattle.first_pass_grammar.specs.Containers.{after}
 use Rattle.first_pass_grammar.specs.Leaves.{Document}
 use Rattle.first_pass_grammar.specs.Skeleton.{Inside}

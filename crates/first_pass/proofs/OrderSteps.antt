@@ -9,9 +9,9 @@ use Rattle.first_pass_items.specs.declared.option_set.Options.{Options}
 use Rattle.first_pass_items.specs.OptionWords.{has}
 use Rattle.first_pass_tree.specs.Forest.{Forest}
 use Rattle.first_pass_scan.specs.Markers.{task_of}
-use Rattle.first_pass_scan.specs.Rest.{Rest, indent, after_columns, past_quote}
-use Rattle.first_pass_scan.specs.Places.{Place, place_at, offset, line_end, IsPlaceOf}
-use Rattle.first_pass_scan.proofs.PlaceFacts.{place_length, columns_keep, columns_shorter}
+use Rattle.first_pass_lines.specs.Rest.{Rest, indent, after_columns, past_quote}
+use Rattle.first_pass_lines.specs.Places.{Place, place_at, offset, line_end, IsPlaceOf}
+use Rattle.first_pass_lines.proofs.PlaceFacts.{place_length, columns_keep, columns_shorter}
 use Rattle.first_pass_grammar.specs.declared.kind.Container.TheVariants.{BlockQuote}
 use Rattle.first_pass_grammar.specs.Containers.{prefix}
 use Rattle.first_pass_grammar.specs.Kinds.{all_taken, unindented}

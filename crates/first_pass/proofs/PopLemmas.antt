@@ -8,7 +8,7 @@ use Rattle.first_pass_items.specs.declared.item.ItemBody.TheVariants.{List as Li
 use Rattle.first_pass_items.specs.declared.item.ListFlags.{ListFlags}
 use Rattle.first_pass_tree.specs.declared.tree_index.TreeIndex.{TreeIndex}
 use Rattle.first_pass_tree.specs.Forest.{Forest, IsForest, body_at}
-use Rattle.first_pass_scan.specs.Places.{Place, start_of}
+use Rattle.first_pass_lines.specs.Places.{Place, start_of}
 use Rattle.first_pass_grammar.specs.declared.kind.Container.{Container}
 use Rattle.first_pass_grammar.specs.Leaves.{Document}
 use Rattle.first_pass_grammar.specs.Skeleton.{From, Line, Inside, Ends, end_before, Opening, Opens}

@@ -3,10 +3,10 @@ use Rattle.std.proofs.Common.{◌≡◌, ℕ, ◌≤◌, Bool, true, List, ◌�
 use Rattle.first_pass_items.specs.declared.option_set.Options.{Options}
 use Rattle.first_pass_items.specs.declared.item.Item.{Item}
 use Rattle.first_pass_tree.specs.Forest.{Forest}
-use Rattle.first_pass_scan.specs.Lines.{is_content}
+use Rattle.first_pass_lines.specs.Lines.{is_content}
 use Rattle.first_pass_scan.specs.LeafLines.{code_fence}
-use Rattle.first_pass_scan.specs.Places.{Place, offset, start_of, IsPlaceOf}
-use Rattle.first_pass_scan.proofs.PlaceFacts.{start_of-lines}
+use Rattle.first_pass_lines.specs.Places.{Place, offset, start_of, IsPlaceOf}
+use Rattle.first_pass_lines.proofs.PlaceFacts.{start_of-lines}
 use Rattle.first_pass_grammar.specs.Names.{Names}
 use Rattle.first_pass_grammar.specs.Leaves.{document}
 use Rattle.first_pass_grammar.specs.Extents.{Extent}

@@ -4,10 +4,10 @@ use Rattle.std.proofs.lemmas.Bool.Decides.{nat_tests}
 use Rattle.std.proofs.lemmas.Option.{none-some}
 use Rattle.std.specs.Option.{option_map}
 use Rattle.std.specs.List.{prefix_len}
-use Rattle.first_pass_scan.specs.Lines.{is_content, begins, eol_len, line_len}
+use Rattle.first_pass_lines.specs.Lines.{is_content, begins, eol_len, line_len}
 use Rattle.first_pass_scan.specs.LeafLines.{is_rule_byte, in_rule, rule_len, hrule_len}
-use Rattle.first_pass_scan.specs.Places.{line_place}
-use Rattle.first_pass_scan.proofs.PlaceFacts.{bytes_line_end}
+use Rattle.first_pass_lines.specs.Places.{line_place}
+use Rattle.first_pass_lines.proofs.PlaceFacts.{bytes_line_end}
 use Rattle.first_pass_text.proofs.HeadingLemmas.{prefix_in}
 
 rule_content : (c b : ℕ) → is_rule_byte c ≡ true → in_rule c b ≡ true → is_content b ≡ true

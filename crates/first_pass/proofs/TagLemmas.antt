@@ -7,10 +7,10 @@ use Rattle.first_pass_items.specs.declared.item.BlockQuoteKind.{BlockQuoteKind}
 use Rattle.first_pass_items.specs.declared.item.ItemBody.TheVariants.{BlockQuote as BlockQuoteBody}
 use Rattle.first_pass_tree.specs.declared.tree_index.TreeIndex.{TreeIndex}
 use Rattle.first_pass_tree.specs.Forest.{Forest, body_at}
-use Rattle.first_pass_scan.specs.Rest.{indent}
-use Rattle.first_pass_scan.specs.Lines.{line_len}
-use Rattle.first_pass_scan.specs.Places.{Place, line_rest, line_place, place_at}
-use Rattle.first_pass_scan.proofs.LineFacts.{lines_at-line, lines_at-end}
+use Rattle.first_pass_lines.specs.Rest.{indent}
+use Rattle.first_pass_lines.specs.Lines.{line_len}
+use Rattle.first_pass_lines.specs.Places.{Place, line_rest, line_place, place_at}
+use Rattle.first_pass_lines.proofs.LineFacts.{lines_at-line, lines_at-end}
 use Rattle.first_pass_grammar.specs.declared.kind.Container.{Container}
 use Rattle.first_pass_grammar.specs.declared.kind.Container.TheVariants.{BlockQuote}
 use Rattle.first_pass_grammar.specs.Containers.{at_rest, after, front}

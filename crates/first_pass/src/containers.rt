@@ -1,8 +1,8 @@
 //! The open containers, and how far a line goes on with them (CommonMark 5).
 
 ghost use Rattle.std.specs.Prelude.{◌≡◌, ℕ, ◌+◌, ◌<◌, ◌≤◌, List, length, drop, Some, None, true, false, MatchOption, IfOk, IfSome, OnOk, IsUtf8, IsCharBoundary};
-ghost use Rattle.first_pass_scan.specs.Rest.{after_columns};
-ghost use Rattle.first_pass_scan.specs.Places.{Place, place_at, offset, line_end, start_of, IsPlaceOf};
+ghost use Rattle.first_pass_lines.specs.Rest.{after_columns};
+ghost use Rattle.first_pass_lines.specs.Places.{Place, place_at, offset, line_end, start_of, IsPlaceOf};
 ghost use Rattle.first_pass_grammar.specs.Names.{Names};
 ghost use Rattle.first_pass_grammar.specs.Leaves.{Document, document};
 ghost use Rattle.first_pass_grammar.specs.declared.kind.Container.TheVariants.{BlockQuote, ListItem};
@@ -10,7 +10,7 @@ ghost use Rattle.first_pass_grammar.specs.Containers.{prefix, after, front};
 ghost use Rattle.first_pass_grammar.specs.Kinds.{item_at};
 ghost use Rattle.first_pass_tree.specs.declared.tree_index.TreeIndex.{TreeIndex};
 ghost use Rattle.first_pass_open.specs.Path.{container_of, prefix_of, path_in, path_of, outer};
-ghost use Rattle.first_pass_scan.specs.Lines.{line_len};
+ghost use Rattle.first_pass_lines.specs.Lines.{line_len};
 ghost use Rattle.first_pass_grammar.specs.Skeleton.{Inside, task_behind, tag_behind};
 ghost use Rattle.first_pass_grammar.specs.Completion.{lines_from};
 ghost use Rattle.first_pass.specs.State.{NoMore, Ready, ReadyAt};
@@ -22,6 +22,8 @@ ghost use Rattle.first_pass_grammar.specs.OpenOrder.{IsOrderedTo};
 use bitflags::Flags;
 use first_pass_items::item::{BlockQuoteKind, Item, ItemBody};
 use first_pass_items::option_set::Options;
+use first_pass_lines::lines::scan_blank_line;
+use first_pass_lines::places::{next_line, rest_of};
 use first_pass_lists::list::ListMarker;
 use first_pass_lists::reading::Reading;
 pub use first_pass_open::containers::scan_containers;
@@ -29,8 +31,6 @@ use first_pass_open::containers::scan_quote;
 use first_pass_open::indentation::scan_indentation;
 use first_pass_open::source::Source;
 use first_pass_scan::line_start::LineStart;
-use first_pass_scan::lines::scan_blank_line;
-use first_pass_scan::places::{next_line, rest_of};
 use first_pass_text::paragraph::append_item;
 use first_pass_tree::forest::Tree;
 use std::alloc::AllocError;

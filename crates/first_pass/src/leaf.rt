@@ -1,7 +1,7 @@
 //! Paragraphs, headings and thematic breaks, as calls of the pass.
 
 ghost use Rattle.std.specs.Prelude.{◌≡◌, ℕ, ◌+◌, ◌≤◌, drop, Some, false, length, IfOk, IfSome, OnOk, IsCharBoundary};
-ghost use Rattle.first_pass_scan.specs.Lines.{atx_level as atx_level_of};
+ghost use Rattle.first_pass_lines.specs.Lines.{atx_level as atx_level_of};
 ghost use Rattle.first_pass_tree.specs.Forest.{added, is_text};
 ghost use Rattle.first_pass_names.specs.TableEntries.{no_names};
 ghost use Rattle.first_pass_grammar.specs.Leaves.{document, rule_block};

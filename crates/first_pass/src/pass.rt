@@ -1,7 +1,7 @@
 //! The block pass: the lines of a text, one block after the other.
 
 ghost use Rattle.std.specs.Prelude.{◌≡◌, ◌<◌, ◌≤◌, ◌+◌, ◌-◌, ◌*◌, min, false, [], length, None, Some, IsSome, slice_get, IfOk, IfSome, OnOk, IsUtf8, IsCharBoundary, ℕ};
-ghost use Rattle.first_pass_scan.specs.Places.{place_at, offset, line_end, IsPlaceOf};
+ghost use Rattle.first_pass_lines.specs.Places.{place_at, offset, line_end, IsPlaceOf};
 ghost use Rattle.first_pass_walk.specs.Walk.{MarksSpecial};
 ghost use Rattle.first_pass_scan.specs.MetadataSearch.{IsKnownOf};
 ghost use Rattle.first_pass_scan.proofs.KnownFacts.{known_prop};
@@ -17,7 +17,7 @@ ghost use Rattle.first_pass_open.specs.OpenBlock.{closed_by};
 ghost use Rattle.first_pass_grammar.specs.Skeleton.{Inside, Line};
 ghost use Rattle.first_pass_tree.specs.Forest.{is_text};
 ghost use Rattle.first_pass_grammar.specs.Kinds.{item_at, IsKind, all_taken, unindented};
-ghost use Rattle.first_pass_scan.specs.Rest.{indent};
+ghost use Rattle.first_pass_lines.specs.Rest.{indent};
 ghost use Rattle.first_pass.specs.Adding.{AddsKind};
 ghost use Rattle.first_pass.specs.Opening.{ReadyText, ReadyTagged, ReadyLeaf, line_or, OrderedText};
 ghost use Rattle.first_pass_lists.specs.Closing.{with_tree};
@@ -35,13 +35,13 @@ use crate::raw::read_blank_behind;
 use first_pass_below::flank::TableParseMode;
 use first_pass_items::item::Item;
 use first_pass_items::option_set::Options;
+use first_pass_lines::places::{next_line, rest_of};
 use first_pass_lists::reading::Reading;
 use first_pass_names::items::Allocations;
 use first_pass_open::indentation::scan_indentation;
 use first_pass_open::source::Source;
 use first_pass_scan::line_start::LineStart;
 use first_pass_scan::metadata_search::MetadataEnds;
-use first_pass_scan::places::{next_line, rest_of};
 use first_pass_text::interrupt::lazy_leaf;
 pub use first_pass_text::interrupt::scan_paragraph_interrupt_no_table;
 use first_pass_text::kinds::{Found, MarkedLeaf, kind_at};

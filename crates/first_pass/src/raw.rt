@@ -1,10 +1,10 @@
 //! Leaf blocks whose lines are raw: code, metadata and HTML.
 
 ghost use Rattle.std.specs.Prelude.{◌≡◌, ◌≤◌, ◌<◌, ℕ, Some, true, false, nat_lt, max, List, length, drop, IfOk, OnOk, IsUtf8, IsCharBoundary};
-ghost use Rattle.first_pass_scan.specs.Lines.{is_blank_line, is_content};
+ghost use Rattle.first_pass_lines.specs.Lines.{is_blank_line, is_content};
 ghost use Rattle.first_pass_scan.specs.LeafLines.{code_fence};
-ghost use Rattle.first_pass_scan.specs.Rest.{indent};
-ghost use Rattle.first_pass_scan.specs.Places.{Place, place_at, offset, line_end, IsPlaceOf};
+ghost use Rattle.first_pass_lines.specs.Rest.{indent};
+ghost use Rattle.first_pass_lines.specs.Places.{Place, place_at, offset, line_end, IsPlaceOf};
 ghost use Rattle.first_pass_grammar.specs.Names.{Extends};
 ghost use Rattle.first_pass_grammar.specs.Kinds.{IndentedCode, is_blank_rest};
 ghost use Rattle.first_pass_grammar.specs.RawLines.{range_text, range_html};
@@ -18,6 +18,7 @@ ghost use Rattle.first_pass_lists.specs.Closing.{with_tree};
 ghost use Rattle.first_pass_text.specs.Between.{AddsBetween};
 
 use crate::pass::FirstPass;
+use first_pass_lines::places::next_line;
 use first_pass_lists::reading::Reading;
 use first_pass_open::open_block::BlockLines;
 use first_pass_open::source::Source;
@@ -25,7 +26,6 @@ use first_pass_raw::fenced_code::Fence;
 use first_pass_raw::raw_line::{RawKind, append_raw_line};
 use first_pass_raw::{fenced_code, html_block, indented_code, metadata_block};
 use first_pass_scan::line_start::LineStart;
-use first_pass_scan::places::next_line;
 use std::alloc::AllocError;
 use std::cmp::max;
 

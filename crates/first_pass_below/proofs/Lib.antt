@@ -3,8 +3,8 @@ pub use Rattle.first_pass_tree.proofs.Keeps
 pub use Rattle.first_pass_tree.proofs.Blocks
 pub use Rattle.first_pass_tree.proofs.Moves
 pub use Rattle.first_pass_tree.proofs.Callers
-pub use Rattle.first_pass_scan.proofs.Columns
-pub use Rattle.first_pass_scan.proofs.HeadingFacts
-pub use Rattle.first_pass_scan.proofs.LineFacts
-pub use Rattle.first_pass_scan.proofs.PlaceFacts
+pub use Rattle.first_pass_lines.proofs.Columns
+pub use Rattle.first_pass_lines.proofs.HeadingFacts
+pub use Rattle.first_pass_lines.proofs.LineFacts
+pub use Rattle.first_pass_lines.proofs.PlaceFacts
 pub mod FlankFacts

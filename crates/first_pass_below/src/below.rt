@@ -9,6 +9,10 @@ pub use first_pass_items::item::{
     ItemBody, ListFlags, MetadataBlockKind,
 };
 pub use first_pass_items::option_set::Options;
+pub use first_pass_lines::lines::{
+    level_number, scan_atx_heading, scan_blank_line, scan_eol, scan_nextline, scan_whitespace_no_nl,
+};
+pub use first_pass_lines::places::{law_of_lines, next_line, rest_of};
 pub use first_pass_links::destination::scan_link_dest;
 pub use first_pass_links::entity::scan_entity;
 pub use first_pass_links::escape::unescape;
@@ -18,10 +22,6 @@ pub use first_pass_scan::leaf_scan::{
     scan_metadata_block, scan_setext_heading,
 };
 pub use first_pass_scan::line_start::{LineStart, scan_listitem};
-pub use first_pass_scan::lines::{
-    level_number, scan_atx_heading, scan_blank_line, scan_eol, scan_nextline, scan_whitespace_no_nl,
-};
-pub use first_pass_scan::places::{law_of_lines, next_line, rest_of};
-pub use first_pass_scan::table_scan::{count_header_cols, scan_table_head};
+pub use first_pass_table_scan::table_scan::{count_header_cols, scan_table_head};
 pub use first_pass_tree::forest::Tree;
 pub use first_pass_tree::tree_index::TreeIndex;

@@ -8,7 +8,7 @@ use Rattle.first_pass_items.specs.declared.item.Item.{Item}
 use Rattle.first_pass_items.specs.declared.item.ItemBody.{ItemBody}
 use Rattle.first_pass_items.specs.declared.item.ItemBody.TheVariants.{SynthesizeText, FencedCodeBlock, Paragraph, BlockQuote as BlockQuoteBody, List as ListBody, ListItem as ListItemBody}
 use Rattle.first_pass_tree.specs.Forest.{at_depth, is_text}
-use Rattle.first_pass_scan.specs.Places.{Place, offset, line_end}
+use Rattle.first_pass_lines.specs.Places.{Place, offset, line_end}
 use Rattle.first_pass_tokens.specs.TreeTokens.{leaves}
 use Rattle.first_pass_tokens.specs.Chains.{text_token, touches, add_token, add_tokens}
 use Rattle.first_pass_grammar.specs.Names.{Names, NamesText, index_of, kind_alone, read, read_nodes}

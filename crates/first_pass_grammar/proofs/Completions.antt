@@ -8,7 +8,7 @@ use Rattle.first_pass_items.specs.declared.item.BlockQuoteKind.{BlockQuoteKind}
 use Rattle.first_pass_items.specs.declared.item.ItemBody.TheVariants.{BlockQuote as BlockQuoteBody, List as ListBody, ListItem as ListItemBody}
 use Rattle.first_pass_tree.specs.Forest.{modify, map_from}
 use Rattle.first_pass_tree.proofs.Blocks.{modify-at}
-use Rattle.first_pass_scan.specs.Places.{Place, lines_at, start_of}
+use Rattle.first_pass_lines.specs.Places.{Place, lines_at, start_of}
 use Rattle.first_pass_grammar.specs.declared.kind.Container.{Container}
 use Rattle.first_pass_grammar.specs.declared.kind.Container.TheVariants.{BlockQuote, ListItem}
 use Rattle.first_pass_grammar.specs.Containers.{taken}

@@ -6,10 +6,10 @@ use Rattle.first_pass_items.specs.declared.item.BlockQuoteKind.{BlockQuoteKind}
 use Rattle.first_pass_items.specs.declared.item.ItemBody.TheVariants.{Root, Rule, Heading as HeadingBody, Paragraph as ParagraphBody, IndentCodeBlock, FencedCodeBlock, MetadataBlock, HtmlBlock}
 use Rattle.first_pass_items.specs.declared.option_set.Options.{Options}
 use Rattle.first_pass_items.specs.OptionWords.{has}
-use Rattle.first_pass_scan.specs.Lines.{level_number}
+use Rattle.first_pass_lines.specs.Lines.{level_number}
 use Rattle.first_pass_scan.specs.Markers.{task_of}
-use Rattle.first_pass_scan.specs.Rest.{Rest, indent}
-use Rattle.first_pass_scan.specs.Places.{Place, offset, lines_at, start_of, moved_columns}
+use Rattle.first_pass_lines.specs.Rest.{Rest, indent}
+use Rattle.first_pass_lines.specs.Places.{Place, offset, lines_at, start_of, moved_columns}
 use Rattle.first_pass_links.specs.Escapes.{unescaped}
 use Rattle.first_pass_tokens.specs.Chains.{add_tokens}
 use Rattle.first_pass_tokens.proofs.LineLemmas.{one_line}

@@ -9,10 +9,10 @@ use Rattle.first_pass_items.specs.declared.item.Item.{Item}
 use Rattle.first_pass_items.specs.declared.item.MetadataBlockKind.{MetadataBlockKind}
 use Rattle.first_pass_items.specs.declared.item.MetadataBlockKind.TheVariants.{YamlStyle, PlusesStyle}
 use Rattle.first_pass_items.specs.declared.item.ItemBody.TheVariants.{IndentCodeBlock, FencedCodeBlock, MetadataBlock}
-use Rattle.first_pass_scan.specs.Lines.{is_white, is_ascii_white, line_len}
+use Rattle.first_pass_lines.specs.Lines.{is_white, is_ascii_white, line_len}
 use Rattle.first_pass_scan.specs.LeafLines.{closing_fence_len, closing_metadata_len}
-use Rattle.first_pass_scan.specs.Rest.{indent}
-use Rattle.first_pass_scan.specs.Places.{Place, offset, line_end, moved_columns}
+use Rattle.first_pass_lines.specs.Rest.{indent}
+use Rattle.first_pass_lines.specs.Places.{Place, offset, line_end, moved_columns}
 use Rattle.first_pass_links.specs.Escapes.{unescaped}
 use Rattle.first_pass_links.specs.Texts.{Borrows}
 use Rattle.first_pass_grammar.specs.declared.kind.Container.{Container}

@@ -1,9 +1,9 @@
 -- Which lines go on with the containers that are open (CommonMark 5).
 use Rattle.std.specs.Prelude.{ℕ, nat_le, Bool, false, ◌||◌, Option, Some, None, List, [], ◌∷◌, is_some, if◌then◌else◌}
 use Rattle.std.specs.Option.{option_map, option_and_then}
-use Rattle.first_pass_scan.specs.Lines.{at_line_end}
-use Rattle.first_pass_scan.specs.Rest.{Rest, indent, after_columns, past_quote}
-use Rattle.first_pass_scan.specs.Places.{Place}
+use Rattle.first_pass_lines.specs.Lines.{at_line_end}
+use Rattle.first_pass_lines.specs.Rest.{Rest, indent, after_columns, past_quote}
+use Rattle.first_pass_lines.specs.Places.{Place}
 use Rattle.first_pass_grammar.specs.declared.kind.Container.{Container}
 use Rattle.first_pass_grammar.specs.declared.kind.Container.TheVariants.{BlockQuote, ListItem}
 

@@ -5,7 +5,7 @@ use Rattle.first_pass_items.specs.declared.item.ItemBody.{ItemBody}
 use Rattle.first_pass_items.specs.declared.item.ItemBody.TheVariants.{Root, Paragraph, TightParagraph, BlockQuote as BlockQuoteBody, List as ListBody, ListItem as ListItemBody}
 use Rattle.first_pass_items.specs.declared.item.ListFlags.{ListFlags}
 use Rattle.first_pass_tree.specs.Forest.{at_depth}
-use Rattle.first_pass_scan.specs.Places.{lines_at}
+use Rattle.first_pass_lines.specs.Places.{lines_at}
 use Rattle.first_pass_grammar.specs.Leaves.{Document}
 use Rattle.first_pass_grammar.specs.Skeleton.{Leaf, BlankLine, Block, Opener, QuoteMarker, ItemMarker, Line, Skeleton, Nil, Then, Node, IsSequence}
 use Rattle.first_pass_grammar.specs.Lists.{list_end, is_loosened, has_gap, run_behind}

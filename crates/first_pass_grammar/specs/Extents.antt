@@ -1,6 +1,6 @@
 -- Extents: which lines a raw leaf block has, and where it ends (CommonMark 4.5, 4.6, and this project).
 use Rattle.std.specs.Prelude.{ℕ, List, [], ◌∷◌, Option, Some, None}
-use Rattle.first_pass_scan.specs.Places.{Place, line_end}
+use Rattle.first_pass_lines.specs.Places.{Place, line_end}
 use Rattle.first_pass_grammar.specs.declared.kind.Container.{Container}
 use Rattle.first_pass_grammar.specs.Containers.{taken}
 

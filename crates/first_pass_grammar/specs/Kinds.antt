@@ -6,10 +6,10 @@ use Rattle.first_pass_items.specs.OptionWords.{has}
 use Rattle.first_pass_html.specs.Starts.{html_end, begins_block_tag}
 use Rattle.first_pass_html.specs.Tags.{BeginsTagLine}
 use Rattle.std.specs.Option.{option_map}
-use Rattle.first_pass_scan.specs.Lines.{at_line_end, begins, blank_len, atx_level}
+use Rattle.first_pass_lines.specs.Lines.{at_line_end, begins, blank_len, atx_level}
 use Rattle.first_pass_scan.specs.LeafLines.{hrule_len, code_fence, metadata_byte}
-use Rattle.first_pass_scan.specs.Rest.{Rest, indent, after_columns}
-use Rattle.first_pass_scan.specs.Places.{Place, offset, moved_columns}
+use Rattle.first_pass_lines.specs.Rest.{Rest, indent, after_columns}
+use Rattle.first_pass_lines.specs.Places.{Place, offset, moved_columns}
 use Rattle.first_pass_scan.specs.Markers.{is_bullet, listitem, item_of}
 use Rattle.first_pass_grammar.specs.declared.kind.Container.{Container}
 use Rattle.first_pass_grammar.specs.declared.kind.Container.TheVariants.{BlockQuote}

@@ -7,8 +7,8 @@ use Rattle.first_pass_items.specs.declared.item.ItemBody.{ItemBody}
 use Rattle.first_pass_items.specs.declared.item.ItemBody.TheVariants.{Heading as HeadingBody, Paragraph as ParagraphBody, Rule}
 use Rattle.first_pass_items.specs.declared.item.HeadingLevel.{HeadingLevel}
 use Rattle.first_pass_tree.specs.Forest.{block_of}
-use Rattle.first_pass_scan.specs.Lines.{is_white, line_len}
-use Rattle.first_pass_scan.specs.Places.{Place, offset}
+use Rattle.first_pass_lines.specs.Lines.{is_white, line_len}
+use Rattle.first_pass_lines.specs.Places.{Place, offset}
 use Rattle.first_pass_tokens.specs.Pieces.{Source}
 use Rattle.first_pass_tokens.specs.LineTokens.{IsLine}
 use Rattle.first_pass_tokens.specs.TreeTokens.{leaves}

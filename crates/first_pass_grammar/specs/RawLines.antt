@@ -3,7 +3,7 @@ use Rattle.std.specs.Prelude.{◌≡◌, ℕ, zero, suc, ◌+◌, ◌-◌, ◌==
 use Rattle.first_pass_items.specs.declared.item.CowIndex.{CowIndex}
 use Rattle.first_pass_items.specs.declared.item.Item.{Item}
 use Rattle.first_pass_items.specs.declared.item.ItemBody.TheVariants.{SynthesizeText, Html}
-use Rattle.first_pass_scan.specs.Places.{Place, offset, line_end}
+use Rattle.first_pass_lines.specs.Places.{Place, offset, line_end}
 use Rattle.first_pass_tokens.specs.Chains.{text_token, add_tokens}
 use Rattle.first_pass_grammar.specs.Names.{Names, NamesText}
 use Rattle.first_pass_grammar.specs.Leaves.{Document}

@@ -5,10 +5,10 @@ use Rattle.first_pass_items.specs.declared.item.BlockQuoteKind.{BlockQuoteKind}
 use Rattle.first_pass_items.specs.declared.item.ItemBody.TheVariants.{TaskListMarker}
 use Rattle.first_pass_items.specs.declared.option_set.Options.{Options}
 use Rattle.first_pass_items.specs.OptionWords.{has}
-use Rattle.first_pass_scan.specs.Lines.{level_number}
+use Rattle.first_pass_lines.specs.Lines.{level_number}
 use Rattle.first_pass_scan.specs.Markers.{task_of, past_tag}
-use Rattle.first_pass_scan.specs.Rest.{Rest, indent}
-use Rattle.first_pass_scan.specs.Places.{Place, place_at, offset, start_of, moved_columns}
+use Rattle.first_pass_lines.specs.Rest.{Rest, indent}
+use Rattle.first_pass_lines.specs.Places.{Place, place_at, offset, start_of, moved_columns}
 use Rattle.first_pass_grammar.specs.declared.kind.Container.{Container}
 use Rattle.first_pass_grammar.specs.declared.kind.Container.TheVariants.{BlockQuote, ListItem}
 use Rattle.first_pass_grammar.specs.Containers.{at_rest, after, front, taken, next_goes_on}

@@ -8,7 +8,7 @@ use Rattle.std.proofs.lemmas.List.{length-map, length-take, take-map, take-appen
 use Rattle.std.proofs.lemmas.Map.Views.{Contains-from_any}
 use Rattle.std.proofs.Math.Seq.{take-length}
 use Rattle.std.proofs.lemmas.Slice.Eq.{bytes_eq-Decides}
-use Rattle.first_pass_scan.specs.Lines.{begins}
+use Rattle.first_pass_lines.specs.Lines.{begins}
 use Rattle.first_pass_html.specs.Names.{in_lower_case, block_names, IsBlockName, begins_with_name, first_name_len, IsLongestName}
 use Rattle.first_pass_html.proofs.ListFacts.{front_of}
 use Rattle.first_pass_html.proofs.NameFacts.{contained_passes, name_some}

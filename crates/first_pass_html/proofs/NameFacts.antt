@@ -6,7 +6,7 @@ use Rattle.std.proofs.lemmas.Bool.{and_from, and_parts}
 use Rattle.std.proofs.lemmas.Bool.Decides.{nat_tests}
 use Rattle.std.proofs.lemmas.List.{take-append-drop, length-map, length-take-le}
 use Rattle.std.proofs.lemmas.List.Sums.{AllPass-from_list_all}
-use Rattle.first_pass_scan.specs.Lines.{is_ascii_white, begins}
+use Rattle.first_pass_lines.specs.Lines.{is_ascii_white, begins}
 use Rattle.first_pass_html.specs.Names.{in_lower_case, block_names, IsBlockName, IsLongestName}
 use Rattle.first_pass_html.specs.Starts.{ends_block_name, HasBlockName}
 use Rattle.first_pass_html.proofs.ListFacts.{prefix_all, front_size, front_of, rest_behind}

@@ -8,7 +8,7 @@ use Rattle.std.proofs.lemmas.Bool.Decides.{nat_tests, same_from_decides}
 use Rattle.std.proofs.lemmas.List.{take-append-drop, length-take-le}
 use Rattle.std.proofs.lemmas.List.Folds.{length-prefix_len}
 use Rattle.std.proofs.lemmas.Slice.Eq.{bytes_eq-Decides}
-use Rattle.first_pass_scan.specs.Lines.{is_ascii_white}
+use Rattle.first_pass_lines.specs.Lines.{is_ascii_white}
 use Rattle.first_pass_html.specs.Names.{in_lower_case, begins_with_name}
 use Rattle.first_pass_html.specs.Starts.{ends_raw_name, IsText, IsTextIf, begins_raw, raw_end_of, raw_end, html_end}
 use Rattle.first_pass_html.proofs.ListFacts.{front_size}

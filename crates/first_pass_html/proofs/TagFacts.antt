@@ -4,7 +4,7 @@ use Rattle.std.specs.List.{prefix_len, list_all, concat}
 use Rattle.std.proofs.lemmas.Bool.{and_parts}
 use Rattle.std.proofs.lemmas.Bool.Decides.{nat_tests}
 use Rattle.std.proofs.Math.Seq.{drop-append_seam, drop-append-add}
-use Rattle.first_pass_scan.specs.Lines.{is_blank}
+use Rattle.first_pass_lines.specs.Lines.{is_blank}
 use Rattle.first_pass_html.specs.Tags.{starts_attribute, is_attribute_byte, is_unquoted, is_quoted, is_word, is_attribute_name, IsQuotedValue, IsValue, IsValueSpecification, IsAttribute, AreAttributes, IsOpenTagEnd}
 use Rattle.first_pass_html.specs.TagLengths.{word_len, quoted_len, value_len, blanks_value_len, specification_len, attribute_name_len, named_len, attribute_len, close_len, open_end_len}
 use Rattle.first_pass_html.specs.Fronts.{IsTagRest, IsEndBefore}

@@ -3,7 +3,7 @@ use Rattle.std.proofs.Common.{◌≡◌, ◌⊎◌, inl, inr, ℕ, Bool, true, f
 use Rattle.std.specs.List.{prefix_len, list_all, concat}
 use Rattle.std.proofs.lemmas.Bool.{and_parts}
 use Rattle.std.proofs.lemmas.Bool.Decides.{nat_tests}
-use Rattle.first_pass_scan.specs.Lines.{begins, is_blank}
+use Rattle.first_pass_lines.specs.Lines.{begins, is_blank}
 use Rattle.first_pass_html.specs.Tags.{is_tag_byte, starts_attribute, is_attribute_byte, is_unquoted, is_word, is_attribute_name, IsAttribute, AreAttributes, IsOpenTagEnd}
 use Rattle.first_pass_html.specs.Fronts.{IsTagRest}
 use Rattle.first_pass_html.proofs.ListFacts.{prefix_all, prefix_none, rest_behind}

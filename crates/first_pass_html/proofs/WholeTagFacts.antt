@@ -6,7 +6,7 @@ use Rattle.std.proofs.lemmas.Bool.{and_parts, eqb-true}
 use Rattle.std.proofs.lemmas.List.{drop-drop, take-append-drop, length-take-le}
 use Rattle.std.proofs.Math.Seq.{take-add, drop-append_seam}
 use Rattle.std.specs.Char.{is_ascii_alphabetic}
-use Rattle.first_pass_scan.specs.Lines.{begins, blank_len, is_blank}
+use Rattle.first_pass_lines.specs.Lines.{begins, blank_len, is_blank}
 use Rattle.first_pass_html.specs.Starts.{is_raw_name}
 use Rattle.first_pass_html.specs.Tags.{is_tag_byte, is_tag_name, IsClosingTag, IsBlockOpenTag, IsBehindOpening, IsBehindClosing, IsBlockTag, BeginsTagLine}
 use Rattle.first_pass_html.specs.TagLengths.{tag_name_len, open_end_len, closing_end_len}

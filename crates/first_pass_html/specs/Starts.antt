@@ -4,7 +4,7 @@ use Rattle.std.specs.Borrow.{Bor}
 use Rattle.std.specs.List.{prefix_len}
 use Rattle.std.specs.Option.{is_some}
 use Rattle.std.specs.Char.{is_ascii_alphabetic, is_ascii_alphanumeric}
-use Rattle.first_pass_scan.specs.Lines.{is_ascii_white, begins}
+use Rattle.first_pass_lines.specs.Lines.{is_ascii_white, begins}
 use Rattle.first_pass_html.specs.Names.{in_lower_case, begins_with_name, IsBlockName, is_block_name}
 
 -- the bytes begin with a text (this project)

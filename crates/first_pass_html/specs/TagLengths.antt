@@ -3,7 +3,7 @@ use Rattle.std.specs.Prelude.{ℕ, ◌+◌, Bool, ◌==◌, ◌&&◌, ◌||◌, 
 use Rattle.std.specs.List.{prefix_len}
 use Rattle.std.specs.Option.{option_map}
 use Rattle.std.specs.Char.{is_ascii_alphabetic}
-use Rattle.first_pass_scan.specs.Lines.{begins, is_blank}
+use Rattle.first_pass_lines.specs.Lines.{begins, is_blank}
 use Rattle.first_pass_html.specs.Tags.{is_tag_byte, starts_attribute, is_attribute_byte, is_unquoted, is_quoted}
 
 -- how many bytes the word has: one byte, and then all others that go on (this project)

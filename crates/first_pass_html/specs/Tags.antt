@@ -2,7 +2,7 @@
 use Rattle.std.specs.Prelude.{◌≡◌, ◌≤◌, ℕ, ◌⊎◌, Bool, true, false, ◌==◌, ◌&&◌, ◌||◌, not, List, [], ◌∷◌, ◌++◌, length, drop, take}
 use Rattle.std.specs.List.{list_all, concat}
 use Rattle.std.specs.Char.{is_ascii_alphabetic, is_ascii_alphanumeric}
-use Rattle.first_pass_scan.specs.Lines.{is_line_end, is_blank, is_blank_line}
+use Rattle.first_pass_lines.specs.Lines.{is_line_end, is_blank, is_blank_line}
 use Rattle.first_pass_html.specs.Starts.{is_raw_name}
 
 -- a byte of a tag name behind its first letter: a letter, a digit or a hyphen (CommonMark 6.6, tag name)

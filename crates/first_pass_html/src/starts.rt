@@ -5,8 +5,8 @@ ghost use Rattle.first_pass_html.specs.Names.{in_lower_case};
 ghost use Rattle.first_pass_html.specs.Starts as starts;
 
 use crate::names::{begins_with_name, block_name_len};
-use first_pass_scan::lines::is_ascii_white;
-use first_pass_scan::places::rest_of;
+use first_pass_lines::lines::is_ascii_white;
+use first_pass_lines::places::rest_of;
 
 /// The text that ends the HTML block of the kinds 1 to 5 that `bytes`, which follow the `<`, begin:
 /// the closing tag of `<pre`, `<script`, `<style` or `<textarea` in lower case, `-->`, `?>`, `]]>` or

@@ -7,9 +7,8 @@ ghost use Rattle.first_pass_html.specs.TagLengths as lengths;
 ghost use Rattle.first_pass_html.specs.Fronts.{IsOnlyFront, HasNoFront, IsPastAttributes};
 
 use crate::starts::is_raw_name;
-use first_pass_scan::leaf_scan::scan_blanks;
-use first_pass_scan::lines::{begins, scan_blank_line};
-use first_pass_scan::places::rest_of;
+use first_pass_lines::lines::{begins, scan_blank_line, scan_blanks};
+use first_pass_lines::places::rest_of;
 
 // How many bytes of a tag name stand first, behind its first letter.
 fn tag_bytes_len(bytes: &[u8]) -> usize

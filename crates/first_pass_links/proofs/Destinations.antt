@@ -3,7 +3,7 @@ use Rattle.std.proofs.Common.{◌≡◌, ℕ, ◌+◌, ◌<◌, ◌≤◌, ◌==
 use Rattle.std.proofs.lemmas.Bool.{eqb-true, and_parts, le-ltb, lt-ltb}
 use Rattle.std.proofs.lemmas.Bool.Decides.{nat_tests}
 use Rattle.std.proofs.lemmas.List.{drop_more, drop-drop, drop_all, get_or-drop}
-use Rattle.first_pass_scan.specs.Lines.{begins}
+use Rattle.first_pass_lines.specs.Lines.{begins}
 use Rattle.first_pass_links.specs.Escapes.{begins_escape}
 use Rattle.first_pass_links.specs.Destinations.{unescaped_upto, ends_run, closes_none, nesting_behind, run_len, longer, if_closed}
 

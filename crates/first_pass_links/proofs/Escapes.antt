@@ -10,7 +10,7 @@ use Rattle.std.proofs.lemmas.List.Sums.{prefix_len-le-length}
 use Rattle.std.proofs.lemmas.Option.{some_pair_parts, none-some}
 use Rattle.std.proofs.lemmas.Str.{encode_ascii, length-encode, IsCharBoundary-after_ascii}
 use Rattle.memchr.specs.Find.{is_byte2}
-use Rattle.first_pass_scan.specs.Lines.{begins}
+use Rattle.first_pass_lines.specs.Lines.{begins}
 use Rattle.first_pass_links.specs.Entities.{entity_at}
 use Rattle.first_pass_links.specs.Escapes.{unescaped, unescaped_behind, replaced_at, begins_escape, without_pipe_escapes}
 use Rattle.first_pass_links.specs.Changes.{change_at, begins_pipe_escape, IsChange}

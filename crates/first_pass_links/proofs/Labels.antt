@@ -8,7 +8,7 @@ use Rattle.std.proofs.lemmas.Bool.Decides.{nat_tests}
 use Rattle.std.proofs.lemmas.Grind.{common_steps}
 use Rattle.std.proofs.lemmas.Str.{IsCharBoundary-after_ascii, IsCharBoundary-start}
 use Rattle.std.proofs.lemmas.List.{drop_more, drop-drop, drop_all, get_or-drop, get_or_past, length-take-le, map-append, length-map, append-nil}
-use Rattle.first_pass_scan.specs.Lines.{begins, is_line_end, ends_line, is_ascii_white}
+use Rattle.first_pass_lines.specs.Lines.{begins, is_line_end, ends_line, is_ascii_white}
 use Rattle.first_pass_links.specs.declared.label.Unit.{Unit}
 use Rattle.first_pass_links.specs.Escapes.{begins_escape, without_pipe_escapes}
 use Rattle.first_pass_links.specs.Changes.{begins_pipe_escape}

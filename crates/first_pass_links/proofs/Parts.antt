@@ -2,7 +2,7 @@
 use Rattle.std.proofs.Common.{◌≡◌, ◌⊎◌, inl, inr, ℕ, zero, suc, ◌+◌, ◌-◌, ◌<◌, ◌≤◌, ◌==◌, ◌&&◌, not, Bool, true, false, List, [], ◌∷◌, ◌++◌, length, take, drop, get_or, refl, sym, ap, ◌∙◌, arith, append_assoc, if◌then◌else◌}
 use Rattle.std.specs.Str.{IsCharBoundary}
 use Rattle.std.proofs.lemmas.List.{drop_more, drop-drop}
-use Rattle.first_pass_scan.specs.Lines.{is_ascii_white}
+use Rattle.first_pass_lines.specs.Lines.{is_ascii_white}
 use Rattle.first_pass_links.specs.declared.label.Unit.{Unit}
 use Rattle.first_pass_links.specs.Units.{part, weight, read_of, IsUnit, IsRead}
 

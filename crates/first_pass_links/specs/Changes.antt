@@ -1,6 +1,6 @@
 -- The places at which a text is changed as it is unescaped. Contracts of private functions alone cite this.
 use Rattle.std.specs.Prelude.{◌≡◌, ℕ, ◌+◌, ◌-◌, ◌<◌, ◌≤◌, ◌&&◌, Bool, List, ◌++◌, length, take, drop, slice_index, encode_utf8, Option, Some, if◌then◌else◌}
-use Rattle.first_pass_scan.specs.Lines.{begins}
+use Rattle.first_pass_lines.specs.Lines.{begins}
 use Rattle.first_pass_links.specs.Escapes.{replaced_at, unescaped}
 
 -- in a table, a backslash before one that is dropped: it escapes the pipe behind that one (CommonMark 2.4, GFM 4.10)

@@ -2,7 +2,7 @@
 use Rattle.std.specs.Prelude.{ℕ, zero, suc, ◌+◌, ◌-◌, ◌==◌, ◌&&◌, ◌||◌, Bool, List, [], ◌∷◌, take, drop, Option, Some, None, nat_lt, if◌then◌else◌}
 use Rattle.std.specs.Option.{option_map, option_and_then}
 use Rattle.std.specs.Char.{is_ascii_control}
-use Rattle.first_pass_scan.specs.Lines.{begins, is_line_end}
+use Rattle.first_pass_lines.specs.Lines.{begins, is_line_end}
 use Rattle.first_pass_links.specs.Escapes.{begins_escape}
 
 -- how many bytes stand before the first one that passes a test and is not escaped, the first n aside (CommonMark 2.4)

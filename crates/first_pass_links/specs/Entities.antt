@@ -5,7 +5,7 @@ use Rattle.std.specs.List.{prefix_len}
 use Rattle.std.specs.Char.{is_ascii_digit, is_ascii_hexdigit, is_ascii_alphabetic}
 use Rattle.std.specs.Str.{bytes_eq}
 use Rattle.std.specs.Str.Parse.{digits_value}
-use Rattle.first_pass_scan.specs.Lines.{begins}
+use Rattle.first_pass_lines.specs.Lines.{begins}
 
 -- the number of a character: a Unicode scalar value other than 0 (CommonMark 2.5)
 abbrev pub is_character : ℕ → Bool

@@ -5,7 +5,7 @@ use Rattle.std.specs.List.{list_any, count_by}
 use Rattle.std.specs.Borrow.{Bor}
 use Rattle.std.specs.Str.{IsCharBoundary}
 use Rattle.std.specs.declared.alloc.AllocError.{AllocError}
-use Rattle.first_pass_scan.specs.Lines.{begins, is_ascii_white, ends_line}
+use Rattle.first_pass_lines.specs.Lines.{begins, is_ascii_white, ends_line}
 use Rattle.first_pass_links.specs.Escapes.{read_in}
 use Rattle.first_pass_links.specs.Destinations.{unescaped_upto}
 

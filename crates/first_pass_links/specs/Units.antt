@@ -2,7 +2,7 @@
 use Rattle.std.specs.Prelude.{◌≡◌, ◌⊎◌, ℕ, ◌+◌, ◌-◌, ◌==◌, ◌<◌, ◌≤◌, ◌&&◌, not, Bool, true, false, List, [], ◌∷◌, ◌++◌, length, take, drop, slice_index, Option, if◌then◌else◌}
 use Rattle.std.specs.List.{list_any, list_all, count_by}
 use Rattle.std.specs.Str.{IsCharBoundary}
-use Rattle.first_pass_scan.specs.Lines.{begins, is_ascii_white}
+use Rattle.first_pass_lines.specs.Lines.{begins, is_ascii_white}
 use Rattle.first_pass_links.specs.Escapes.{begins_escape}
 use Rattle.first_pass_links.specs.Changes.{begins_pipe_escape}
 use Rattle.first_pass_links.specs.declared.label.Unit.{Unit}

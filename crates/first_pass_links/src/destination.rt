@@ -5,8 +5,8 @@ ghost use Rattle.std.specs.Str.{IsCharBoundary};
 ghost use Rattle.first_pass_links.specs.Escapes.{begins_escape};
 ghost use Rattle.first_pass_links.specs.Destinations.{unescaped_upto, ends_brackets, ends_run, closes_none, nesting_behind, run_len, destination_at};
 
-use first_pass_scan::lines::begins;
-use first_pass_scan::places::rest_of;
+use first_pass_lines::lines::begins;
+use first_pass_lines::places::rest_of;
 
 /// The link destination at `start_ix`, an offset into `text`: how many bytes it has, and its text,
 /// which stands inside `<..>` or is a run without white space whose parentheses are balanced, at most

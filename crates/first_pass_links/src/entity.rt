@@ -9,7 +9,7 @@ ghost use Rattle.first_pass_links.specs.Entities.{referred, number_at, numeric_a
 ghost use Rattle.first_pass_links.specs.Texts.{TakesNoMemory};
 
 use first_pass_items::cow_str::{CowStr, InlineStr};
-use first_pass_scan::lines::begins;
+use first_pass_lines::lines::begins;
 
 /// The entity or numeric character reference that `bytes` begins with: how many bytes it has, its `&`
 /// and `;` too, and the text that it stands for, which takes no memory. `(0, None)` where there is none.

@@ -8,7 +8,7 @@ ghost use Rattle.first_pass_links.specs.Changes.{change_at, IsChange};
 
 use crate::entity::scan_reference;
 use first_pass_items::cow_str::CowStr;
-use first_pass_scan::places::rest_of;
+use first_pass_lines::places::rest_of;
 use memchr::memchr2;
 use std::alloc::{AllocError, Global};
 

@@ -4,14 +4,14 @@ ghost use Rattle.std.specs.Prelude.{◌≡◌, ◌+◌, ◌-◌, ◌<◌, ◌≤
 ghost use Rattle.std.specs.String.{string_bytes};
 ghost use Rattle.std.specs.Str.{IsCharBoundary};
 ghost use Rattle.first_pass_items.specs.CowText.{text_of};
-ghost use Rattle.first_pass_scan.specs.Lines.{ends_line, is_ascii_white};
+ghost use Rattle.first_pass_lines.specs.Lines.{ends_line, is_ascii_white};
 ghost use Rattle.first_pass_links.specs.Texts.{Borrows};
 ghost use Rattle.first_pass_links.specs.Labels.{AnswersWith, AnswersPlaces, is_bracket, begins_character, label_at};
 ghost use Rattle.first_pass_links.specs.Units.{part, read_of, left_at, kept_unit, space_unit, dropped_unit, backslash_unit, IsUnit, Reads, IsRead, IsWhiteRun, EndsWhiteRun, IsBlankRest};
 
 use first_pass_items::cow_str::CowStr;
-use first_pass_scan::lines::{begins, is_ascii_white};
-use first_pass_scan::places::rest_of;
+use first_pass_lines::lines::{begins, is_ascii_white};
+use first_pass_lines::places::rest_of;
 use std::alloc::{AllocError, Global};
 
 // How many characters a label has at most (CommonMark 4.7).

@@ -6,7 +6,7 @@ use Rattle.std.proofs.lemmas.List.{drop_more, drop_all, get_or-reverse, length-m
 use Rattle.first_pass_items.specs.declared.item.Item.{Item}
 use Rattle.first_pass_tree.specs.declared.tree_index.TreeIndex.{TreeIndex}
 use Rattle.first_pass_tree.specs.Forest.{IsOpenPath, depths}
-use Rattle.first_pass_scan.specs.Rest.{Rest}
+use Rattle.first_pass_lines.specs.Rest.{Rest}
 use Rattle.first_pass_grammar.specs.declared.kind.Container.{Container}
 use Rattle.first_pass_grammar.specs.Containers.{after, front}
 use Rattle.first_pass_open.specs.Path.{container_of, container_at, prefix_of, with_container, path_in, outer}

@@ -5,10 +5,10 @@ use Rattle.std.specs.Option.{option_map, option_and_then}
 use Rattle.first_pass_items.specs.declared.item.Item.{Item}
 use Rattle.first_pass_tree.specs.declared.tree_index.TreeIndex.{TreeIndex}
 use Rattle.first_pass_tree.specs.Forest.{Forest, IsOpenPath, depths, appended, pushed, at_depth}
-use Rattle.first_pass_scan.specs.Lines.{at_line_end}
-use Rattle.first_pass_scan.specs.Rest.{Rest, indent, after_columns}
-use Rattle.first_pass_scan.proofs.Columns.{after-none}
-use Rattle.first_pass_scan.specs.Places.{line_rest}
+use Rattle.first_pass_lines.specs.Lines.{at_line_end}
+use Rattle.first_pass_lines.specs.Rest.{Rest, indent, after_columns}
+use Rattle.first_pass_lines.proofs.Columns.{after-none}
+use Rattle.first_pass_lines.specs.Places.{line_rest}
 use Rattle.first_pass_tokens.specs.TreeTokens.{chained, leaves}
 use Rattle.first_pass_tokens.proofs.ChainLemmas.{chained-spine, chained-nodes}
 use Rattle.first_pass_grammar.specs.declared.kind.Container.{Container}

@@ -10,14 +10,14 @@ use Rattle.first_pass_items.specs.declared.item.ItemBody.TheVariants.{TaskListMa
 use Rattle.first_pass_items.specs.declared.option_set.Options.{Options}
 use Rattle.first_pass_items.specs.OptionWords.{has}
 use Rattle.first_pass_tree.specs.Forest.{is_text}
-use Rattle.first_pass_scan.specs.Lines.{is_content, line_len}
+use Rattle.first_pass_lines.specs.Lines.{is_content, line_len}
 use Rattle.first_pass_scan.specs.Markers.{item_of, task_of}
 use Rattle.first_pass_scan.proofs.MarkerPlaces.{IsMarked, item-marked, task-marked, marked-keeps, marked-line_end}
-use Rattle.first_pass_scan.specs.Rest.{Rest, next_column, after_columns, indent, past_bytes, past_quote}
-use Rattle.first_pass_scan.specs.Places.{Place, line_rest, place_at, offset, line_end, IsPlaceOf}
-use Rattle.first_pass_scan.proofs.LineFacts.{line_len-none}
-use Rattle.first_pass_scan.proofs.Columns.{after-more, after-none, all-more}
-use Rattle.first_pass_scan.proofs.PlaceFacts.{line_is_place, columns_keep, place_line_end, columns_line_end, columns_shorter, quote_keeps, quote_line_end, quote_shorter}
+use Rattle.first_pass_lines.specs.Rest.{Rest, next_column, after_columns, indent, past_bytes, past_quote}
+use Rattle.first_pass_lines.specs.Places.{Place, line_rest, place_at, offset, line_end, IsPlaceOf}
+use Rattle.first_pass_lines.proofs.LineFacts.{line_len-none}
+use Rattle.first_pass_lines.proofs.Columns.{after-more, after-none, all-more}
+use Rattle.first_pass_lines.proofs.PlaceFacts.{line_is_place, columns_keep, place_line_end, columns_line_end, columns_shorter, quote_keeps, quote_line_end, quote_shorter}
 use Rattle.first_pass_grammar.specs.declared.kind.Container.{Container}
 use Rattle.first_pass_grammar.specs.declared.kind.Container.TheVariants.{BlockQuote, ListItem}
 use Rattle.first_pass_grammar.specs.Containers.{has_columns, prefix, after, or_shorter, front}

@@ -1,7 +1,7 @@
 -- Where a plain byte is next, no container begins, and the indentation has no columns.
 use Rattle.std.proofs.Common.{◌≡◌, min, true, None, refl}
-use Rattle.first_pass_scan.specs.Rest.{Rest, indent}
-use Rattle.first_pass_scan.specs.Plain.{begins_plain, begins_inert}
+use Rattle.first_pass_lines.specs.Rest.{Rest, indent}
+use Rattle.first_pass_lines.specs.Plain.{begins_plain, begins_inert}
 use Rattle.first_pass_scan.proofs.PlainFacts.{plain_indent, plain_after, inert_indent, inert_after, inert_quote, inert_item}
 use Rattle.first_pass_grammar.specs.declared.kind.Container.TheVariants.{BlockQuote}
 use Rattle.first_pass_grammar.specs.Containers.{prefix}

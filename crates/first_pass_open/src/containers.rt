@@ -3,7 +3,7 @@
 ghost use Rattle.std.specs.Prelude.{◌≡◌, ℕ, ◌<◌, ◌≤◌, length, Some, None, true, false, MatchOption};
 ghost use Rattle.first_pass_grammar.specs.declared.kind.Container.TheVariants.{BlockQuote, ListItem};
 ghost use Rattle.first_pass_grammar.specs.Containers.{prefix, after, front};
-ghost use Rattle.first_pass_scan.specs.Rest.{after_columns};
+ghost use Rattle.first_pass_lines.specs.Rest.{after_columns};
 ghost use Rattle.first_pass_open.specs.Path.{container_of, prefix_of, path_in, path_of, outer};
 
 use first_pass_items::item::{Item, ItemBody};

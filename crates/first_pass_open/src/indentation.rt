@@ -1,7 +1,7 @@
 //! Where the text of a line begins.
 
 ghost use Rattle.std.specs.Prelude.{◌≡◌, min};
-ghost use Rattle.first_pass_scan.specs.Rest.{indent};
+ghost use Rattle.first_pass_lines.specs.Rest.{indent};
 ghost use Rattle.first_pass_grammar.specs.Kinds.{all_taken};
 
 use first_pass_scan::line_start::LineStart;

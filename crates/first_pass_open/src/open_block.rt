@@ -3,7 +3,7 @@
 ghost use Rattle.std.specs.Prelude.{◌≡◌, drop, slice_get, length, IsSome, IfOk, IfSome, OnOk, IsUtf8, IsCharBoundary};
 ghost use Rattle.first_pass_items.specs.declared.item.Item.{Item};
 ghost use Rattle.first_pass_tree.specs.Forest.{appended, pushed};
-ghost use Rattle.first_pass_scan.specs.Places.{line_rest, place_at, IsPlaceOf};
+ghost use Rattle.first_pass_lines.specs.Places.{line_rest, place_at, IsPlaceOf};
 ghost use Rattle.first_pass_grammar.specs.Containers.{after};
 ghost use Rattle.first_pass_open.specs.Path.{path_of};
 ghost use Rattle.first_pass_open.specs.OpenBlock.{closed_by, opened_block};
@@ -11,8 +11,8 @@ ghost use Rattle.first_pass_open.specs.OpenBlock.{closed_by, opened_block};
 use crate::containers::scan_containers;
 use first_pass_items::item::{Item, ItemBody};
 use first_pass_items::option_set::Options;
+use first_pass_lines::places::rest_of;
 use first_pass_scan::line_start::LineStart;
-use first_pass_scan::places::rest_of;
 use first_pass_tree::forest::Tree;
 use std::alloc::AllocError;
 

@@ -1,16 +1,16 @@
 use first_pass_items::item::{Alignment, BlockQuoteKind, HeadingLevel};
+use first_pass_lines::lines::{
+    begins, is_ascii_white, is_blank, is_line_end, is_white, level_number, scan_atx_heading,
+    scan_blank_line, scan_blanks, scan_eol, scan_nextline, scan_whitespace_no_nl,
+};
+use first_pass_lines::places::{next_line, rest_of};
 use first_pass_scan::leaf_scan::{
-    calc_indent, scan_blanks, scan_closing_code_fence, scan_closing_metadata_block,
-    scan_code_fence, scan_hrule, scan_metadata_block, scan_setext_heading,
+    calc_indent, scan_closing_code_fence, scan_closing_metadata_block, scan_code_fence, scan_hrule,
+    scan_metadata_block, scan_setext_heading,
 };
 use first_pass_scan::line_start::{LineStart, scan_listitem};
-use first_pass_scan::lines::{
-    begins, is_ascii_white, is_blank, is_line_end, is_white, level_number, scan_atx_heading,
-    scan_blank_line, scan_eol, scan_nextline, scan_whitespace_no_nl,
-};
 use first_pass_scan::metadata_search::{MetadataEnds, metadata_at};
-use first_pass_scan::places::{next_line, rest_of};
-use first_pass_scan::table_scan::{count_header_cols, scan_table_head};
+use first_pass_table_scan::table_scan::{count_header_cols, scan_table_head};
 use std::test::Fail;
 
 #[test]

@@ -10,7 +10,7 @@ use Rattle.first_pass_items.specs.declared.item.MetadataBlockKind.{MetadataBlock
 use Rattle.first_pass_items.specs.declared.item.MetadataBlockKind.TheVariants.{YamlStyle, PlusesStyle}
 use Rattle.first_pass_items.specs.declared.item.ItemBody.{ItemBody}
 use Rattle.first_pass_items.specs.declared.item.ItemBody.TheVariants.{Root, Paragraph, TightParagraph, Rule, Heading, FencedCodeBlock, IndentCodeBlock, HtmlBlock, BlockQuote, FootnoteDefinition, MetadataBlock, DefinitionList, MaybeDefinitionListTitle, DefinitionListTitle, DefinitionListDefinition, Table, TableHead, TableRow, TableCell, Text, SoftBreak, HardBreak, MaybeEmphasis, MaybeMath, MaybeSmartQuote, MaybeCode, MaybeHtml, MaybeLinkOpen, MaybeLinkClose, MaybeImage, Html, SynthesizeText, SynthesizeChar, TaskListMarker, ListItem, List as ListBody}
-use Rattle.first_pass_scan.specs.Lines.{level_number}
+use Rattle.first_pass_lines.specs.Lines.{level_number}
 
 -- the name of what a node is
 abbrev pub name_of : ItemBody → List ℕ

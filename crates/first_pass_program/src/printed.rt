@@ -7,8 +7,8 @@ ghost use Rattle.first_pass_program.specs.Printed.{node_line, named_values, visi
 
 use bitflags::Flags;
 use first_pass_items::item::{BlockQuoteKind, Item, ItemBody, ListFlags, MetadataBlockKind};
+use first_pass_lines::lines::level_number;
 use first_pass_names::items::Allocations;
-use first_pass_scan::lines::level_number;
 use itoa::{Buffer, Integer};
 use std::alloc::AllocError;
 

@@ -3,9 +3,9 @@ use Rattle.std.proofs.Common.{◌≡◌, ℕ, ◌+◌, ◌<◌, ◌≤◌, List,
 use Rattle.first_pass_items.specs.declared.item.Item.{Item}
 use Rattle.first_pass_items.specs.declared.option_set.Options.{Options}
 use Rattle.first_pass_tree.specs.Forest.{Forest, added}
-use Rattle.first_pass_scan.specs.Lines.{line_len}
-use Rattle.first_pass_scan.specs.Rest.{Rest}
-use Rattle.first_pass_scan.specs.Places.{Place, place_at, offset, line_end, line_rest, line_place}
+use Rattle.first_pass_lines.specs.Lines.{line_len}
+use Rattle.first_pass_lines.specs.Rest.{Rest}
+use Rattle.first_pass_lines.specs.Places.{Place, place_at, offset, line_end, line_rest, line_place}
 use Rattle.first_pass_tokens.specs.TreeTokens.{with_tokens, chained, JoinsNone}
 use Rattle.first_pass_tokens.specs.Chains.{add_tokens}
 use Rattle.first_pass_tokens.proofs.ChainLemmas.{with_tokens-chained}
@@ -21,8 +21,8 @@ use Rattle.first_pass_items.specs.declared.item.ItemBody.{ItemBody}
 use Rattle.first_pass_open.specs.OpenBlock.{begun_item, opened_block, closed_by}
 use Rattle.first_pass_open.proofs.BlockLemmas.{still_open, block_closed}
 use Rattle.first_pass_open.proofs.PathLemmas.{AreIn, path_of-chained, path_of-opened}
-use Rattle.first_pass_scan.proofs.LineFacts.{line_len-within, lines_at-line, lines_at-end}
-use Rattle.first_pass_scan.proofs.PlaceFacts.{line_is_place, line_end_boundary}
+use Rattle.first_pass_lines.proofs.LineFacts.{line_len-within, lines_at-line, lines_at-end}
+use Rattle.first_pass_lines.proofs.PlaceFacts.{line_is_place, line_end_boundary}
 use Rattle.std.specs.Option.{option_map}
 use Rattle.first_pass_grammar.specs.Extents as Judged
 use Rattle.first_pass_raw.specs.declared.verdict.Verdict.{Verdict as Answer}

@@ -13,12 +13,12 @@ use Rattle.first_pass_items.specs.declared.item.Item.{Item}
 use Rattle.first_pass_items.specs.declared.item.ItemBody.TheVariants.{FencedCodeBlock}
 use Rattle.first_pass_items.specs.declared.option_set.Options.{Options}
 use Rattle.first_pass_tree.specs.Forest.{Forest}
-use Rattle.first_pass_scan.specs.Lines.{is_white, is_ascii_white, begins, line_len}
+use Rattle.first_pass_lines.specs.Lines.{is_white, is_ascii_white, begins, line_len}
 use Rattle.first_pass_scan.specs.LeafLines.{run_len, has_backquote, code_fence, closing_fence_len}
-use Rattle.first_pass_scan.specs.Rest.{Rest, indent}
-use Rattle.first_pass_scan.specs.Places.{line_place, place_at, offset, IsPlaceOf}
-use Rattle.first_pass_scan.proofs.LineFacts.{line_len-fits}
-use Rattle.first_pass_scan.proofs.PlaceFacts.{line_is_place, white_keeps, prefix_keeps}
+use Rattle.first_pass_lines.specs.Rest.{Rest, indent}
+use Rattle.first_pass_lines.specs.Places.{line_place, place_at, offset, IsPlaceOf}
+use Rattle.first_pass_lines.proofs.LineFacts.{line_len-fits}
+use Rattle.first_pass_lines.proofs.PlaceFacts.{line_is_place, white_keeps, prefix_keeps}
 use Rattle.first_pass_grammar.specs.Names.{Names, Extends}
 use Rattle.first_pass_grammar.specs.Kinds.{all_taken, unindented}
 use Rattle.first_pass_grammar.specs.Leaves.{block_with}

@@ -15,9 +15,9 @@ use Rattle.first_pass_items.specs.declared.item.ItemBody.TheVariants.{HtmlBlock}
 use Rattle.first_pass_items.specs.declared.option_set.Options.{Options}
 use Rattle.first_pass_tree.specs.Forest.{Forest, is_text, appended}
 use Rattle.first_pass_html.specs.Starts.{begins_with}
-use Rattle.first_pass_scan.specs.Lines.{line_len}
-use Rattle.first_pass_scan.specs.Places.{Place, offset, line_of, line_end, IsPlaceOf}
-use Rattle.first_pass_scan.proofs.PlaceFacts.{place_length}
+use Rattle.first_pass_lines.specs.Lines.{line_len}
+use Rattle.first_pass_lines.specs.Places.{Place, offset, line_of, line_end, IsPlaceOf}
+use Rattle.first_pass_lines.proofs.PlaceFacts.{place_length}
 use Rattle.first_pass_tokens.specs.Chains.{add_token, add_tokens}
 use Rattle.first_pass_tokens.specs.TreeTokens.{with_tokens, chained, JoinsNone}
 use Rattle.first_pass_tokens.proofs.ChainLemmas.{chained-append, with_token-plain, joins_none-fresh, joins_none-appended}

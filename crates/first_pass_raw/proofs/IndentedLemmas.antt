@@ -12,11 +12,11 @@ use Rattle.first_pass_tree.specs.declared.tree_index.TreeIndex.{TreeIndex}
 use Rattle.first_pass_tree.specs.Forest.{Forest, IsForest, IsChild, appended, at_depth, depths, end_of, is_text, kept_after, open_place, with_end_at}
 use Rattle.first_pass_tree.proofs.Blocks.{forest-eq, modify-at}
 use Rattle.first_pass_tree.proofs.Keeps.{run_stop, run_all, depth_read}
-use Rattle.first_pass_scan.specs.Lines.{is_blank_line, line_len}
-use Rattle.first_pass_scan.specs.Rest.{Rest, after_columns}
-use Rattle.first_pass_scan.specs.Places.{Place, offset, line_end, line_rest, line_place, place_at, moved_columns, IsPlaceOf}
-use Rattle.first_pass_scan.proofs.LineFacts.{line_len-some, line_len-within, lines_at-line, lines_at-end}
-use Rattle.first_pass_scan.proofs.PlaceFacts.{line_is_place, line_end_boundary, columns_line_end}
+use Rattle.first_pass_lines.specs.Lines.{is_blank_line, line_len}
+use Rattle.first_pass_lines.specs.Rest.{Rest, after_columns}
+use Rattle.first_pass_lines.specs.Places.{Place, offset, line_end, line_rest, line_place, place_at, moved_columns, IsPlaceOf}
+use Rattle.first_pass_lines.proofs.LineFacts.{line_len-some, line_len-within, lines_at-line, lines_at-end}
+use Rattle.first_pass_lines.proofs.PlaceFacts.{line_is_place, line_end_boundary, columns_line_end}
 use Rattle.first_pass_tokens.specs.Chains.{text_token, touches, add_token, add_tokens}
 use Rattle.first_pass_tokens.specs.TreeTokens.{with_tokens, chained, leaves, JoinsNone}
 use Rattle.first_pass_tokens.proofs.ChainLemmas.{add_tokens-append, with_tokens-chained, appended-chained, chained-append, chained-spine, chained-nodes, chained-length, has_leaves-chained}

@@ -9,12 +9,12 @@ use Rattle.std.proofs.lemmas.Str.{IsCharBoundary-before_ascii, IsCharBoundary-en
 use Rattle.first_pass_items.specs.declared.item.Item.{Item}
 use Rattle.first_pass_items.specs.declared.item.ItemBody.{ItemBody}
 use Rattle.first_pass_items.specs.declared.item.ItemBody.TheVariants.{IndentCodeBlock, FencedCodeBlock, MetadataBlock, HtmlBlock}
-use Rattle.first_pass_scan.specs.Lines.{begins, is_content, is_blank, line_len, at_line_end}
+use Rattle.first_pass_lines.specs.Lines.{begins, is_content, is_blank, line_len, at_line_end}
 use Rattle.first_pass_scan.specs.LeafLines.{run_len, has_backquote, code_fence, three_of, closing_fence_len, closing_marks, closing_metadata_len}
-use Rattle.first_pass_scan.specs.Rest.{Rest, indent}
-use Rattle.first_pass_scan.specs.Places.{Place, offset, line_of, line_end, line_rest, line_place, place_at, moved_columns, start_of, IsPlaceOf}
-use Rattle.first_pass_scan.proofs.LineFacts.{line_len-parts, line_len-some, line_len-within, lines_at-line, lines_at-end}
-use Rattle.first_pass_scan.proofs.PlaceFacts.{line_is_place, columns_keep, columns_line_end, place_length, start_of-lines}
+use Rattle.first_pass_lines.specs.Rest.{Rest, indent}
+use Rattle.first_pass_lines.specs.Places.{Place, offset, line_of, line_end, line_rest, line_place, place_at, moved_columns, start_of, IsPlaceOf}
+use Rattle.first_pass_lines.proofs.LineFacts.{line_len-parts, line_len-some, line_len-within, lines_at-line, lines_at-end}
+use Rattle.first_pass_lines.proofs.PlaceFacts.{line_is_place, columns_keep, columns_line_end, place_length, start_of-lines}
 use Rattle.first_pass_tokens.specs.Chains.{text_token, touches, add_token, add_tokens}
 use Rattle.first_pass_tokens.specs.Order.{AreInOrder}
 use Rattle.first_pass_tokens.proofs.OrderLemmas.{order_from, order_to, order_append, order_adds}

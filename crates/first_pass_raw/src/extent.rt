@@ -1,7 +1,7 @@
 //! The lines of a raw leaf block: each up to the first that ends it (CommonMark 4.5, 4.6).
 
 ghost use Rattle.std.specs.Prelude.{◌≡◌, ◌≤◌, length, drop, IfOk, OnOk, IsCharBoundary};
-ghost use Rattle.first_pass_scan.specs.Places.{Place, place_at, line_place, line_end, IsPlaceOf};
+ghost use Rattle.first_pass_lines.specs.Places.{Place, place_at, line_place, line_end, IsPlaceOf};
 ghost use Rattle.first_pass_tokens.specs.TreeTokens.{JoinsNone};
 ghost use Rattle.first_pass_grammar.specs.Names.{Extends};
 ghost use Rattle.first_pass_grammar.specs.Completion.{lines_from};
@@ -14,10 +14,10 @@ use crate::raw_line::{RawKind, append_raw_line};
 use crate::verdict::Verdict;
 use first_pass_items::item::Item;
 use first_pass_items::option_set::Options;
+use first_pass_lines::places::next_line;
 use first_pass_names::items::Allocations;
 use first_pass_open::open_block::{BlockLines, go_on};
 use first_pass_scan::line_start::LineStart;
-use first_pass_scan::places::next_line;
 use first_pass_tree::forest::Tree;
 use std::alloc::AllocError;
 

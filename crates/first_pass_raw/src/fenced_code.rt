@@ -2,8 +2,8 @@
 
 ghost use Rattle.std.specs.Prelude.{◌≡◌, ◌≤◌, length, drop, Some, IfOk, OnOk, IsCharBoundary, IsUtf8};
 ghost use Rattle.std.specs.List.{suffix_len};
-ghost use Rattle.first_pass_scan.specs.Lines.{is_ascii_white};
-ghost use Rattle.first_pass_scan.specs.Places.{place_at, IsPlaceOf};
+ghost use Rattle.first_pass_lines.specs.Lines.{is_ascii_white};
+ghost use Rattle.first_pass_lines.specs.Places.{place_at, IsPlaceOf};
 ghost use Rattle.first_pass_grammar.specs.Names.{Extends};
 ghost use Rattle.first_pass_open.specs.Path.{path_of};
 ghost use Rattle.first_pass_names.specs.TableEntries.{tables, names_of};
@@ -16,14 +16,14 @@ use crate::raw_line::RawKind;
 use crate::verdict::Verdict;
 use first_pass_items::item::{Item, ItemBody};
 use first_pass_items::option_set::Options;
+use first_pass_lines::lines::{is_ascii_white, scan_whitespace_no_nl};
+use first_pass_lines::places::{next_line, rest_of};
 use first_pass_links::escape::unescape;
 use first_pass_names::items::Allocations;
 use first_pass_open::indentation::scan_indentation;
 use first_pass_open::open_block::{close_block, open_block};
 use first_pass_scan::leaf_scan::scan_closing_code_fence;
 use first_pass_scan::line_start::LineStart;
-use first_pass_scan::lines::{is_ascii_white, scan_whitespace_no_nl};
-use first_pass_scan::places::{next_line, rest_of};
 use first_pass_tree::forest::Tree;
 use std::alloc::{AllocError, Global};
 

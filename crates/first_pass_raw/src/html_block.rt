@@ -1,7 +1,7 @@
 //! HTML blocks (CommonMark 4.6).
 
 ghost use Rattle.std.specs.Prelude.{◌≡◌, ◌≤◌, IfOk, OnOk, IsUtf8, IsCharBoundary};
-ghost use Rattle.first_pass_scan.specs.Places.{Place};
+ghost use Rattle.first_pass_lines.specs.Places.{Place};
 ghost use Rattle.first_pass_grammar.specs.Names.{Extends};
 ghost use Rattle.first_pass_open.specs.Path.{path_of};
 ghost use Rattle.first_pass_names.specs.TableEntries.{tables, names_of};
@@ -17,11 +17,11 @@ use crate::raw_line::{RawKind, append_raw_line};
 use crate::verdict::Verdict;
 use first_pass_items::item::{Item, ItemBody};
 use first_pass_items::option_set::Options;
+use first_pass_lines::lines::scan_blank_line;
+use first_pass_lines::places::next_line;
 use first_pass_names::items::Allocations;
 use first_pass_open::open_block::{BlockLines, close_block, open_block};
 use first_pass_scan::line_start::LineStart;
-use first_pass_scan::lines::scan_blank_line;
-use first_pass_scan::places::next_line;
 use first_pass_tree::forest::Tree;
 use std::alloc::AllocError;
 

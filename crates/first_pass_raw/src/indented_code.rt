@@ -2,22 +2,22 @@
 
 ghost use Rattle.std.specs.Prelude.{◌≡◌, ◌≤◌, length, drop, Some, false, if◌then◌else◌, IfOk, OnOk, IfSome, IsCharBoundary, IsUtf8};
 ghost use Rattle.first_pass_tree.specs.Forest.{IsChild, kept_after, with_end_at};
-ghost use Rattle.first_pass_scan.specs.Places.{Place, place_at, offset, IsPlaceOf};
+ghost use Rattle.first_pass_lines.specs.Places.{Place, place_at, offset, IsPlaceOf};
 ghost use Rattle.first_pass_grammar.specs.Names.{Extends};
 ghost use Rattle.first_pass_grammar.specs.RawLines.{range_text};
 ghost use Rattle.first_pass_open.specs.Path.{path_of};
 ghost use Rattle.first_pass_names.specs.TableEntries.{tables, names_of};
-ghost use Rattle.first_pass_scan.specs.Lines.{is_blank_line};
+ghost use Rattle.first_pass_lines.specs.Lines.{is_blank_line};
 ghost use Rattle.first_pass_raw.specs.RawBlocks.{code_rest_at, IsPlaceAt, AppendsRaw, AddsIndented, behind_line_at};
 
 use crate::raw_line::{RawKind, append_raw_line};
 use first_pass_items::item::{Item, ItemBody};
 use first_pass_items::option_set::Options;
+use first_pass_lines::lines::scan_blank_line;
+use first_pass_lines::places::next_line;
 use first_pass_names::items::Allocations;
 use first_pass_open::open_block::{close_block, go_on, open_block};
 use first_pass_scan::line_start::LineStart;
-use first_pass_scan::lines::scan_blank_line;
-use first_pass_scan::places::next_line;
 use first_pass_tree::forest::Tree;
 use first_pass_tree::tree_index::TreeIndex;
 use std::alloc::AllocError;

@@ -12,11 +12,11 @@ use crate::raw_line::RawKind;
 use crate::verdict::Verdict;
 use first_pass_items::item::{Item, ItemBody, MetadataBlockKind};
 use first_pass_items::option_set::Options;
+use first_pass_lines::places::{next_line, rest_of};
 use first_pass_names::items::Allocations;
 use first_pass_open::open_block::{close_block, open_block};
 use first_pass_scan::leaf_scan::scan_closing_metadata_block;
 use first_pass_scan::line_start::LineStart;
-use first_pass_scan::places::{next_line, rest_of};
 use first_pass_tree::forest::Tree;
 use std::alloc::AllocError;
 

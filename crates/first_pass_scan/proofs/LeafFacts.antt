@@ -4,9 +4,9 @@ use Rattle.std.specs.List.{list_any, list_all}
 use Rattle.std.proofs.lemmas.Bool.{cases_lt, and_parts}
 use Rattle.std.proofs.lemmas.Bool.Decides.{nat_tests}
 use Rattle.std.proofs.lemmas.List.{take_more, append-nil, length-take-le, drop_more, get_or-take, take-append-drop, take-take}
-use Rattle.first_pass_scan.specs.Rest.{columns_of}
-use Rattle.first_pass_scan.specs.Places.{Place, line_place, lines_at}
-use Rattle.first_pass_scan.specs.Lines.{is_blank}
+use Rattle.first_pass_lines.specs.Rest.{columns_of}
+use Rattle.first_pass_lines.specs.Places.{Place, line_place, lines_at}
+use Rattle.first_pass_lines.specs.Lines.{is_blank}
 use Rattle.first_pass_scan.specs.LeafLines.{blank_columns, closes_metadata, any_line_closes, IsIndent, IsLongestIndent}
 
 -- a line closes, or one behind it does

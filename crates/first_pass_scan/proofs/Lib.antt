@@ -1,14 +1,7 @@
-pub mod Columns
 pub mod KnownFacts
 pub mod LeafFacts
-pub mod LineFacts
 pub mod MarkerFacts
 pub mod MarkerPlaces
-pub mod PlaceFacts
 pub mod RuleFacts
-pub mod TableFacts
-pub mod HeadingFacts
 pub mod MetadataFacts
 pub mod PlainFacts
-pub mod LaneLemmas
-pub mod SpaceFacts

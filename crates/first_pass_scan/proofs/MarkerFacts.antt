@@ -6,10 +6,10 @@ use Rattle.std.proofs.lemmas.List.{get_or-take, length-take-le}
 use Rattle.std.proofs.lemmas.List.Sums.{prefix_len_passes}
 use Rattle.std.proofs.lemmas.Bool.Decides.{nat_tests}
 use Rattle.std.proofs.lemmas.Bool.{lt-leb}
-use Rattle.first_pass_scan.specs.Lines.{blank_len}
-use Rattle.first_pass_scan.specs.Rest.{Rest, after_columns, indent}
+use Rattle.first_pass_lines.specs.Lines.{blank_len}
+use Rattle.first_pass_lines.specs.Rest.{Rest, after_columns, indent}
 use Rattle.first_pass_scan.specs.Markers.{content_indent}
-use Rattle.first_pass_scan.proofs.PlaceFacts.{all_columns_up_to}
+use Rattle.first_pass_lines.proofs.PlaceFacts.{all_columns_up_to}
 
 -- each byte of a front of digits is one
 pub digits-at : (bs : List ℕ) (n : ℕ) → n ≡ prefix_len is_ascii_digit bs → n ≤ length bs → (i : ℕ) → i < length (take n bs) → (48 ≤ get_or (take n bs) i 0) × (get_or (take n bs) i 0 ≤ 57)

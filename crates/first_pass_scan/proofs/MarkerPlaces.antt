@@ -12,13 +12,13 @@ use Rattle.std.proofs.lemmas.Bool.Decides.{nat_tests}
 use Rattle.std.proofs.lemmas.Option.{cond_some, none-some, same_Some}
 use Rattle.first_pass_items.specs.declared.item.BlockQuoteKind.{BlockQuoteKind}
 use Rattle.first_pass_items.specs.declared.item.BlockQuoteKind.TheVariants.{Note, Tip, Important, Warning, Caution}
-use Rattle.first_pass_scan.specs.Lines.{is_content, is_white, is_ascii_white, begins, blank_len, line_len, at_line_end}
-use Rattle.first_pass_scan.specs.Rest.{Rest, past_byte, past_bytes, past_quote, past_quote_byte, after_columns, indent}
-use Rattle.first_pass_scan.specs.Places.{place_at, line_rest, line_end, content_end, moved_bytes, IsPlaceOf}
+use Rattle.first_pass_lines.specs.Lines.{is_content, is_white, is_ascii_white, begins, blank_len, line_len, at_line_end}
+use Rattle.first_pass_lines.specs.Rest.{Rest, past_byte, past_bytes, past_quote, past_quote_byte, after_columns, indent}
+use Rattle.first_pass_lines.specs.Places.{place_at, line_rest, line_end, content_end, moved_bytes, IsPlaceOf}
 use Rattle.first_pass_scan.specs.LeafLines.{hrule_len}
 use Rattle.first_pass_scan.specs.Markers.{is_bullet, number_from, bullet_marker, delimited, ordered_marker, list_marker, content_indent, behind_marker, behind_colon, item_by, item_of, definition_of, is_checked, task_box, task_of, tag_of, has_tag, tag_kind, tag_line_of, tag_line, past_tag}
-use Rattle.first_pass_scan.proofs.PlaceFacts.{ascii_keeps, columns_keep, bytes_line_end, bytes_content_end, columns_line_end, columns_content_end}
-use Rattle.first_pass_scan.proofs.LineFacts.{line_len-blank}
+use Rattle.first_pass_lines.proofs.PlaceFacts.{ascii_keeps, columns_keep, bytes_line_end, bytes_content_end, columns_line_end, columns_content_end}
+use Rattle.first_pass_lines.proofs.LineFacts.{line_len-blank}
 
 -- a marker of some bytes and the columns behind it lie between the first rest and the second
 pub record IsMarked (r : Rest) (s : Rest) : Type 0 where

@@ -2,11 +2,11 @@
 use Rattle.std.proofs.Common.{◌≡◌, ◌&&◌, Some, None, if◌then◌else◌, inl, inr, ℕ, zero, suc, ◌+◌, ◌-◌, ◌<◌, ◌≤◌, Bool, true, false, cond, ◌||◌, nat_lt, List, [], ◌∷◌, length, drop, refl, sym, ap, ◌∙◌, arith, drop-drop}
 use Rattle.std.specs.List.{list_any}
 use Rattle.std.proofs.lemmas.Bool.{cases_lt, lt-ltb, le-ltb}
-use Rattle.first_pass_scan.specs.Lines.{begins, is_content, ends_line, line_len}
-use Rattle.first_pass_scan.specs.Places.{Place, line_place, lines_behind, lines_at}
+use Rattle.first_pass_lines.specs.Lines.{begins, is_content, ends_line, line_len}
+use Rattle.first_pass_lines.specs.Places.{Place, line_place, lines_behind, lines_at}
 use Rattle.first_pass_scan.specs.LeafLines.{closes_metadata, any_line_closes, behind_line, opens_metadata, metadata_byte}
 use Rattle.first_pass_scan.specs.MetadataSearch.{first_closing, closing_line_from}
-use Rattle.first_pass_scan.proofs.LineFacts.{line_len-inside, line_len-within, lines_at-line, lines_at-end}
+use Rattle.first_pass_lines.proofs.LineFacts.{line_len-inside, line_len-within, lines_at-line, lines_at-end}
 use Rattle.first_pass_scan.proofs.LeafFacts.{any_line-first, any_line-none}
 
 -- the first closing line: the one that begins here, or the first one further on, or none at the end of the text

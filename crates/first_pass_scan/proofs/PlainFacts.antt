@@ -3,11 +3,11 @@ use Rattle.std.proofs.Common.{◌≡◌, inl, inr, ℕ, zero, suc, ◌&&◌, if�
 use Rattle.std.proofs.lemmas.Bool.{cases_eq, ne_eqb}
 use Rattle.std.proofs.lemmas.Bool.Decides.{nat_tests}
 use Rattle.std.specs.Char.{is_ascii_digit}
-use Rattle.first_pass_scan.specs.Rest.{Rest, column_of_byte, next_column, columns_of, after_columns, indent, past_quote_byte, past_quote}
-use Rattle.first_pass_scan.specs.Lines.{is_white, begins, eol_len, blank_len, atx_level}
+use Rattle.first_pass_lines.specs.Rest.{Rest, column_of_byte, next_column, columns_of, after_columns, indent, past_quote_byte, past_quote}
+use Rattle.first_pass_lines.specs.Lines.{is_white, begins, eol_len, blank_len, atx_level}
 use Rattle.first_pass_scan.specs.LeafLines.{hrule_len, code_fence, metadata_byte}
 use Rattle.first_pass_scan.specs.Markers.{content_indent, item_by, list_marker, listitem, item_of}
-use Rattle.first_pass_scan.specs.Plain.{is_plain, begins_plain, is_inert, begins_inert}
+use Rattle.first_pass_lines.specs.Plain.{is_plain, begins_plain, is_inert, begins_inert}
 
 -- a byte of which a test holds is none of which it doesn't
 isnt : (test : ℕ → Bool) (b c : ℕ) → test b ≡ true → test c ≡ false → b == c ≡ false

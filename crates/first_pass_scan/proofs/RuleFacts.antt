@@ -4,7 +4,7 @@ use Rattle.std.specs.Option.{option_map}
 use Rattle.std.specs.List.{prefix_len}
 use Rattle.std.proofs.lemmas.Bool.Decides.{nat_tests}
 use Rattle.std.proofs.lemmas.List.Sums.{sum_by-cons}
-use Rattle.first_pass_scan.specs.Lines.{eol_len}
+use Rattle.first_pass_lines.specs.Lines.{eol_len}
 use Rattle.first_pass_scan.specs.LeafLines.{is_rule_byte, in_rule, rule_len, hrule_len, HasNoRule}
 
 shorter : (x y m n : ℕ) (o : Option ℕ) → x ≤ y → (if nat_le 3 y then option_map (λ k. n + k) o else None) ≡ None → (if nat_le 3 x then option_map (λ k. m + k) o else None) ≡ None

@@ -4,9 +4,9 @@ use Rattle.std.specs.Option.{option_map}
 use Rattle.std.specs.List.{prefix_len, take_while, list_any, list_all, starts_with}
 use Rattle.first_pass_items.specs.declared.item.HeadingLevel.{HeadingLevel}
 use Rattle.first_pass_items.specs.declared.item.HeadingLevel.TheVariants.{H1, H2}
-use Rattle.first_pass_scan.specs.Lines.{is_content, is_blank, begins, eol_len, blank_len, is_blank_line, line_len, at_line_end}
-use Rattle.first_pass_scan.specs.Rest.{columns_of}
-use Rattle.first_pass_scan.specs.Places.{lines_at}
+use Rattle.first_pass_lines.specs.Lines.{is_content, is_blank, begins, eol_len, blank_len, is_blank_line, line_len, at_line_end}
+use Rattle.first_pass_lines.specs.Rest.{columns_of}
+use Rattle.first_pass_lines.specs.Places.{lines_at}
 
 -- how many of the byte c stand first (this project)
 abbrev pub run_len : ℕ → List ℕ → ℕ

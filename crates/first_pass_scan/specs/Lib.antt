@@ -1,9 +1,3 @@
-pub mod Lines
-pub mod Rest
-pub mod Places
 pub mod LeafLines
 pub mod Markers
-pub mod TableHead
 pub mod MetadataSearch
-pub mod Plain
-pub mod Lanes

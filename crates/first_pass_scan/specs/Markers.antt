@@ -6,10 +6,10 @@ use Rattle.std.specs.Char.{is_ascii_digit}
 use Rattle.std.specs.Str.{str_eq_ignore_ascii_case}
 use Rattle.first_pass_items.specs.declared.item.BlockQuoteKind.{BlockQuoteKind}
 use Rattle.first_pass_items.specs.declared.item.BlockQuoteKind.TheVariants.{Note, Tip, Important, Warning, Caution}
-use Rattle.first_pass_scan.specs.Lines.{begins, blank_len, is_blank_line, at_line_end, is_white, is_ascii_white}
+use Rattle.first_pass_lines.specs.Lines.{begins, blank_len, is_blank_line, at_line_end, is_white, is_ascii_white}
 use Rattle.first_pass_scan.specs.LeafLines.{hrule_len}
-use Rattle.first_pass_scan.specs.Places.{line_rest}
-use Rattle.first_pass_scan.specs.Rest.{Rest, after_columns, indent, past_bytes}
+use Rattle.first_pass_lines.specs.Places.{line_rest}
+use Rattle.first_pass_lines.specs.Rest.{Rest, after_columns, indent, past_bytes}
 
 -- the number that digits write behind those of the number n (CommonMark 5.2)
 abbrev pub number_from : ℕ → List ℕ → ℕ

@@ -1,6 +1,6 @@
 -- Where metadata closes, from an offset on, and what is remembered of it.
 use Rattle.std.specs.Prelude.{◌≡◌, ◌≤◌, ℕ, List, [], ◌∷◌, length, drop, IfSome, if◌then◌else◌}
-use Rattle.first_pass_scan.specs.Places.{Place, lines_at}
+use Rattle.first_pass_lines.specs.Places.{Place, lines_at}
 use Rattle.first_pass_scan.specs.LeafLines.{closes_metadata}
 use Rattle.first_pass_scan.specs.declared.metadata_search.ClosingLine.{ClosingLine}
 use Rattle.first_pass_scan.specs.declared.metadata_search.MetadataEnds.{MetadataEnds}

@@ -3,13 +3,15 @@
 
 ghost use Rattle.std.specs.List.{prefix_len, list_any};
 ghost use Rattle.std.specs.Prelude.{◌≡◌, ◌≤◌, ◌==◌, true, length, Some, None, IfSome, if◌then◌else◌};
-ghost use Rattle.first_pass_scan.specs.Lines.{is_blank, line_len};
+ghost use Rattle.first_pass_lines.specs.Lines.{is_blank, line_len};
 ghost use Rattle.first_pass_scan.specs.LeafLines.{run_len, in_rule, hrule_len, HasNoRule, underline_len, setext_underline, has_backquote as holds_backquote, code_fence, closing_fence_len, closing_marks, closing_metadata_len, any_line_closes, begins_metadata, opens_metadata as metadata_opens, metadata_byte, blank_columns, IsLongestIndent};
 ghost use Rattle.first_pass_scan.specs.MetadataSearch.{closing_line_from};
 
-use crate::lines::{content_len, is_blank, scan_blank_line, scan_eol, scan_nextline};
-use crate::places::{next_line, rest_of};
 use first_pass_items::item::HeadingLevel;
+use first_pass_lines::lines::{
+    content_len, is_blank, scan_blank_line, scan_blanks, scan_eol, scan_nextline,
+};
+use first_pass_lines::places::{next_line, rest_of};
 use memchr::memchr;
 
 // How many bytes of the thematic break's byte, spaces and tabs stand first.
@@ -55,8 +57,8 @@ pub(crate) fn scan_rule_free(bytes: &[u8]) -> usize
     }
 }
 
-// How many of the byte stand first.
-pub(crate) fn scan_run(bytes: &[u8], byte: u8) -> usize
+/// How many of the byte stand first.
+pub fn scan_run(bytes: &[u8], byte: u8) -> usize
     ensures value { result ≡ run_len byte bytes.now }
     ensures within { result ≤ length bytes.now }
 {
@@ -126,14 +128,6 @@ pub fn scan_code_fence(bytes: &[u8]) -> Option<(usize, u8)>
         }
         _ => None,
     }
-}
-
-/// How many spaces and tabs `bytes` begins with. CommonMark 2.1.
-pub fn scan_blanks(bytes: &[u8]) -> usize
-    ensures value { result ≡ prefix_len is_blank bytes.now }
-    ensures within { result ≤ length bytes.now }
-{
-    bytes.iter().take_while(|b| is_blank(**b)).count()
 }
 
 /// How many bytes the closing code fence that `bytes` begins with has, with the spaces and tabs behind

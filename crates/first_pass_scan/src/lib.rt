@@ -2,11 +2,7 @@
 //! block, delimiter rows of tables, and what is left of a line by columns, with the markers there.
 #![tactic(auto)]
 
-pub mod lanes;
 pub mod leaf_scan;
 pub mod line_start;
-pub mod lines;
 mod markers;
 pub mod metadata_search;
-pub mod places;
-pub mod table_scan;

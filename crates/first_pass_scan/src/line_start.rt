@@ -1,19 +1,19 @@
 //! What is left of a line, by columns.
 
 ghost use Rattle.std.specs.Prelude.{◌≡◌, ◌≤◌, ◌+◌, ◌<◌, ◌^◌, ◌==◌, min, nat_le, length, is_some, IfSome, MatchOption, if◌then◌else◌, true, false};
-ghost use Rattle.first_pass_scan.specs.Lines.{at_line_end, is_blank_line};
+ghost use Rattle.first_pass_lines.specs.Lines.{at_line_end, is_blank_line};
 ghost use Rattle.first_pass_scan.specs.LeafLines.{hrule_len};
-ghost use Rattle.first_pass_scan.specs.Rest.{next_column, after_columns, indent, past_bytes, past_quote};
-ghost use Rattle.first_pass_scan.specs.Places.{line_rest};
-ghost use Rattle.first_pass_scan.specs.Plain.{begins_plain, begins_inert};
+ghost use Rattle.first_pass_lines.specs.Rest.{next_column, after_columns, indent, past_bytes, past_quote};
+ghost use Rattle.first_pass_lines.specs.Places.{line_rest};
+ghost use Rattle.first_pass_lines.specs.Plain.{begins_plain, begins_inert};
 ghost use Rattle.first_pass_scan.specs.Markers.{list_marker, content_indent as content_after, behind_marker, behind_colon, item_of, listitem, definition_of, task_box, task_of, past_tag};
 
-use crate::lanes::{LANES, space_run};
 use crate::leaf_scan::{scan_hrule, scan_rule_free};
-use crate::lines::{is_inert_front, is_plain_front, scan_blank_line, scan_eol};
 use crate::markers::{scan_list_marker, scan_tag_line, scan_task_box};
-use crate::places::rest_of;
 use first_pass_items::item::BlockQuoteKind;
+use first_pass_lines::lanes::{LANES, space_run};
+use first_pass_lines::lines::{is_inert_front, is_plain_front, scan_blank_line, scan_eol};
+use first_pass_lines::places::rest_of;
 use std::marker::Model;
 
 /// A place in a line: what is left of it, and the columns that a tab taken in part owes. Tab stops are
@@ -30,7 +30,7 @@ pub struct LineStart<'a> {
 
 impl<'a> Model for LineStart<'a> {
     ghost use Rattle.std.specs.Prelude.{drop, ◌-◌, ◌≤◌, length};
-    ghost use Rattle.first_pass_scan.specs.Rest.{Rest};
+    ghost use Rattle.first_pass_lines.specs.Rest.{Rest};
     ghost use Rattle.first_pass_scan.specs.LeafLines.{HasNoRule};
 
     ghost Value = { Rest };

@@ -6,9 +6,9 @@ ghost use Rattle.std.specs.Char.{is_ascii_digit};
 ghost use Rattle.std.specs.Str.{str_eq_ignore_ascii_case};
 ghost use Rattle.first_pass_scan.specs.Markers.{number_from, bullet_marker, ordered_marker, list_marker, task_box, tag_of as tag_bytes, has_tag as tag_stands, tag_kind, tag_line};
 
-use crate::lines::{is_ascii_white, is_white, scan_blank_line};
-use crate::places::rest_of;
 use first_pass_items::item::BlockQuoteKind;
+use first_pass_lines::lines::{is_ascii_white, is_white, scan_blank_line};
+use first_pass_lines::places::rest_of;
 
 // How many digits stand first.
 fn scan_digits(bytes: &[u8]) -> usize

@@ -5,7 +5,7 @@ ghost use Rattle.first_pass_scan.specs.LeafLines.{behind_line, any_line_closes, 
 ghost use Rattle.first_pass_scan.specs.MetadataSearch.{IsClosingLine, IsKnownOf};
 
 use crate::leaf_scan::{scan_closing_line, scan_metadata_opening};
-use crate::places::{next_line, rest_of};
+use first_pass_lines::places::{next_line, rest_of};
 
 // The first line, from an offset on, that closes metadata of a byte: where it was sought from, and
 // where it begins, or the text's length if there is none.

@@ -7,10 +7,10 @@ use Rattle.first_pass_items.specs.declared.item.Item.{Item}
 use Rattle.first_pass_items.specs.declared.item.HeadingLevel.{HeadingLevel}
 use Rattle.first_pass_tree.specs.declared.tree_index.TreeIndex.{TreeIndex}
 use Rattle.first_pass_tree.specs.Forest.{Forest, open_place, childless, cut_siblings, HasLeaves}
-use Rattle.first_pass_scan.specs.Lines.{is_content, is_white, is_number_sign, line_len, level_number, atx_level}
-use Rattle.first_pass_scan.specs.Places.{line_place}
-use Rattle.first_pass_scan.proofs.HeadingFacts.{atx_level-signs}
-use Rattle.first_pass_scan.proofs.PlaceFacts.{bytes_line_end}
+use Rattle.first_pass_lines.specs.Lines.{is_content, is_white, is_number_sign, line_len, level_number, atx_level}
+use Rattle.first_pass_lines.specs.Places.{line_place}
+use Rattle.first_pass_lines.proofs.HeadingFacts.{atx_level-signs}
+use Rattle.first_pass_lines.proofs.PlaceFacts.{bytes_line_end}
 use Rattle.first_pass_tokens.specs.Chains.{add_tokens, close_break, cut}
 use Rattle.first_pass_tokens.specs.TreeTokens.{chained, AppendsLine}
 use Rattle.first_pass_tokens.proofs.ChainLemmas.{with_tokens-chained, joins_none-fresh, chained-spine, childless-chained, has_leaves-chained, cut_siblings-chained}

@@ -5,10 +5,10 @@ use Rattle.std.specs.Option.{option_map}
 use Rattle.first_pass_items.specs.declared.option_set.Options.{Options}
 use Rattle.first_pass_items.specs.OptionWords.{has}
 use Rattle.first_pass_items.specs.declared.item.HeadingLevel.{HeadingLevel}
-use Rattle.first_pass_scan.specs.Lines.{is_content, atx_level}
+use Rattle.first_pass_lines.specs.Lines.{is_content, atx_level}
 use Rattle.first_pass_scan.specs.LeafLines.{hrule_len, code_fence, metadata_byte}
-use Rattle.first_pass_scan.specs.Rest.{Rest, indent}
-use Rattle.first_pass_scan.specs.Places.{place_at, offset, IsPlaceOf}
+use Rattle.first_pass_lines.specs.Rest.{Rest, indent}
+use Rattle.first_pass_lines.specs.Places.{place_at, offset, IsPlaceOf}
 use Rattle.first_pass_open.proofs.PlaceLemmas.{all_keep}
 use Rattle.first_pass_scan.proofs.MetadataFacts.{metadata_plain}
 use Rattle.first_pass_html.specs.Tags.{BeginsTagLine}

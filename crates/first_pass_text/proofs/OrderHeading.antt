@@ -10,11 +10,11 @@ use Rattle.first_pass_items.specs.declared.item.Item.{Item}
 use Rattle.first_pass_items.specs.declared.item.HeadingLevel.{HeadingLevel}
 use Rattle.first_pass_items.specs.declared.item.ItemBody.TheVariants.{Heading as HeadingBody, Rule}
 use Rattle.first_pass_tree.specs.Forest.{Forest, added}
-use Rattle.first_pass_scan.specs.Lines.{is_line_end, is_number_sign, is_white, ends_line, line_len, level_number, atx_level}
-use Rattle.first_pass_scan.specs.Places.{Place, IsPlaceOf, offset, moved_bytes, line_place}
-use Rattle.first_pass_scan.proofs.LineFacts.{line_len-none, line_len-step, line_len-some, line_len-fits}
-use Rattle.first_pass_scan.proofs.PlaceFacts.{line_is_place, signs_keep, white_keeps}
-use Rattle.first_pass_scan.proofs.HeadingFacts.{atx_level-signs}
+use Rattle.first_pass_lines.specs.Lines.{is_line_end, is_number_sign, is_white, ends_line, line_len, level_number, atx_level}
+use Rattle.first_pass_lines.specs.Places.{Place, IsPlaceOf, offset, moved_bytes, line_place}
+use Rattle.first_pass_lines.proofs.LineFacts.{line_len-none, line_len-step, line_len-some, line_len-fits}
+use Rattle.first_pass_lines.proofs.PlaceFacts.{line_is_place, signs_keep, white_keeps}
+use Rattle.first_pass_lines.proofs.HeadingFacts.{atx_level-signs}
 use Rattle.first_pass_tokens.specs.Chains.{add_tokens, close_break, cut}
 use Rattle.first_pass_tokens.specs.Order.{AreInOrder}
 use Rattle.first_pass_tokens.proofs.BytesLemmas.{few_in_order, bytes_adds, bytes_closed, line_has_bytes, cut_few}

@@ -5,9 +5,9 @@ use Rattle.std.proofs.lemmas.Bool.{cases_lt}
 use Rattle.first_pass_items.specs.declared.item.Item.{Item}
 use Rattle.first_pass_items.specs.declared.item.ItemBody.TheVariants.{Paragraph}
 use Rattle.first_pass_tree.specs.Forest.{Forest}
-use Rattle.first_pass_scan.specs.Places.{Place, offset, line_rest, line_place, place_at, IsPlaceOf, start_of}
-use Rattle.first_pass_scan.proofs.LineFacts.{lines_at-line, lines_at-end}
-use Rattle.first_pass_scan.proofs.PlaceFacts.{start_of-lines}
+use Rattle.first_pass_lines.specs.Places.{Place, offset, line_rest, line_place, place_at, IsPlaceOf, start_of}
+use Rattle.first_pass_lines.proofs.LineFacts.{lines_at-line, lines_at-end}
+use Rattle.first_pass_lines.proofs.PlaceFacts.{start_of-lines}
 use Rattle.first_pass_tokens.specs.LineTokens.{IsLine, IsBreak, EndsLine, text_end}
 use Rattle.first_pass_tokens.specs.Chains.{add_tokens, close_break}
 use Rattle.first_pass_tokens.specs.Order.{AreInOrder, HaveBytes}

@@ -6,10 +6,10 @@ use Rattle.first_pass_items.specs.declared.item.Item.{Item}
 use Rattle.first_pass_items.specs.declared.option_set.Options.{Options}
 use Rattle.first_pass_tree.specs.Forest.{Forest, appended, pushed}
 use Rattle.first_pass_tree.specs.declared.tree_index.TreeIndex.{TreeIndex}
-use Rattle.first_pass_scan.specs.Lines.{line_len}
-use Rattle.first_pass_scan.specs.Places.{Place, offset, line_rest, line_place, place_at, IsPlaceOf}
-use Rattle.first_pass_scan.proofs.LineFacts.{lines_at-line, lines_at-end}
-use Rattle.first_pass_scan.proofs.PlaceFacts.{line_end_boundary}
+use Rattle.first_pass_lines.specs.Lines.{line_len}
+use Rattle.first_pass_lines.specs.Places.{Place, offset, line_rest, line_place, place_at, IsPlaceOf}
+use Rattle.first_pass_lines.proofs.LineFacts.{lines_at-line, lines_at-end}
+use Rattle.first_pass_lines.proofs.PlaceFacts.{line_end_boundary}
 use Rattle.first_pass_names.specs.TableEntries.{no_names}
 use Rattle.first_pass_grammar.specs.declared.kind.Container.{Container}
 use Rattle.first_pass_tokens.specs.LineTokens.{IsLine, EndsLine, IsBreak}

@@ -2,8 +2,8 @@
 use Rattle.std.proofs.Common.{◌≡◌, inl, inr, ℕ, zero, suc, Bool, true, false, true≢false, List, [], ◌∷◌, take, None, refl, sym, ap, ◌∙◌, subst}
 use Rattle.first_pass_items.specs.declared.option_set.Options.{Options}
 use Rattle.first_pass_items.specs.OptionWords.{has}
-use Rattle.first_pass_scan.specs.Rest.{Rest}
-use Rattle.first_pass_scan.specs.Plain.{is_plain, begins_plain}
+use Rattle.first_pass_lines.specs.Rest.{Rest}
+use Rattle.first_pass_lines.specs.Plain.{is_plain, begins_plain}
 use Rattle.first_pass_scan.proofs.PlainFacts.{plain_begins, plain_eol, plain_blank, plain_hrule, plain_atx, plain_fence, plain_listitem, plain_metadata, plain_indent}
 use Rattle.first_pass_html.specs.Tags.{BeginsTagLine}
 use Rattle.first_pass_open.proofs.PlainLemmas.{plain_all}

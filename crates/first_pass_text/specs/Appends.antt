@@ -3,7 +3,7 @@ use Rattle.std.specs.Prelude.{◌≡◌, ◌≤◌, ℕ, ◌+◌, List, [], ◌+
 use Rattle.first_pass_items.specs.declared.item.Item.{Item}
 use Rattle.first_pass_items.specs.declared.item.HeadingLevel.{HeadingLevel}
 use Rattle.first_pass_tree.specs.Forest.{Forest, added, with_text}
-use Rattle.first_pass_scan.specs.Lines.{line_len, level_number}
+use Rattle.first_pass_lines.specs.Lines.{line_len, level_number}
 use Rattle.first_pass_tokens.specs.Chains.{is_backslash_break}
 use Rattle.first_pass_tokens.specs.TreeTokens.{chained}
 use Rattle.first_pass_grammar.specs.Leaves.{Document, IsParagraph, IsHeading, heading_text_at, heading_block, paragraph_block, marker_items}

@@ -3,7 +3,7 @@
 ghost use Rattle.std.specs.List.{suffix_len};
 ghost use Rattle.std.specs.Prelude.{◌≡◌, ℕ, ◌==◌, take, drop, ◌≤◌, Some, length, IfOk, OnOk, IsCharBoundary};
 ghost use Rattle.first_pass_walk.specs.Walk.{MarksSpecial};
-ghost use Rattle.first_pass_scan.specs.Lines.{atx_level as atx_level_of, level_number as number_of};
+ghost use Rattle.first_pass_lines.specs.Lines.{atx_level as atx_level_of, level_number as number_of};
 ghost use Rattle.first_pass_names.specs.TableEntries.{no_names};
 ghost use Rattle.first_pass_grammar.specs.Leaves.{document, is_put_aside, kept_len, heading_text_at};
 ghost use Rattle.first_pass_text.specs.Between.{AddsBetween};
@@ -12,10 +12,10 @@ ghost use Rattle.first_pass_open.specs.OpenBlock.{IsJustPushed};
 
 use crate::paragraph::append_last_backslash;
 use first_pass_items::item::{HeadingLevel, Item, ItemBody};
+use first_pass_lines::lines::{level_number, scan_whitespace_no_nl};
+use first_pass_lines::places::rest_of;
 use first_pass_open::open_block::close_block;
 use first_pass_open::source::Source;
-use first_pass_scan::lines::{level_number, scan_whitespace_no_nl};
-use first_pass_scan::places::rest_of;
 use first_pass_tokens::line::append_line;
 use first_pass_tree::forest::Tree;
 use first_pass_tree::tree_index::TreeIndex;

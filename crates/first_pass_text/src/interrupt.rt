@@ -1,8 +1,8 @@
 //! Which lines end a paragraph before them.
 
 ghost use Rattle.std.specs.Prelude.{◌≡◌, min, drop, is_some, IfOk, OnOk, Some, None, if◌then◌else◌, IsUtf8, IsCharBoundary};
-ghost use Rattle.first_pass_scan.specs.Places.{line_rest, place_at, offset, IsPlaceOf};
-ghost use Rattle.first_pass_scan.specs.Rest.{indent};
+ghost use Rattle.first_pass_lines.specs.Places.{line_rest, place_at, offset, IsPlaceOf};
+ghost use Rattle.first_pass_lines.specs.Rest.{indent};
 ghost use Rattle.first_pass_scan.specs.Markers.{is_bullet, listitem};
 ghost use Rattle.first_pass_grammar.specs.Containers.{after, front};
 ghost use Rattle.first_pass_grammar.specs.Kinds.{interrupts_with, item_interrupts, ends_paragraph, ends_tag, unindented, all_taken};
@@ -10,13 +10,15 @@ ghost use Rattle.first_pass_open.specs.Path.{path_of};
 
 use crate::kinds::html_kind;
 use first_pass_items::item::Item;
+use first_pass_lines::lines::{
+    begins, is_plain_front, scan_atx_heading, scan_blank_line, scan_eol,
+};
+use first_pass_lines::places::rest_of;
 use first_pass_open::containers::scan_containers;
 use first_pass_open::indentation::scan_indentation;
 use first_pass_open::source::Source;
 use first_pass_scan::leaf_scan::{scan_code_fence, scan_hrule};
 use first_pass_scan::line_start::{LineStart, scan_listitem};
-use first_pass_scan::lines::{begins, is_plain_front, scan_atx_heading, scan_blank_line, scan_eol};
-use first_pass_scan::places::rest_of;
 use first_pass_tree::forest::Tree;
 use std::alloc::{AllocError, Global};
 

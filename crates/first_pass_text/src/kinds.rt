@@ -2,8 +2,8 @@
 
 ghost use Rattle.std.specs.Prelude.{◌≡◌, ◌+◌, ◌≤◌, min, length, drop, Some, None, IfOk, IfSome, MatchOption};
 ghost use Rattle.std.specs.Option.{option_map};
-ghost use Rattle.first_pass_scan.specs.Rest.{indent};
-ghost use Rattle.first_pass_scan.specs.Places.{place_at, IsPlaceOf};
+ghost use Rattle.first_pass_lines.specs.Rest.{indent};
+ghost use Rattle.first_pass_lines.specs.Places.{place_at, IsPlaceOf};
 ghost use Rattle.first_pass_scan.specs.MetadataSearch.{IsKnownOf};
 ghost use Rattle.first_pass_grammar.specs.Kinds.{html_kind, last_kind, metadata_at, IsKind, all_taken};
 ghost use Rattle.first_pass_text.specs.Found.{kind_of, IsFoundWith};
@@ -13,11 +13,11 @@ use first_pass_html::starts::{get_html_end_tag, starts_html_block_type_6};
 use first_pass_html::tags::scan_html_type_7;
 use first_pass_items::item::HeadingLevel;
 use first_pass_items::option_set::Options;
+use first_pass_lines::lines::{scan_atx_heading, scan_blank_line};
 use first_pass_open::indentation::scan_indentation;
 use first_pass_open::source::Source;
 use first_pass_scan::leaf_scan::{scan_code_fence, scan_hrule};
 use first_pass_scan::line_start::LineStart;
-use first_pass_scan::lines::{scan_atx_heading, scan_blank_line};
 use first_pass_scan::metadata_search::{MetadataEnds, metadata_at};
 
 /// What begins at a place of a line where no container begins, with what was found of it.

@@ -8,7 +8,7 @@ use Rattle.std.proofs.lemmas.List.Sums.{suffix_len-le-length, suffix_len-take_ye
 use Rattle.std.proofs.lemmas.Bool.{true≢false, false≢true, cases_lt, cases_Bool, cond_both, cond-true, cond-false, eqb-true, or_parts, or_cases, and_parts, lt-leb, le-leb, leb-false, leb-true, not_from_true, not_from_false}
 use Rattle.first_pass_items.specs.declared.item.Item.{Item}
 use Rattle.first_pass_tree.specs.Forest.{Forest}
-use Rattle.first_pass_scan.specs.Lines.{is_line_end, is_content, is_white, begins, eol_len, line_len}
+use Rattle.first_pass_lines.specs.Lines.{is_line_end, is_content, is_white, begins, eol_len, line_len}
 use Rattle.first_pass_walk.specs.Walk.{is_special}
 use Rattle.first_pass_tokens.specs.declared.pieces.Piece.{Piece}
 use Rattle.first_pass_tokens.specs.declared.pieces.Piece.TheVariants.{Left, Begins}

@@ -6,7 +6,7 @@ use Rattle.std.proofs.lemmas.Bool.{cases_lt, cases_Bool, lt-leb, le-leb, or_from
 use Rattle.first_pass_items.specs.declared.item.Item.{Item}
 use Rattle.first_pass_items.specs.declared.option_set.Options.{Options}
 use Rattle.first_pass_tree.specs.Forest.{Forest, with_text}
-use Rattle.first_pass_scan.specs.Lines.{is_line_end, is_white}
+use Rattle.first_pass_lines.specs.Lines.{is_line_end, is_white}
 use Rattle.first_pass_walk.specs.Walk.{is_special}
 use Rattle.first_pass_tokens.specs.declared.line.Pending.{Pending}
 use Rattle.first_pass_tokens.specs.declared.pieces.Piece.{Piece}

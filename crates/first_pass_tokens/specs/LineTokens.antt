@@ -4,7 +4,7 @@ use Rattle.std.specs.List.{slice_range, suffix_len}
 use Rattle.first_pass_items.specs.declared.item.Item.{Item}
 use Rattle.first_pass_items.specs.declared.item.ItemBody.{ItemBody}
 use Rattle.first_pass_items.specs.declared.item.ItemBody.TheVariants.{SoftBreak, HardBreak}
-use Rattle.first_pass_scan.specs.Lines.{is_line_end, is_white, line_len}
+use Rattle.first_pass_lines.specs.Lines.{is_line_end, is_white, line_len}
 use Rattle.first_pass_tokens.specs.declared.pieces.Piece.{Piece}
 use Rattle.first_pass_tokens.specs.declared.pieces.Piece.TheVariants.{Left, Begins}
 use Rattle.first_pass_tokens.specs.Chains.{add_text}

@@ -2,7 +2,7 @@
 
 ghost use Rattle.std.specs.Prelude.{◌≡◌, ◌<◌, ◌≤◌, ℕ, List, Option, false, length, slice_index};
 ghost use Rattle.first_pass_items.specs.declared.item.Item.{Item};
-ghost use Rattle.first_pass_scan.specs.Lines.{is_line_end};
+ghost use Rattle.first_pass_lines.specs.Lines.{is_line_end};
 ghost use Rattle.first_pass_tokens.specs.declared.pieces.Piece.{Piece};
 ghost use Rattle.first_pass_tokens.specs.Pieces.{Source};
 ghost use Rattle.first_pass_tokens.specs.Chains.{AreApart};

@@ -11,7 +11,7 @@ ghost use Rattle.first_pass_tokens.specs.Pending.{source, pending_after, tree_af
 use crate::pieces::{Piece, piece_len, special_piece};
 use first_pass_items::item::{Item, ItemBody};
 use first_pass_items::option_set::Options;
-use first_pass_scan::lines::{is_line_end, is_white};
+use first_pass_lines::lines::{is_line_end, is_white};
 use first_pass_tree::forest::Tree;
 use first_pass_walk::walk::next_special_in_words;
 use std::alloc::AllocError;

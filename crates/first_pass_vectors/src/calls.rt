@@ -4,8 +4,8 @@ use bitflags::Flags;
 use first_pass::flank::TableParseMode;
 use first_pass::pass::{FirstPass, run_first_pass, scan_paragraph_interrupt_no_table};
 use first_pass_items::option_set::Options;
+use first_pass_lines::lines::scan_atx_heading;
 use first_pass_scan::leaf_scan::scan_code_fence;
-use first_pass_scan::lines::scan_atx_heading;
 use std::test::Fail;
 
 const TEXT: &str = "# a\nb\\\nc";

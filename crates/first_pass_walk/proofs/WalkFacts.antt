@@ -3,7 +3,7 @@ use Rattle.std.proofs.Common.{◌≡◌, ◌⊎◌, inl, inr, ℕ, ◌<◌, ◌�
 use Rattle.std.proofs.lemmas.Bool.{cases_lt, cases_eq, ne_eqb}
 use Rattle.std.proofs.lemmas.Bool.Decides.{nat_tests}
 use Rattle.first_pass_items.specs.declared.option_set.Options.{Options}
-use Rattle.first_pass_scan.specs.Lines.{is_line_end}
+use Rattle.first_pass_lines.specs.Lines.{is_line_end}
 use Rattle.first_pass_items.specs.OptionWords.{has}
 use Rattle.first_pass_walk.specs.Walk.{begins_token, is_special, MarksSpecial, is_marked, IsNextMarked, NoneMarkedFrom, is_word_byte, SparesWords}
 

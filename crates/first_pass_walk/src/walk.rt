@@ -2,11 +2,11 @@
 
 ghost use Rattle.std.specs.Prelude.{◌≡◌, ◌+◌, ◌≤◌, length, IfSome, IfNone};
 ghost use Rattle.first_pass_walk.specs.Walk.{is_special as is_special_byte, MarksSpecial, IsNextMarked, NoneMarkedFrom, IsWalk, is_word_byte, SparesWords};
-ghost use Rattle.first_pass_scan.specs.Lanes.{IsRunIn};
+ghost use Rattle.first_pass_lines.specs.Lanes.{IsRunIn};
 
 use bitflags::Flags;
 use first_pass_items::option_set::Options;
-use first_pass_scan::lanes::{LANES, first_set};
+use first_pass_lines::lanes::{LANES, first_set};
 use std::simd::prelude::*;
 
 /// What a walk does after a call at a place.

@@ -1,6 +1,6 @@
 use Rattle.std.proofs.Common.{◌+◌, drop, is_some, sym, ap, subst, ◌∙◌, arith}
-use Rattle.first_pass_scan.specs.Lines.{blank_len, line_len}
-use Rattle.first_pass_scan.specs.Places.{line_rest, place_at}
+use Rattle.first_pass_lines.specs.Lines.{blank_len, line_len}
+use Rattle.first_pass_lines.specs.Places.{line_rest, place_at}
 use Rattle.first_pass_grammar.specs.Leaves.{document}
 use Rattle.first_pass_grammar.specs.Skeleton.{Inside}
 use Rattle.first_pass_grammar.specs.Completion.{lines_from}
@@ -8,7 +8,7 @@ use Rattle.first_pass_lists.specs.Closing.{item_finished}
 use Rattle.first_pass_lists.specs.declared.reading.Reading.{Reading}
 use Rattle.first_pass.specs.Ordered.{IsOrderedAt}
 use Rattle.first_pass_grammar.specs.OpenOrder.{IsOrderedTo}
-use Rattle.first_pass_scan.proofs.LineFacts.{line_len-within}
+use Rattle.first_pass_lines.proofs.LineFacts.{line_len-within}
 use Rattle.first_pass.proofs.CountLemmas.{count, item_finished_count, blank_count}
 use Rattle.first_pass.proofs.OrderLemmas.{ordered_item_finished, ordered_blank_read}
 use Rattle.first_pass.proofs.OrderSteps.{ordered_tree}

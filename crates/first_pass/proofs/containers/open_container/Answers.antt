@@ -3,10 +3,10 @@ use Rattle.first_pass_items.specs.declared.item.Item.{Item}
 use Rattle.first_pass_items.specs.declared.item.BlockQuoteKind.{BlockQuoteKind}
 use Rattle.first_pass_items.specs.declared.item.ItemBody.TheVariants.{BlockQuote as BlockQuoteBody, ListItem as ListItemBody}
 use Rattle.first_pass_tree.specs.Forest.{Forest}
-use Rattle.first_pass_scan.specs.Lines.{blank_len, line_len}
-use Rattle.first_pass_scan.specs.Rest.{Rest, after_columns}
-use Rattle.first_pass_scan.specs.Places.{place_at, offset, line_end, start_of}
-use Rattle.first_pass_scan.proofs.PlaceFacts.{start_of-lines}
+use Rattle.first_pass_lines.specs.Lines.{blank_len, line_len}
+use Rattle.first_pass_lines.specs.Rest.{Rest, after_columns}
+use Rattle.first_pass_lines.specs.Places.{place_at, offset, line_end, start_of}
+use Rattle.first_pass_lines.proofs.PlaceFacts.{start_of-lines}
 use Rattle.first_pass_grammar.specs.declared.kind.Container.TheVariants.{BlockQuote}
 use Rattle.first_pass_grammar.specs.Containers.{prefix}
 use Rattle.first_pass_grammar.specs.Kinds.{item_at, is_blank_rest, quote_start}

@@ -1,5 +1,5 @@
 use Rattle.std.proofs.Common.{◌≡◌, length, None, IsCharBoundary}
-use Rattle.first_pass_scan.specs.Places.{place_at, offset, line_end, IsPlaceOf}
+use Rattle.first_pass_lines.specs.Places.{place_at, offset, line_end, IsPlaceOf}
 use Rattle.first_pass_grammar.specs.Names.{Names}
 use Rattle.first_pass_grammar.specs.Leaves.{document}
 use Rattle.first_pass_grammar.specs.Skeleton.{Inside}

@@ -1,6 +1,6 @@
 use Rattle.std.proofs.Common.{◌≡◌, ℕ, List, [], length, IsCharBoundary, arith, refl, sym, ap, ◌∙◌, subst}
 use Rattle.std.proofs.lemmas.Str.{IsCharBoundary-start, IsCharBoundary-end}
-use Rattle.first_pass_scan.proofs.LineFacts.{lines_at-end}
+use Rattle.first_pass_lines.proofs.LineFacts.{lines_at-end}
 use Rattle.first_pass_grammar.specs.Leaves.{document}
 use Rattle.first_pass_items.specs.declared.option_set.Options.{Options}
 use Rattle.first_pass_grammar.specs.Completion.{lines_from}

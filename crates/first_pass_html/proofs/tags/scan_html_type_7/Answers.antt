@@ -1,5 +1,5 @@
 use Rattle.std.proofs.Common.{sym, ap, ◌∙◌}
-use Rattle.first_pass_scan.specs.Lines.{blank_len}
+use Rattle.first_pass_lines.specs.Lines.{blank_len}
 use Rattle.first_pass_html.proofs.WholeTagFacts.{tag_line_only, tag_line_none, tag_line_not_blank}
 use Rattle.first_pass_html.proofs.tags.scan_html_type_7.Goals as goal
 

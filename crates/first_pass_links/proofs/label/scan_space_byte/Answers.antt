@@ -1,7 +1,7 @@
 use Rattle.std.proofs.Common.{Ok, ◌+◌, get_or, sym, ap, subst, ◌∙◌, arith, IsUtf8}
 use Rattle.std.specs.Str.{IsCharBoundary}
 use Rattle.std.proofs.lemmas.Str.{IsCharBoundary-after_ascii, IsUtf8-drop}
-use Rattle.first_pass_scan.specs.Lines.{ends_line}
+use Rattle.first_pass_lines.specs.Lines.{ends_line}
 use Rattle.first_pass_links.proofs.Labels.{left-byte, left-end, left-stop, white_is_ascii, place_behind}
 use Rattle.first_pass_links.proofs.label.scan_space_byte.Goals as goal
 use Rattle.first_pass_links.proofs.label.scan_space_byte.Goals.{After-rest_of-behind, In-Some}

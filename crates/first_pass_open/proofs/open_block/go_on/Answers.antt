@@ -1,6 +1,6 @@
 use Rattle.std.proofs.Common.{drop, sym, subst}
-use Rattle.first_pass_scan.specs.Places.{line_rest, place_at, IsPlaceOf}
-use Rattle.first_pass_scan.proofs.PlaceFacts.{line_is_place}
+use Rattle.first_pass_lines.specs.Places.{line_rest, place_at, IsPlaceOf}
+use Rattle.first_pass_lines.proofs.PlaceFacts.{line_is_place}
 use Rattle.first_pass_open.specs.Path.{path_of}
 use Rattle.first_pass_open.proofs.PlaceLemmas.{front_keeps, front_read}
 use Rattle.first_pass_open.proofs.open_block.go_on.Goals as goal

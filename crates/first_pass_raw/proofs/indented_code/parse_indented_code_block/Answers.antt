@@ -2,7 +2,7 @@ use Rattle.std.proofs.Common.{◌<◌, ◌≤◌, length, is_some, refl, ap, sym
 use Rattle.first_pass_items.specs.declared.item.Item.{Item}
 use Rattle.first_pass_items.specs.declared.item.ItemBody.TheVariants.{IndentCodeBlock}
 use Rattle.first_pass_tree.specs.Forest.{Forest, IsForest}
-use Rattle.first_pass_scan.specs.Lines.{blank_len}
+use Rattle.first_pass_lines.specs.Lines.{blank_len}
 use Rattle.first_pass_tokens.proofs.ChainLemmas.{joins_none-fresh}
 use Rattle.first_pass_open.specs.OpenBlock.{opened_block}
 use Rattle.first_pass_open.specs.Path.{path_of}

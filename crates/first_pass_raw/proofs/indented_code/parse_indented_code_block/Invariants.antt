@@ -1,6 +1,6 @@
 use Rattle.std.proofs.Common.{◌≡◌, ◌-◌, ◌≤◌, length, IsCharBoundary}
 use Rattle.first_pass_items.specs.declared.item.ItemBody.TheVariants.{IndentCodeBlock}
-use Rattle.first_pass_scan.specs.Places.{Place}
+use Rattle.first_pass_lines.specs.Places.{Place}
 use Rattle.first_pass_grammar.specs.Names.{Extends}
 use Rattle.first_pass_open.specs.OpenBlock.{opened_block}
 use Rattle.first_pass_names.specs.TableEntries.{tables, names_of}

@@ -1,5 +1,5 @@
 use Rattle.std.proofs.Common.{◌≡◌, ◌+◌, ◌-◌, ℕ, List, take, drop, refl, ap, ◌∙◌, arith}
-use Rattle.first_pass_scan.specs.Lines.{line_len}
+use Rattle.first_pass_lines.specs.Lines.{line_len}
 use Rattle.first_pass_names.specs.TableEntries.{no_names}
 use Rattle.first_pass_grammar.specs.Leaves.{Document, document, kept_len}
 use Rattle.first_pass_text.proofs.HeadingLemmas.{heading_open, heading_leaves, heading_empty, heading_cut}

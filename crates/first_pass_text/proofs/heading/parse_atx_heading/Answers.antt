@@ -1,6 +1,6 @@
 use Rattle.std.proofs.Common.{None, ◌≡◌, IsUtf8, ap, subst, ◌∙◌}
 use Rattle.first_pass_items.specs.declared.item.Item.{Item}
-use Rattle.first_pass_scan.specs.Lines.{level_number}
+use Rattle.first_pass_lines.specs.Lines.{level_number}
 use Rattle.first_pass_tokens.specs.TreeTokens.{chained}
 use Rattle.first_pass_names.specs.TableEntries.{no_names}
 use Rattle.first_pass_grammar.specs.Leaves.{Document, document, heading_text_at, IsHeading}

@@ -1,5 +1,5 @@
 use Rattle.std.proofs.Common.{sym, ap, ◌∙◌}
-use Rattle.first_pass_scan.specs.Plain.{begins_plain}
+use Rattle.first_pass_lines.specs.Plain.{begins_plain}
 use Rattle.first_pass_text.proofs.PlainKinds.{plain_interrupts}
 use Rattle.first_pass_text.proofs.interrupt.scan_paragraph_interrupt_no_table.Goals as goal
 

@@ -1,5 +1,5 @@
 use Rattle.std.proofs.Common.{min, ap, ◌∙◌, IsUtf8, subst}
-use Rattle.first_pass_scan.specs.Rest.{indent}
+use Rattle.first_pass_lines.specs.Rest.{indent}
 use Rattle.first_pass_grammar.specs.Kinds.{all_taken}
 use Rattle.first_pass_open.specs.Path.{path_of}
 use Rattle.first_pass_open.proofs.PlaceLemmas.{text_place, front_read}

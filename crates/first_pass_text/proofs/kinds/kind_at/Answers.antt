@@ -1,7 +1,7 @@
 use Rattle.std.proofs.Common.{length, is_some, sym, ap, ◌∙◌, subst, arith, IsUtf8}
 use Rattle.std.specs.Option.{option_map}
-use Rattle.first_pass_scan.specs.Lines.{blank_len}
-use Rattle.first_pass_scan.specs.Rest.{Rest}
+use Rattle.first_pass_lines.specs.Lines.{blank_len}
+use Rattle.first_pass_lines.specs.Rest.{Rest}
 use Rattle.first_pass_grammar.specs.Kinds.{all_taken, html_kind, last_kind, IsKind}
 use Rattle.first_pass_text.specs.Found.{kind_of, IsFoundWith}
 use Rattle.first_pass_text.proofs.KindLemmas.{many_columns, blank_kind, code_kind, behind_columns, found_early, tag_found, tag_absent, metadata_here, html_here, tag_here, last_here, found_html}

@@ -2,7 +2,7 @@ use Rattle.std.proofs.Common.{ℕ, leb, cond, bit_and, refl, arith}
 use Rattle.std.proofs.lemmas.Simd.{zip2_splat, length-chunk}
 use lib.Lanes.{chunk}
 use Rattle.first_pass_walk.specs.Walk.{is_word_byte}
-use Rattle.first_pass_scan.proofs.LaneLemmas.{joined, splat_is, run_in}
+use Rattle.first_pass_lines.proofs.LaneLemmas.{joined, splat_is, run_in}
 use Rattle.first_pass_walk.proofs.walk.word_run.Goals as goal
 
 pub returns : goal.returns

@@ -1,8 +1,8 @@
 use Rattle.std.proofs.Common.{◌≡◌, ◌+◌, drop, IsCharBoundary, sym, ap, subst, ◌∙◌, arith}
-use Rattle.first_pass_scan.specs.Lines.{line_len}
-use Rattle.first_pass_scan.specs.Places.{place_at, offset, line_end}
-use Rattle.first_pass_scan.proofs.LineFacts.{line_len-within}
-use Rattle.first_pass_scan.proofs.PlaceFacts.{line_end_boundary}
+use Rattle.first_pass_lines.specs.Lines.{line_len}
+use Rattle.first_pass_lines.specs.Places.{place_at, offset, line_end}
+use Rattle.first_pass_lines.proofs.LineFacts.{line_len-within}
+use Rattle.first_pass_lines.proofs.PlaceFacts.{line_end_boundary}
 use Rattle.first_pass.specs.Opening.{IsBehind, OrderedBehind, GrowsText, GrowsBehind}
 use Rattle.first_pass.proofs.OrderSteps.{ordered_in_line, place_before_end}
 use Rattle.first_pass.proofs.pass.FirstPass.parse_block.Goals as goal

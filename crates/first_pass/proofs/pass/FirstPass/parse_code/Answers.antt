@@ -1,8 +1,8 @@
 use Rattle.std.proofs.Common.{◌+◌, drop, IsCharBoundary, sym, ap, ◌∙◌, subst, arith}
-use Rattle.first_pass_scan.specs.Lines.{is_blank_line, line_len}
-use Rattle.first_pass_scan.specs.Rest.{Rest}
-use Rattle.first_pass_scan.specs.Places.{place_at, offset, moved_columns}
-use Rattle.first_pass_scan.proofs.PlaceFacts.{columns_keep, columns_line_end, columns_shorter}
+use Rattle.first_pass_lines.specs.Lines.{is_blank_line, line_len}
+use Rattle.first_pass_lines.specs.Rest.{Rest}
+use Rattle.first_pass_lines.specs.Places.{place_at, offset, moved_columns}
+use Rattle.first_pass_lines.proofs.PlaceFacts.{columns_keep, columns_line_end, columns_shorter}
 use Rattle.first_pass_raw.specs.RawBlocks.{behind_line_at}
 use Rattle.first_pass.proofs.EnterLemmas.{blank_columns}
 use Rattle.first_pass.proofs.OrderSteps.{offset_later}

@@ -1,5 +1,5 @@
 use Rattle.std.proofs.Common.{◌≡◌, inl, inr, ℕ, length, drop, IsCharBoundary, None, false, refl, sym, ap, subst, ◌∙◌, arith}
-use Rattle.first_pass_scan.specs.Places.{place_at, offset, line_end}
+use Rattle.first_pass_lines.specs.Places.{place_at, offset, line_end}
 use Rattle.first_pass_grammar.specs.Leaves.{document}
 use Rattle.first_pass_grammar.specs.Completion.{lines_from}
 use Rattle.first_pass_text.specs.Appends.{line_end_at, AddsParagraph}
@@ -26,10 +26,10 @@ use Rattle.first_pass_names.specs.TableEntries.{names_of, no_names}
 use Rattle.first_pass_raw.specs.RawBlocks.{IsPlaceAt, behind_line_at, html_to_blank}
 use Rattle.first_pass_grammar.specs.Names.{Extends}
 use Rattle.first_pass_grammar.specs.Kinds.{Kind, Blank, HtmlToBlank, Paragraph, all_taken, unindented, IsKind}
-use Rattle.first_pass_scan.specs.Rest.{indent}
-use Rattle.first_pass_scan.proofs.PlaceFacts.{columns_line_end}
+use Rattle.first_pass_lines.specs.Rest.{indent}
+use Rattle.first_pass_lines.proofs.PlaceFacts.{columns_line_end}
 use Rattle.first_pass.proofs.CountLemmas.{count, list_finished_count, blank_count, behind_count, block_count, leaf_left, left_before, blank_later}
-use Rattle.first_pass_scan.specs.Places.{Place}
+use Rattle.first_pass_lines.specs.Places.{Place}
 use Rattle.first_pass_tree.specs.Forest.{IsForest}
 use Rattle.first_pass.proofs.pass.FirstPass.parse_kind.Goals as goal
 

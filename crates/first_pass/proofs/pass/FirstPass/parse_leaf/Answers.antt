@@ -1,6 +1,6 @@
 use Rattle.std.proofs.Common.{IsCharBoundary, subst, arith}
-use Rattle.first_pass_scan.specs.Rest.{Rest}
-use Rattle.first_pass_scan.specs.Places.{place_at, offset}
+use Rattle.first_pass_lines.specs.Rest.{Rest}
+use Rattle.first_pass_lines.specs.Places.{place_at, offset}
 use Rattle.first_pass_grammar.specs.OpenOrder.{IsOrderedTo}
 use Rattle.first_pass.specs.Opening.{line_or}
 use Rattle.first_pass.specs.Ordered.{IsOrderedAt}

@@ -2,9 +2,9 @@ use Rattle.std.proofs.Common.{◌≡◌, ◌+◌, drop, Some, false, IsCharBound
 use Rattle.std.proofs.Math.Nat.{zero-max}
 use Rattle.first_pass_items.specs.declared.item.Item.{Item}
 use Rattle.first_pass_tree.specs.Forest.{Forest}
-use Rattle.first_pass_scan.specs.Lines.{atx_level}
+use Rattle.first_pass_lines.specs.Lines.{atx_level}
 use Rattle.first_pass_scan.specs.LeafLines.{code_fence}
-use Rattle.first_pass_scan.specs.Places.{place_at, line_end}
+use Rattle.first_pass_lines.specs.Places.{place_at, line_end}
 use Rattle.first_pass_html.specs.Starts.{html_end}
 use Rattle.first_pass_grammar.specs.Kinds.{Metadata, HtmlToEnd, ThematicBreak, AtxHeading, FencedCode, all_taken, unindented}
 use Rattle.first_pass_grammar.specs.Extents.{Extent}

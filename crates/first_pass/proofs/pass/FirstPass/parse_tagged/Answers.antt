@@ -1,7 +1,7 @@
 use Rattle.std.proofs.Common.{◌≡◌, inr, ◌+◌, drop, Bool, true, false, Some, None, refl, sym, subst, ◌∙◌, if◌then◌else◌, ap, arith}
-use Rattle.first_pass_scan.specs.Rest.{Rest}
-use Rattle.first_pass_scan.specs.Lines.{line_len}
-use Rattle.first_pass_scan.specs.Places.{line_rest, place_at, line_end}
+use Rattle.first_pass_lines.specs.Rest.{Rest}
+use Rattle.first_pass_lines.specs.Lines.{line_len}
+use Rattle.first_pass_lines.specs.Places.{line_rest, place_at, line_end}
 use Rattle.first_pass_grammar.specs.Containers.{front}
 use Rattle.first_pass_grammar.specs.Kinds.{ends_tag, all_taken}
 use Rattle.first_pass_grammar.specs.Leaves.{document}

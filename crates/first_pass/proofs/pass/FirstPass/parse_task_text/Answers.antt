@@ -1,6 +1,6 @@
 use Rattle.std.proofs.Common.{◌+◌, Some, IsCharBoundary, sym, ap, subst, ◌∙◌, arith}
 use Rattle.first_pass_lists.specs.Closing.{remembered}
-use Rattle.first_pass_scan.specs.Places.{place_at}
+use Rattle.first_pass_lines.specs.Places.{place_at}
 use Rattle.first_pass_grammar.specs.Leaves.{document}
 use Rattle.first_pass_grammar.specs.Completion.{lines_from}
 use Rattle.first_pass_text.specs.Appends.{line_end_at}

@@ -1,5 +1,5 @@
 use Rattle.std.proofs.Common.{◌+◌, drop, ap}
-use Rattle.first_pass_scan.specs.Places.{place_at, line_place}
+use Rattle.first_pass_lines.specs.Places.{place_at, line_place}
 use Rattle.first_pass_raw.proofs.HtmlLemmas.{tag_here}
 use Rattle.first_pass_raw.proofs.html_block.ToTagJudgesLines.judge.Goals as goal
 

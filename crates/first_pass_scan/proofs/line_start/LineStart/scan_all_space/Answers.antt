@@ -1,6 +1,6 @@
 use Rattle.std.proofs.Common.{◌∙◌}
-use Rattle.first_pass_scan.specs.Rest.{next_column}
-use Rattle.first_pass_scan.proofs.Columns.{taken-yes, all-more}
+use Rattle.first_pass_lines.specs.Rest.{next_column}
+use Rattle.first_pass_lines.proofs.Columns.{taken-yes, all-more}
 use Rattle.first_pass_scan.proofs.line_start.LineStart.scan_all_space.Goals as goal
 
 pub loop-preserved : goal.loop-preserved

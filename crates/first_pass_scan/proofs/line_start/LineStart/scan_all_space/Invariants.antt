@@ -1,5 +1,5 @@
 use Rattle.std.proofs.Common.{◌≡◌}
-use Rattle.first_pass_scan.specs.Rest.{after_columns, indent}
+use Rattle.first_pass_lines.specs.Rest.{after_columns, indent}
 use Rattle.first_pass_scan.proofs.line_start.LineStart.scan_all_space.Given as goal
 
 abbrev pub invariant-loop : goal.invariant-loop

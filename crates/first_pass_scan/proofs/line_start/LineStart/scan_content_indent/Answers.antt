@@ -1,5 +1,5 @@
 use Rattle.std.proofs.Common.{refl}
-use Rattle.first_pass_scan.specs.Rest.{Rest}
+use Rattle.first_pass_lines.specs.Rest.{Rest}
 use Rattle.first_pass_scan.proofs.MarkerFacts.{content_indent-few}
 use Rattle.first_pass_scan.proofs.PlainFacts.{plain_content}
 use Rattle.first_pass_scan.proofs.line_start.LineStart.scan_content_indent.Goals as goal

@@ -1,6 +1,6 @@
 use Rattle.std.proofs.Common.{sym, ◌∙◌, arith}
-use Rattle.first_pass_scan.specs.Rest.{next_column}
-use Rattle.first_pass_scan.proofs.Columns.{taken-yes, after-more, indent-some}
+use Rattle.first_pass_lines.specs.Rest.{next_column}
+use Rattle.first_pass_lines.proofs.Columns.{taken-yes, after-more, indent-some}
 use Rattle.first_pass_scan.proofs.line_start.LineStart.take_columns.Goals as goal
 
 pub loop-taken-preserved : goal.loop-taken-preserved

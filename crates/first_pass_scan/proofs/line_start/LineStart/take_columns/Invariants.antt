@@ -1,5 +1,5 @@
 use Rattle.std.proofs.Common.{◌≡◌, ◌≤◌, ◌+◌, ◌-◌}
-use Rattle.first_pass_scan.specs.Rest.{after_columns, indent}
+use Rattle.first_pass_lines.specs.Rest.{after_columns, indent}
 use Rattle.first_pass_scan.proofs.line_start.LineStart.take_columns.Given as goal
 
 abbrev pub invariant-loop-taken : goal.invariant-loop-taken

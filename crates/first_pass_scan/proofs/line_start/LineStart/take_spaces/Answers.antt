@@ -1,6 +1,6 @@
 use Rattle.std.proofs.Common.{◌≡◌, sym, ap, ◌∙◌, arith}
-use Rattle.first_pass_scan.specs.Rest.{Rest}
-use Rattle.first_pass_scan.proofs.SpaceFacts.{is_32, spaces_by}
+use Rattle.first_pass_lines.specs.Rest.{Rest}
+use Rattle.first_pass_lines.proofs.SpaceFacts.{is_32, spaces_by}
 use Rattle.first_pass_scan.proofs.line_start.LineStart.take_spaces.Goals as goal
 
 pub returns-clause-yes : goal.returns-clause-yes

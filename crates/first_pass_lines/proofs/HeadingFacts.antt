@@ -1,0 +1,46 @@
+-- Facts on the opening of an ATX heading.
+use Rattle.std.proofs.Common.{◌≡◌, ℕ, ◌<◌, ◌≤◌, Bool, true, false, List, length, drop, Some, None, refl, ap, ◌∙◌, arith, if◌then◌else◌}
+use Rattle.std.specs.List.{prefix_len}
+use Rattle.std.proofs.lemmas.Bool.Decides.{nat_tests}
+use Rattle.std.proofs.lemmas.List.Sums.{prefix_len-le-length}
+use Rattle.first_pass_items.specs.declared.item.HeadingLevel.{HeadingLevel}
+use Rattle.first_pass_items.specs.declared.item.HeadingLevel.TheVariants.{H1, H2, H3, H4, H5, H6}
+use Rattle.first_pass_lines.specs.Lines.{is_number_sign, level_number, level_of, ends_signs, atx_level}
+
+pub level_of-number : (n : ℕ) (level : HeadingLevel) → level_of n ≡ Some level → level_number level ≡ n
+level_of-number n H1 h = grind (arith, nat_tests, h)
+level_of-number n H2 h = grind (arith, nat_tests, h)
+level_of-number n H3 h = grind (arith, nat_tests, h)
+level_of-number n H4 h = grind (arith, nat_tests, h)
+level_of-number n H5 h = grind (arith, nat_tests, h)
+level_of-number n H6 h = grind (arith, nat_tests, h)
+
+pub number-level_of : (level : HeadingLevel) → level_of (level_number level) ≡ Some level
+number-level_of H1 = refl
+number-level_of H2 = refl
+number-level_of H3 = refl
+number-level_of H4 = refl
+number-level_of H5 = refl
+number-level_of H6 = refl
+
+pub level-some : (level : HeadingLevel) → (0 < level_number level) × (level_number level ≤ 6)
+level-some H1 = (omega arith, omega arith)
+level-some H2 = (omega arith, omega arith)
+level-some H3 = (omega arith, omega arith)
+level-some H4 = (omega arith, omega arith)
+level-some H5 = (omega arith, omega arith)
+level-some H6 = (omega arith, omega arith)
+
+heading_by : (t : Bool) (n : ℕ) (level : HeadingLevel) → (if t then level_of n else None) ≡ Some level → (level_of n ≡ Some level) × (t ≡ true)
+heading_by true n level e = (e, refl)
+heading_by false n level e = cc
+
+-- the signs of a heading, and what follows them
+pub atx_level-signs : (bs : List ℕ) (level : HeadingLevel) → atx_level bs ≡ Some level → (level_number level ≡ prefix_len is_number_sign bs) × (level_number level ≤ length bs) × (ends_signs (drop (level_number level) bs) ≡ true)
+unfolding atx_level
+atx_level-signs bs level h =
+    let n : ℕ = prefix_len is_number_sign bs in
+    let parts = heading_by (ends_signs (drop n bs)) n level h in
+    let same = level_of-number n level parts.0 in
+    let fits = prefix_len-le-length is_number_sign bs in
+    (same, omega arith, ap (λ k. ends_signs (drop k bs)) same ∙ parts.1)

@@ -1,0 +1,6 @@
+pub mod Columns
+pub mod HeadingFacts
+pub mod LaneLemmas
+pub mod LineFacts
+pub mod PlaceFacts
+pub mod SpaceFacts

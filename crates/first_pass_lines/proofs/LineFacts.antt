@@ -1,0 +1,308 @@
+-- Facts on lines.
+use Rattle.std.proofs.Common.{◌≡◌, ℕ, zero, suc, ◌+◌, ◌<◌, ◌≤◌, Bool, true, false, cond, not, ◌==◌, List, [], ◌∷◌, ◌++◌, length, take, drop, map, Some, None, Option, unwrap_or, refl, sym, ap, ◌∙◌, arith, add-one, length-drop, inl, inr, if◌then◌else◌}
+use Rattle.std.specs.Option.{option_map}
+use Rattle.std.specs.List.{prefix_len, concat, list_all, All}
+use Rattle.std.proofs.lemmas.List.{take-append-drop, drop-drop, length-take-le, append_cancel_left, at_drop_all}
+use Rattle.std.proofs.Math.Seq.{take-append_seam}
+use Rattle.std.proofs.lemmas.Grind.{common_steps}
+use Rattle.std.proofs.lemmas.Bool.{eqb-true}
+use Rattle.std.proofs.lemmas.List.Elements.{All-nil, All-cons}
+use Rattle.std.proofs.lemmas.Bool.Decides.{nat_tests}
+use Rattle.first_pass_lines.specs.Lines.{begins, ends_line, is_white, is_content, eol_len, blank_len, line_len, IsLineEnd, IsLine}
+use Rattle.first_pass_lines.specs.Places.{Place, line_place, IsLinePlace, lines_behind, lines_at, line_of, IsDivision}
+
+-- the length of a line from its first byte on
+pub line_len-none : line_len [] ≡ 0
+unfolding line_len
+line_len-none = refl
+
+end_first : (b : ℕ) (bs : List ℕ) → is_content b ≡ false → line_len (b ∷ bs) ≡ unwrap_or (eol_len (b ∷ bs)) 0
+unfolding line_len
+end_first b bs h =
+    let n : prefix_len is_content (b ∷ bs) ≡ 0 = rw h in
+    rw n (omega arith)
+
+pub line_len-content_first : (b : ℕ) (bs : List ℕ) → is_content b ≡ true → line_len (b ∷ bs) ≡ line_len bs + 1
+unfolding line_len
+line_len-content_first b bs h =
+    let k : ℕ = prefix_len is_content bs in
+    let n : prefix_len is_content (b ∷ bs) ≡ k + 1 = rw h (omega arith) in
+    let d : drop (k + 1) (b ∷ bs) ≡ drop k bs = rw add-one in
+    rw n (rw d (omega arith))
+
+line_len-newline : (b : ℕ) (bs : List ℕ) → (b == 10) ≡ true → line_len (b ∷ bs) ≡ 1
+line_len-newline b bs h = end_first b bs (rw h) ∙ rw h
+
+line_len-begins : (bs : List ℕ) → begins 10 bs ≡ true → line_len bs ≡ 1
+line_len-begins [] h = cc
+line_len-begins (c ∷ cs) h = line_len-newline c cs h
+
+line_len-return : (t : Bool) (bs : List ℕ) → begins 10 bs ≡ t → (if begins 10 bs then 2 else 1) ≡ cond (not (begins 10 bs)) 1 (line_len bs + 1)
+line_len-return true bs h = rw h (omega (arith, line_len-begins bs h))
+line_len-return false bs h = rw h
+
+step_by : (t u : Bool) (b : ℕ) (bs : List ℕ) → (b == 10) ≡ t → (b == 13) ≡ u → line_len (b ∷ bs) ≡ cond (ends_line b bs) 1 (line_len bs + 1)
+step_by true u b bs h h' = line_len-newline b bs h ∙ rw h
+step_by false true b bs h h' = end_first b bs (rw (h, h')) ∙ rw (h, h') (line_len-return (begins 10 bs) bs refl)
+step_by false false b bs h h' = line_len-content_first b bs (rw (h, h')) ∙ rw (h, h')
+
+pub line_len-step : (b : ℕ) (bs : List ℕ) → line_len (b ∷ bs) ≡ cond (ends_line b bs) 1 (line_len bs + 1)
+line_len-step b bs = step_by (b == 10) (b == 13) b bs refl refl
+
+pub line_len-some : (bs : List ℕ) → 0 < length bs → 0 < line_len bs
+line_len-some [] h = absurd (omega arith)
+line_len-some (b ∷ bs) h = rw (line_len-step b bs) (elim (ends_line b bs) as (λ t. 0 < cond t 1 (line_len bs + 1)) [ true ↦ omega arith | false ↦ omega arith ])
+
+pub line_len-fits : (bs : List ℕ) → line_len bs ≤ length bs
+line_len-fits [] = omega (arith, line_len-none)
+line_len-fits (b ∷ bs) =
+    let r = line_len-fits bs in
+    rw (line_len-step b bs) (elim (ends_line b bs) as (λ t. cond t 1 (line_len bs + 1) ≤ suc (length bs)) [ true ↦ omega arith | false ↦ omega arith ])
+
+-- the first line, and the lines from its end on
+pub lines_at-none : (s : ℕ) → lines_at s [] ≡ []
+unfolding lines_at lines_behind
+lines_at-none s = refl
+
+shift : (s k b : ℕ) (bs : List ℕ) → lines_at ((s + 1) + k) (drop k bs) ≡ lines_at (s + (k + 1)) (drop (k + 1) (b ∷ bs))
+shift s k b bs =
+    let e : (s + 1) + k ≡ s + (k + 1) = omega arith in
+    let d : drop (k + 1) (b ∷ bs) ≡ drop k bs = rw add-one in
+    cc
+
+behind_first : (b s n : ℕ) (bs : List ℕ) → n ≡ line_len (b ∷ bs) → lines_behind b (s + 1) bs ≡ lines_at (s + n) (drop n (b ∷ bs))
+unfolding lines_at lines_behind
+behind_first b s n [] h =
+    let e : n ≡ 1 = h ∙ line_len-step b [] ∙ elim (ends_line b []) as (λ t. cond t 1 (line_len [] + 1) ≡ 1) [ true ↦ refl | false ↦ omega (arith, line_len-none) ] in
+    rw e
+behind_first b s n (c ∷ cs) h =
+    (elim (ends_line b (c ∷ cs)) as (λ t. n ≡ cond t 1 (line_len (c ∷ cs) + 1) → (let further = lines_behind c ((s + 1) + 1) cs in cond t (line_place (s + 1) (c ∷ cs) ∷ further) further) ≡ lines_at (s + n) (drop n (b ∷ c ∷ cs))) [
+      | true ↦ λ e. rw e
+      | false ↦ λ e. behind_first c (s + 1) (line_len (c ∷ cs)) cs refl ∙ shift s (line_len (c ∷ cs)) b (c ∷ cs) ∙ ap (λ k. lines_at (s + k) (drop k (b ∷ c ∷ cs))) (sym e)
+    ]) (h ∙ line_len-step b (c ∷ cs))
+
+pub lines_at-first : (s b : ℕ) (bs : List ℕ) → let n : ℕ = line_len (b ∷ bs) in lines_at s (b ∷ bs) ≡ line_place s (b ∷ bs) ∷ lines_at (s + n) (drop n (b ∷ bs))
+unfolding lines_at lines_behind
+lines_at-first s b bs = ap (λ lines. line_place s (b ∷ bs) ∷ lines) (behind_first b s (line_len (b ∷ bs)) bs refl)
+
+lines_at-some : (s : ℕ) (bs : List ℕ) → 0 < length bs → let n : ℕ = line_len bs in lines_at s bs ≡ line_place s bs ∷ lines_at (s + n) (drop n bs)
+lines_at-some s [] h = absurd (omega arith)
+lines_at-some s (b ∷ bs) h = lines_at-first s b bs
+
+pub lines_at-line : (text : List ℕ) (s : ℕ) → s < length text → let n : ℕ = line_len (drop s text) in lines_at s (drop s text) ≡ line_place s (drop s text) ∷ lines_at (s + n) (drop (s + n) text)
+lines_at-line text s h =
+    let l = length-drop s text in
+    let n : ℕ = line_len (drop s text) in
+    lines_at-some s (drop s text) (omega arith) ∙ ap (λ bs. line_place s (drop s text) ∷ lines_at (s + n) bs) (drop-drop n s text)
+
+pub lines_at-end : (text : List ℕ) (s : ℕ) → length text ≤ s → lines_at s (drop s text) ≡ []
+lines_at-end text s h = at_drop_all (lines_at s) text s h ∙ lines_at-none s
+
+pub line_len-within : (text : List ℕ) (s : ℕ) → s < length text → let n : ℕ = line_len (drop s text) in (0 < n) × (s + n ≤ length text)
+line_len-within text s h =
+    let l = length-drop s text in
+    let some : 0 < line_len (drop s text) = line_len-some (drop s text) (omega arith) in
+    let fits = line_len-fits (drop s text) in
+    (some, omega arith)
+
+-- a line has the length of the first line of what begins with it
+line_len-end : (bs behind : List ℕ) → IsLineEnd bs behind → line_len (bs ++ behind) ≡ length bs
+line_len-end bs behind (inl h) = rw h (line_len-step 10 behind)
+line_len-end bs behind (inr (inl h)) = rw h (line_len-step 13 (10 ∷ behind) ∙ ap (λ k. k + 1) (line_len-step 10 behind))
+line_len-end bs behind (inr (inr (inl h))) = rw h.0 (line_len-step 13 behind ∙ rw h.1)
+line_len-end bs behind (inr (inr (inr h))) = rw (h.0, h.1) line_len-none
+
+line_len-content : (content rest : List ℕ) → list_all is_content content ≡ true → line_len (content ++ rest) ≡ length content + line_len rest
+line_len-content [] rest h = omega arith
+line_len-content (b ∷ bs) rest h =
+    let r = line_len-content bs rest (grind (arith, h)) in
+    let e = line_len-content_first b (bs ++ rest) (grind (arith, h)) in
+    omega arith
+
+line_len-line : (line behind : List ℕ) → IsLine line behind → line_len (line ++ behind) ≡ length line
+line_len-line line behind i =
+    let e = line_len-content i.content (i.ending ++ behind) i.plain in
+    let f = line_len-end i.ending behind i.ends in
+    rw i.parts (grind (arith, common_steps, e, f))
+
+-- the first line is a line before what is behind it
+record Front (bs : List ℕ) (n : ℕ) : Type 0 where
+  content : List ℕ
+  ending : List ℕ
+  parts : take n bs ≡ content ++ ending
+  plain : list_all is_content content ≡ true
+  ends : IsLineEnd ending (drop n bs)
+
+front_newline : (b : ℕ) (bs : List ℕ) → b ≡ 10 → Front (b ∷ bs) 1
+front_newline b bs h = record { content = []; ending = b ∷ []; parts = refl; plain = refl; ends = inl (rw h) }
+
+front_return : (b : ℕ) (bs : List ℕ) → b ≡ 13 → begins 10 bs ≡ false → Front (b ∷ bs) 1
+front_return b bs h h' = record { content = []; ending = b ∷ []; parts = refl; plain = refl; ends = inr (inr (inl (rw h, h'))) }
+
+front_both : (b : ℕ) (bs : List ℕ) → b ≡ 13 → begins 10 bs ≡ true → Front (b ∷ bs) 2
+front_both b [] h h' = cc
+front_both b (c ∷ cs) h h' =
+    let e : c ≡ 10 = grind (arith, nat_tests, h') in
+    record { content = []; ending = b ∷ c ∷ []; parts = refl; plain = refl; ends = inr (inl (rw (h, e))) }
+
+front_content : (b : ℕ) (bs : List ℕ) (n : ℕ) → is_content b ≡ true → Front bs n → Front (b ∷ bs) (n + 1)
+front_content b bs n h f =
+    let t : take (n + 1) (b ∷ bs) ≡ b ∷ take n bs = rw add-one in
+    let d : drop (n + 1) (b ∷ bs) ≡ drop n bs = rw add-one in
+    record { content = b ∷ f.content; ending = f.ending; parts = t ∙ ap (λ xs. b ∷ xs) f.parts; plain = rw h f.plain; ends = rw d f.ends }
+
+front_by : (t u v : Bool) (b : ℕ) (bs : List ℕ) → (b == 10) ≡ t → (b == 13) ≡ u → begins 10 bs ≡ v → Front bs (line_len bs) → Front (b ∷ bs) (cond (ends_line b bs) 1 (line_len bs + 1))
+front_by true u v b bs h h' h'' f = rw h (front_newline b bs (eqb-true b 10 h))
+front_by false true false b bs h h' h'' f = rw (h, h', h'') (front_return b bs (eqb-true b 13 h') h'')
+front_by false true true b bs h h' h'' f =
+    let two : line_len bs + 1 ≡ 2 = omega (arith, line_len-begins bs h'') in
+    rw (h, h', h'') (rw two (front_both b bs (eqb-true b 13 h') h''))
+front_by false false v b bs h h' h'' f = rw (h, h') (front_content b bs (line_len bs) (rw (h, h')) f)
+
+front_of : (bs : List ℕ) → Front bs (line_len bs)
+front_of [] = rw line_len-none (record { content = []; ending = []; parts = refl; plain = refl; ends = inr (inr (inr (refl, refl))) })
+front_of (b ∷ bs) = rw (line_len-step b bs) (front_by (b == 10) (b == 13) (begins 10 bs) b bs refl refl refl (front_of bs))
+
+first_is_line : (bs behind : List ℕ) → 0 < length bs → behind ≡ drop (line_len bs) bs → IsLine (take (line_len bs) bs) behind
+first_is_line bs behind h e =
+    let f = front_of bs in
+    let l : length (take (line_len bs) bs) ≡ line_len bs = length-take-le (line_len bs) bs (line_len-fits bs) in
+    let n = line_len-some bs h in
+    record {
+      content = f.content;
+      ending = f.ending;
+      parts = f.parts;
+      plain = f.plain;
+      ends = rw e f.ends;
+      some = λ none. let z = ap length none in absurd (omega arith);
+    }
+
+-- the lines divide the text
+divide_by : (most s : ℕ) (bs : List ℕ) → length bs ≤ most → IsDivision bs (map line_of (lines_at s bs))
+divide_by most s [] h = rw (lines_at-none s) (record { whole = refl; lines = tt })
+divide_by zero s (b ∷ bs) h = absurd (omega arith)
+divide_by (suc most) s (b ∷ bs) h =
+    let n : ℕ = line_len (b ∷ bs) in
+    let some : 0 < n = line_len-some (b ∷ bs) (omega arith) in
+    let l = length-drop n (b ∷ bs) in
+    let d = divide_by most (s + n) (drop n (b ∷ bs)) (omega arith) in
+    rw (lines_at-first s b bs) (record {
+      whole = ap (λ xs. take n (b ∷ bs) ++ xs) d.whole ∙ take-append-drop n (b ∷ bs);
+      lines = (first_is_line (b ∷ bs) _ (omega arith) d.whole, d.lines);
+    })
+
+pub lines_divide : (s : ℕ) (bs : List ℕ) → IsDivision bs (map line_of (lines_at s bs))
+lines_divide s bs = divide_by (length bs) s bs (omega arith)
+
+-- and no other pieces do
+front-empty : (xs ys : List ℕ) → xs ++ ys ≡ [] → xs ≡ []
+front-empty [] ys h = refl
+front-empty (x ∷ xs) ys h = cc
+
+pub one_division : (text : List ℕ) (ps qs : List (List ℕ)) → IsDivision text ps → IsDivision text qs → ps ≡ qs
+one_division text [] [] c d = refl
+one_division text [] (q ∷ qs) c d = absurd (d.lines.0.some (front-empty q (concat qs) (d.whole ∙ sym c.whole)))
+one_division text (p ∷ ps) [] c d = absurd (c.lines.0.some (front-empty p (concat ps) (c.whole ∙ sym d.whole)))
+one_division text (p ∷ ps) (q ∷ qs) c d =
+    let same : p ++ concat ps ≡ q ++ concat qs = c.whole ∙ sym d.whole in
+    let n : length p ≡ length q = sym (line_len-line p (concat ps) c.lines.0) ∙ ap line_len same ∙ line_len-line q (concat qs) d.lines.0 in
+    let t : p ≡ q = sym (take-append_seam p (concat ps)) ∙ ap (λ xs. take (length p) xs) same ∙ ap (λ k. take k (q ++ concat qs)) n ∙ take-append_seam q (concat qs) in
+    let r : concat ps ≡ concat qs = append_cancel_left q (concat ps) (concat qs) (ap (λ xs. xs ++ concat ps) (sym t) ∙ same) in
+    let rest : ps ≡ qs = one_division (concat ps) ps qs (record { whole = refl; lines = c.lines.1 }) (record { whole = sym r; lines = d.lines.1 }) in
+    cc
+
+-- each place is a place of the text
+places_by : (text : List ℕ) (b s : ℕ) (bs : List ℕ) → drop s text ≡ bs → All (IsLinePlace text) (lines_behind b s bs)
+unfolding lines_behind
+places_by text b s [] h = All-nil _
+places_by text b s (c ∷ cs) h =
+    let next : drop (s + 1) text ≡ cs = sym (drop-drop 1 s text) ∙ ap (drop 1) h in
+    let further = places_by text c (s + 1) cs next in
+    let here : IsLinePlace text (line_place s (c ∷ cs)) = ap (line_place s) (sym h) in
+    elim (ends_line b (c ∷ cs)) as (λ t. let further : List Place = lines_behind c (s + 1) cs in All (IsLinePlace text) (cond t (line_place s (c ∷ cs) ∷ further) further)) [
+      | true ↦ All-cons (IsLinePlace text) _ _ here further
+      | false ↦ further
+    ]
+
+pub lines_at-places : (text : List ℕ) → All (IsLinePlace text) (lines_at 0 text)
+unfolding lines_at
+lines_at-places [] = All-nil (IsLinePlace [])
+lines_at-places (b ∷ bs) = All-cons (IsLinePlace (b ∷ bs)) (line_place 0 (b ∷ bs)) _ refl (places_by (b ∷ bs) b 1 bs refl)
+
+-- at a place inside a line, what is left of the line ends where the line ends
+pub line_len-inside : (bs : List ℕ) (k : ℕ) → k < line_len bs → k + line_len (drop k bs) ≡ line_len bs
+line_len-inside [] k h = absurd (omega (arith, line_len-none))
+line_len-inside (b ∷ bs) zero h = omega arith
+line_len-inside (b ∷ bs) (suc k) h =
+    (elim (ends_line b bs) as (λ t. line_len (b ∷ bs) ≡ cond t 1 (line_len bs + 1) → suc k + line_len (drop k bs) ≡ line_len (b ∷ bs)) [
+      | true ↦ λ e. absurd (omega arith)
+      | false ↦ λ e. let r = line_len-inside bs k (omega arith) in omega arith
+    ]) (line_len-step b bs)
+
+-- where a line ends at once, where its content ends, and a blank line
+pub line_len-content_end : (bs : List ℕ) → let n : ℕ = prefix_len is_content bs in line_len bs ≡ n + unwrap_or (eol_len (drop n bs)) 0
+unfolding line_len
+line_len-content_end bs = refl
+
+eol_by : (t u : Bool) (b : ℕ) (bs : List ℕ) (n : ℕ) → (b == 10) ≡ t → (b == 13) ≡ u → eol_len (b ∷ bs) ≡ Some n → line_len (b ∷ bs) ≡ n
+eol_by true u b bs n h h' e = end_first b bs (rw h) ∙ ap (λ o. unwrap_or o 0) e
+eol_by false true b bs n h h' e = end_first b bs (rw (h, h')) ∙ ap (λ o. unwrap_or o 0) e
+eol_by false false b bs n h h' e = absurd (grind (arith, h, h', e))
+
+pub line_len-eol : (bs : List ℕ) (n : ℕ) → eol_len bs ≡ Some n → line_len bs ≡ n
+line_len-eol [] n h = let e : 0 ≡ n = cc in line_len-none ∙ e
+line_len-eol (b ∷ bs) n h = eol_by (b == 10) (b == 13) b bs n refl refl h
+
+one_less : (w n : ℕ) (o : Option ℕ) → option_map (λ k. (w + 1) + k) o ≡ Some n → (m : ℕ) × (option_map (λ k. w + k) o ≡ Some m) × (n ≡ m + 1)
+one_less w n None h = cc
+one_less w n (Some k) h = let e : (w + 1) + k ≡ n = cc in (w + k, refl, omega arith)
+
+no_white : (o : Option ℕ) (n : ℕ) → option_map (λ k. 0 + k) o ≡ Some n → o ≡ Some n
+no_white None n h = cc
+no_white (Some k) n h = let e : 0 + k ≡ n = cc in ap Some (omega arith)
+
+blank_by : (t : Bool) (b : ℕ) (bs : List ℕ) (n : ℕ) → is_white b ≡ t → ((m : ℕ) → blank_len bs ≡ Some m → line_len bs ≡ m) → blank_len (b ∷ bs) ≡ Some n → line_len (b ∷ bs) ≡ n
+blank_by true b bs n h f e =
+    let w : ℕ = prefix_len is_white bs in
+    let p : prefix_len is_white (b ∷ bs) ≡ w + 1 = rw h (omega arith) in
+    let d : drop (w + 1) (b ∷ bs) ≡ drop w bs = rw add-one in
+    let g : blank_len (b ∷ bs) ≡ option_map (λ k. (w + 1) + k) (eol_len (drop w bs)) = rw p (rw d refl) in
+    let m = one_less w n (eol_len (drop w bs)) (sym g ∙ e) in
+    let c = line_len-content_first b bs (grind (arith, nat_tests, h)) in
+    c ∙ ap (λ k. k + 1) (f m.0 m.1) ∙ sym m.2
+blank_by false b bs n h f e =
+    let p : prefix_len is_white (b ∷ bs) ≡ 0 = rw h in
+    let g : blank_len (b ∷ bs) ≡ option_map (λ k. 0 + k) (eol_len (b ∷ bs)) = rw p in
+    line_len-eol (b ∷ bs) n (no_white (eol_len (b ∷ bs)) n (sym g ∙ e))
+
+pub line_len-blank : (bs : List ℕ) (n : ℕ) → blank_len bs ≡ Some n → line_len bs ≡ n
+line_len-blank [] n h = let e : 0 ≡ n = cc in line_len-none ∙ e
+line_len-blank (b ∷ bs) n h = blank_by (is_white b) b bs n refl (line_len-blank bs) h
+
+some_end : (t u : Bool) (b : ℕ) (bs : List ℕ) → (b == 10) ≡ t → (b == 13) ≡ u → is_content b ≡ false → (k : ℕ) × (eol_len (b ∷ bs) ≡ Some k)
+some_end true u b bs h h' e = (1, rw h)
+some_end false true b bs h h' e = (if begins 10 bs then 2 else 1, rw (h, h'))
+some_end false false b bs h h' e = absurd (grind (arith, h, h', e))
+
+ends_at : (bs : List ℕ) (k : ℕ) → eol_len bs ≡ Some k → eol_len bs ≡ Some (line_len bs)
+ends_at bs k h = h ∙ ap Some (sym (line_len-eol bs k h))
+
+content_by : (t : Bool) (b : ℕ) (bs : List ℕ) → is_content b ≡ t → (let rest : List ℕ = drop (prefix_len is_content bs) bs in eol_len rest ≡ Some (line_len rest)) → let rest : List ℕ = drop (prefix_len is_content (b ∷ bs)) (b ∷ bs) in eol_len rest ≡ Some (line_len rest)
+content_by true b bs h f =
+    let k : ℕ = prefix_len is_content bs in
+    let n : prefix_len is_content (b ∷ bs) ≡ k + 1 = rw h (omega arith) in
+    let d : drop (k + 1) (b ∷ bs) ≡ drop k bs = rw add-one in
+    rw n (rw d f)
+content_by false b bs h f =
+    let n : prefix_len is_content (b ∷ bs) ≡ 0 = rw h in
+    let k = some_end (b == 10) (b == 13) b bs refl refl h in
+    rw n (ends_at (b ∷ bs) k.0 k.1)
+
+pub content_ends : (bs : List ℕ) → let rest : List ℕ = drop (prefix_len is_content bs) bs in eol_len rest ≡ Some (line_len rest)
+content_ends [] = ap Some (sym line_len-none)
+content_ends (b ∷ bs) = content_by (is_content b) b bs refl (content_ends bs)
+
+pub line_len-parts : (bs : List ℕ) → let n : ℕ = prefix_len is_content bs in line_len bs ≡ n + line_len (drop n bs)
+line_len-parts bs =
+    let n : ℕ = prefix_len is_content bs in
+    line_len-content_end bs ∙ ap (λ o. n + unwrap_or o 0) (content_ends bs)

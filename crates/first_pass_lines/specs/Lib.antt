@@ -1,0 +1,5 @@
+pub mod Lines
+pub mod Rest
+pub mod Places
+pub mod Plain
+pub mod Lanes

@@ -1,0 +1,195 @@
+//! Classes of bytes, line ends, blank lines, and where an ATX heading begins.
+
+ghost use Rattle.std.specs.List.{prefix_len};
+ghost use Rattle.std.specs.Prelude.{◌≡◌, ◌<◌, ◌≤◌, length, true, IfSome};
+ghost use Rattle.first_pass_lines.specs.Lines.{is_line_end, is_white, is_blank, is_ascii_white, begins, is_content, is_number_sign, eol_len, blank_len, line_len, level_number as number_of, level_of, atx_level};
+ghost use Rattle.first_pass_lines.specs.Plain.{begins_plain, begins_inert};
+
+use first_pass_items::item::HeadingLevel;
+use memchr::memchr2;
+
+/// Whether the byte is `\n` or `\r`. CommonMark 2.1.
+pub fn is_line_end(byte: u8) -> bool
+    ensures { result ≡ is_line_end byte }
+{
+    byte == b'\n' || byte == b'\r'
+}
+
+/// Whether the byte is white space without line ends: tab, 0x0B, 0x0C or space.
+pub fn is_white(byte: u8) -> bool
+    ensures { result ≡ is_white byte }
+{
+    matches!(byte, b'\t' | 0x0b | 0x0c | b' ')
+}
+
+/// Whether the byte is a space or a tab. CommonMark 2.1.
+pub fn is_blank(byte: u8) -> bool
+    ensures { result ≡ is_blank byte }
+{
+    byte == b'\t' || byte == b' '
+}
+
+/// Whether the byte is ASCII white space: tab, 0x0B, 0x0C, space or a line end.
+pub fn is_ascii_white(byte: u8) -> bool
+    ensures { result ≡ is_ascii_white byte }
+{
+    is_white(byte) || is_line_end(byte)
+}
+
+/// Whether `byte` stands first in `bytes`.
+pub fn begins(byte: u8, bytes: &[u8]) -> bool
+    ensures value { result ≡ begins byte bytes.now }
+    ensures some { result ≡ true → 0 < length bytes.now }
+{
+    match bytes {
+        [] => false,
+        [first, ..] => *first == byte,
+    }
+}
+
+/// Whether a letter or a byte of a character past ASCII stands first: with such a byte no block begins but
+/// a paragraph.
+#[inline(always)]
+#[tactic(auto, unfolding(crate::specs::Plain::is_plain))]
+pub fn is_plain_front(bytes: &[u8]) -> bool
+    ensures { result ≡ begins_plain bytes.now }
+{
+    match bytes {
+        [] => false,
+        [byte, ..] => byte.is_ascii_alphabetic() || *byte >= 128,
+    }
+}
+
+/// Whether a byte stands first that is no space or tab, and with which no container begins.
+#[inline(always)]
+#[tactic(auto, unfolding(crate::specs::Plain::is_inert))]
+pub fn is_inert_front(bytes: &[u8]) -> bool
+    ensures { result ≡ begins_inert bytes.now }
+{
+    match bytes {
+        [] => false,
+        [byte, ..] => !matches!(
+            *byte,
+            b'\t' | b' ' | b'*' | b'+' | b'-' | b'>' | b'0'..=b'9'
+        ),
+    }
+}
+
+/// How many bytes the line end at the start of `bytes` has: `\n`, `\r\n` or `\r`, and 0 where `bytes`
+/// is empty. `None` where no line ends here. CommonMark 2.1.
+pub fn scan_eol(bytes: &[u8]) -> Option<usize>
+    ensures value { result ≡ eol_len bytes.now }
+    ensures within { IfSome result (λ n. n ≤ length bytes.now) }
+{
+    match bytes {
+        [] => Some(0),
+        [b'\n', ..] => Some(1),
+        [b'\r', b'\n', ..] => Some(2),
+        [b'\r', ..] => Some(1),
+        _ => None,
+    }
+}
+
+/// How many spaces and tabs `bytes` begins with. CommonMark 2.1.
+pub fn scan_blanks(bytes: &[u8]) -> usize
+    ensures value { result ≡ prefix_len is_blank bytes.now }
+    ensures within { result ≤ length bytes.now }
+{
+    bytes.iter().take_while(|b| is_blank(**b)).count()
+}
+
+/// How many bytes of white space without line ends (tab, 0x0B, 0x0C and space) `bytes` begins with.
+/// CommonMark 2.1.
+pub fn scan_whitespace_no_nl(bytes: &[u8]) -> usize
+    ensures value { result ≡ prefix_len is_white bytes.now }
+    ensures within { result ≤ length bytes.now }
+{
+    bytes.iter().take_while(|b| is_white(**b)).count()
+}
+
+/// How many bytes the blank line at the start of `bytes` has, its end too; at the end of the text it
+/// needs no line end. `None` where something else than white space stands before the line end.
+/// CommonMark 2.1.
+pub fn scan_blank_line(bytes: &[u8]) -> Option<usize>
+    ensures value { result ≡ blank_len bytes.now }
+    ensures within { IfSome result (λ n. n ≤ length bytes.now) }
+{
+    let white = scan_whitespace_no_nl(bytes);
+    match scan_eol(&bytes[white..]) {
+        Some(end) => Some(white + end),
+        None => None,
+    }
+}
+
+/// How many bytes stand before the first line end. CommonMark 2.1.
+pub fn content_len(bytes: &[u8]) -> usize
+    ensures value { result ≡ prefix_len is_content bytes.now }
+    ensures within { result ≤ length bytes.now }
+{
+    match memchr2(b'\n', b'\r', bytes) {
+        None => bytes.len(),
+        Some(at) => at,
+    }
+}
+
+/// How many bytes the line at the start of `bytes` has, its end too: up to the first line end, else
+/// all. CommonMark 2.1.
+#[tactic(auto, unfolding(crate::specs::Lines::line_len))]
+pub fn scan_nextline(bytes: &[u8]) -> usize
+    ensures value { result ≡ line_len bytes.now }
+    ensures within { result ≤ length bytes.now }
+{
+    if let [b'\n', ..] = bytes {
+        return 1;
+    }
+    let content = content_len(bytes);
+    match scan_eol(&bytes[content..]) {
+        Some(end) => content + end,
+        None => content,
+    }
+}
+
+// How many number signs stand first.
+fn scan_number_signs(bytes: &[u8]) -> usize
+    ensures value { result ≡ prefix_len is_number_sign bytes.now }
+    ensures within { result ≤ length bytes.now }
+{
+    bytes.iter().take_while(|b| **b == b'#').count()
+}
+
+// The heading level of so many number signs.
+fn heading_level(signs: usize) -> Option<HeadingLevel>
+    ensures { result ≡ level_of signs }
+{
+    match signs {
+        1 => Some(HeadingLevel::H1),
+        2 => Some(HeadingLevel::H2),
+        3 => Some(HeadingLevel::H3),
+        4 => Some(HeadingLevel::H4),
+        5 => Some(HeadingLevel::H5),
+        6 => Some(HeadingLevel::H6),
+        _ => None,
+    }
+}
+
+/// The level of the ATX heading that `bytes` begins with: 1 to 6 number signs, then a space, a tab, the
+/// end of the line or of the text. Else `None`. CommonMark 4.2.
+#[tactic(auto, unfolding(crate::specs::Lines::atx_level))]
+pub fn scan_atx_heading(bytes: &[u8]) -> Option<HeadingLevel>
+    ensures value { result ≡ atx_level bytes.now }
+    ensures signs { IfSome result (λ level. number_of level ≡ prefix_len is_number_sign bytes.now) }
+    ensures within { IfSome result (λ level. number_of level ≤ length bytes.now) }
+{
+    let signs = scan_number_signs(bytes);
+    match &bytes[signs..] {
+        [] | [b' ' | b'\t' | b'\n' | b'\r', ..] => heading_level(signs),
+        _ => None,
+    }
+}
+
+/// How many number signs open a heading of the level: 1 to 6. CommonMark 4.2.
+pub fn level_number(level: HeadingLevel) -> usize
+    ensures value { result ≡ number_of level }
+{
+    level as usize
+}

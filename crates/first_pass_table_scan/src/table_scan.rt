@@ -1,0 +1,195 @@
+//! The delimiter row of a table, and how many columns its header row has (GFM 4.10).
+
+ghost use Rattle.std.specs.List.{prefix_len, suffix_len, position_or_len};
+ghost use Rattle.std.specs.Prelude.{◌≡◌, ◌≤◌, ◌<◌, ◌+◌, ◌-◌, ◌==◌, true, slice_index, length, take, drop, IfOk, if◌then◌else◌};
+ghost use Rattle.std.specs.Option.{option_map};
+ghost use Rattle.first_pass_lines.specs.Lines.{begins, is_blank, is_white};
+ghost use Rattle.first_pass_table_scan.specs.TableHead.{is_pipe, ends as ends_with, stripped as stripped_bytes, without_first as past_first, without_last as before_last, is_hyphens as hyphens_alone, alignment_by, delimiter_cell, delimiter_cells, delimiter_row, table_head, pipes_of, header_columns};
+
+use first_pass_items::item::Alignment;
+use first_pass_lines::lines::{
+    begins, content_len, is_blank, scan_blank_line, scan_blanks, scan_nextline,
+    scan_whitespace_no_nl,
+};
+use first_pass_lines::places::rest_of;
+use first_pass_scan::leaf_scan::scan_run;
+use first_pass_scan::line_start::LineStart;
+use memchr::memchr;
+use std::alloc::{AllocError, Global};
+
+// How many spaces and tabs stand last.
+fn scan_last_blanks(bytes: &[u8]) -> usize
+    ensures value { result ≡ suffix_len is_blank bytes.now }
+    ensures within { result ≤ length bytes.now }
+{
+    bytes.iter().rev().take_while(|b| is_blank(**b)).count()
+}
+
+// Without the spaces and tabs at both ends.
+#[tactic(auto, unfolding(crate::specs::TableHead::stripped))]
+fn stripped(bytes: &[u8]) -> &[u8]
+    ensures { result.now ≡ stripped_bytes bytes.now }
+{
+    let rest = rest_of(bytes, scan_blanks(bytes));
+    let last = scan_last_blanks(rest);
+    &rest[..rest.len() - last]
+}
+
+// Without the byte at the front, if it is there.
+fn without_first(bytes: &[u8], byte: u8) -> &[u8]
+    ensures { result.now ≡ past_first byte bytes.now }
+{
+    match bytes {
+        [first, rest @ ..] if *first == byte => rest,
+        _ => bytes,
+    }
+}
+
+// Whether the byte, which isn't 0, stands last.
+fn ends(bytes: &[u8], byte: u8) -> bool
+    requires { 0 < byte }
+    ensures value { result ≡ ends_with byte bytes.now }
+    ensures some { result ≡ true → 0 < length bytes.now }
+{
+    match bytes.last() {
+        None => false,
+        Some(last) => *last == byte,
+    }
+}
+
+// Without the byte, which isn't 0, at the end, if it is there.
+fn without_last(bytes: &[u8], byte: u8) -> &[u8]
+    requires { 0 < byte }
+    ensures { result.now ≡ before_last byte bytes.now }
+{
+    if ends(bytes, byte) {
+        &bytes[..bytes.len() - 1]
+    } else {
+        bytes
+    }
+}
+
+// Whether the bytes are one hyphen or more.
+fn is_hyphens(bytes: &[u8]) -> bool
+    ensures { result ≡ hyphens_alone bytes.now }
+{
+    1 <= bytes.len() && scan_run(bytes, b'-') == bytes.len()
+}
+
+// The alignment of a column by the colons before and behind its hyphens.
+fn alignment(before: bool, behind: bool) -> Alignment
+    ensures { result ≡ alignment_by before behind }
+{
+    match (before, behind) {
+        (false, false) => Alignment::None,
+        (true, false) => Alignment::Left,
+        (true, true) => Alignment::Center,
+        (false, true) => Alignment::Right,
+    }
+}
+
+// The alignment that a cell of a delimiter row gives.
+#[tactic(auto, unfolding(crate::specs::TableHead::delimiter_cell))]
+fn scan_delimiter_cell(bytes: &[u8]) -> Option<Alignment>
+    ensures { result ≡ delimiter_cell bytes.now }
+{
+    let cell = stripped(bytes);
+    let tail = without_first(cell, b':');
+    let behind = ends(tail, b':');
+    if is_hyphens(without_last(tail, b':')) {
+        Some(alignment(tail.len() < cell.len(), behind))
+    } else {
+        None
+    }
+}
+
+// How many bytes stand before the first pipe: all, if there is none.
+fn cell_len(bytes: &[u8]) -> usize
+    ensures value { result ≡ position_or_len is_pipe bytes.now }
+    ensures within { result ≤ length bytes.now }
+{
+    match memchr(b'|', bytes) {
+        None => bytes.len(),
+        Some(at) => at,
+    }
+}
+
+// The alignments of the cells between the pipes of `bytes`, if each cell gives one.
+fn scan_delimiter_cells(alloc: Global, bytes: &[u8]) -> Result<Option<Vec<Alignment>>, AllocError>
+    ensures { IfOk result (λ columns. option_map (λ v. v.items) columns ≡ delimiter_cells bytes.now) }
+{
+    let mut columns = Vec::new(alloc);
+    let mut rest = bytes;
+    loop {
+        let end = cell_len(rest);
+        let Some(column) = scan_delimiter_cell(&rest[..end]) else {
+            return Ok(None);
+        };
+        columns.push(column)?;
+        if end == rest.len() {
+            return Ok(Some(columns));
+        }
+        rest = rest_of(rest, end + 1);
+    }
+}
+
+// The alignments of the delimiter row that `bytes` begin with, if there is one.
+#[tactic(auto, unfolding(crate::specs::TableHead::delimiter_row))]
+fn scan_delimiter_row(alloc: Global, bytes: &[u8]) -> Result<Option<Vec<Alignment>>, AllocError>
+    ensures { IfOk result (λ columns. option_map (λ v. v.items) columns ≡ delimiter_row bytes.now) }
+{
+    if LineStart::new(bytes).scan_space(4) {
+        return Ok(None);
+    }
+    let row = stripped(&bytes[..content_len(bytes)]);
+    if !row.contains(&b'|') {
+        return Ok(None);
+    }
+    scan_delimiter_cells(alloc, without_last(without_first(row, b'|'), b'|'))
+}
+
+/// How many bytes the delimiter row that `bytes` begin with has, its end too, and the alignment of each
+/// column: cells of one or more hyphens, with or without a colon at each end, between pipes, of which
+/// one at each end counts for nothing. There is a pipe, and the indent has three columns at most. 0 and
+/// no alignment where no such row is here; an error only where memory is refused. GFM 4.10.
+#[tactic(auto, unfolding(crate::specs::TableHead::table_head))]
+pub fn scan_table_head(alloc: Global, bytes: &[u8]) -> Result<(usize, Vec<Alignment>), AllocError>
+    ensures value { IfOk result (λ head. (head.0, head.1.items) ≡ table_head bytes.now) }
+    ensures within { IfOk result (λ head. head.0 ≤ length bytes.now) }
+{
+    match scan_delimiter_row(alloc, bytes)? {
+        None => Ok((0, Vec::new(alloc))),
+        Some(columns) => Ok((scan_nextline(bytes), columns)),
+    }
+}
+
+// How many pipes are left of those of a header row without one that begins it behind white space.
+fn without_first_pipe(row: &[u8], pipes: usize) -> usize
+    requires { 1 ≤ pipes }
+    ensures { result ≡ pipes - (if begins 124 (drop (prefix_len is_white row.now) row.now) then 1 else 0) }
+{
+    if begins(b'|', rest_of(row, scan_whitespace_no_nl(row))) {
+        pipes - 1
+    } else {
+        pipes
+    }
+}
+
+/// How many columns the header row of a table has that begins at the offset `start` of `bytes`: its
+/// pipes not directly behind a backslash, without one that begins the row behind white space, and one
+/// more where something else than white space stands between the last, at the offset `last_pipe_ix`,
+/// and the end of its line. `pipes` is the number of these pipes. GFM 4.10.
+pub fn count_header_cols(bytes: &[u8], pipes: usize, start: usize, last_pipe_ix: usize) -> usize
+    requires some { 1 ≤ pipes }
+    requires ordered { start ≤ last_pipe_ix }
+    requires within { last_pipe_ix < length bytes.now }
+    requires counted { pipes ≡ pipes_of (take (last_pipe_ix - start + 1) (drop start bytes.now)) }
+    ensures { result ≡ header_columns (drop start bytes.now) (last_pipe_ix - start) }
+{
+    let row = rest_of(bytes, start);
+    let cells = without_first_pipe(row, pipes);
+    match scan_blank_line(rest_of(row, last_pipe_ix - start + 1)) {
+        Some(_) => cells,
+        None => cells + 1,
+    }
+}
