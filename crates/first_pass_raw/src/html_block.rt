@@ -92,6 +92,7 @@ pub fn parse_html_block_type_6_or_7<'a>(
 
 // Opens the HTML block that begins at the offset `start` behind so many columns, and appends its first line. Answers
 // where that ends.
+#[inline(always)]
 fn open_html_block<'a>(
     tree: &mut Tree<Item>,
     allocs: &mut Allocations<'a>,

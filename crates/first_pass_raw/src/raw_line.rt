@@ -56,6 +56,7 @@ pub enum RawKind {
 }
 
 // Appends a range of a raw line's bytes.
+#[inline(always)]
 fn append_range(
     tree: &mut Tree<Item>,
     kind: RawKind,
