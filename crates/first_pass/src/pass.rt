@@ -321,8 +321,8 @@ impl<'a> FirstPass<'a> {
         }
     }
 
-    // Appends the leaf block that begins with a mark at a place in the line whose reading began at `start_ix`, behind so
-    // many columns, at the offset `at`.
+    // Appends the leaf block that is told by its mark, at a place in the line whose reading began at `start_ix`, behind
+    // so many columns, at the offset `at`.
     fn parse_marked(
         &mut self,
         start_ix: usize,
