@@ -2,3 +2,4 @@ pub mod Adding
 pub mod Opening
 pub mod Ordered
 pub mod State
+pub mod Views

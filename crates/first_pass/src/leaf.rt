@@ -8,8 +8,9 @@ ghost use Rattle.first_pass_grammar.specs.Leaves.{document, rule_block};
 ghost use Rattle.first_pass_lists.specs.Closing.{with_tree};
 ghost use Rattle.first_pass_text.specs.Appends.{AddsParagraph, AddsHeading};
 ghost use Rattle.first_pass_text.specs.Between.{AddsBetween, StandsBefore};
+ghost use Rattle.first_pass.specs.Views.{allocs_of, reading_of, source_of, source_options, source_text, tree_of};
 
-use crate::pass::FirstPass;
+use crate::state::FirstPass;
 use first_pass_items::item::{HeadingLevel, Item};
 use first_pass_text::{heading, paragraph, rule};
 use std::alloc::AllocError;
@@ -23,17 +24,17 @@ impl<'a> FirstPass<'a> {
         start_ix: usize,
         tasklist_marker: Option<Item>,
     ) -> Result<usize, AllocError>
-        requires boundary { IsCharBoundary self.old.source.text.now start_ix }
+        requires boundary { IsCharBoundary (source_text self.old) start_ix }
         requires marker { IfSome tasklist_marker (λ x. is_text x.body ≡ false) }
-        ensures source { OnOk result (self.new.source ≡ self.old.source) }
-        ensures allocs { OnOk result (self.new.allocs ≡ self.old.allocs) }
-        ensures reading { OnOk result (self.new.reading ≡ with_tree self.old.reading self.new.reading.tree) }
+        ensures source { OnOk result (source_of self.new ≡ source_of self.old) }
+        ensures allocs { OnOk result (allocs_of self.new ≡ allocs_of self.old) }
+        ensures reading { OnOk result (reading_of self.new ≡ with_tree (reading_of self.old) (tree_of self.new)) }
         ensures block { IfOk result (λ next.
-            AddsParagraph (document self.old.source.text.now self.old.source.options no_names) start_ix tasklist_marker
-            self.old.reading.tree self.new.reading.tree next) }
+            AddsParagraph (document (source_text self.old) (source_options self.old) no_names) start_ix tasklist_marker
+            (tree_of self.old) (tree_of self.new) next) }
         ensures fits { IfOk result (λ next. (from : ℕ)
-            → StandsBefore self.old.source.text.now from start_ix tasklist_marker
-            → AddsBetween self.old.source.text.now from next self.old.reading.tree self.new.reading.tree) }
+            → StandsBefore (source_text self.old) from start_ix tasklist_marker
+            → AddsBetween (source_text self.old) from next (tree_of self.old) (tree_of self.new)) }
     {
         paragraph::parse_paragraph(
             self.alloc,
@@ -52,16 +53,16 @@ impl<'a> FirstPass<'a> {
         start: usize,
         atx_level: HeadingLevel,
     ) -> Result<usize, AllocError>
-        requires within { start ≤ length self.old.source.text.now }
-        requires heading { atx_level_of (drop start self.old.source.text.now) ≡ Some atx_level }
-        ensures source { OnOk result (self.new.source ≡ self.old.source) }
-        ensures allocs { OnOk result (self.new.allocs ≡ self.old.allocs) }
-        ensures reading { OnOk result (self.new.reading ≡ with_tree self.old.reading self.new.reading.tree) }
+        requires within { start ≤ length (source_text self.old) }
+        requires heading { atx_level_of (drop start (source_text self.old)) ≡ Some atx_level }
+        ensures source { OnOk result (source_of self.new ≡ source_of self.old) }
+        ensures allocs { OnOk result (allocs_of self.new ≡ allocs_of self.old) }
+        ensures reading { OnOk result (reading_of self.new ≡ with_tree (reading_of self.old) (tree_of self.new)) }
         ensures block { IfOk result (λ next.
-            AddsHeading (document self.old.source.text.now self.old.source.options no_names) start atx_level
-            self.old.reading.tree self.new.reading.tree next) }
-        ensures fits { IfOk result (λ next. (from : ℕ) → from ≤ start → IsCharBoundary self.old.source.text.now start
-            → AddsBetween self.old.source.text.now from next self.old.reading.tree self.new.reading.tree) }
+            AddsHeading (document (source_text self.old) (source_options self.old) no_names) start atx_level
+            (tree_of self.old) (tree_of self.new) next) }
+        ensures fits { IfOk result (λ next. (from : ℕ) → from ≤ start → IsCharBoundary (source_text self.old) start
+            → AddsBetween (source_text self.old) from next (tree_of self.old) (tree_of self.new)) }
     {
         heading::parse_atx_heading(
             self.source,
@@ -75,14 +76,14 @@ impl<'a> FirstPass<'a> {
     /// Appends the thematic break of `hrule_size` bytes, its line end too, that begins at the offset `ix`
     /// into the text, and answers the offset behind it (CommonMark 4.1).
     pub fn parse_hrule(&mut self, hrule_size: usize, ix: usize) -> Result<usize, AllocError>
-        requires { ix + hrule_size ≤ length self.old.source.text.now }
-        ensures source { OnOk result (self.new.source ≡ self.old.source) }
-        ensures allocs { OnOk result (self.new.allocs ≡ self.old.allocs) }
-        ensures reading { OnOk result (self.new.reading ≡ with_tree self.old.reading self.new.reading.tree) }
-        ensures block { OnOk result (self.new.reading.tree ≡ added self.old.reading.tree (rule_block ix hrule_size)) }
-        ensures fits { OnOk result ((from : ℕ) → from ≤ ix → IsCharBoundary self.old.source.text.now ix
-            → IsCharBoundary self.old.source.text.now (ix + hrule_size)
-            → AddsBetween self.old.source.text.now from (ix + hrule_size) self.old.reading.tree self.new.reading.tree) }
+        requires { ix + hrule_size ≤ length (source_text self.old) }
+        ensures source { OnOk result (source_of self.new ≡ source_of self.old) }
+        ensures allocs { OnOk result (allocs_of self.new ≡ allocs_of self.old) }
+        ensures reading { OnOk result (reading_of self.new ≡ with_tree (reading_of self.old) (tree_of self.new)) }
+        ensures block { OnOk result (tree_of self.new ≡ added (tree_of self.old) (rule_block ix hrule_size)) }
+        ensures fits { OnOk result ((from : ℕ) → from ≤ ix → IsCharBoundary (source_text self.old) ix
+            → IsCharBoundary (source_text self.old) (ix + hrule_size)
+            → AddsBetween (source_text self.old) from (ix + hrule_size) (tree_of self.old) (tree_of self.new)) }
         ensures behind { IfOk result (λ next. next ≡ ix + hrule_size) }
     {
         self.source.is_short();

@@ -7,6 +7,7 @@ mod leaf;
 pub mod list;
 pub mod pass;
 mod raw;
+mod state;
 
 pub use first_pass_below::{below, flank, walk};
 pub use first_pass_names::items;

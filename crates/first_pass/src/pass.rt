@@ -4,7 +4,6 @@ ghost use Rattle.std.specs.Prelude.{◌≡◌, ◌<◌, ◌≤◌, ◌+◌, ◌-
 ghost use Rattle.first_pass_lines.specs.Places.{place_at, offset, line_end, IsPlaceOf};
 ghost use Rattle.first_pass_walk.specs.Walk.{MarksSpecial};
 ghost use Rattle.first_pass_scan.specs.MetadataSearch.{IsKnownOf};
-ghost use Rattle.first_pass_scan.proofs.KnownFacts.{known_prop};
 ghost use Rattle.first_pass_tokens.specs.LineTokens.{EndsLine};
 ghost use Rattle.first_pass_tokens.specs.TreeTokens.{AppendsLine};
 ghost use Rattle.first_pass_grammar.specs.Leaves.{document};
@@ -29,9 +28,11 @@ ghost use Rattle.first_pass_grammar.specs.OpenOrder.{IsOrderedTo};
 ghost use Rattle.first_pass.specs.State.{Ready, ReadyAt};
 ghost use Rattle.first_pass_names.specs.TableEntries.{tables, no_tables, names_of};
 ghost use Rattle.first_pass_grammar.specs.Names.{Names, Extends};
+ghost use Rattle.first_pass.specs.Views.{allocs_of, reading_of, source_of, source_options, source_text, tree_of};
 
 use crate::containers::{Behind, close_containers, enter_line, open_containers};
 use crate::raw::read_blank_behind;
+pub use crate::state::FirstPass;
 use first_pass_below::flank::TableParseMode;
 use first_pass_items::item::Item;
 use first_pass_items::option_set::Options;
@@ -52,20 +53,6 @@ use first_pass_walk::walk::special_bytes;
 use std::alloc::{AllocError, Global};
 use std::cmp::max;
 
-/// A pass over a text: the tree so far, and what its nodes name.
-#[derive(Drop)]
-pub struct FirstPass<'a> {
-    pub(crate) alloc: Global,
-    pub(crate) source: Source<'a>,
-    pub(crate) reading: Reading,
-    pub(crate) allocs: Allocations<'a>,
-    pub(crate) lookup_table: [bool; 256],
-    // What is known of the lines that close metadata.
-    pub(crate) metadata_ends: MetadataEnds,
-    ghost marks: { MarksSpecial lookup_table source.options },
-    ghost known: { IsKnownOf source.text.now metadata_ends } by { known_prop source.text.now metadata_ends },
-}
-
 /// The bytes of a text up to an offset, or all.
 fn text_upto(text: &str, end: Option<usize>) -> &[u8]
     requires { IfSome end (λ e. e ≤ length text.now) }
@@ -82,13 +69,13 @@ fn text_upto(text: &str, end: Option<usize>) -> &[u8]
 impl<'a> FirstPass<'a> {
     /// A pass over `text` that has read nothing yet.
     pub fn new(alloc: Global, text: &'a str, options: Options) -> Result<FirstPass<'a>, AllocError>
-        ensures text { IfOk result (λ pass. pass.source.text.now ≡ text.now) }
-        ensures options { IfOk result (λ pass. pass.source.options ≡ options) }
-        ensures tables { IfOk result (λ pass. tables pass.allocs ≡ no_tables) }
+        ensures text { IfOk result (λ pass. (source_text pass) ≡ text.now) }
+        ensures options { IfOk result (λ pass. (source_options pass) ≡ options) }
+        ensures tables { IfOk result (λ pass. tables (allocs_of pass) ≡ no_tables) }
         ensures ready { IfOk result (λ pass. (names : Names)
-            → Ready (document text.now options names) pass.reading (lines_from text.now 0)) }
-        ensures order { IfOk result (λ pass. IsOrderedAt text.now pass.reading 0) }
-        ensures root { IfOk result (λ pass. length pass.reading.tree.nodes ≡ 1) }
+            → Ready (document text.now options names) (reading_of pass) (lines_from text.now 0)) }
+        ensures order { IfOk result (λ pass. IsOrderedAt text.now (reading_of pass) 0) }
+        ensures root { IfOk result (λ pass. length (tree_of pass).nodes ≡ 1) }
     {
         // A guess at how many nodes the text will have: pages of it that are never reached cost nothing.
         let capacity = max(128, text.len() / 12);
@@ -116,22 +103,22 @@ impl<'a> FirstPass<'a> {
     /// Where the nodes so far begin a derivation of the text that goes on at `start_ix`, they begin one
     /// then that goes on at the answer. At most four nodes are added for each byte that is read.
     pub fn parse_block(&mut self, start_ix: usize) -> Result<usize, AllocError>
-        requires within { start_ix < length self.old.source.text.now }
-        requires boundary { IsCharBoundary self.old.source.text.now start_ix }
-        ensures source { OnOk result (self.new.source ≡ self.old.source) }
-        ensures names { OnOk result (Extends (names_of self.new.allocs) (names_of self.old.allocs)) }
-        ensures tables { OnOk result (tables self.new.allocs ≡ tables self.old.allocs) }
-        ensures later { IfOk result (λ next. (start_ix < next) × (next ≤ length self.old.source.text.now)) }
-        ensures boundary { IfOk result (λ next. IsCharBoundary self.old.source.text.now next) }
-        ensures ready { IfOk result (λ next. (names : Names) → Extends names (names_of self.new.allocs)
-            → Ready (document self.old.source.text.now self.old.source.options names) self.old.reading
-            (lines_from self.old.source.text.now start_ix)
-            → Ready (document self.old.source.text.now self.old.source.options names) self.new.reading
-            (lines_from self.old.source.text.now next)) }
-        ensures order { IfOk result (λ next. IsOrderedAt self.old.source.text.now self.old.reading start_ix
-            → IsOrderedAt self.old.source.text.now self.new.reading next) }
-        ensures few { IfOk result (λ next. GrowsBy start_ix next self.old.reading.tree.nodes
-            self.new.reading.tree.nodes) }
+        requires within { start_ix < length (source_text self.old) }
+        requires boundary { IsCharBoundary (source_text self.old) start_ix }
+        ensures source { OnOk result (source_of self.new ≡ source_of self.old) }
+        ensures names { OnOk result (Extends (names_of (allocs_of self.new)) (names_of (allocs_of self.old))) }
+        ensures tables { OnOk result (tables (allocs_of self.new) ≡ tables (allocs_of self.old)) }
+        ensures later { IfOk result (λ next. (start_ix < next) × (next ≤ length (source_text self.old))) }
+        ensures boundary { IfOk result (λ next. IsCharBoundary (source_text self.old) next) }
+        ensures ready { IfOk result (λ next. (names : Names) → Extends names (names_of (allocs_of self.new))
+            → Ready (document (source_text self.old) (source_options self.old) names) (reading_of self.old)
+            (lines_from (source_text self.old) start_ix)
+            → Ready (document (source_text self.old) (source_options self.old) names) (reading_of self.new)
+            (lines_from (source_text self.old) next)) }
+        ensures order { IfOk result (λ next. IsOrderedAt (source_text self.old) (reading_of self.old) start_ix
+            → IsOrderedAt (source_text self.old) (reading_of self.new) next) }
+        ensures few { IfOk result (λ next. GrowsBy start_ix next (tree_of self.old).nodes
+            (tree_of self.new).nodes) }
     {
         let Some(mut line_start) = enter_line(&mut self.reading, self.source, start_ix) else {
             return Ok(next_line(self.source.text.as_bytes(), start_ix));
@@ -156,22 +143,22 @@ impl<'a> FirstPass<'a> {
     // Reads the line that begins at `start`, behind the tag of the block quote that is innermost, where it
     // belongs to that quote; answers as `parse_block`, or `start` where the line is read as any other.
     fn parse_tagged(&mut self, start: usize) -> Result<usize, AllocError>
-        requires boundary { IsCharBoundary self.old.source.text.now start }
-        requires no_empty { self.old.reading.empty_item ≡ None }
-        ensures source { OnOk result (self.new.source ≡ self.old.source) }
-        ensures names { OnOk result (Extends (names_of self.new.allocs) (names_of self.old.allocs)) }
-        ensures tables { OnOk result (tables self.new.allocs ≡ tables self.old.allocs) }
+        requires boundary { IsCharBoundary (source_text self.old) start }
+        requires no_empty { (reading_of self.old).empty_item ≡ None }
+        ensures source { OnOk result (source_of self.new ≡ source_of self.old) }
+        ensures names { OnOk result (Extends (names_of (allocs_of self.new)) (names_of (allocs_of self.old))) }
+        ensures tables { OnOk result (tables (allocs_of self.new) ≡ tables (allocs_of self.old)) }
         ensures later { IfOk result (λ next. start ≤ next) }
-        ensures boundary { IfOk result (λ next. IsCharBoundary self.old.source.text.now next) }
-        ensures ready { IfOk result (λ next. (names : Names) → Extends names (names_of self.new.allocs)
-            → ReadyTagged (document self.old.source.text.now self.old.source.options names) self.old.reading
-            (lines_from self.old.source.text.now start)
-            → Ready (document self.old.source.text.now self.old.source.options names) self.new.reading
-            (lines_from self.old.source.text.now next)) }
-        ensures order { IfOk result (λ next. IsOrderedTo self.old.source.text.now self.old.reading.tree start
-            → IsOrderedAt self.old.source.text.now self.new.reading next) }
-        ensures few { IfOk result (λ next. GrowsBy start next self.old.reading.tree.nodes
-            self.new.reading.tree.nodes) }
+        ensures boundary { IfOk result (λ next. IsCharBoundary (source_text self.old) next) }
+        ensures ready { IfOk result (λ next. (names : Names) → Extends names (names_of (allocs_of self.new))
+            → ReadyTagged (document (source_text self.old) (source_options self.old) names) (reading_of self.old)
+            (lines_from (source_text self.old) start)
+            → Ready (document (source_text self.old) (source_options self.old) names) (reading_of self.new)
+            (lines_from (source_text self.old) next)) }
+        ensures order { IfOk result (λ next. IsOrderedTo (source_text self.old) (tree_of self.old) start
+            → IsOrderedAt (source_text self.old) (reading_of self.new) next) }
+        ensures few { IfOk result (λ next. GrowsBy start next (tree_of self.old).nodes
+            (tree_of self.new).nodes) }
     {
         match lazy_leaf(self.alloc, self.source, start, &self.reading.tree)? {
             None => Ok(start),
@@ -190,26 +177,26 @@ impl<'a> FirstPass<'a> {
         line_start: LineStart<'a>,
         marker: Item,
     ) -> Result<usize, AllocError>
-        requires utf8 { IsUtf8 self.old.source.text.now }
-        requires place { IsPlaceOf self.old.source.text.now (place_at start_ix line_start) }
+        requires utf8 { IsUtf8 (source_text self.old) }
+        requires place { IsPlaceOf (source_text self.old) (place_at start_ix line_start) }
         requires marker { is_text marker.body ≡ false }
-        requires no_empty { self.old.reading.empty_item ≡ None }
-        ensures source { OnOk result (self.new.source ≡ self.old.source) }
-        ensures allocs { OnOk result (self.new.allocs ≡ self.old.allocs) }
+        requires no_empty { (reading_of self.old).empty_item ≡ None }
+        ensures source { OnOk result (source_of self.new ≡ source_of self.old) }
+        ensures allocs { OnOk result (allocs_of self.new ≡ allocs_of self.old) }
         ensures later { IfOk result (λ next. line_end (place_at start_ix line_start.entry) ≤ next) }
-        ensures boundary { IfOk result (λ next. IsCharBoundary self.old.source.text.now next) }
+        ensures boundary { IfOk result (λ next. IsCharBoundary (source_text self.old) next) }
         ensures ready { IfOk result (λ next. (names : Names)
-            → ReadyText (document self.old.source.text.now self.old.source.options names) self.old.reading marker
-            (place_at start_ix line_start.entry) (lines_from self.old.source.text.now
+            → ReadyText (document (source_text self.old) (source_options self.old) names) (reading_of self.old) marker
+            (place_at start_ix line_start.entry) (lines_from (source_text self.old)
             (line_end (place_at start_ix line_start.entry)))
-            → Ready (document self.old.source.text.now self.old.source.options names) self.new.reading
-            (lines_from self.old.source.text.now next)) }
-        ensures order { IfOk result (λ next. OrderedText self.old.source.text.now self.old.reading.tree marker
+            → Ready (document (source_text self.old) (source_options self.old) names) (reading_of self.new)
+            (lines_from (source_text self.old) next)) }
+        ensures order { IfOk result (λ next. OrderedText (source_text self.old) (tree_of self.old) marker
             (offset (place_at start_ix line_start.entry))
-            → IsOrderedAt self.old.source.text.now self.new.reading next) }
-        ensures few { IfOk result (λ next. (from : ℕ) → StandsBefore self.old.source.text.now from
+            → IsOrderedAt (source_text self.old) (reading_of self.new) next) }
+        ensures few { IfOk result (λ next. (from : ℕ) → StandsBefore (source_text self.old) from
             (offset (place_at start_ix line_start.entry)) (Some marker) → from < next
-            → GrowsBy from next self.old.reading.tree.nodes self.new.reading.tree.nodes) }
+            → GrowsBy from next (tree_of self.old).nodes (tree_of self.new).nodes) }
     {
         self.source.is_short();
         let mut line_start = line_start;
@@ -225,26 +212,26 @@ impl<'a> FirstPass<'a> {
         start_ix: usize,
         line_start: LineStart<'a>,
     ) -> Result<usize, AllocError>
-        requires utf8 { IsUtf8 self.old.source.text.now }
-        requires place { IsPlaceOf self.old.source.text.now (place_at start_ix line_start) }
-        requires no_empty { self.old.reading.empty_item ≡ None }
-        ensures source { OnOk result (self.new.source ≡ self.old.source) }
-        ensures names { OnOk result (Extends (names_of self.new.allocs) (names_of self.old.allocs)) }
-        ensures tables { OnOk result (tables self.new.allocs ≡ tables self.old.allocs) }
+        requires utf8 { IsUtf8 (source_text self.old) }
+        requires place { IsPlaceOf (source_text self.old) (place_at start_ix line_start) }
+        requires no_empty { (reading_of self.old).empty_item ≡ None }
+        ensures source { OnOk result (source_of self.new ≡ source_of self.old) }
+        ensures names { OnOk result (Extends (names_of (allocs_of self.new)) (names_of (allocs_of self.old))) }
+        ensures tables { OnOk result (tables (allocs_of self.new) ≡ tables (allocs_of self.old)) }
         ensures later { IfOk result (λ next. line_end (place_at start_ix line_start.entry) ≤ next) }
-        ensures boundary { IfOk result (λ next. IsCharBoundary self.old.source.text.now next) }
-        ensures ready { IfOk result (λ next. (names : Names) → Extends names (names_of self.new.allocs) →
-            ReadyLeaf (document self.old.source.text.now self.old.source.options names) self.old.reading
+        ensures boundary { IfOk result (λ next. IsCharBoundary (source_text self.old) next) }
+        ensures ready { IfOk result (λ next. (names : Names) → Extends names (names_of (allocs_of self.new)) →
+            ReadyLeaf (document (source_text self.old) (source_options self.old) names) (reading_of self.old)
             (place_at start_ix line_start.entry)
-            (lines_from self.old.source.text.now (line_end (place_at start_ix line_start.entry)))
-            → Ready (document self.old.source.text.now self.old.source.options names) self.new.reading
-            (lines_from self.old.source.text.now next)) }
-        ensures order { IfOk result (λ next. IsCharBoundary self.old.source.text.now start_ix
-            → IsOrderedTo self.old.source.text.now self.old.reading.tree (line_or self.old.reading.tree start_ix
+            (lines_from (source_text self.old) (line_end (place_at start_ix line_start.entry)))
+            → Ready (document (source_text self.old) (source_options self.old) names) (reading_of self.new)
+            (lines_from (source_text self.old) next)) }
+        ensures order { IfOk result (λ next. IsCharBoundary (source_text self.old) start_ix
+            → IsOrderedTo (source_text self.old) (tree_of self.old) (line_or (tree_of self.old) start_ix
             (offset (place_at start_ix line_start.entry)))
-            → IsOrderedAt self.old.source.text.now self.new.reading next) }
+            → IsOrderedAt (source_text self.old) (reading_of self.new) next) }
         ensures few { IfOk result (λ next. GrowsBy (offset (place_at start_ix line_start.entry)) next
-            self.old.reading.tree.nodes self.new.reading.tree.nodes) }
+            (tree_of self.old).nodes (tree_of self.new).nodes) }
     {
         self.source.is_short();
         let before = line_start.copy();
@@ -271,30 +258,30 @@ impl<'a> FirstPass<'a> {
         columns: usize,
         at: usize,
     ) -> Result<usize, AllocError>
-        requires utf8 { IsUtf8 self.old.source.text.now }
-        requires place { IsPlaceOf self.old.source.text.now (place_at start_ix before) }
-        requires no_empty { self.old.reading.empty_item ≡ None }
-        requires kind { IsKind self.old.source.options before (kind_of found) }
+        requires utf8 { IsUtf8 (source_text self.old) }
+        requires place { IsPlaceOf (source_text self.old) (place_at start_ix before) }
+        requires no_empty { (reading_of self.old).empty_item ≡ None }
+        requires kind { IsKind (source_options self.old) before (kind_of found) }
         requires end { IsFoundWith (all_taken before).left found }
         requires columns { columns ≡ min 4 (indent before) }
         requires at { at ≡ offset (unindented (place_at start_ix before)) }
-        ensures source { OnOk result (self.new.source ≡ self.old.source) }
-        ensures names { OnOk result (Extends (names_of self.new.allocs) (names_of self.old.allocs)) }
-        ensures tables { OnOk result (tables self.new.allocs ≡ tables self.old.allocs) }
+        ensures source { OnOk result (source_of self.new ≡ source_of self.old) }
+        ensures names { OnOk result (Extends (names_of (allocs_of self.new)) (names_of (allocs_of self.old))) }
+        ensures tables { OnOk result (tables (allocs_of self.new) ≡ tables (allocs_of self.old)) }
         ensures later { IfOk result (λ next. line_end (place_at start_ix before.entry) ≤ next) }
-        ensures boundary { IfOk result (λ next. IsCharBoundary self.old.source.text.now next) }
-        ensures ready { IfOk result (λ next. (names : Names) → Extends names (names_of self.new.allocs) →
-            ReadyLeaf (document self.old.source.text.now self.old.source.options names) self.old.reading
+        ensures boundary { IfOk result (λ next. IsCharBoundary (source_text self.old) next) }
+        ensures ready { IfOk result (λ next. (names : Names) → Extends names (names_of (allocs_of self.new)) →
+            ReadyLeaf (document (source_text self.old) (source_options self.old) names) (reading_of self.old)
             (place_at start_ix before.entry)
-            (lines_from self.old.source.text.now (line_end (place_at start_ix before.entry)))
-            → Ready (document self.old.source.text.now self.old.source.options names) self.new.reading
-            (lines_from self.old.source.text.now next)) }
-        ensures order { IfOk result (λ next. IsCharBoundary self.old.source.text.now start_ix
-            → IsOrderedTo self.old.source.text.now self.old.reading.tree (line_or self.old.reading.tree start_ix
+            (lines_from (source_text self.old) (line_end (place_at start_ix before.entry)))
+            → Ready (document (source_text self.old) (source_options self.old) names) (reading_of self.new)
+            (lines_from (source_text self.old) next)) }
+        ensures order { IfOk result (λ next. IsCharBoundary (source_text self.old) start_ix
+            → IsOrderedTo (source_text self.old) (tree_of self.old) (line_or (tree_of self.old) start_ix
             (offset (place_at start_ix before.entry)))
-            → IsOrderedAt self.old.source.text.now self.new.reading next) }
+            → IsOrderedAt (source_text self.old) (reading_of self.new) next) }
         ensures few { IfOk result (λ next. GrowsBy (offset (place_at start_ix before.entry)) next
-            self.old.reading.tree.nodes self.new.reading.tree.nodes) }
+            (tree_of self.old).nodes (tree_of self.new).nodes) }
     {
         self.reading.tree.is_forest();
         match found {
@@ -331,24 +318,24 @@ impl<'a> FirstPass<'a> {
         columns: usize,
         at: usize,
     ) -> Result<usize, AllocError>
-        requires utf8 { IsUtf8 self.old.source.text.now }
-        requires place { IsPlaceOf self.old.source.text.now (place_at start_ix before) }
-        requires kind { IsKind self.old.source.options before (marked_kind leaf) }
+        requires utf8 { IsUtf8 (source_text self.old) }
+        requires place { IsPlaceOf (source_text self.old) (place_at start_ix before) }
+        requires kind { IsKind (source_options self.old) before (marked_kind leaf) }
         requires end { HasEnd (all_taken before).left leaf }
         requires columns { columns ≡ min 4 (indent before) }
         requires at { at ≡ offset (unindented (place_at start_ix before)) }
-        requires not_blank { self.old.reading.blank ≡ false }
-        ensures source { OnOk result (self.new.source ≡ self.old.source) }
-        ensures empty_item { OnOk result (self.new.reading.empty_item ≡ self.old.reading.empty_item) }
-        ensures names { OnOk result (Extends (names_of self.new.allocs) (names_of self.old.allocs)) }
-        ensures tables { OnOk result (tables self.new.allocs ≡ tables self.old.allocs) }
-        ensures block { IfOk result (λ next. AddsKind self.old.source.text.now self.old.source.options
-            (names_of self.new.allocs) (place_at start_ix before.entry) (marked_kind leaf) self.new.reading.blank
-            self.old.reading.tree self.new.reading.tree next) }
+        requires not_blank { (reading_of self.old).blank ≡ false }
+        ensures source { OnOk result (source_of self.new ≡ source_of self.old) }
+        ensures empty_item { OnOk result ((reading_of self.new).empty_item ≡ (reading_of self.old).empty_item) }
+        ensures names { OnOk result (Extends (names_of (allocs_of self.new)) (names_of (allocs_of self.old))) }
+        ensures tables { OnOk result (tables (allocs_of self.new) ≡ tables (allocs_of self.old)) }
+        ensures block { IfOk result (λ next. AddsKind (source_text self.old) (source_options self.old)
+            (names_of (allocs_of self.new)) (place_at start_ix before.entry) (marked_kind leaf)
+            (reading_of self.new).blank (tree_of self.old) (tree_of self.new) next) }
         ensures boundary { IfOk result (λ next. (line_end (place_at start_ix before.entry) ≤ next)
-            × IsCharBoundary self.old.source.text.now next) }
+            × IsCharBoundary (source_text self.old) next) }
         ensures fits { IfOk result (λ next. (from : ℕ) → from ≤ offset (place_at start_ix before.entry)
-            → AddsBetween self.old.source.text.now from next self.old.reading.tree self.new.reading.tree) }
+            → AddsBetween (source_text self.old) from next (tree_of self.old) (tree_of self.new)) }
     {
         match leaf {
             MarkedLeaf::IndentedCode => {
@@ -391,25 +378,25 @@ impl<'a> FirstPass<'a> {
         end: Option<usize>,
         _mode: TableParseMode,
     ) -> Result<(usize, Option<Item>), AllocError>
-        requires start { start ≤ length self.old.source.text.now }
-        requires end { IfSome end (λ e. (start ≤ e) × (e ≤ length self.old.source.text.now)) }
-        ensures source { OnOk result (self.new.source ≡ self.old.source) }
-        ensures allocs { OnOk result (self.new.allocs ≡ self.old.allocs) }
-        ensures reading { OnOk result (self.new.reading ≡ with_tree self.old.reading self.new.reading.tree) }
+        requires start { start ≤ length (source_text self.old) }
+        requires end { IfSome end (λ e. (start ≤ e) × (e ≤ length (source_text self.old))) }
+        ensures source { OnOk result (source_of self.new ≡ source_of self.old) }
+        ensures allocs { OnOk result (allocs_of self.new ≡ allocs_of self.old) }
+        ensures reading { OnOk result (reading_of self.new ≡ with_tree (reading_of self.old) (tree_of self.new)) }
         ensures line { IfOk result (λ answer. AppendsLine
-            (record { options = self.old.source.options; text = text_upto self.old.source.text.now end; start = start })
-            self.old.reading.tree self.new.reading.tree answer) }
+            (record { options = (source_options self.old); text = text_upto (source_text self.old) end; start = start })
+            (tree_of self.old) (tree_of self.new) answer) }
         ensures ends { IfOk result (λ answer. EndsLine
-            (record { options = self.old.source.options; text = text_upto self.old.source.text.now end; start = start })
+            (record { options = (source_options self.old); text = text_upto (source_text self.old) end; start = start })
             answer) }
-        ensures boundary { IfOk result (λ answer. end ≡ None → IsCharBoundary self.old.source.text.now start
-            → IsCharBoundary self.old.source.text.now answer.0) }
-        ensures order { IfOk result (λ answer. IfSome end (λ e. IsCharBoundary self.old.source.text.now e)
-            → IsCharBoundary self.old.source.text.now start → (from : ℕ) → from ≤ start
-            → IsOrderedTo self.old.source.text.now self.old.reading.tree from
-            → IsOrderedTo self.old.source.text.now self.new.reading.tree answer.0) }
+        ensures boundary { IfOk result (λ answer. end ≡ None → IsCharBoundary (source_text self.old) start
+            → IsCharBoundary (source_text self.old) answer.0) }
+        ensures order { IfOk result (λ answer. IfSome end (λ e. IsCharBoundary (source_text self.old) e)
+            → IsCharBoundary (source_text self.old) start → (from : ℕ) → from ≤ start
+            → IsOrderedTo (source_text self.old) (tree_of self.old) from
+            → IsOrderedTo (source_text self.old) (tree_of self.new) answer.0) }
         ensures few { IfOk result (λ answer.
-            length self.new.reading.tree.nodes ≤ length self.old.reading.tree.nodes + (answer.0 - start)) }
+            length (tree_of self.new).nodes ≤ length (tree_of self.old).nodes + (answer.0 - start)) }
     {
         self.reading.tree.is_forest();
         let bytes = text_upto(self.source.text, end);

@@ -16,8 +16,9 @@ ghost use Rattle.first_pass_raw.specs.RawBlocks.{AppendsRaw, IsPlaceAt, AddsInde
 ghost use Rattle.first_pass.specs.Adding.{AddsKind, behind_blank, with_blank};
 ghost use Rattle.first_pass_lists.specs.Closing.{with_tree};
 ghost use Rattle.first_pass_text.specs.Between.{AddsBetween};
+ghost use Rattle.first_pass.specs.Views.{allocs_of, reading_of, source_of, source_options, source_text, tree_of};
 
-use crate::pass::FirstPass;
+use crate::state::FirstPass;
 use first_pass_lines::places::next_line;
 use first_pass_lists::reading::Reading;
 use first_pass_open::open_block::BlockLines;
@@ -40,13 +41,13 @@ impl<'a> FirstPass<'a> {
     ) -> Result<(), AllocError>
         requires owed { remaining_space ≤ 3 }
         requires order { start ≤ end }
-        requires within { end ≤ length self.old.source.text.now }
-        ensures source { OnOk result (self.new.source ≡ self.old.source) }
-        ensures names { OnOk result (Extends (names_of self.new.allocs) (names_of self.old.allocs)) }
-        ensures tables { OnOk result (tables self.new.allocs ≡ tables self.old.allocs) }
-        ensures reading { OnOk result (self.new.reading ≡ with_tree self.old.reading self.new.reading.tree) }
-        ensures line { OnOk result (AppendsRaw range_text self.old.source.text.now (names_of self.new.allocs)
-            remaining_space start end self.old.reading.tree self.new.reading.tree) }
+        requires within { end ≤ length (source_text self.old) }
+        ensures source { OnOk result (source_of self.new ≡ source_of self.old) }
+        ensures names { OnOk result (Extends (names_of (allocs_of self.new)) (names_of (allocs_of self.old))) }
+        ensures tables { OnOk result (tables (allocs_of self.new) ≡ tables (allocs_of self.old)) }
+        ensures reading { OnOk result (reading_of self.new ≡ with_tree (reading_of self.old) (tree_of self.new)) }
+        ensures line { OnOk result (AppendsRaw range_text (source_text self.old) (names_of (allocs_of self.new))
+            remaining_space start end (tree_of self.old) (tree_of self.new)) }
     {
         append_raw_line(
             &mut self.reading.tree,
@@ -69,13 +70,13 @@ impl<'a> FirstPass<'a> {
     ) -> Result<(), AllocError>
         requires owed { remaining_space ≤ 3 }
         requires order { start ≤ end }
-        requires within { end ≤ length self.old.source.text.now }
-        ensures source { OnOk result (self.new.source ≡ self.old.source) }
-        ensures names { OnOk result (Extends (names_of self.new.allocs) (names_of self.old.allocs)) }
-        ensures tables { OnOk result (tables self.new.allocs ≡ tables self.old.allocs) }
-        ensures reading { OnOk result (self.new.reading ≡ with_tree self.old.reading self.new.reading.tree) }
-        ensures line { OnOk result (AppendsRaw range_html self.old.source.text.now (names_of self.new.allocs)
-            remaining_space start end self.old.reading.tree self.new.reading.tree) }
+        requires within { end ≤ length (source_text self.old) }
+        ensures source { OnOk result (source_of self.new ≡ source_of self.old) }
+        ensures names { OnOk result (Extends (names_of (allocs_of self.new)) (names_of (allocs_of self.old))) }
+        ensures tables { OnOk result (tables (allocs_of self.new) ≡ tables (allocs_of self.old)) }
+        ensures reading { OnOk result (reading_of self.new ≡ with_tree (reading_of self.old) (tree_of self.new)) }
+        ensures line { OnOk result (AppendsRaw range_html (source_text self.old) (names_of (allocs_of self.new))
+            remaining_space start end (tree_of self.old) (tree_of self.new)) }
     {
         append_raw_line(
             &mut self.reading.tree,
@@ -96,21 +97,21 @@ impl<'a> FirstPass<'a> {
         start_ix: usize,
         remaining_space: usize,
     ) -> Result<usize, AllocError>
-        requires boundary { IsCharBoundary self.old.source.text.now start_ix }
+        requires boundary { IsCharBoundary (source_text self.old) start_ix }
         requires owed { remaining_space ≤ 3 }
-        requires code { is_blank_line (drop start_ix self.old.source.text.now) ≡ false }
-        ensures source { OnOk result (self.new.source ≡ self.old.source) }
-        ensures empty_item { OnOk result (self.new.reading.empty_item ≡ self.old.reading.empty_item) }
-        ensures names { OnOk result (Extends (names_of self.new.allocs) (names_of self.old.allocs)) }
-        ensures tables { OnOk result (tables self.new.allocs ≡ tables self.old.allocs) }
-        ensures block { IfOk result (λ next. (p : Place) → IsPlaceAt self.old.source.text.now start_ix p
+        requires code { is_blank_line (drop start_ix (source_text self.old)) ≡ false }
+        ensures source { OnOk result (source_of self.new ≡ source_of self.old) }
+        ensures empty_item { OnOk result ((reading_of self.new).empty_item ≡ (reading_of self.old).empty_item) }
+        ensures names { OnOk result (Extends (names_of (allocs_of self.new)) (names_of (allocs_of self.old))) }
+        ensures tables { OnOk result (tables (allocs_of self.new) ≡ tables (allocs_of self.old)) }
+        ensures block { IfOk result (λ next. (p : Place) → IsPlaceAt (source_text self.old) start_ix p
             → p.rest.owed ≡ remaining_space
-            → AddsIndented self.old.source.text.now self.old.source.options
-            (names_of self.new.allocs) p self.old.reading.tree self.new.reading.tree next self.new.reading.blank) }
-        ensures boundary { IfOk result (λ next. (behind_line_at self.old.source.text.now start_ix ≤ next)
-            × IsCharBoundary self.old.source.text.now next) }
+            → AddsIndented (source_text self.old) (source_options self.old)
+            (names_of (allocs_of self.new)) p (tree_of self.old) (tree_of self.new) next (reading_of self.new).blank) }
+        ensures boundary { IfOk result (λ next. (behind_line_at (source_text self.old) start_ix ≤ next)
+            × IsCharBoundary (source_text self.old) next) }
         ensures fits { IfOk result (λ next. (from : ℕ) → from ≤ start_ix
-            → AddsBetween self.old.source.text.now from next self.old.reading.tree self.new.reading.tree) }
+            → AddsBetween (source_text self.old) from next (tree_of self.old) (tree_of self.new)) }
     {
         let (next, blank) = indented_code::parse_indented_code_block(
             &mut self.reading.tree,
@@ -130,20 +131,20 @@ impl<'a> FirstPass<'a> {
         start_ix: usize,
         before: LineStart<'a>,
     ) -> Result<usize, AllocError>
-        requires utf8 { IsUtf8 self.old.source.text.now }
-        requires place { IsPlaceOf self.old.source.text.now (place_at start_ix before) }
+        requires utf8 { IsUtf8 (source_text self.old) }
+        requires place { IsPlaceOf (source_text self.old) (place_at start_ix before) }
         requires code { (is_blank_rest before ≡ false) × (nat_lt (indent before) 4 ≡ false) }
-        ensures source { OnOk result (self.new.source ≡ self.old.source) }
-        ensures empty_item { OnOk result (self.new.reading.empty_item ≡ self.old.reading.empty_item) }
-        ensures names { OnOk result (Extends (names_of self.new.allocs) (names_of self.old.allocs)) }
-        ensures tables { OnOk result (tables self.new.allocs ≡ tables self.old.allocs) }
-        ensures block { IfOk result (λ next. AddsKind self.old.source.text.now self.old.source.options
-            (names_of self.new.allocs) (place_at start_ix before.entry) IndentedCode self.new.reading.blank
-            self.old.reading.tree self.new.reading.tree next) }
+        ensures source { OnOk result (source_of self.new ≡ source_of self.old) }
+        ensures empty_item { OnOk result ((reading_of self.new).empty_item ≡ (reading_of self.old).empty_item) }
+        ensures names { OnOk result (Extends (names_of (allocs_of self.new)) (names_of (allocs_of self.old))) }
+        ensures tables { OnOk result (tables (allocs_of self.new) ≡ tables (allocs_of self.old)) }
+        ensures block { IfOk result (λ next. AddsKind (source_text self.old) (source_options self.old)
+            (names_of (allocs_of self.new)) (place_at start_ix before.entry) IndentedCode (reading_of self.new).blank
+            (tree_of self.old) (tree_of self.new) next) }
         ensures boundary { IfOk result (λ next. (line_end (place_at start_ix before.entry) ≤ next)
-            × IsCharBoundary self.old.source.text.now next) }
+            × IsCharBoundary (source_text self.old) next) }
         ensures fits { IfOk result (λ next. (from : ℕ) → from ≤ offset (place_at start_ix before.entry)
-            → AddsBetween self.old.source.text.now from next self.old.reading.tree self.new.reading.tree) }
+            → AddsBetween (source_text self.old) from next (tree_of self.old) (tree_of self.new)) }
     {
         self.source.is_short();
         let mut line_start = before;
@@ -163,21 +164,21 @@ impl<'a> FirstPass<'a> {
         fence_ch: u8,
         n_fence_char: usize,
     ) -> Result<usize, AllocError>
-        requires boundary { IsCharBoundary self.old.source.text.now start_ix }
-        requires fence { code_fence (drop start_ix self.old.source.text.now) ≡ Some (n_fence_char, fence_ch) }
-        ensures source { OnOk result (self.new.source ≡ self.old.source) }
-        ensures names { OnOk result (Extends (names_of self.new.allocs) (names_of self.old.allocs)) }
-        ensures tables { OnOk result (tables self.new.allocs ≡ tables self.old.allocs) }
-        ensures reading { OnOk result (self.new.reading ≡ with_tree self.old.reading self.new.reading.tree) }
-        ensures block { IfOk result (λ next. let e = fenced_behind self.old.source.text.now
-            (path_of self.old.reading.tree) indent fence_ch n_fence_char start_ix in
-            AddsRaw self.old.source.text.now self.old.source.options (names_of self.new.allocs) (λ d.
-            IsFencedCode d start_ix n_fence_char e.places e.«end») e.left self.old.reading.tree self.new.reading.tree
+        requires boundary { IsCharBoundary (source_text self.old) start_ix }
+        requires fence { code_fence (drop start_ix (source_text self.old)) ≡ Some (n_fence_char, fence_ch) }
+        ensures source { OnOk result (source_of self.new ≡ source_of self.old) }
+        ensures names { OnOk result (Extends (names_of (allocs_of self.new)) (names_of (allocs_of self.old))) }
+        ensures tables { OnOk result (tables (allocs_of self.new) ≡ tables (allocs_of self.old)) }
+        ensures reading { OnOk result (reading_of self.new ≡ with_tree (reading_of self.old) (tree_of self.new)) }
+        ensures block { IfOk result (λ next. let e = fenced_behind (source_text self.old)
+            (path_of (tree_of self.old)) indent fence_ch n_fence_char start_ix in
+            AddsRaw (source_text self.old) (source_options self.old) (names_of (allocs_of self.new)) (λ d.
+            IsFencedCode d start_ix n_fence_char e.places e.«end») e.left (tree_of self.old) (tree_of self.new)
             next) }
-        ensures boundary { IfOk result (λ next. (behind_line_at self.old.source.text.now start_ix ≤ next)
-            × IsCharBoundary self.old.source.text.now next) }
+        ensures boundary { IfOk result (λ next. (behind_line_at (source_text self.old) start_ix ≤ next)
+            × IsCharBoundary (source_text self.old) next) }
         ensures fits { IfOk result (λ next. (from : ℕ) → from ≤ start_ix
-            → AddsBetween self.old.source.text.now from next self.old.reading.tree self.new.reading.tree) }
+            → AddsBetween (source_text self.old) from next (tree_of self.old) (tree_of self.new)) }
     {
         let fence = Fence {
             indent,
@@ -203,21 +204,21 @@ impl<'a> FirstPass<'a> {
         start_ix: usize,
         metadata_block_ch: u8,
     ) -> Result<usize, AllocError>
-        requires boundary { IsCharBoundary self.old.source.text.now start_ix }
+        requires boundary { IsCharBoundary (source_text self.old) start_ix }
         requires byte { is_content metadata_block_ch ≡ true }
-        ensures source { OnOk result (self.new.source ≡ self.old.source) }
-        ensures names { OnOk result (Extends (names_of self.new.allocs) (names_of self.old.allocs)) }
-        ensures tables { OnOk result (tables self.new.allocs ≡ tables self.old.allocs) }
-        ensures reading { OnOk result (self.new.reading ≡ with_tree self.old.reading self.new.reading.tree) }
-        ensures block { IfOk result (λ next. let e = metadata_behind self.old.source.text.now
-            (path_of self.old.reading.tree) metadata_block_ch start_ix in
-            AddsRaw self.old.source.text.now self.old.source.options (names_of self.new.allocs) (λ d.
-            IsMetadata d start_ix metadata_block_ch e.places e.«end») e.left self.old.reading.tree self.new.reading.tree
+        ensures source { OnOk result (source_of self.new ≡ source_of self.old) }
+        ensures names { OnOk result (Extends (names_of (allocs_of self.new)) (names_of (allocs_of self.old))) }
+        ensures tables { OnOk result (tables (allocs_of self.new) ≡ tables (allocs_of self.old)) }
+        ensures reading { OnOk result (reading_of self.new ≡ with_tree (reading_of self.old) (tree_of self.new)) }
+        ensures block { IfOk result (λ next. let e = metadata_behind (source_text self.old)
+            (path_of (tree_of self.old)) metadata_block_ch start_ix in
+            AddsRaw (source_text self.old) (source_options self.old) (names_of (allocs_of self.new)) (λ d.
+            IsMetadata d start_ix metadata_block_ch e.places e.«end») e.left (tree_of self.old) (tree_of self.new)
             next) }
-        ensures boundary { IfOk result (λ next. (behind_line_at self.old.source.text.now start_ix ≤ next)
-            × IsCharBoundary self.old.source.text.now next) }
+        ensures boundary { IfOk result (λ next. (behind_line_at (source_text self.old) start_ix ≤ next)
+            × IsCharBoundary (source_text self.old) next) }
         ensures fits { IfOk result (λ next. (from : ℕ) → from ≤ start_ix
-            → AddsBetween self.old.source.text.now from next self.old.reading.tree self.new.reading.tree) }
+            → AddsBetween (source_text self.old) from next (tree_of self.old) (tree_of self.new)) }
     {
         let next = metadata_block::parse_metadata_block(
             &mut self.reading.tree,
@@ -240,22 +241,22 @@ impl<'a> FirstPass<'a> {
         remaining_space: usize,
         indent: usize,
     ) -> Result<usize, AllocError>
-        requires boundary { IsCharBoundary self.old.source.text.now start_ix }
+        requires boundary { IsCharBoundary (source_text self.old) start_ix }
         requires owed { remaining_space ≤ 3 }
         requires indent { indent ≤ 3 }
-        ensures source { OnOk result (self.new.source ≡ self.old.source) }
-        ensures names { OnOk result (Extends (names_of self.new.allocs) (names_of self.old.allocs)) }
-        ensures tables { OnOk result (tables self.new.allocs ≡ tables self.old.allocs) }
-        ensures reading { OnOk result (self.new.reading ≡ with_tree self.old.reading self.new.reading.tree) }
-        ensures block { IfOk result (λ next. (p : Place) → IsPlaceAt self.old.source.text.now start_ix p
-            → let e = html_to_end self.old.source.text.now (path_of self.old.reading.tree) html_end_tag.now p in
-            AddsRaw self.old.source.text.now self.old.source.options (names_of self.new.allocs) (λ d.
-            IsHtml d start_ix (max remaining_space indent) e.places e.«end») e.left self.old.reading.tree
-            self.new.reading.tree next) }
-        ensures boundary { IfOk result (λ next. (behind_line_at self.old.source.text.now start_ix ≤ next)
-            × IsCharBoundary self.old.source.text.now next) }
+        ensures source { OnOk result (source_of self.new ≡ source_of self.old) }
+        ensures names { OnOk result (Extends (names_of (allocs_of self.new)) (names_of (allocs_of self.old))) }
+        ensures tables { OnOk result (tables (allocs_of self.new) ≡ tables (allocs_of self.old)) }
+        ensures reading { OnOk result (reading_of self.new ≡ with_tree (reading_of self.old) (tree_of self.new)) }
+        ensures block { IfOk result (λ next. (p : Place) → IsPlaceAt (source_text self.old) start_ix p
+            → let e = html_to_end (source_text self.old) (path_of (tree_of self.old)) html_end_tag.now p in
+            AddsRaw (source_text self.old) (source_options self.old) (names_of (allocs_of self.new)) (λ d.
+            IsHtml d start_ix (max remaining_space indent) e.places e.«end») e.left (tree_of self.old)
+            (tree_of self.new) next) }
+        ensures boundary { IfOk result (λ next. (behind_line_at (source_text self.old) start_ix ≤ next)
+            × IsCharBoundary (source_text self.old) next) }
         ensures fits { IfOk result (λ next. (from : ℕ) → from ≤ start_ix
-            → AddsBetween self.old.source.text.now from next self.old.reading.tree self.new.reading.tree) }
+            → AddsBetween (source_text self.old) from next (tree_of self.old) (tree_of self.new)) }
     {
         let next = html_block::parse_html_block_type_1_to_5(
             &mut self.reading.tree,
@@ -278,23 +279,23 @@ impl<'a> FirstPass<'a> {
         remaining_space: usize,
         indent: usize,
     ) -> Result<usize, AllocError>
-        requires boundary { IsCharBoundary self.old.source.text.now start_ix }
+        requires boundary { IsCharBoundary (source_text self.old) start_ix }
         requires owed { remaining_space ≤ 3 }
         requires indent { indent ≤ 3 }
-        ensures source { OnOk result (self.new.source ≡ self.old.source) }
-        ensures names { OnOk result (Extends (names_of self.new.allocs) (names_of self.old.allocs)) }
-        ensures tables { OnOk result (tables self.new.allocs ≡ tables self.old.allocs) }
-        ensures reading { OnOk result (self.new.reading ≡ with_tree self.old.reading self.new.reading.tree) }
-        ensures block { IfOk result (λ next. (p : Place) → IsPlaceAt self.old.source.text.now start_ix p
-            → let e = html_to_blank self.old.source.text.now (path_of self.old.reading.tree) p in
-            AddsRaw self.old.source.text.now self.old.source.options (names_of self.new.allocs) (λ d.
-            IsHtml d start_ix (max remaining_space indent) e.places e.«end») e.left self.old.reading.tree
-            self.new.reading.tree next) }
-        ensures boundary { IfOk result (λ next. (behind_line_at self.old.source.text.now start_ix ≤ next)
-            × IsCharBoundary self.old.source.text.now next) }
-        ensures fits { IfOk result (λ next. (p : Place) → IsPlaceAt self.old.source.text.now start_ix p → (from : ℕ)
-            → from ≤ start_ix → AddsBetween self.old.source.text.now from (html_to_blank self.old.source.text.now
-            (path_of self.old.reading.tree) p).«end» self.old.reading.tree self.new.reading.tree) }
+        ensures source { OnOk result (source_of self.new ≡ source_of self.old) }
+        ensures names { OnOk result (Extends (names_of (allocs_of self.new)) (names_of (allocs_of self.old))) }
+        ensures tables { OnOk result (tables (allocs_of self.new) ≡ tables (allocs_of self.old)) }
+        ensures reading { OnOk result (reading_of self.new ≡ with_tree (reading_of self.old) (tree_of self.new)) }
+        ensures block { IfOk result (λ next. (p : Place) → IsPlaceAt (source_text self.old) start_ix p
+            → let e = html_to_blank (source_text self.old) (path_of (tree_of self.old)) p in
+            AddsRaw (source_text self.old) (source_options self.old) (names_of (allocs_of self.new)) (λ d.
+            IsHtml d start_ix (max remaining_space indent) e.places e.«end») e.left (tree_of self.old)
+            (tree_of self.new) next) }
+        ensures boundary { IfOk result (λ next. (behind_line_at (source_text self.old) start_ix ≤ next)
+            × IsCharBoundary (source_text self.old) next) }
+        ensures fits { IfOk result (λ next. (p : Place) → IsPlaceAt (source_text self.old) start_ix p → (from : ℕ)
+            → from ≤ start_ix → AddsBetween (source_text self.old) from (html_to_blank (source_text self.old)
+            (path_of (tree_of self.old)) p).«end» (tree_of self.old) (tree_of self.new)) }
     {
         let lines = self.parse_html_to_blank(start_ix, max(remaining_space, indent))?;
         Ok(lines.next)
@@ -306,24 +307,24 @@ impl<'a> FirstPass<'a> {
         start_ix: usize,
         columns: usize,
     ) -> Result<BlockLines, AllocError>
-        requires boundary { IsCharBoundary self.old.source.text.now start_ix }
+        requires boundary { IsCharBoundary (source_text self.old) start_ix }
         requires columns { columns ≤ 3 }
-        ensures source { OnOk result (self.new.source ≡ self.old.source) }
-        ensures names { OnOk result (Extends (names_of self.new.allocs) (names_of self.old.allocs)) }
-        ensures tables { OnOk result (tables self.new.allocs ≡ tables self.old.allocs) }
-        ensures reading { OnOk result (self.new.reading ≡ with_tree self.old.reading self.new.reading.tree) }
-        ensures block { IfOk result (λ lines. (p : Place) → IsPlaceAt self.old.source.text.now start_ix p
-            → let e = html_to_blank self.old.source.text.now (path_of self.old.reading.tree) p in
-            AddsRaw self.old.source.text.now self.old.source.options (names_of self.new.allocs) (λ d.
-            IsHtml d start_ix columns e.places e.«end») e.left self.old.reading.tree self.new.reading.tree lines.next) }
-        ensures end { IfOk result (λ lines. (p : Place) → IsPlaceAt self.old.source.text.now start_ix p
-            → lines.«end» ≡ (html_to_blank self.old.source.text.now (path_of self.old.reading.tree) p).«end») }
-        ensures boundary { IfOk result (λ lines. (behind_line_at self.old.source.text.now start_ix ≤ lines.next)
-            × IsCharBoundary self.old.source.text.now lines.next) }
+        ensures source { OnOk result (source_of self.new ≡ source_of self.old) }
+        ensures names { OnOk result (Extends (names_of (allocs_of self.new)) (names_of (allocs_of self.old))) }
+        ensures tables { OnOk result (tables (allocs_of self.new) ≡ tables (allocs_of self.old)) }
+        ensures reading { OnOk result (reading_of self.new ≡ with_tree (reading_of self.old) (tree_of self.new)) }
+        ensures block { IfOk result (λ lines. (p : Place) → IsPlaceAt (source_text self.old) start_ix p
+            → let e = html_to_blank (source_text self.old) (path_of (tree_of self.old)) p in
+            AddsRaw (source_text self.old) (source_options self.old) (names_of (allocs_of self.new)) (λ d.
+            IsHtml d start_ix columns e.places e.«end») e.left (tree_of self.old) (tree_of self.new) lines.next) }
+        ensures end { IfOk result (λ lines. (p : Place) → IsPlaceAt (source_text self.old) start_ix p
+            → lines.«end» ≡ (html_to_blank (source_text self.old) (path_of (tree_of self.old)) p).«end») }
+        ensures boundary { IfOk result (λ lines. (behind_line_at (source_text self.old) start_ix ≤ lines.next)
+            × IsCharBoundary (source_text self.old) lines.next) }
         ensures fits { IfOk result (λ lines. (from : ℕ) → from ≤ start_ix
-            → AddsBetween self.old.source.text.now from lines.«end» self.old.reading.tree self.new.reading.tree) }
-        ensures within { IfOk result (λ lines. (lines.«end» ≤ length self.old.source.text.now)
-            × IsCharBoundary self.old.source.text.now lines.«end») }
+            → AddsBetween (source_text self.old) from lines.«end» (tree_of self.old) (tree_of self.new)) }
+        ensures within { IfOk result (λ lines. (lines.«end» ≤ length (source_text self.old))
+            × IsCharBoundary (source_text self.old) lines.«end») }
     {
         let lines = html_block::parse_html_block_type_6_or_7(
             &mut self.reading.tree,

@@ -8,6 +8,8 @@ use Rattle.first_pass_grammar.specs.Derivation.{LinkEntry, Tables}
 use Rattle.first_pass_names.specs.declared.items.LinkDef.{LinkDef}
 use Rattle.first_pass_names.specs.declared.items.FootnoteDef.{FootnoteDef}
 use Rattle.first_pass_names.specs.declared.items.Allocations.{Allocations}
+use Rattle.first_pass_names.specs.declared.items.FootDefs.{FootDefs}
+use Rattle.first_pass_names.specs.declared.items.RefDefs.{RefDefs}
 
 -- a link definition with its label
 abbrev pub link_entry : CowStr × LinkDef → LinkEntry
@@ -16,6 +18,13 @@ link_entry e = record { label = text_of e.0; dest = text_of e.1.dest; title = op
 -- what the tables define
 abbrev pub tables : Allocations → Tables
 tables a = record { links = map link_entry a.refdefs.entries.items; footnotes = map (λ (e : CowStr × FootnoteDef). text_of e.0) a.footdefs.entries.items }
+
+-- these tables as they stand
+abbrev pub refdefs_of : Allocations → RefDefs
+refdefs_of a = a.refdefs
+
+abbrev pub footdefs_of : Allocations → FootDefs
+footdefs_of a = a.footdefs
 
 -- nothing
 abbrev pub no_tables : Tables

@@ -3,7 +3,7 @@
 ghost use Rattle.std.specs.Prelude.{◌≡◌, ◌<◌, ◌∷◌, ◌++◌, [], length, slice_get, Some, IfOk, OnOk, OnErr};
 ghost use Rattle.first_pass_grammar.specs.Names.{NamesText, Extends};
 ghost use Rattle.first_pass_items.specs.CowText.{text_of};
-ghost use Rattle.first_pass_names.specs.TableEntries.{tables, no_tables, names_of, no_names, with_named};
+ghost use Rattle.first_pass_names.specs.TableEntries.{tables, no_tables, names_of, no_names, with_named, refdefs_of, footdefs_of};
 ghost use Rattle.first_pass_grammar.specs.Names.{text_named};
 
 use first_pass_items::cow_str::CowStr;
@@ -65,14 +65,14 @@ impl<'a> Allocations<'a> {
 
     /// The link definitions.
     pub fn refdefs(&self) -> &RefDefs<'a>
-        ensures { result.now ≡ self.now.refdefs }
+        ensures { result.now ≡ refdefs_of self.now }
     {
         &self.refdefs
     }
 
     /// The footnote definitions.
     pub fn footdefs(&self) -> &FootDefs<'a>
-        ensures { result.now ≡ self.now.footdefs }
+        ensures { result.now ≡ footdefs_of self.now }
     {
         &self.footdefs
     }
