@@ -1,5 +1,5 @@
 -- A leaf block that was added is what its kind opens at its place.
-use Rattle.std.proofs.Common.{◌≡◌, inl, inr, ℕ, ◌+◌, ◌<◌, ◌≤◌, nat_lt, Bool, true, false, List, [], ◌∷◌, length, drop, Option, Some, None, sym, ap, subst, ◌∙◌, arith, min}
+use Rattle.std.proofs.Common.{◌≡◌, inl, inr, ℕ, ◌+◌, ◌<◌, ◌≤◌, nat_lt, Bool, true, false, List, [], ◌∷◌, length, drop, Option, Some, None, refl, sym, ap, subst, ◌∙◌, arith, min, if◌then◌else◌}
 use Rattle.std.proofs.lemmas.Bool.Decides.{nat_tests}
 use Rattle.first_pass_items.specs.declared.option_set.Options.{Options}
 use Rattle.first_pass_items.specs.declared.item.Item.{Item}
@@ -19,7 +19,8 @@ use Rattle.first_pass_grammar.specs.Leaves.{Document, document, add_break, IsPar
 use Rattle.first_pass_grammar.specs.Extents.{Extent}
 use Rattle.first_pass_grammar.specs.CodeBlocks.{code_lines, last_is_blank, IsIndentedCode, metadata_lines, IsMetadata, fenced_lines, IsFencedCode}
 use Rattle.first_pass_grammar.specs.HtmlBlocks.{until_end, until_blank, IsHtml}
-use Rattle.first_pass_grammar.specs.Skeleton.{Block, Line, OpensLeaf, OpensAs}
+use Rattle.first_pass_grammar.specs.Rows.{is_paragraph}
+use Rattle.first_pass_grammar.specs.Skeleton.{block_at, leaf_block, Line, OpensLeaf, OpensAs}
 use Rattle.first_pass_grammar.specs.Completion.{lines_from}
 use Rattle.first_pass_open.specs.Path.{path_of}
 use Rattle.first_pass_names.specs.TableEntries.{no_names}
@@ -51,8 +52,8 @@ code_added text options names p old new next blank place a =
       opens = λ more extends. (
         a.items,
         subst (λ (f : List Place × List Place). IsIndentedCode (document text options more) q f.0 a.items) same (a.is more extends),
-        ap (λ t. OpensLeaf (Block p.line a.items t) Line (lines_from text next)) (a.blank_is ∙ ap (λ (f : List Place × List Place). last_is_blank f.0) same)
-            ∙ ap (OpensLeaf (Block p.line a.items (last_is_blank (code_lines path (lines_from text (line_end p))).0)) Line) (a.left_is ∙ ap (λ (f : List Place × List Place). f.1) same),
+        ap (λ t. OpensLeaf (leaf_block IndentedCode p a.items t) Line (lines_from text next)) (a.blank_is ∙ ap (λ (f : List Place × List Place). last_is_blank f.0) same)
+            ∙ ap (OpensLeaf (leaf_block IndentedCode p a.items (last_is_blank (code_lines path (lines_from text (line_end p))).0)) Line) (a.left_is ∙ ap (λ (f : List Place × List Place). f.1) same),
       );
     }
 
@@ -78,7 +79,7 @@ module _ (text : List ℕ) (options : Options) (names : Names) (p : Place) (old 
         opens = λ more extends. (
           a.items,
           subst (λ n. IsMetadata (document text options more) n byte f.places f.«end» a.items) at_is (subst (λ (g : Extent). IsMetadata (document text options more) at byte g.places g.«end» a.items) same (a.are more extends)),
-          ap (OpensLeaf (Block p.line a.items false) Line) (a.left_is ∙ ap (λ (g : Extent). g.left) same),
+          ap (OpensLeaf (leaf_block (Metadata byte) p a.items false) Line) (a.left_is ∙ ap (λ (g : Extent). g.left) same),
         );
       }
 
@@ -97,7 +98,7 @@ module _ (text : List ℕ) (options : Options) (names : Names) (p : Place) (old 
         opens = λ more extends. (
           a.items,
           subst (λ n. IsFencedCode (document text options more) n count f.places f.«end» a.items) at_is (subst (λ (g : Extent). IsFencedCode (document text options more) at count g.places g.«end» a.items) same (a.are more extends)),
-          ap (OpensLeaf (Block p.line a.items false) Line) (a.left_is ∙ ap (λ (g : Extent). g.left) same),
+          ap (OpensLeaf (leaf_block (FencedCode count byte) p a.items false) Line) (a.left_is ∙ ap (λ (g : Extent). g.left) same),
         );
       }
 
@@ -120,7 +121,7 @@ module _ (text : List ℕ) (options : Options) (names : Names) (p : Place) (old 
             a.items,
             subst (λ k. IsHtml (document text options more) (offset (unindented p)) k f.places f.«end» a.items) width
                 (subst (λ n. IsHtml (document text options more) n columns f.places f.«end» a.items) at_is (subst (λ (g : Extent). IsHtml (document text options more) at columns g.places g.«end» a.items) same (a.are more extends))),
-            ap (OpensLeaf (Block p.line a.items false) Line) (a.left_is ∙ ap (λ (g : Extent). g.left) same),
+            ap (OpensLeaf (leaf_block HtmlToEnd p a.items false) Line) (a.left_is ∙ ap (λ (g : Extent). g.left) same),
           ),
         );
       }
@@ -141,7 +142,7 @@ module _ (text : List ℕ) (options : Options) (names : Names) (p : Place) (old 
           a.items,
           subst (λ k. IsHtml (document text options more) (offset (unindented p)) k f.places f.«end» a.items) width
               (subst (λ n. IsHtml (document text options more) n columns f.places f.«end» a.items) at_is (subst (λ (g : Extent). IsHtml (document text options more) at columns g.places g.«end» a.items) same (a.are more extends))),
-          ap (OpensLeaf (Block p.line a.items false) Line) (a.left_is ∙ ap (λ (g : Extent). g.left) same),
+          ap (OpensLeaf (leaf_block HtmlToBlank p a.items false) Line) (a.left_is ∙ ap (λ (g : Extent). g.left) same),
         );
       }
 
@@ -188,15 +189,15 @@ paragraph_named text options m n start marker old new next a = record {
 }
 
 -- behind a leaf block of a kind
-pub ready_kind : (text : List ℕ) (options : Options) (own names : Names) (r : Reading) (new : Forest Item) (p : Place) (kind : Kind) (gap : Bool) (next : ℕ) → IsForest r.tree → IsKind options p.rest kind → Extends names own
+pub ready_kind : (text : List ℕ) (options : Options) (own names : Names) (r : Reading) (new : Forest Item) (p : Place) (kind : Kind) (gap : Bool) (next : ℕ) → IsForest r.tree → IsKind options p.rest kind → is_paragraph kind ≡ false → Extends names own
     → AddsKind text options own p kind gap (list_finished p.line r).tree new next → r.empty_item ≡ None → ReadyLeaf (document text options names) r p (lines_from text (line_end p))
     → (empty : Option ℕ) (blank : Bool) → empty ≡ None → blank ≡ gap → Ready (document text options names) (remembered new empty blank) (lines_from text next)
-ready_kind text options own names r new p kind gap next forest is extends a none ready empty blank e b =
+ready_kind text options own names r new p kind gap next forest is other extends a none ready empty blank e b =
     let d : Document = document text options names in
     let lines : List Place = lines_from text (line_end p) in
     let left : List Place = lines_from text next in
-    ready_added d r new p lines left p.line a.items gap kind forest is
-    (subst (λ path. OpensAs d path p lines kind (OpensLeaf (Block p.line a.items gap) Line left)) (path_finished p.line r none) (a.opens names extends)) a.tree_is none ready empty blank e b
+    ready_added d r new p lines left p.line (block_at kind p a.items gap) (ap (λ t. if t then offset (unindented p) else p.line) other) kind forest is
+    (subst (λ path. OpensAs d path p lines kind (OpensLeaf (leaf_block kind p a.items gap) Line left)) (path_finished p.line r none) (a.opens names extends)) a.tree_is none ready empty blank e b
 
 -- the same of a kind that is this one, and blank lines or none at its end
 pub adds_so : (text : List ℕ) (options : Options) (names : Names) (p : Place) (k kind : Kind) (gap blank : Bool) (old new : Forest Item) (next : ℕ) → kind ≡ k → blank ≡ gap → AddsKind text options names p k gap old new next → AddsKind text options names p kind blank old new next
@@ -220,7 +221,16 @@ pub html_moved : (t text : List ℕ) (o options : Options) (names : Names) (star
 html_moved t text o options names start columns p f old new next a b e h =
     subst (λ z. AddsHtml text options names start columns p z new next) e (subst (λ z. AddsHtml text z names start columns p f new next) b (subst (λ z. AddsHtml z o names start columns p f new next) a h))
 
--- a leaf block that begins with a mark is no blank line
+-- a leaf block that begins with a mark is no paragraph
+pub marked_other : (leaf : MarkedLeaf) → is_paragraph (marked_kind leaf) ≡ false
+marked_other MarkedCode = refl
+marked_other (MarkedMetadata byte) = refl
+marked_other (MarkedHtml «end») = refl
+marked_other (MarkedBreak size) = refl
+marked_other (MarkedHeading level) = refl
+marked_other (MarkedFence count byte) = refl
+
+-- nor a blank line
 pub marked_some : (leaf : MarkedLeaf) → marked_kind leaf ≡ Blank → ⊥
 marked_some MarkedCode e = cc
 marked_some (MarkedMetadata byte) e = cc

@@ -17,7 +17,8 @@ use Rattle.first_pass_grammar.specs.declared.kind.Container.TheVariants.{BlockQu
 use Rattle.first_pass_grammar.specs.Containers.{at_rest, prefix}
 use Rattle.first_pass_grammar.specs.Kinds.{Kind, Blank, ThematicBreak, AtxHeading, Paragraph, unindented, quote_inside, item_at, IsKind}
 use Rattle.first_pass_grammar.specs.Leaves.{Document, IsParagraph, IsHeading, heading_text_at, rule_block, heading_block, paragraph_block, marker_items}
-use Rattle.first_pass_grammar.specs.Skeleton.{BlankLine, Block, Line, Inside, LeafAt, IsLeafHere, Opening, OpensLeaf, OpensParagraph, OpensAs, OpensBlockAt, OpensFrom, Opens}
+use Rattle.first_pass_grammar.specs.OnePass.{leaf_closes}
+use Rattle.first_pass_grammar.specs.Skeleton.{BlankLine, LeafBlock, Block, block_at, leaf_block, Line, Inside, LeafAt, IsLeafHere, Opening, OpensLeaf, OpensParagraph, OpensAs, OpensBlockAt, OpensFrom, Opens}
 use Rattle.first_pass_grammar.specs.Completion.{lines_from, Frame, containers_of, AreBelow, Completes}
 use Rattle.first_pass_grammar.proofs.Completions.{completes-leaf, completes-blank, completes-block, completes-text, counts_in}
 use Rattle.first_pass_text.specs.Appends.{line_end_at, AddsParagraph, AddsHeading}
@@ -51,10 +52,10 @@ no_container d path p lines k o no_item none kind opens =
     (subst (λ (q : Option Rest). OpensFrom d path p lines None (option_map (at_rest p) q) o) (sym none) (k, kind, opens))
 
 -- a block ends any list at the place that it says
-block_away : (b : Option ItemBody) (at : ℕ) (items : List (ℕ × Item)) (gap : Bool) (left : List Place) → EndsListAt at b (OpensLeaf (Block at items gap) Line left)
-block_away None at items gap left = tt
-block_away (Some (ListBody flags list number)) at items gap left = refl
-block_away (Some b) at items gap left = tt
+block_away : (b : Option ItemBody) (at : ℕ) (block : LeafBlock) (left : List Place) → leaf_closes block ≡ at → EndsListAt at b (OpensLeaf (Block block) Line left)
+block_away None at block left closes = tt
+block_away (Some (ListBody flags list number)) at block left closes = closes
+block_away (Some b) at block left closes = tt
 
 -- the items of a block behind the nodes
 with_block : (d : Document) (f : Forest Item) (frames : List Frame) (items : List (ℕ × Item)) (gap : Bool) (left : List Place) → AreOpen f.nodes f.spine frames
@@ -72,47 +73,47 @@ remembered_so : (d : Document) (new : Forest Item) (empty : Option ℕ) (blank g
 remembered_so d new empty blank gap left none same ready = ready_plain d (remembered new empty blank) left none (subst (λ t. ReadyAt d new t Line left) (sym same) ready)
 
 -- a block is added once a new block has ended what it ends
-added_block : (d : Document) (r : Reading) (new : Forest Item) (p : Place) (lines left : List Place) (at : ℕ) (items : List (ℕ × Item)) (gap : Bool) → IsForest r.tree → Opens d (path_of r.tree) p lines (OpensLeaf (Block at items gap) Line left)
-    → new ≡ added (list_finished at r).tree items → r.empty_item ≡ None → ReadyAt d r.tree r.blank (Inside p) lines → ReadyAt d new gap Line left
-added_block d r new p lines left at items gap forest opens new_is none ready =
-    let opening : Opening = OpensLeaf (Block at items gap) Line left in
-    let done = ready_finished d r p lines at opening forest opens tt (block_away (top_body r.tree) at items gap left) none ready in
+added_block : (d : Document) (r : Reading) (new : Forest Item) (p : Place) (lines left : List Place) (at : ℕ) (block : LeafBlock) → leaf_closes block ≡ at → IsForest r.tree → Opens d (path_of r.tree) p lines (OpensLeaf (Block block) Line left)
+    → new ≡ added (list_finished at r).tree block.items → r.empty_item ≡ None → ReadyAt d r.tree r.blank (Inside p) lines → ReadyAt d new block.gap Line left
+added_block d r new p lines left at block closes forest opens new_is none ready =
+    let opening : Opening = OpensLeaf (Block block) Line left in
+    let done = ready_finished d r p lines at opening forest opens tt (block_away (top_body r.tree) at block left closes) none ready in
     let f : Forest Item = (list_finished at r).tree in
     let frames : List Frame = done.ready.0.frames in
     let os : List ℕ = map (λ (i : TreeIndex). i.0) f.spine in
     let opens' : Opens d (containers_of frames) p lines opening = subst (λ z. Opens d z p lines opening) (sym done.path ∙ open_path f.nodes f.spine frames done.ready.0.are_open) opens in
-    let k = completes-block d frames f.nodes os p lines left at items gap done.ready.1 opens' done.ready.0.completes in
-    subst (λ z. ReadyAt d z gap Line left) (sym new_is) (with_block d f frames items gap left done.ready.0.are_open done.ready.0.completes.below k)
+    let k = completes-block d frames f.nodes os p lines left block done.ready.1 opens' done.ready.0.completes in
+    subst (λ z. ReadyAt d z block.gap Line left) (sym new_is) (with_block d f frames block.items block.gap left done.ready.0.are_open done.ready.0.completes.below k)
 
 -- the same behind the tag of a block quote, where a new block ends nothing
-lazy_block : (d : Document) (r : Reading) (new : Forest Item) (p : Place) (lines left : List Place) (at : ℕ) (items : List (ℕ × Item)) (gap : Bool) → OpensBlockAt d (path_of r.tree) p lines (OpensLeaf (Block at items gap) Line left)
-    → new ≡ added (list_finished at r).tree items → r.empty_item ≡ None → ReadyLazy d r p lines → ReadyAt d new gap Line left
-lazy_block d r new p lines left at items gap opens new_is none lazy =
+lazy_block : (d : Document) (r : Reading) (new : Forest Item) (p : Place) (lines left : List Place) (at : ℕ) (block : LeafBlock) → OpensBlockAt d (path_of r.tree) p lines (OpensLeaf (Block block) Line left)
+    → new ≡ added (list_finished at r).tree block.items → r.empty_item ≡ None → ReadyLazy d r p lines → ReadyAt d new block.gap Line left
+lazy_block d r new p lines left at block opens new_is none lazy =
     let f : Forest Item = r.tree in
     let frames : List Frame = lazy.ready.frames in
     let os : List ℕ = map (λ (i : TreeIndex). i.0) f.spine in
     let plain = plain_by f.nodes f.spine frames lazy.ready.are_open (ap is_list lazy.quote) in
     let path = open_path f.nodes f.spine frames lazy.ready.are_open in
-    let first : IsLeafHere d (containers_of frames) (LeafAt p) lines (Block at items gap) Line left = record {
+    let first : IsLeafHere d (containers_of frames) (LeafAt p) lines (Block block) Line left = record {
       place = p;
       behind = lines;
       begins = (refl, refl);
-      opens = subst (λ z. OpensBlockAt d z p lines (OpensLeaf (Block at items gap) Line left)) path opens;
+      opens = subst (λ z. OpensBlockAt d z p lines (OpensLeaf (Block block) Line left)) path opens;
     } in
-    let k = completes-leaf d frames f.nodes os (LeafAt p) lines left at items gap plain (λ path mid. refl) first lazy.ready.completes in
-    let q = with_block d f frames items gap left lazy.ready.are_open lazy.ready.completes.below k in
+    let k = completes-leaf d frames f.nodes os (LeafAt p) lines left block plain (λ path mid. refl) first lazy.ready.completes in
+    let q = with_block d f frames block.items block.gap left lazy.ready.are_open lazy.ready.completes.below k in
     let same : list_finished at r ≡ r = finishes_nothing at r lazy.kind lazy.quote lazy.blank none in
-    subst (λ z. ReadyAt d z gap Line left) (sym (new_is ∙ ap (λ (z : Reading). added z.tree items) same)) q
+    subst (λ z. ReadyAt d z block.gap Line left) (sym (new_is ∙ ap (λ (z : Reading). added z.tree block.items) same)) q
 
 -- a leaf is added at its place
-pub ready_added : (d : Document) (r : Reading) (new : Forest Item) (p : Place) (lines left : List Place) (at : ℕ) (items : List (ℕ × Item)) (gap : Bool) (k : Kind) → IsForest r.tree → IsKind d.options p.rest k
-    → OpensAs d (path_of r.tree) p lines k (OpensLeaf (Block at items gap) Line left) → new ≡ added (list_finished at r).tree items → r.empty_item ≡ None → ReadyLeaf d r p lines
-    → (empty : Option ℕ) (blank : Bool) → empty ≡ None → blank ≡ gap → Ready d (remembered new empty blank) left
-ready_added d r new p lines left at items gap k forest kind opens new_is none (inl (no_item, no_quote, ready)) empty blank e b =
-    remembered_so d new empty blank gap left e b
-    (added_block d r new p lines left at items gap forest (no_container d (path_of r.tree) p lines k (OpensLeaf (Block at items gap) Line left) no_item no_quote kind opens) new_is none ready)
-ready_added d r new p lines left at items gap k forest kind opens new_is none (inr lazy) empty blank e b =
-    remembered_so d new empty blank gap left e b (lazy_block d r new p lines left at items gap (k, kind, opens) new_is none lazy)
+pub ready_added : (d : Document) (r : Reading) (new : Forest Item) (p : Place) (lines left : List Place) (at : ℕ) (block : LeafBlock) → leaf_closes block ≡ at → (k : Kind) → IsForest r.tree → IsKind d.options p.rest k
+    → OpensAs d (path_of r.tree) p lines k (OpensLeaf (Block block) Line left) → new ≡ added (list_finished at r).tree block.items → r.empty_item ≡ None → ReadyLeaf d r p lines
+    → (empty : Option ℕ) (blank : Bool) → empty ≡ None → blank ≡ block.gap → Ready d (remembered new empty blank) left
+ready_added d r new p lines left at block closes k forest kind opens new_is none (inl (no_item, no_quote, ready)) empty blank e b =
+    remembered_so d new empty blank block.gap left e b
+    (added_block d r new p lines left at block closes forest (no_container d (path_of r.tree) p lines k (OpensLeaf (Block block) Line left) no_item no_quote kind opens) new_is none ready)
+ready_added d r new p lines left at block closes k forest kind opens new_is none (inr lazy) empty blank e b =
+    remembered_so d new empty blank block.gap left e b (lazy_block d r new p lines left at block (k, kind, opens) new_is none lazy)
 
 kind_blank_is : (r : Reading) (b : Option ItemBody) (kind : Option BlockQuoteKind) → b ≡ Some (BlockQuoteBody kind) → blank_read_by r b ≡ r
 kind_blank_is r b kind is = ap (blank_read_by r) is
@@ -142,28 +143,28 @@ ready_blank_leaf d r p lines kind none (inr lazy) =
 
 -- a heading that was added is what opens at its place
 pub opens_heading : (d : Document) (path : List Container) (old new : Forest Item) (p : Place) (at next : ℕ) (level : HeadingLevel) → at ≡ offset (unindented p) → IsPlaceOf d.text (unindented p) → (h : AddsHeading d at level old new next)
-    → OpensAs d path p (lines_from d.text (line_end p)) (AtxHeading level) (OpensLeaf (Block p.line (heading_block at next level h.chain) false) Line (lines_from d.text next))
+    → OpensAs d path p (lines_from d.text (line_end p)) (AtxHeading level) (OpensLeaf (leaf_block (AtxHeading level) p (heading_block at next level h.chain) false) Line (lines_from d.text next))
 unfolding OpensAs
 opens_heading d path old new p at next level at_is place h =
     let next_is : next ≡ line_end p = h.end_is ∙ ap (line_end_at d.text) at_is ∙ line_end_of d.text p place in (
       h.chain,
       next,
       subst (λ k. IsHeading d (heading_text_at d.text k (level_number level)) h.chain next) at_is h.line,
-      ap (λ k. OpensLeaf (Block p.line (heading_block k next level h.chain) false) Line (lines_from d.text next)) at_is
-          ∙ ap (λ n. OpensLeaf (Block p.line (heading_block (offset (unindented p)) next level h.chain) false) Line (lines_from d.text n)) next_is,
+      ap (λ k. OpensLeaf (leaf_block (AtxHeading level) p (heading_block k next level h.chain) false) Line (lines_from d.text next)) at_is
+          ∙ ap (λ n. OpensLeaf (leaf_block (AtxHeading level) p (heading_block (offset (unindented p)) next level h.chain) false) Line (lines_from d.text n)) next_is,
     )
 
 -- a thematic break
 pub opens_rule : (d : Document) (path : List Container) (p : Place) (at next size : ℕ) → at ≡ offset (unindented p) → next ≡ line_end p
-    → OpensAs d path p (lines_from d.text (line_end p)) (ThematicBreak size) (OpensLeaf (Block p.line (rule_block at size) false) Line (lines_from d.text next))
+    → OpensAs d path p (lines_from d.text (line_end p)) (ThematicBreak size) (OpensLeaf (leaf_block (ThematicBreak size) p (rule_block at size) false) Line (lines_from d.text next))
 unfolding OpensAs
 opens_rule d path p at next size at_is next_is =
-    ap (λ k. OpensLeaf (Block p.line (rule_block k size) false) Line (lines_from d.text next)) at_is
-    ∙ ap (λ n. OpensLeaf (Block p.line (rule_block (offset (unindented p)) size) false) Line (lines_from d.text n)) next_is
+    ap (λ k. OpensLeaf (leaf_block (ThematicBreak size) p (rule_block k size) false) Line (lines_from d.text next)) at_is
+    ∙ ap (λ n. OpensLeaf (leaf_block (ThematicBreak size) p (rule_block (offset (unindented p)) size) false) Line (lines_from d.text n)) next_is
 
 -- a paragraph that was added, behind a task list item marker or not, is what opens at its place
 opens_paragraph : (d : Document) (path : List Container) (old new : Forest Item) (p : Place) (at next : ℕ) (marker : Option Item) → path_of old ≡ path → at ≡ offset (unindented p) → IsPlaceOf d.text (unindented p) → (a : AddsParagraph d at marker old new next)
-    → OpensParagraph d path p (lines_from d.text (line_end p)) marker (OpensLeaf (Block at (paragraph_block at next (marker_items marker ++ a.chain)) false) Line (lines_from d.text next))
+    → OpensParagraph d path p (lines_from d.text (line_end p)) marker (OpensLeaf (leaf_block Paragraph p (paragraph_block at next (marker_items marker ++ a.chain)) false) Line (lines_from d.text next))
 unfolding OpensParagraph
 opens_paragraph d path old new p at next marker path_is at_is place a =
     let lines : List Place = lines_from d.text (line_end p) in
@@ -177,8 +178,8 @@ opens_paragraph d path old new p at next marker path_is at_is place a =
       a.chain,
       left,
       whole,
-      ap (λ k. OpensLeaf (Block k (paragraph_block k next chain) false) Line left) at_is
-          ∙ ap (λ n. OpensLeaf (Block (offset (unindented p)) (paragraph_block (offset (unindented p)) n chain) false) Line left) (sym ends),
+      ap (λ k. OpensLeaf (leaf_block Paragraph p (paragraph_block k next chain) false) Line left) at_is
+          ∙ ap (λ n. OpensLeaf (leaf_block Paragraph p (paragraph_block (offset (unindented p)) n chain) false) Line left) (sym ends),
     )
 
 -- behind a paragraph
@@ -189,9 +190,9 @@ unfolding OpensAs
 ready_paragraph d r new p at next forest kind at_is place a none ready =
     let lines : List Place = lines_from d.text (line_end p) in
     let block : List (ℕ × Item) = paragraph_block at next a.chain in
-    let o : Opening = OpensLeaf (Block at block false) Line (lines_from d.text next) in
+    let o : Opening = OpensLeaf (leaf_block Paragraph p block false) Line (lines_from d.text next) in
     let paragraph : OpensAs d (path_of r.tree) p lines Paragraph o = opens_paragraph d (path_of r.tree) (list_finished at r).tree new p at next None (path_finished at r none) at_is place a in
-    ready_added d r new p lines (lines_from d.text next) at block false Paragraph forest kind paragraph a.tree_is none ready
+    ready_added d r new p lines (lines_from d.text next) at (block_at Paragraph p block false) (sym at_is) Paragraph forest kind paragraph a.tree_is none ready
 
 -- behind the paragraph of a task list item
 pub ready_text : (d : Document) (r : Reading) (new : Forest Item) (p : Place) (at next : ℕ) (marker : Item) → at ≡ offset (unindented p) → IsPlaceOf d.text (unindented p) → AddsParagraph d at (Some marker) r.tree new next → r.empty_item ≡ None
@@ -205,7 +206,7 @@ ready_text d r new p at next marker at_is place a none text =
     let left : List Place = lines_from d.text next in
     let block : List (ℕ × Item) = paragraph_block at next (marker_items (Some marker) ++ a.chain) in
     let opens = opens_paragraph d (containers_of frames) f new p at next (Some marker) (open_path f.nodes f.spine frames ready.are_open) at_is place a in
-    let k = completes-text d frames f.nodes os marker p lines left at block text.plain opens ready.completes in
+    let k = completes-text d frames f.nodes os marker p lines left (block_at Paragraph p block false) text.plain opens ready.completes in
     let q = with_block d f frames block false left ready.are_open ready.completes.below k in
     ready_plain d (remembered new r.empty_item r.blank) left none (subst (λ t. ReadyAt d new t Line left) (sym text.blank) (subst (λ z. ReadyAt d z false Line left) (sym a.tree_is) q))
 

@@ -157,7 +157,7 @@ module _ (d : Document) (r : Reading) (p : Place) (lines : List Place) (byte num
       let x : Item = node_of (offset p) 0 (ListItemBody columns) in
       let g : Forest Item = pushed (appended f y) (record { 0 = length f.nodes }) in
       let h : Forest Item = pushed (appended g x) (record { 0 = length g.nodes }) in
-      let k = completes-list d frames f.nodes os p lines lines byte number columns (offset p) (offset p) 0 0 (list_flags true) inside done.ready.1 opens' done.ready.0.completes in
+      let k = completes-list d frames f.nodes os p lines lines byte number columns (offset p) p.line 0 0 (list_flags true) inside done.ready.1 opens' done.ready.0.completes in
       let n : length g.nodes ≡ suc (length f.nodes) = (let l = length-append f.nodes ((length f.spine + 1, y) ∷ []) in omega arith) in
       let deep : suc (length os) ≡ length f.spine + 1 = depth_of f.spine in
       let deeper : suc (suc (length os)) ≡ length g.spine + 1 = omega arith in
@@ -218,7 +218,7 @@ module _ (d : Document) (r : Reading) (p : Place) (lines : List Place) (byte num
       let opens' : Opens d (containers_of frames) p lines (OpensNode (item_head p byte number columns) inside lines) = subst (λ z. Opens d z p lines (OpensNode (item_head p byte number columns) inside lines)) path opens in
       let x : Item = node_of (offset p) 0 (ListItemBody columns) in
       let k' : Completes d run (InList byte loose ∷ frames) f.nodes (ix.0 ∷ os) (Inside p) lines = subst (λ z. Completes d run (InList z loose ∷ frames) f.nodes (ix.0 ∷ os) (Inside p) lines) b_is now.1 in
-      let done = completes-item d run loose frames f.nodes ix.0 os p lines lines byte number columns (offset p) (offset p) 0 inside opens' k' in
+      let done = completes-item d run loose frames f.nodes ix.0 os p lines lines byte number columns (offset p) p.line 0 inside opens' k' in
       let deep : suc (suc (length os)) ≡ length f.spine + 1 = (let l = depth_of rest in let m = ap (λ (s : List TreeIndex). length s) now.2 in omega arith) in
       let frames' : List Frame = InList byte (loose || run) ∷ frames in
       let o' : AreOpen f.nodes (ix ∷ rest) frames' = subst (λ z. AreOpen f.nodes (ix ∷ rest) (InList z (loose || run) ∷ frames)) b_is now.0 in

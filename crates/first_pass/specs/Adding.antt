@@ -7,7 +7,7 @@ use Rattle.first_pass_lines.specs.Places.{Place, line_end}
 use Rattle.first_pass_grammar.specs.Kinds.{Kind}
 use Rattle.first_pass_grammar.specs.Names.{Names, Extends}
 use Rattle.first_pass_grammar.specs.Leaves.{document}
-use Rattle.first_pass_grammar.specs.Skeleton.{Block, Line, OpensLeaf, OpensAs}
+use Rattle.first_pass_grammar.specs.Skeleton.{leaf_block, Line, OpensLeaf, OpensAs}
 use Rattle.first_pass_grammar.specs.Completion.{lines_from}
 use Rattle.first_pass_open.specs.Path.{path_of}
 use Rattle.first_pass_text.specs.Appends.{line_end_at}
@@ -19,7 +19,7 @@ use Rattle.first_pass_lists.specs.declared.reading.Reading.{Reading}
 pub record AddsKind (text : List ℕ) (options : Options) (names : Names) (p : Place) (kind : Kind) (gap : Bool) (old new : Forest Item) (next : ℕ) : Type 0 where
   pub items : List (ℕ × Item)
   pub tree_is : new ≡ added old items
-  pub opens : (more : Names) → Extends more names → OpensAs (document text options more) (path_of old) p (lines_from text (line_end p)) kind (OpensLeaf (Block p.line items gap) Line (lines_from text next))
+  pub opens : (more : Names) → Extends more names → OpensAs (document text options more) (path_of old) p (lines_from text (line_end p)) kind (OpensLeaf (leaf_block kind p items gap) Line (lines_from text next))
 
 -- a blank line is read too that begins before an offset, where one does
 abbrev pub behind_blank : List ℕ → ℕ → ℕ → ℕ

@@ -14,9 +14,11 @@ use Rattle.first_pass_tokens.specs.Chains.{text_token, touches, add_token, add_t
 use Rattle.first_pass_grammar.specs.Names.{Names, NamesText, index_of, kind_alone, read, read_nodes}
 use Rattle.first_pass_grammar.specs.Leaves.{Document, document, block_with}
 use Rattle.first_pass_grammar.specs.RawLines.{AreColumns, ends_with_both, Ranges, range_text, range_html, raw_items, AreRawLines, spaces}
-use Rattle.first_pass_grammar.specs.Skeleton.{Leaf, BlankLine, Block, Head, Opener, QuoteMarker, ItemMarker, From, Line, Inside, LeafAt, Blanks, TextAt, MarkAt, Opening, OpensLeaf, OpensNode, Skeleton, Nil, Then, Node}
-use Rattle.first_pass_grammar.specs.Lists.{list_byte, joins, is_quote_marker, counts_with, run_behind, has_gap, list_end, is_loosened}
-use Rattle.first_pass_grammar.specs.Derivation.{node_of, list_flags, tight_body, tightened, leaf_items, tight_of, list_item, container_items, forest_of}
+use Rattle.first_pass_grammar.specs.Skeleton.{LeafBlock, Leaf, BlankLine, Block, Head, Opener, QuoteMarker, ItemMarker, From, Line, Inside, LeafAt, Blanks, TextAt, MarkAt, Opening, OpensLeaf, OpensNode, Skeleton, Nil, Then, Node}
+use Rattle.first_pass_grammar.specs.Kinds.{Kind}
+use Rattle.first_pass_grammar.specs.Rows.{is_paragraph, is_quote_marker}
+use Rattle.first_pass_grammar.specs.OnePass.{list_byte, joins, counts_with, run_behind, has_gap, list_end, is_loosened, head_closes, leaf_items, tight_of, list_item, container_items, forest_of}
+use Rattle.first_pass_grammar.specs.Derivation.{node_of, list_flags, tight_body, tightened}
 use Rattle.first_pass_grammar.proofs.NoIndex.{HasNoIndex, HaveNoIndex, read_alone, both_free, unless_free}
 
 -- the same document, where indices name other texts
@@ -31,11 +33,15 @@ abbrev pub AlikeNodes : Names → Names → List (ℕ × Item) → List (ℕ × 
 AlikeNodes m n xs ys = read_nodes m xs ≡ read_nodes n ys
 
 -- leaf blocks, openings and skeletons that are one but for nodes that read alike
+-- what a leaf block is, and where it and its line start
+abbrev pub stands : LeafBlock → Kind × ℕ × ℕ
+stands b = (b.kind, b.line, b.start)
+
 abbrev pub AlikeLeaf : Names → Names → Leaf → Leaf → Type 0
 AlikeLeaf m n BlankLine BlankLine = Unit {0}
-AlikeLeaf m n BlankLine (Block closes items gap) = ⊥
-AlikeLeaf m n (Block closes items gap) BlankLine = ⊥
-AlikeLeaf m n (Block closes items gap) (Block closes' items' gap') = (closes ≡ closes') × AlikeNodes m n items items' × (gap ≡ gap')
+AlikeLeaf m n BlankLine (Block b) = ⊥
+AlikeLeaf m n (Block b) BlankLine = ⊥
+AlikeLeaf m n (Block b) (Block b') = (stands b ≡ stands b') × AlikeNodes m n b.items b'.items × (b.gap ≡ b'.gap)
 
 -- where blocks go on stands no item that has an index
 abbrev pub HoldsNoIndex : From → Type 0
@@ -200,11 +206,10 @@ read_at_depth m depth (x ∷ nodes) = ap (λ z. (depth + x.0, read m x.1) ∷ z)
 deep_alike : (m n : Names) (depth : ℕ) (items items' : List (ℕ × Item)) → AlikeNodes m n items items' → AlikeNodes m n (at_depth depth items) (at_depth depth items')
 deep_alike m n depth items items' h = read_at_depth m depth items ∙ ap (at_depth depth) h ∙ sym (read_at_depth n depth items')
 
-leaf_alike : (m n : Names) (depth closes closes' : ℕ) (tight : Bool) (items items' : List (ℕ × Item)) (gap gap' : Bool) → AlikeNodes m n items items'
-    → AlikeNodes m n (leaf_items depth tight (Block closes items gap)) (leaf_items depth tight (Block closes' items' gap'))
-leaf_alike m n depth closes closes' true items items' gap gap' h =
-    read_tight m depth (at_depth depth items) ∙ ap (map (tight_read depth)) (deep_alike m n depth items items' h) ∙ sym (read_tight n depth (at_depth depth items'))
-leaf_alike m n depth closes closes' false items items' gap gap' h = deep_alike m n depth items items' h
+leaf_alike : (m n : Names) (depth : ℕ) (tight : Bool) (b b' : LeafBlock) → AlikeNodes m n b.items b'.items → AlikeNodes m n (leaf_items depth tight (Block b)) (leaf_items depth tight (Block b'))
+leaf_alike m n depth true b b' h =
+    read_tight m depth (at_depth depth b.items) ∙ ap (map (tight_read depth)) (deep_alike m n depth b.items b'.items h) ∙ sym (read_tight n depth (at_depth depth b'.items))
+leaf_alike m n depth false b b' h = deep_alike m n depth b.items b'.items h
 
 -- containers around what reads alike
 item_alike : (m n : Names) (depth : ℕ) (t : Option Bool) (start «end» byte number columns : ℕ) (kids kids' : ℕ → Bool → List (ℕ × Item)) (next next' : Option (ℕ × Bool) → List (ℕ × Item)) (last : ℕ) (loose : Bool)
@@ -242,10 +247,10 @@ run_alike m n quoted list run (Then leaf next) (Node head' e' kids' next') a = a
 run_alike m n quoted list run (Node head e kids next) Nil a = absurd a
 run_alike m n quoted list run (Node head e kids next) (Then leaf' next') a = absurd a
 run_alike m n quoted list run (Then BlankLine next) (Then BlankLine next') a = run_alike m n quoted list (counts_with quoted list run) next next' a.1
-run_alike m n quoted list run (Then BlankLine next) (Then (Block closes' items' gap') next') a = absurd a.0
-run_alike m n quoted list run (Then (Block closes items gap) next) (Then BlankLine next') a = absurd a.0
-run_alike m n quoted list run (Then (Block closes items gap) next) (Then (Block closes' items' gap') next') a =
-    run_alike m n quoted None gap next next' a.1 ∙ ap (λ z. run_behind quoted None z next') a.0.2
+run_alike m n quoted list run (Then BlankLine next) (Then (Block b') next') a = absurd a.0
+run_alike m n quoted list run (Then (Block b) next) (Then BlankLine next') a = absurd a.0
+run_alike m n quoted list run (Then (Block b) next) (Then (Block b') next') a =
+    run_alike m n quoted None b.gap next next' a.1 ∙ ap (λ z. run_behind quoted None z next') a.0.2
 run_alike m n quoted list run (Node head e kids next) (Node head' e' kids' next') a =
     run_alike m n quoted (list_byte head.opener) (run_behind (is_quote_marker head.opener) None false kids) next next' a.3
     ∙ ap (λ z. run_behind quoted (list_byte head.opener) z next') (run_alike m n (is_quote_marker head.opener) None false kids kids' a.2)
@@ -261,10 +266,10 @@ gap_alike m n quoted list run (Then leaf next) (Node head' e' kids' next') a = a
 gap_alike m n quoted list run (Node head e kids next) Nil a = absurd a
 gap_alike m n quoted list run (Node head e kids next) (Then leaf' next') a = absurd a
 gap_alike m n quoted list run (Then BlankLine next) (Then BlankLine next') a = gap_alike m n quoted list (counts_with quoted list run) next next' a.1
-gap_alike m n quoted list run (Then BlankLine next) (Then (Block closes' items' gap') next') a = absurd a.0
-gap_alike m n quoted list run (Then (Block closes items gap) next) (Then BlankLine next') a = absurd a.0
-gap_alike m n quoted list run (Then (Block closes items gap) next) (Then (Block closes' items' gap') next') a =
-    ap (λ z. run || z) (gap_alike m n quoted None gap next next' a.1 ∙ ap (λ z. has_gap quoted None z next') a.0.2)
+gap_alike m n quoted list run (Then BlankLine next) (Then (Block b') next') a = absurd a.0
+gap_alike m n quoted list run (Then (Block b) next) (Then BlankLine next') a = absurd a.0
+gap_alike m n quoted list run (Then (Block b) next) (Then (Block b') next') a =
+    ap (λ z. run || z) (gap_alike m n quoted None b.gap next next' a.1 ∙ ap (λ z. has_gap quoted None z next') a.0.2)
 gap_alike m n quoted list run (Node head e kids next) (Node head' e' kids' next') a =
     let opener : Opener = head.opener in
     ap (λ z. (run && not (joins list opener)) || z)
@@ -282,12 +287,12 @@ end_alike m n list last (Then leaf next) (Node head' e' kids' next') a = absurd 
 end_alike m n list last (Node head e kids next) Nil a = absurd a
 end_alike m n list last (Node head e kids next) (Then leaf' next') a = absurd a
 end_alike m n list last (Then BlankLine next) (Then BlankLine next') a = end_alike m n list last next next' a.1
-end_alike m n list last (Then BlankLine next) (Then (Block closes' items' gap') next') a = absurd a.0
-end_alike m n list last (Then (Block closes items gap) next) (Then BlankLine next') a = absurd a.0
-end_alike m n list last (Then (Block closes items gap) next) (Then (Block closes' items' gap') next') a = a.0.0
+end_alike m n list last (Then BlankLine next) (Then (Block b') next') a = absurd a.0
+end_alike m n list last (Then (Block b) next) (Then BlankLine next') a = absurd a.0
+end_alike m n list last (Then (Block b) next) (Then (Block b') next') a = ap (λ (z : Kind × ℕ × ℕ). if is_paragraph z.0 then z.2 else z.1) a.0.0
 end_alike m n list last (Node head e kids next) (Node head' e' kids' next') a =
-    ap (λ z. if joins (Some list) head.opener then z else head.closes) (end_alike m n list last next next' a.3)
-    ∙ ap (λ (h : Head). if joins (Some list) h.opener then list_end list last next' else h.closes) a.0
+    ap (λ z. if joins (Some list) head.opener then z else head_closes head) (end_alike m n list last next next' a.3)
+    ∙ ap (λ (h : Head). if joins (Some list) h.opener then list_end list last next' else head_closes h) a.0
 
 inside_alike : (m n : Names) (list : ℕ) (kids kids' next next' : Skeleton) → Alike m n kids kids' → ((run : Bool) → is_loosened list run next ≡ is_loosened list run next')
     → (has_gap false None false kids || is_loosened list (run_behind false None false kids) next) ≡ (has_gap false None false kids' || is_loosened list (run_behind false None false kids') next')
@@ -305,9 +310,9 @@ loose_alike m n list run (Then leaf next) (Node head' e' kids' next') a = absurd
 loose_alike m n list run (Node head e kids next) Nil a = absurd a
 loose_alike m n list run (Node head e kids next) (Then leaf' next') a = absurd a
 loose_alike m n list run (Then BlankLine next) (Then BlankLine next') a = loose_alike m n list true next next' a.1
-loose_alike m n list run (Then BlankLine next) (Then (Block closes' items' gap') next') a = absurd a.0
-loose_alike m n list run (Then (Block closes items gap) next) (Then BlankLine next') a = absurd a.0
-loose_alike m n list run (Then (Block closes items gap) next) (Then (Block closes' items' gap') next') a = refl
+loose_alike m n list run (Then BlankLine next) (Then (Block b') next') a = absurd a.0
+loose_alike m n list run (Then (Block b) next) (Then BlankLine next') a = absurd a.0
+loose_alike m n list run (Then (Block b) next) (Then (Block b') next') a = refl
 loose_alike m n list run (Node head e kids next) (Node head' e' kids' next') a =
     ap (λ z. if joins (Some list) head.opener then run || z else false)
     (inside_alike m n list kids kids' next next' a.2 (λ r. loose_alike m n list r next next' a.3))
@@ -324,11 +329,11 @@ forest_alike m n depth last tight list (Then leaf next) (Node head' e' kids' nex
 forest_alike m n depth last tight list (Node head e kids next) Nil a = absurd a
 forest_alike m n depth last tight list (Node head e kids next) (Then leaf' next') a = absurd a
 forest_alike m n depth last tight list (Then BlankLine next) (Then BlankLine next') a = forest_alike m n depth last tight list next next' a.1
-forest_alike m n depth last tight list (Then BlankLine next) (Then (Block closes' items' gap') next') a = absurd a.0
-forest_alike m n depth last tight list (Then (Block closes items gap) next) (Then BlankLine next') a = absurd a.0
-forest_alike m n depth last tight list (Then (Block closes items gap) next) (Then (Block closes' items' gap') next') a =
-    nodes_append m n (leaf_items depth tight (Block closes items gap)) (leaf_items depth tight (Block closes' items' gap')) (forest_of depth last tight None next) (forest_of depth last tight None next')
-    (leaf_alike m n depth closes closes' tight items items' gap gap' a.0.1) (forest_alike m n depth last tight None next next' a.1)
+forest_alike m n depth last tight list (Then BlankLine next) (Then (Block b') next') a = absurd a.0
+forest_alike m n depth last tight list (Then (Block b) next) (Then BlankLine next') a = absurd a.0
+forest_alike m n depth last tight list (Then (Block b) next) (Then (Block b') next') a =
+    nodes_append m n (leaf_items depth tight (Block b)) (leaf_items depth tight (Block b')) (forest_of depth last tight None next) (forest_of depth last tight None next')
+    (leaf_alike m n depth tight b b' a.0.1) (forest_alike m n depth last tight None next next' a.1)
 forest_alike m n depth last tight list (Node head e kids next) (Node head' e' kids' next') a =
     subst (λ (h : Head). read_nodes m (forest_of depth last tight list (Node head e kids next)) ≡ read_nodes n (forest_of depth last tight list (Node h e' kids' next'))) a.0
     (subst (λ (x : ℕ). read_nodes m (forest_of depth last tight list (Node head e kids next)) ≡ read_nodes n (forest_of depth last tight list (Node head x kids' next'))) a.1

@@ -14,12 +14,15 @@ use Rattle.first_pass_grammar.specs.declared.kind.Container.TheVariants.{BlockQu
 use Rattle.first_pass_grammar.specs.Containers.{taken}
 use Rattle.first_pass_grammar.specs.Names.{Names}
 use Rattle.first_pass_grammar.specs.Leaves.{Document}
-use Rattle.first_pass_grammar.specs.Skeleton.{Leaf, BlankLine, Block, Head, Opener, QuoteMarker, ItemMarker, From, Line, Inside, Blanks, TextAt, MarkAt, Opening, OpensLeaf, OpensNode, OpensParagraph, Opens, Skeleton, Nil, Then, Node, Begins, Ends, behind_first, end_before, IsLeafHere, IsNodeHere, IsSequence}
-use Rattle.first_pass_grammar.specs.Lists.{joins, counts_with, run_behind, has_gap, list_end, is_loosened}
-use Rattle.first_pass_grammar.specs.Derivation.{Tables, Derives, forest_of, container_items, leaf_items, node_of, tables_of, root_of, list_flags, tight_body, tightened}
+use Rattle.first_pass_grammar.specs.Skeleton.{Leaf, LeafBlock, BlankLine, Block, block_at, Head, Opener, QuoteMarker, ItemMarker, From, Line, Inside, Blanks, TextAt, MarkAt, Opening, OpensLeaf, OpensNode, OpensParagraph, Opens, Skeleton, Nil, Then, Node, Begins, Ends, behind_first, end_before, IsLeafHere, IsNodeHere, IsSequence}
+use Rattle.first_pass_grammar.specs.Kinds.{Kind, Paragraph}
+use Rattle.first_pass_grammar.specs.Rows.{is_paragraph}
+use Rattle.first_pass_grammar.specs.OnePass.{joins, counts_with, run_behind, has_gap, list_end, is_loosened, leaf_closes, head_closes, leaf_items, container_items, forest_of}
+use Rattle.first_pass_grammar.specs.Derivation.{Tables, Derives, node_of, tables_of, root_of, list_flags, tight_body, tightened}
 use Rattle.first_pass_grammar.specs.Completion.{ended, flagged, reflagged, list_closed, Pending, NoList, OneList, byte_in, rendered, Frame, InContainer, InList, containers_of, is_quote, loosened, loosened_in, Finish, AreBelow, IsPlain, IsShaped, Completes}
 use Rattle.first_pass_grammar.proofs.Tightening.{eqb-same, modify-append, length-modify, list_closed-append, length-closed, list_closed-mid, closed_item}
 use Rattle.first_pass_grammar.proofs.Alike.{AlikeOpening}
+use Rattle.first_pass_grammar.proofs.RowLemmas.{rows_items}
 use Rattle.first_pass_grammar.proofs.Unique.{one_opening, ends_at_once}
 
 pub ended-append : (nodes more : List (ℕ × Item)) (place e : ℕ) → place < length nodes → ended (nodes ++ more) place e ≡ ended nodes place e ++ more
@@ -151,20 +154,20 @@ node_here : (d : Document) (path : List Container) (p : Place) (lines : List Pla
 node_here d path p lines head inside left opens = record { place = p; behind = lines; begins = (refl, refl); opens = opens }
 
 -- a block with no blocks in it, before which no gap is to be noted
-block_step : (d : Document) (frames : List Frame) (nodes : List (ℕ × Item)) (os : List ℕ) (from : From) (lines left : List Place) (closes : ℕ) (items : List (ℕ × Item)) (gap : Bool) (forest : List (ℕ × Item)) (tables : Tables)
-    → IsPlain frames → EndsAlike (length d.text) from (behind_first from Line) → IsLeafHere d (containers_of frames) from lines (Block closes items gap) Line left
-    → Finish d NoList gap frames (nodes ++ leaf_items (suc (length os)) false (Block closes items gap)) os (behind_first from Line) left forest tables → Finish d NoList false frames nodes os from lines forest tables
+block_step : (d : Document) (frames : List Frame) (nodes : List (ℕ × Item)) (os : List ℕ) (from : From) (lines left : List Place) (b : LeafBlock) (forest : List (ℕ × Item)) (tables : Tables)
+    → IsPlain frames → EndsAlike (length d.text) from (behind_first from Line) → IsLeafHere d (containers_of frames) from lines (Block b) Line left
+    → Finish d NoList b.gap frames (nodes ++ leaf_items (suc (length os)) false (Block b)) os (behind_first from Line) left forest tables → Finish d NoList false frames nodes os from lines forest tables
 unfolding IsSequence forest_of run_behind has_gap rendered
-block_step d frames nodes os from lines left closes items gap forest tables plain alike first fin =
-    let added : List (ℕ × Item) = leaf_items (suc (length os)) false (Block closes items gap) in
-    extend d frames NoList NoList false gap false nodes (nodes ++ added) os from (behind_first from Line) lines left forest tables (λ s. Then (Block closes items gap) s) plain alike
+block_step d frames nodes os from lines left b forest tables plain alike first fin =
+    let added : List (ℕ × Item) = leaf_items (suc (length os)) false (Block b) in
+    extend d frames NoList NoList false b.gap false nodes (nodes ++ added) os from (behind_first from Line) lines left forest tables (λ s. Then (Block b) s) plain alike
     (λ s mid seq. record {
       seq = (Line, left, first, seq);
       items = λ last. sym (append_assoc nodes added (forest_of (suc (length os)) last false None s));
       runs = refl;
       gaps = refl;
     })
-    (subst (λ z. Finish d NoList gap z (nodes ++ added) os (behind_first from Line) left forest tables) (sym (loosened_in-false frames)) fin)
+    (subst (λ z. Finish d NoList b.gap z (nodes ++ added) os (behind_first from Line) left forest tables) (sym (loosened_in-false frames)) fin)
 
 -- a blank line, where a list may go on
 blank_step : (d : Document) (frames : List Frame) (list : Pending) (run : Bool) (nodes : List (ℕ × Item)) (os : List ℕ) (from : From) (lines left : List Place) (forest : List (ℕ × Item)) (tables : Tables)
@@ -184,24 +187,24 @@ ended-mid : (nodes more : List (ℕ × Item)) (k e : ℕ) (x : Item) → ended (
 unfolding ended
 ended-mid nodes more k e x = modify-at nodes more (k, x) (length nodes) (λ y. record { start = y.start; «end» = e; body = y.body }) refl
 
-quote_items : (d last e start : ℕ) (kind : Option BlockQuoteKind) (closes : ℕ) (nodes : List (ℕ × Item)) (kids s : Skeleton)
-    → nodes ++ forest_of d last false None (Node (record { opener = QuoteMarker kind; start = start; closes = closes }) e kids s)
+quote_items : (d last e start : ℕ) (kind : Option BlockQuoteKind) (line : ℕ) (nodes : List (ℕ × Item)) (kids s : Skeleton)
+    → nodes ++ forest_of d last false None (Node (record { opener = QuoteMarker kind; start = start; line = line }) e kids s)
     ≡ (nodes ++ (d, node_of start e (BlockQuoteBody kind)) ∷ forest_of (suc d) e false None kids) ++ forest_of d last false None s
 unfolding forest_of
-quote_items d last e start kind closes nodes kids s = sym (append_assoc nodes ((d, node_of start e (BlockQuoteBody kind)) ∷ forest_of (suc d) e false None kids) (forest_of d last false None s))
+quote_items d last e start kind line nodes kids s = sym (append_assoc nodes ((d, node_of start e (BlockQuoteBody kind)) ∷ forest_of (suc d) e false None kids) (forest_of d last false None s))
 
 -- a block quote opened, before which no gap is to be noted
-quote_step : (d : Document) (frames : List Frame) (nodes : List (ℕ × Item)) (os : List ℕ) (p : Place) (lines behind : List Place) (kind : Option BlockQuoteKind) (start closes some_end : ℕ) (inside : From) (forest : List (ℕ × Item)) (tables : Tables)
-    → IsPlain frames → Opens d (containers_of frames) p lines (OpensNode (record { opener = QuoteMarker kind; start = start; closes = closes }) inside behind)
+quote_step : (d : Document) (frames : List Frame) (nodes : List (ℕ × Item)) (os : List ℕ) (p : Place) (lines behind : List Place) (kind : Option BlockQuoteKind) (start line some_end : ℕ) (inside : From) (forest : List (ℕ × Item)) (tables : Tables)
+    → IsPlain frames → Opens d (containers_of frames) p lines (OpensNode (record { opener = QuoteMarker kind; start = start; line = line }) inside behind)
     → Finish d NoList false (InContainer (BlockQuote kind) ∷ frames) (nodes ++ (suc (length os), node_of start some_end (BlockQuoteBody kind)) ∷ []) (length nodes ∷ os) inside behind forest tables
     → Finish d NoList false frames nodes os (Inside p) lines forest tables
 unfolding Finish IsSequence run_behind has_gap rendered
-quote_step d frames nodes os p lines behind kind start closes some_end inside forest tables plain opens (kids, mid, inner, fin) =
+quote_step d frames nodes os p lines behind kind start line some_end inside forest tables plain opens (kids, mid, inner, fin) =
     let n : ℕ = length d.text in
     let path : List Container = containers_of frames in
     let k : ℕ = suc (length os) in
     let e : ℕ = end_before n path inside mid in
-    let head : Head = record { opener = QuoteMarker kind; start = start; closes = closes } in
+    let head : Head = record { opener = QuoteMarker kind; start = start; line = line } in
     let x : ℕ × Item = (k, node_of start some_end (BlockQuoteBody kind)) in
     let items : List (ℕ × Item) = forest_of (suc k) e false None kids in
     let later : List (ℕ × Item) = nodes ++ (k, node_of start e (BlockQuoteBody kind)) ∷ items in
@@ -211,7 +214,7 @@ quote_step d frames nodes os p lines behind kind start closes some_end inside fo
     extend d frames NoList NoList false run false nodes later os (Inside p) Line lines mid forest tables (λ s. Node head e kids s) plain (λ path mid. refl)
     (λ s left seq. record {
       seq = (inside, behind, mid, node_here d path p lines head inside behind opens, inner, refl, seq);
-      items = λ last. quote_items k last e start kind closes nodes kids s;
+      items = λ last. quote_items k last e start kind line nodes kids s;
       runs = refl;
       gaps = refl;
     })
@@ -224,13 +227,13 @@ unfolding ended
 ended-second [] more y k e x = refl
 ended-second (z ∷ nodes) more y k e x = ap (λ w. z ∷ w) (ended-second nodes more y k e x)
 
-list_items : (d last e start some_end byte number columns closes : ℕ) (flags : ListFlags) (nodes : List (ℕ × Item)) (kids s : Skeleton)
-    → (let head : Head = record { opener = ItemMarker byte number columns; start = start; closes = closes } in
+list_items : (d last e start some_end byte number columns line : ℕ) (flags : ListFlags) (nodes : List (ℕ × Item)) (kids s : Skeleton)
+    → (let head : Head = record { opener = ItemMarker byte number columns; start = start; line = line } in
     rendered d last nodes NoList false (Node head e kids s)
     ≡ rendered d last (nodes ++ (d, node_of start some_end (ListBody flags byte number)) ∷ (suc d, node_of start e (ListItemBody columns)) ∷ forest_of (suc (suc d)) e false None kids)
     (OneList (length nodes) byte (has_gap false None false kids)) (run_behind false None false kids) s)
 unfolding forest_of rendered
-list_items d last e start some_end byte number columns closes flags nodes kids s =
+list_items d last e start some_end byte number columns line flags nodes kids s =
     let loose : Bool = has_gap false None false kids || is_loosened byte (run_behind false None false kids) s in
     let until : ℕ = list_end byte last s in
     let entry : ℕ × Item = (suc d, node_of start e (ListItemBody columns)) in
@@ -242,18 +245,18 @@ list_items d last e start some_end byte number columns closes flags nodes kids s
     ∙ append_assoc nodes (list ∷ entry ∷ inner) later)
 
 -- a list opened with its first item, before which no gap is to be noted
-list_step : (d : Document) (frames : List Frame) (nodes : List (ℕ × Item)) (os : List ℕ) (p : Place) (lines behind : List Place) (byte number columns start closes some_end other_end : ℕ) (flags : ListFlags) (inside : From) (forest : List (ℕ × Item)) (tables : Tables)
-    → IsPlain frames → Opens d (containers_of frames) p lines (OpensNode (record { opener = ItemMarker byte number columns; start = start; closes = closes }) inside behind)
+list_step : (d : Document) (frames : List Frame) (nodes : List (ℕ × Item)) (os : List ℕ) (p : Place) (lines behind : List Place) (byte number columns start line some_end other_end : ℕ) (flags : ListFlags) (inside : From) (forest : List (ℕ × Item)) (tables : Tables)
+    → IsPlain frames → Opens d (containers_of frames) p lines (OpensNode (record { opener = ItemMarker byte number columns; start = start; line = line }) inside behind)
     → Finish d NoList false (InContainer (ListItem columns) ∷ InList byte false ∷ frames)
     (nodes ++ (suc (length os), node_of start some_end (ListBody flags byte number)) ∷ (suc (suc (length os)), node_of start other_end (ListItemBody columns)) ∷ []) (suc (length nodes) ∷ length nodes ∷ os) inside behind forest tables
     → Finish d NoList false frames nodes os (Inside p) lines forest tables
 unfolding Finish IsSequence run_behind has_gap rendered
-list_step d frames nodes os p lines behind byte number columns start closes some_end other_end flags inside forest tables plain opens (kids, mid, inner, fin) =
+list_step d frames nodes os p lines behind byte number columns start line some_end other_end flags inside forest tables plain opens (kids, mid, inner, fin) =
     let n : ℕ = length d.text in
     let path : List Container = containers_of frames in
     let k : ℕ = suc (length os) in
     let e : ℕ = end_before n path inside mid in
-    let head : Head = record { opener = ItemMarker byte number columns; start = start; closes = closes } in
+    let head : Head = record { opener = ItemMarker byte number columns; start = start; line = line } in
     let y : ℕ × Item = (k, node_of start some_end (ListBody flags byte number)) in
     let x : ℕ × Item = (suc k, node_of start other_end (ListItemBody columns)) in
     let items : List (ℕ × Item) = forest_of (suc (suc k)) e false None kids in
@@ -265,7 +268,7 @@ list_step d frames nodes os p lines behind byte number columns start closes some
     extend d frames NoList (OneList (length nodes) byte gap) false run false nodes later os (Inside p) Line lines mid forest tables (λ s. Node head e kids s) plain (λ path mid. refl)
     (λ s left seq. record {
       seq = (inside, behind, mid, node_here d path p lines head inside behind opens, inner, refl, seq);
-      items = λ last. list_items k last e start some_end byte number columns closes flags nodes kids s;
+      items = λ last. list_items k last e start some_end byte number columns line flags nodes kids s;
       runs = refl;
       gaps = refl;
     })
@@ -277,67 +280,67 @@ or_four true b c e = refl
 or_four false true c e = refl
 or_four false false c e = refl
 
-loosened-item : (byte number columns start closes e : ℕ) (run : Bool) (kids s : Skeleton)
-    → is_loosened byte run (Node (record { opener = ItemMarker byte number columns; start = start; closes = closes }) e kids s) ≡ (run || (has_gap false None false kids || is_loosened byte (run_behind false None false kids) s))
+loosened-item : (byte number columns start line e : ℕ) (run : Bool) (kids s : Skeleton)
+    → is_loosened byte run (Node (record { opener = ItemMarker byte number columns; start = start; line = line }) e kids s) ≡ (run || (has_gap false None false kids || is_loosened byte (run_behind false None false kids) s))
 unfolding is_loosened
-loosened-item byte number columns start closes e run kids s = let t = eqb-same byte in rw t refl
+loosened-item byte number columns start line e run kids s = let t = eqb-same byte in rw t refl
 
-end-item : (byte number columns start closes e last : ℕ) (kids s : Skeleton) → list_end byte last (Node (record { opener = ItemMarker byte number columns; start = start; closes = closes }) e kids s) ≡ list_end byte last s
+end-item : (byte number columns start line e last : ℕ) (kids s : Skeleton) → list_end byte last (Node (record { opener = ItemMarker byte number columns; start = start; line = line }) e kids s) ≡ list_end byte last s
 unfolding list_end
-end-item byte number columns start closes e last kids s = let t = eqb-same byte in rw t refl
+end-item byte number columns start line e last kids s = let t = eqb-same byte in rw t refl
 
-forest-item : (d last byte number columns start closes e : ℕ) (tight : Bool) (kids s : Skeleton)
-    → forest_of d last false (Some (byte, tight)) (Node (record { opener = ItemMarker byte number columns; start = start; closes = closes }) e kids s)
+forest-item : (d last byte number columns start line e : ℕ) (tight : Bool) (kids s : Skeleton)
+    → forest_of d last false (Some (byte, tight)) (Node (record { opener = ItemMarker byte number columns; start = start; line = line }) e kids s)
     ≡ (suc d, node_of start e (ListItemBody columns)) ∷ (forest_of (suc (suc d)) e tight None kids ++ forest_of d last false (Some (byte, tight)) s)
 unfolding forest_of
-forest-item d last byte number columns start closes e tight kids s = let t = eqb-same byte in rw t refl
+forest-item d last byte number columns start line e tight kids s = let t = eqb-same byte in rw t refl
 
-gap-item : (quoted : Bool) (byte number columns start closes e : ℕ) (run : Bool) (kids s : Skeleton)
-    → has_gap quoted (Some byte) run (Node (record { opener = ItemMarker byte number columns; start = start; closes = closes }) e kids s) ≡ has_gap quoted (Some byte) (run_behind false None false kids) s
+gap-item : (quoted : Bool) (byte number columns start line e : ℕ) (run : Bool) (kids s : Skeleton)
+    → has_gap quoted (Some byte) run (Node (record { opener = ItemMarker byte number columns; start = start; line = line }) e kids s) ≡ has_gap quoted (Some byte) (run_behind false None false kids) s
 unfolding has_gap
-gap-item quoted byte number columns start closes e true kids s = let t = eqb-same byte in rw t refl
-gap-item quoted byte number columns start closes e false kids s = refl
+gap-item quoted byte number columns start line e true kids s = let t = eqb-same byte in rw t refl
+gap-item quoted byte number columns start line e false kids s = refl
 
-run-item : (quoted : Bool) (byte number columns start closes e : ℕ) (run : Bool) (kids s : Skeleton)
-    → run_behind quoted (Some byte) run (Node (record { opener = ItemMarker byte number columns; start = start; closes = closes }) e kids s) ≡ run_behind quoted (Some byte) (run_behind false None false kids) s
+run-item : (quoted : Bool) (byte number columns start line e : ℕ) (run : Bool) (kids s : Skeleton)
+    → run_behind quoted (Some byte) run (Node (record { opener = ItemMarker byte number columns; start = start; line = line }) e kids s) ≡ run_behind quoted (Some byte) (run_behind false None false kids) s
 unfolding run_behind
-run-item quoted byte number columns start closes e run kids s = refl
+run-item quoted byte number columns start line e run kids s = refl
 
-joined_items : (d last e start byte number columns closes o : ℕ) (run loose : Bool) (nodes : List (ℕ × Item)) (kids s : Skeleton) → o < length nodes
-    → rendered d last nodes (OneList o byte loose) run (Node (record { opener = ItemMarker byte number columns; start = start; closes = closes }) e kids s)
+joined_items : (d last e start byte number columns line o : ℕ) (run loose : Bool) (nodes : List (ℕ × Item)) (kids s : Skeleton) → o < length nodes
+    → rendered d last nodes (OneList o byte loose) run (Node (record { opener = ItemMarker byte number columns; start = start; line = line }) e kids s)
     ≡ rendered d last (nodes ++ (suc d, node_of start e (ListItemBody columns)) ∷ forest_of (suc (suc d)) e false None kids) (OneList o byte ((loose || run) || has_gap false None false kids)) (run_behind false None false kids) s
 unfolding rendered
-joined_items d last e start byte number columns closes o run loose nodes kids s h =
-    let head : Head = record { opener = ItemMarker byte number columns; start = start; closes = closes } in
+joined_items d last e start byte number columns line o run loose nodes kids s h =
+    let head : Head = record { opener = ItemMarker byte number columns; start = start; line = line } in
     let node : Skeleton = Node head e kids s in
     let all : Bool = ((loose || run) || has_gap false None false kids) || is_loosened byte (run_behind false None false kids) s in
     let is : (loose || is_loosened byte run node) ≡ all =
-    ap (λ z. loose || z) (loosened-item byte number columns start closes e run kids s) ∙ or_four loose run (has_gap false None false kids) (is_loosened byte (run_behind false None false kids) s) in
+    ap (λ z. loose || z) (loosened-item byte number columns start line e run kids s) ∙ or_four loose run (has_gap false None false kids) (is_loosened byte (run_behind false None false kids) s) in
     let until : ℕ = list_end byte last s in
     let entry : ℕ × Item = (suc d, node_of start e (ListItemBody columns)) in
     let inner : List (ℕ × Item) = forest_of (suc (suc d)) e (not all) None kids in
     let later : List (ℕ × Item) = forest_of d last false (Some (byte, not all)) s in
     let closed : List (ℕ × Item) = list_closed nodes o (suc (suc d)) all until in
     ap (λ z. list_closed nodes o (suc (suc d)) z (list_end byte last node) ++ forest_of d last false (Some (byte, not z)) node) is
-    ∙ ap (λ z. list_closed nodes o (suc (suc d)) all z ++ forest_of d last false (Some (byte, not all)) node) (end-item byte number columns start closes e last kids s)
-    ∙ ap (λ z. closed ++ z) (forest-item d last byte number columns start closes e (not all) kids s)
+    ∙ ap (λ z. list_closed nodes o (suc (suc d)) all z ++ forest_of d last false (Some (byte, not all)) node) (end-item byte number columns start line e last kids s)
+    ∙ ap (λ z. closed ++ z) (forest-item d last byte number columns start line e (not all) kids s)
     ∙ sym (ap (λ z. z ++ later) (list_closed-append nodes (entry ∷ forest_of (suc (suc d)) e false None kids) o (suc (suc d)) all until h)
     ∙ ap (λ z. (closed ++ z) ++ later) (closed_item d e all (node_of start e (ListItemBody columns)) kids)
     ∙ append_assoc closed (entry ∷ inner) later)
 
 -- an item opened in a list that goes on
-item_step : (d : Document) (frames : List Frame) (run loose : Bool) (nodes : List (ℕ × Item)) (o : ℕ) (os : List ℕ) (p : Place) (lines behind : List Place) (byte number columns start closes some_end : ℕ) (inside : From) (forest : List (ℕ × Item)) (tables : Tables)
-    → IsPlain frames → o < length nodes → Opens d (containers_of frames) p lines (OpensNode (record { opener = ItemMarker byte number columns; start = start; closes = closes }) inside behind)
+item_step : (d : Document) (frames : List Frame) (run loose : Bool) (nodes : List (ℕ × Item)) (o : ℕ) (os : List ℕ) (p : Place) (lines behind : List Place) (byte number columns start line some_end : ℕ) (inside : From) (forest : List (ℕ × Item)) (tables : Tables)
+    → IsPlain frames → o < length nodes → Opens d (containers_of frames) p lines (OpensNode (record { opener = ItemMarker byte number columns; start = start; line = line }) inside behind)
     → Finish d NoList false (InContainer (ListItem columns) ∷ InList byte (loose || run) ∷ frames)
     (nodes ++ (suc (suc (length os)), node_of start some_end (ListItemBody columns)) ∷ []) (length nodes ∷ o ∷ os) inside behind forest tables
     → Finish d NoList run (InList byte loose ∷ frames) nodes (o ∷ os) (Inside p) lines forest tables
 unfolding Finish IsSequence rendered
-item_step d frames run loose nodes o os p lines behind byte number columns start closes some_end inside forest tables plain below opens (kids, mid, inner, fin) =
+item_step d frames run loose nodes o os p lines behind byte number columns start line some_end inside forest tables plain below opens (kids, mid, inner, fin) =
     let n : ℕ = length d.text in
     let path : List Container = containers_of frames in
     let k : ℕ = suc (length os) in
     let e : ℕ = end_before n path inside mid in
-    let head : Head = record { opener = ItemMarker byte number columns; start = start; closes = closes } in
+    let head : Head = record { opener = ItemMarker byte number columns; start = start; line = line } in
     let x : ℕ × Item = (suc k, node_of start some_end (ListItemBody columns)) in
     let items : List (ℕ × Item) = forest_of (suc (suc k)) e false None kids in
     let later : List (ℕ × Item) = nodes ++ (suc k, node_of start e (ListItemBody columns)) ∷ items in
@@ -348,9 +351,9 @@ item_step d frames run loose nodes o os p lines behind byte number columns start
     extend d frames (OneList o byte loose) (OneList o byte gap) run next false nodes later os (Inside p) Line lines mid forest tables (λ s. Node head e kids s) plain (λ path mid. refl)
     (λ s left seq. record {
       seq = (inside, behind, mid, node_here d path p lines head inside behind opens, inner, refl, seq);
-      items = λ last. joined_items k last e start byte number columns closes o run loose nodes kids s below;
-      runs = run-item (in_quote frames) byte number columns start closes e run kids s;
-      gaps = gap-item (in_quote frames) byte number columns start closes e run kids s;
+      items = λ last. joined_items k last e start byte number columns line o run loose nodes kids s below;
+      runs = run-item (in_quote frames) byte number columns start line e run kids s;
+      gaps = gap-item (in_quote frames) byte number columns start line e run kids s;
     })
     (subst (λ z. Finish d (OneList o byte gap) next z later os Line mid forest tables) (sym (loosened_in-false frames))
     (subst (λ z. Finish d (OneList o byte gap) next frames z os Line mid forest tables) same fin))
@@ -366,28 +369,28 @@ or-false false = refl
 -- what opens ends a list of this byte, at an offset
 abbrev pub OpensAway : ℕ → ℕ → Opening → Type 0
 OpensAway byte at (OpensLeaf BlankLine there left) = ⊥
-OpensAway byte at (OpensLeaf (Block closes items gap) there left) = closes ≡ at
-OpensAway byte at (OpensNode head inside behind) = (head.closes ≡ at) × (joins (Some byte) head.opener ≡ false)
+OpensAway byte at (OpensLeaf (Block b) there left) = leaf_closes b ≡ at
+OpensAway byte at (OpensNode head inside behind) = (head_closes head ≡ at) × (joins (Some byte) head.opener ≡ false)
 
 -- the same of a sequence's first block
 abbrev EndsList : ℕ → ℕ → Skeleton → Type 0
 EndsList byte at Nil = ⊥
 EndsList byte at (Then BlankLine next) = ⊥
-EndsList byte at (Then (Block closes items gap) next) = closes ≡ at
-EndsList byte at (Node head e kids next) = (head.closes ≡ at) × (joins (Some byte) head.opener ≡ false)
+EndsList byte at (Then (Block b) next) = leaf_closes b ≡ at
+EndsList byte at (Node head e kids next) = (head_closes head ≡ at) × (joins (Some byte) head.opener ≡ false)
 
 away_leaf : (byte at : ℕ) (leaf : Leaf) (there : From) (left : List Place) (next : Skeleton) → OpensAway byte at (OpensLeaf leaf there left) → EndsList byte at (Then leaf next)
 away_leaf byte at BlankLine there left next away = away
-away_leaf byte at (Block closes items gap) there left next away = away
+away_leaf byte at (Block b) there left next away = away
 
 -- what is alike ends a list alike
 alike_away : (m n : Names) (byte at : ℕ) (o o' : Opening) → AlikeOpening m n o o' → OpensAway byte at o → OpensAway byte at o'
 alike_away m n byte at (OpensLeaf BlankLine there left) (OpensLeaf leaf' there' left') a away = absurd away
-alike_away m n byte at (OpensLeaf (Block closes items gap) there left) (OpensLeaf BlankLine there' left') a away = absurd a.0
-alike_away m n byte at (OpensLeaf (Block closes items gap) there left) (OpensLeaf (Block closes' items' gap') there' left') a away = sym a.0.0 ∙ away
+alike_away m n byte at (OpensLeaf (Block b) there left) (OpensLeaf BlankLine there' left') a away = absurd a.0
+alike_away m n byte at (OpensLeaf (Block b) there left) (OpensLeaf (Block b') there' left') a away = sym (ap (λ (z : Kind × ℕ × ℕ). if is_paragraph z.0 then z.2 else z.1) a.0.0) ∙ away
 alike_away m n byte at (OpensLeaf leaf there left) (OpensNode head' inside' behind') a away = absurd a
 alike_away m n byte at (OpensNode head inside behind) (OpensLeaf leaf' there' left') a away = absurd a
-alike_away m n byte at (OpensNode head inside behind) (OpensNode head' inside' behind') a away = subst (λ (h : Head). (h.closes ≡ at) × (joins (Some byte) h.opener ≡ false)) a.0 away
+alike_away m n byte at (OpensNode head inside behind) (OpensNode head' inside' behind') a away = subst (λ (h : Head). (head_closes h ≡ at) × (joins (Some byte) h.opener ≡ false)) a.0 away
 
 -- a first block opens at the place where the sequence goes on
 leaf_at : (d : Document) (path : List Container) (p : Place) (lines : List Place) (leaf : Leaf) (there : From) (left : List Place) → IsLeafHere d path (Inside p) lines leaf there left → Opens d path p lines (OpensLeaf leaf there left)
@@ -410,14 +413,14 @@ loose-away : (byte at : ℕ) (run : Bool) (s : Skeleton) → EndsList byte at s 
 unfolding is_loosened
 loose-away byte at run Nil u = absurd u
 loose-away byte at run (Then BlankLine next) u = absurd u
-loose-away byte at run (Then (Block closes items gap) next) u = refl
+loose-away byte at run (Then (Block b) next) u = refl
 loose-away byte at run (Node head e kids next) u = rw u.1 refl
 
 end-away : (byte at last : ℕ) (s : Skeleton) → EndsList byte at s → list_end byte last s ≡ at
 unfolding list_end
 end-away byte at last Nil u = absurd u
 end-away byte at last (Then BlankLine next) u = absurd u
-end-away byte at last (Then (Block closes items gap) next) u = u
+end-away byte at last (Then (Block b) next) u = u
 end-away byte at last (Node head e kids next) u = rw u.1 u.0
 
 tight_away : (opener : Opener) (depth byte : ℕ) (tight : Bool) (start e : ℕ) (kids : ℕ → Bool → List (ℕ × Item)) (next : Option (ℕ × Bool) → List (ℕ × Item)) (last : ℕ → ℕ) (loose : ℕ → Bool) → joins (Some byte) opener ≡ false
@@ -429,7 +432,7 @@ forest-away : (depth last byte at : ℕ) (tight : Bool) (s : Skeleton) → EndsL
 unfolding forest_of
 forest-away depth last byte at tight Nil u = absurd u
 forest-away depth last byte at tight (Then BlankLine next) u = absurd u
-forest-away depth last byte at tight (Then (Block closes items gap) next) u = refl
+forest-away depth last byte at tight (Then (Block b) next) u = refl
 forest-away depth last byte at tight (Node head e kids next) u =
     tight_away head.opener depth byte tight head.start e (λ d t. forest_of d e t None kids) (λ l. forest_of depth last false l next)
     (λ byte. list_end byte last next) (λ byte. has_gap false None false kids || is_loosened byte (run_behind false None false kids) next) u.1
@@ -438,14 +441,14 @@ gap-away : (quoted : Bool) (byte at : ℕ) (run : Bool) (s : Skeleton) → EndsL
 unfolding has_gap
 gap-away quoted byte at run Nil u = absurd u
 gap-away quoted byte at run (Then BlankLine next) u = absurd u
-gap-away quoted byte at run (Then (Block closes items gap) next) u = refl
+gap-away quoted byte at run (Then (Block b) next) u = refl
 gap-away quoted byte at run (Node head e kids next) u = rw u.1 refl
 
 run-away : (quoted : Bool) (byte at : ℕ) (run : Bool) (s : Skeleton) → EndsList byte at s → run_behind quoted (Some byte) run s ≡ run_behind quoted None run s
 unfolding run_behind
 run-away quoted byte at run Nil u = absurd u
 run-away quoted byte at run (Then BlankLine next) u = absurd u
-run-away quoted byte at run (Then (Block closes items gap) next) u = refl
+run-away quoted byte at run (Then (Block b) next) u = refl
 run-away quoted byte at run (Node head e kids next) u = refl
 
 -- a list closed before a block that ends it
@@ -473,24 +476,24 @@ close_step d frames run loose nodes o os p lines byte at opening forest tables p
 -- what opens is a block, not a blank line
 abbrev pub OpensBlock : Opening → Type 0
 OpensBlock (OpensLeaf BlankLine there left) = ⊥
-OpensBlock (OpensLeaf (Block closes items gap) there left) = Unit {0}
+OpensBlock (OpensLeaf (Block b) there left) = Unit {0}
 OpensBlock (OpensNode head inside behind) = Unit {0}
 
 -- what is alike is a block alike
 alike_block : (m n : Names) (o o' : Opening) → AlikeOpening m n o o' → OpensBlock o → OpensBlock o'
 alike_block m n (OpensLeaf BlankLine there left) (OpensLeaf leaf' there' left') a block = absurd block
-alike_block m n (OpensLeaf (Block closes items gap) there left) (OpensLeaf BlankLine there' left') a block = absurd a.0
-alike_block m n (OpensLeaf (Block closes items gap) there left) (OpensLeaf (Block closes' items' gap') there' left') a block = tt
+alike_block m n (OpensLeaf (Block b) there left) (OpensLeaf BlankLine there' left') a block = absurd a.0
+alike_block m n (OpensLeaf (Block b) there left) (OpensLeaf (Block b') there' left') a block = tt
 alike_block m n (OpensLeaf leaf there left) (OpensNode head' inside' behind') a block = absurd a
 alike_block m n (OpensNode head inside behind) (OpensLeaf leaf' there' left') a block = absurd a
 alike_block m n (OpensNode head inside behind) (OpensNode head' inside' behind') a block = tt
 
-block_noted : (quoted run : Bool) (closes : ℕ) (items : List (ℕ × Item)) (gap : Bool) (next : Skeleton)
-    → (run_behind quoted None run (Then (Block closes items gap) next) ≡ run_behind quoted None false (Then (Block closes items gap) next))
-    × (has_gap quoted None run (Then (Block closes items gap) next) ≡ (run || has_gap quoted None false (Then (Block closes items gap) next)))
+block_noted : (quoted run : Bool) (b : LeafBlock) (next : Skeleton)
+    → (run_behind quoted None run (Then (Block b) next) ≡ run_behind quoted None false (Then (Block b) next))
+    × (has_gap quoted None run (Then (Block b) next) ≡ (run || has_gap quoted None false (Then (Block b) next)))
 unfolding run_behind has_gap
-block_noted quoted true closes items gap next = (refl, refl)
-block_noted quoted false closes items gap next = (refl, refl)
+block_noted quoted true b next = (refl, refl)
+block_noted quoted false b next = (refl, refl)
 
 node_noted : (quoted run : Bool) (head : Head) (e : ℕ) (kids next : Skeleton)
     → (run_behind quoted None run (Node head e kids next) ≡ run_behind quoted None false (Node head e kids next))
@@ -502,7 +505,7 @@ node_noted quoted false head e kids next = (refl, refl)
 leaf_noted : (quoted run : Bool) (leaf : Leaf) (there : From) (left : List Place) (next : Skeleton) → OpensBlock (OpensLeaf leaf there left)
     → (run_behind quoted None run (Then leaf next) ≡ run_behind quoted None false (Then leaf next)) × (has_gap quoted None run (Then leaf next) ≡ (run || has_gap quoted None false (Then leaf next)))
 leaf_noted quoted run BlankLine there left next block = absurd block
-leaf_noted quoted run (Block closes items gap) there left next block = block_noted quoted run closes items gap next
+leaf_noted quoted run (Block b) there left next block = block_noted quoted run b next
 
 gap_noted : (d : Document) (path : List Container) (p : Place) (lines mid : List Place) (o : Opening) (quoted run : Bool) (s : Skeleton) → Opens d path p lines o → OpensBlock o → IsSequence d s path (Inside p) lines mid
     → (run_behind quoted None run s ≡ run_behind quoted None false s) × (has_gap quoted None run s ≡ (run || has_gap quoted None false s))
@@ -686,7 +689,7 @@ unfolding Finish rendered
 completes-first d = record {
   below = tt;
   shape = tt;
-  whole = λ forest tables fin. record { skeleton = fin.0; sequence = fin.1; forest_is = fin.2; tables_are = fin.3 };
+  whole = λ forest tables fin. record { skeleton = fin.0; sequence = fin.1; forest_is = fin.2 ∙ sym (rows_items d.text fin.0); tables_are = fin.3 };
 }
 
 -- inside a line that the whole path goes on with
@@ -699,28 +702,28 @@ completes-enter d run frames nodes os line q lines is c = record {
 }
 
 -- behind a block with no blocks in it, wherever it begins
-pub completes-leaf : (d : Document) (frames : List Frame) (nodes : List (ℕ × Item)) (os : List ℕ) (from : From) (lines left : List Place) (closes : ℕ) (items : List (ℕ × Item)) (gap : Bool)
-    → IsPlain frames → EndsAlike (length d.text) from (behind_first from Line) → IsLeafHere d (containers_of frames) from lines (Block closes items gap) Line left
-    → Completes d false frames nodes os from lines → Completes d gap frames (nodes ++ leaf_items (suc (length os)) false (Block closes items gap)) os (behind_first from Line) left
-completes-leaf d frames nodes os from lines left closes items gap plain alike first c = record {
-  below = AreBelow-more _ _ os (let k = length-append nodes (leaf_items (suc (length os)) false (Block closes items gap)) in omega arith) c.below;
+pub completes-leaf : (d : Document) (frames : List Frame) (nodes : List (ℕ × Item)) (os : List ℕ) (from : From) (lines left : List Place) (b : LeafBlock)
+    → IsPlain frames → EndsAlike (length d.text) from (behind_first from Line) → IsLeafHere d (containers_of frames) from lines (Block b) Line left
+    → Completes d false frames nodes os from lines → Completes d b.gap frames (nodes ++ leaf_items (suc (length os)) false (Block b)) os (behind_first from Line) left
+completes-leaf d frames nodes os from lines left b plain alike first c = record {
+  below = AreBelow-more _ _ os (let k = length-append nodes (leaf_items (suc (length os)) false (Block b)) in omega arith) c.below;
   shape = c.shape;
-  whole = λ forest tables fin. c.whole forest tables (block_step d frames nodes os from lines left closes items gap forest tables plain alike first fin);
+  whole = λ forest tables fin. c.whole forest tables (block_step d frames nodes os from lines left b forest tables plain alike first fin);
 }
 
 -- behind a block with no blocks in it, which begins inside a line
-pub completes-block : (d : Document) (frames : List Frame) (nodes : List (ℕ × Item)) (os : List ℕ) (p : Place) (lines left : List Place) (closes : ℕ) (items : List (ℕ × Item)) (gap : Bool)
-    → IsPlain frames → Opens d (containers_of frames) p lines (OpensLeaf (Block closes items gap) Line left)
-    → Completes d false frames nodes os (Inside p) lines → Completes d gap frames (nodes ++ leaf_items (suc (length os)) false (Block closes items gap)) os Line left
-completes-block d frames nodes os p lines left closes items gap plain opens c =
-    completes-leaf d frames nodes os (Inside p) lines left closes items gap plain (λ path mid. refl) (leaf_here d (containers_of frames) p lines (Block closes items gap) Line left opens) c
+pub completes-block : (d : Document) (frames : List Frame) (nodes : List (ℕ × Item)) (os : List ℕ) (p : Place) (lines left : List Place) (b : LeafBlock)
+    → IsPlain frames → Opens d (containers_of frames) p lines (OpensLeaf (Block b) Line left)
+    → Completes d false frames nodes os (Inside p) lines → Completes d b.gap frames (nodes ++ leaf_items (suc (length os)) false (Block b)) os Line left
+completes-block d frames nodes os p lines left b plain opens c =
+    completes-leaf d frames nodes os (Inside p) lines left b plain (λ path mid. refl) (leaf_here d (containers_of frames) p lines (Block b) Line left opens) c
 
 -- behind the paragraph of a task list item marker
-pub completes-text : (d : Document) (frames : List Frame) (nodes : List (ℕ × Item)) (os : List ℕ) (marker : Item) (p : Place) (lines left : List Place) (closes : ℕ) (items : List (ℕ × Item))
-    → IsPlain frames → OpensParagraph d (containers_of frames) p lines (Some marker) (OpensLeaf (Block closes items false) Line left)
-    → Completes d false frames nodes os (TextAt marker p) lines → Completes d false frames (nodes ++ leaf_items (suc (length os)) false (Block closes items false)) os Line left
-completes-text d frames nodes os marker p lines left closes items plain opens c =
-    completes-leaf d frames nodes os (TextAt marker p) lines left closes items false plain (λ path mid. refl) (record { place = p; behind = lines; begins = (refl, refl); opens = opens }) c
+pub completes-text : (d : Document) (frames : List Frame) (nodes : List (ℕ × Item)) (os : List ℕ) (marker : Item) (p : Place) (lines left : List Place) (b : LeafBlock)
+    → IsPlain frames → OpensParagraph d (containers_of frames) p lines (Some marker) (OpensLeaf (Block b) Line left)
+    → Completes d false frames nodes os (TextAt marker p) lines → Completes d b.gap frames (nodes ++ leaf_items (suc (length os)) false (Block b)) os Line left
+completes-text d frames nodes os marker p lines left b plain opens c =
+    completes-leaf d frames nodes os (TextAt marker p) lines left b plain (λ path mid. refl) (record { place = p; behind = lines; begins = (refl, refl); opens = opens }) c
 
 -- behind a task list item marker with nothing behind it on its line
 pub completes-mark : (d : Document) (frames : List Frame) (nodes : List (ℕ × Item)) (os : List ℕ) (marker : Item) (p : Place) (from : From) (lines : List Place)
@@ -728,7 +731,7 @@ pub completes-mark : (d : Document) (frames : List Frame) (nodes : List (ℕ × 
 completes-mark d frames nodes os marker p from lines plain c =
     let deep : suc (length os) + 0 ≡ suc (length os) = omega arith in
     subst (λ depth. Completes d false frames (nodes ++ (depth, marker) ∷ []) os from lines) deep
-    (completes-leaf d frames nodes os (MarkAt marker p from) lines lines p.line ((0, marker) ∷ []) false plain (λ path mid. refl) (record { place = p; behind = lines; begins = (refl, refl); opens = refl }) c)
+    (completes-leaf d frames nodes os (MarkAt marker p from) lines lines (block_at Paragraph p ((0, marker) ∷ []) false) plain (λ path mid. refl) (record { place = p; behind = lines; begins = (refl, refl); opens = refl }) c)
 
 -- whether a run of blank lines counts with one more, inside what is open
 abbrev pub counts_in : List Frame → Bool → Bool
@@ -862,42 +865,42 @@ completes-reflag_list d run byte loose l frames nodes o os from lines k = record
 }
 
 -- a block quote opened
-pub completes-quote : (d : Document) (frames : List Frame) (nodes : List (ℕ × Item)) (os : List ℕ) (p : Place) (lines behind : List Place) (kind : Option BlockQuoteKind) (start closes some_end : ℕ) (inside : From)
-    → IsPlain frames → Opens d (containers_of frames) p lines (OpensNode (record { opener = QuoteMarker kind; start = start; closes = closes }) inside behind)
+pub completes-quote : (d : Document) (frames : List Frame) (nodes : List (ℕ × Item)) (os : List ℕ) (p : Place) (lines behind : List Place) (kind : Option BlockQuoteKind) (start line some_end : ℕ) (inside : From)
+    → IsPlain frames → Opens d (containers_of frames) p lines (OpensNode (record { opener = QuoteMarker kind; start = start; line = line }) inside behind)
     → Completes d false frames nodes os (Inside p) lines
     → Completes d false (InContainer (BlockQuote kind) ∷ frames) (nodes ++ (suc (length os), node_of start some_end (BlockQuoteBody kind)) ∷ []) (length nodes ∷ os) inside behind
-completes-quote d frames nodes os p lines behind kind start closes some_end inside plain opens k =
+completes-quote d frames nodes os p lines behind kind start line some_end inside plain opens k =
     let l : length (nodes ++ (suc (length os), node_of start some_end (BlockQuoteBody kind)) ∷ []) ≡ length nodes + 1 = length-append nodes ((suc (length os), node_of start some_end (BlockQuoteBody kind)) ∷ []) in
     record {
       below = (omega arith, k.below);
       shape = k.shape;
-      whole = λ forest tables fin. k.whole forest tables (quote_step d frames nodes os p lines behind kind start closes some_end inside forest tables plain opens fin);
+      whole = λ forest tables fin. k.whole forest tables (quote_step d frames nodes os p lines behind kind start line some_end inside forest tables plain opens fin);
     }
 
 -- a list opened, with its first item
-pub completes-list : (d : Document) (frames : List Frame) (nodes : List (ℕ × Item)) (os : List ℕ) (p : Place) (lines behind : List Place) (byte number columns start closes some_end other_end : ℕ) (flags : ListFlags) (inside : From)
-    → IsPlain frames → Opens d (containers_of frames) p lines (OpensNode (record { opener = ItemMarker byte number columns; start = start; closes = closes }) inside behind)
+pub completes-list : (d : Document) (frames : List Frame) (nodes : List (ℕ × Item)) (os : List ℕ) (p : Place) (lines behind : List Place) (byte number columns start line some_end other_end : ℕ) (flags : ListFlags) (inside : From)
+    → IsPlain frames → Opens d (containers_of frames) p lines (OpensNode (record { opener = ItemMarker byte number columns; start = start; line = line }) inside behind)
     → Completes d false frames nodes os (Inside p) lines
     → Completes d false (InContainer (ListItem columns) ∷ InList byte false ∷ frames)
     (nodes ++ (suc (length os), node_of start some_end (ListBody flags byte number)) ∷ (suc (suc (length os)), node_of start other_end (ListItemBody columns)) ∷ []) (suc (length nodes) ∷ length nodes ∷ os) inside behind
-completes-list d frames nodes os p lines behind byte number columns start closes some_end other_end flags inside plain opens k =
+completes-list d frames nodes os p lines behind byte number columns start line some_end other_end flags inside plain opens k =
     let more : List (ℕ × Item) = (suc (length os), node_of start some_end (ListBody flags byte number)) ∷ (suc (suc (length os)), node_of start other_end (ListItemBody columns)) ∷ [] in
     let l : length (nodes ++ more) ≡ length nodes + 2 = length-append nodes more in
     record {
       below = (omega arith, (omega arith, k.below));
       shape = (plain, k.shape);
-      whole = λ forest tables fin. k.whole forest tables (list_step d frames nodes os p lines behind byte number columns start closes some_end other_end flags inside forest tables plain opens fin);
+      whole = λ forest tables fin. k.whole forest tables (list_step d frames nodes os p lines behind byte number columns start line some_end other_end flags inside forest tables plain opens fin);
     }
 
 -- an item opened in a list that goes on
-pub completes-item : (d : Document) (run loose : Bool) (frames : List Frame) (nodes : List (ℕ × Item)) (o : ℕ) (os : List ℕ) (p : Place) (lines behind : List Place) (byte number columns start closes some_end : ℕ) (inside : From)
-    → Opens d (containers_of frames) p lines (OpensNode (record { opener = ItemMarker byte number columns; start = start; closes = closes }) inside behind)
+pub completes-item : (d : Document) (run loose : Bool) (frames : List Frame) (nodes : List (ℕ × Item)) (o : ℕ) (os : List ℕ) (p : Place) (lines behind : List Place) (byte number columns start line some_end : ℕ) (inside : From)
+    → Opens d (containers_of frames) p lines (OpensNode (record { opener = ItemMarker byte number columns; start = start; line = line }) inside behind)
     → Completes d run (InList byte loose ∷ frames) nodes (o ∷ os) (Inside p) lines
     → Completes d false (InContainer (ListItem columns) ∷ InList byte (loose || run) ∷ frames) (nodes ++ (suc (suc (length os)), node_of start some_end (ListItemBody columns)) ∷ []) (length nodes ∷ o ∷ os) inside behind
-completes-item d run loose frames nodes o os p lines behind byte number columns start closes some_end inside opens k =
+completes-item d run loose frames nodes o os p lines behind byte number columns start line some_end inside opens k =
     let l : length (nodes ++ (suc (suc (length os)), node_of start some_end (ListItemBody columns)) ∷ []) ≡ length nodes + 1 = length-append nodes ((suc (suc (length os)), node_of start some_end (ListItemBody columns)) ∷ []) in
     record {
       below = (omega arith, k.below);
       shape = k.shape;
-      whole = λ forest tables fin. k.whole forest tables (item_step d frames run loose nodes o os p lines behind byte number columns start closes some_end inside forest tables k.shape.0 k.below.0 opens fin);
+      whole = λ forest tables fin. k.whole forest tables (item_step d frames run loose nodes o os p lines behind byte number columns start line some_end inside forest tables k.shape.0 k.below.0 opens fin);
     }

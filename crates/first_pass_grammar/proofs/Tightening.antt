@@ -8,8 +8,8 @@ use Rattle.first_pass_items.specs.declared.item.BlockQuoteKind.{BlockQuoteKind}
 use Rattle.first_pass_items.specs.declared.item.ItemBody.TheVariants.{BlockQuote as BlockQuoteBody, List as ListBody, ListItem as ListItemBody}
 use Rattle.first_pass_tree.specs.Forest.{modify, map_from, at_depth}
 use Rattle.first_pass_grammar.specs.Skeleton.{Leaf, BlankLine, Block, Opener, QuoteMarker, ItemMarker, Skeleton, Nil, Then, Node}
-use Rattle.first_pass_grammar.specs.Lists.{list_end, is_loosened, has_gap, run_behind}
-use Rattle.first_pass_grammar.specs.Derivation.{node_of, list_flags, tightened, leaf_items, tight_of, list_item, container_items, forest_of}
+use Rattle.first_pass_grammar.specs.OnePass.{list_end, is_loosened, has_gap, run_behind, leaf_items, tight_of, list_item, container_items, forest_of}
+use Rattle.first_pass_grammar.specs.Derivation.{node_of, list_flags, tightened}
 use Rattle.first_pass_grammar.specs.Completion.{flagged, list_closed}
 
 pub eqb-same : (n : ℕ) → eqb n n ≡ true
@@ -32,8 +32,8 @@ deep_tight d e (n ∷ items) h = let t = eqb-more d (e + n.0) (omega arith) in l
 
 deep_leaf : (d e : ℕ) (tight : Bool) (leaf : Leaf) → d < e → map (tightened d) (leaf_items e tight leaf) ≡ leaf_items e tight leaf
 deep_leaf d e tight BlankLine h = refl
-deep_leaf d e true (Block closes items gap) h = deep_tight d e items h
-deep_leaf d e false (Block closes items gap) h = deep_at d e items h
+deep_leaf d e true (Block b) h = deep_tight d e b.items h
+deep_leaf d e false (Block b) h = deep_at d e b.items h
 
 deep_parts : (d : ℕ) (x : ℕ × Item) (a b : List (ℕ × Item)) → tightened d x ≡ x → map (tightened d) a ≡ a → map (tightened d) b ≡ b → map (tightened d) (x ∷ (a ++ b)) ≡ x ∷ (a ++ b)
 deep_parts d x a b hx ha hb = let e = map-append (tightened d) a b in cc
@@ -63,10 +63,10 @@ pub deep_forest : (d e last : ℕ) (tight : Bool) (list : Option (ℕ × Bool)) 
 unfolding forest_of
 deep_forest d e last tight list Nil h = refl
 deep_forest d e last tight list (Then BlankLine next) h = deep_forest d e last tight list next h
-deep_forest d e last tight list (Then (Block closes items gap) next) h =
-    map-append (tightened d) (leaf_items e tight (Block closes items gap)) (forest_of e last tight None next)
-    ∙ ap (λ z. z ++ map (tightened d) (forest_of e last tight None next)) (deep_leaf d e tight (Block closes items gap) h)
-    ∙ ap (λ z. leaf_items e tight (Block closes items gap) ++ z) (deep_forest d e last tight None next h)
+deep_forest d e last tight list (Then (Block b) next) h =
+    map-append (tightened d) (leaf_items e tight (Block b)) (forest_of e last tight None next)
+    ∙ ap (λ z. z ++ map (tightened d) (forest_of e last tight None next)) (deep_leaf d e tight (Block b) h)
+    ∙ ap (λ z. leaf_items e tight (Block b) ++ z) (deep_forest d e last tight None next h)
 deep_forest d e last tight list (Node head x kids next) h =
     deep_container d e list head.opener head.start x (λ k t. forest_of k x t None kids) (λ l. forest_of e last tight l next)
     (λ byte. list_end byte last next) (λ byte. has_gap false None false kids || is_loosened byte (run_behind false None false kids) next) h
@@ -114,8 +114,8 @@ pub tight_forest : (d last : ℕ) (list : Option (ℕ × Bool)) (s : Skeleton) �
 unfolding forest_of
 tight_forest d last list Nil = refl
 tight_forest d last list (Then BlankLine next) = tight_forest d last list next
-tight_forest d last list (Then (Block closes items gap) next) =
-    map-append (tightened d) (at_depth d items) (forest_of d last false None next) ∙ ap (λ z. map (tightened d) (at_depth d items) ++ z) (tight_forest d last None next)
+tight_forest d last list (Then (Block b) next) =
+    map-append (tightened d) (at_depth d b.items) (forest_of d last false None next) ∙ ap (λ z. map (tightened d) (at_depth d b.items) ++ z) (tight_forest d last None next)
 tight_forest d last list (Node head x kids next) =
     tight_container d list head.opener head.start x (λ k t. forest_of k x t None kids) (λ l. forest_of d last false l next) (λ l. forest_of d last true l next)
     (λ byte. list_end byte last next) (λ byte. has_gap false None false kids || is_loosened byte (run_behind false None false kids) next)

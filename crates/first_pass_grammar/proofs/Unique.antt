@@ -22,10 +22,11 @@ use Rattle.first_pass_grammar.specs.Leaves.{Document, document, add_break, IsPar
 use Rattle.first_pass_grammar.specs.CodeBlocks.{code_lines, without_blanks, last_end, IsIndentedCode, metadata_lines, metadata_kind, IsMetadata, fenced_lines, info_string, IsFencedCode}
 use Rattle.first_pass_grammar.specs.HtmlBlocks.{until_end, until_blank, first_owing, IsHtml}
 use Rattle.first_pass_grammar.specs.Extents.{Extent}
-use Rattle.first_pass_grammar.specs.Skeleton.{Leaf, Block, Head, opened, From, Line, Inside, LeafAt, Blanks, TextAt, MarkAt, Opening, OpensLeaf, OpensNode, OpensParagraph, OpensExtent, OpensAs, OpensBlockAt, is_blank_behind, next_is_blank, item_head, task_by, task_behind, behind_task, task_alone, item_opening, tag_behind, behind_tag, quote_opening, OpensFrom, Opens, OpensAt, Skeleton, Nil, Then, Node, Begins, Ends, behind_first, end_before, IsLeafHere, IsNodeHere, IsSequence}
+use Rattle.first_pass_grammar.specs.Skeleton.{Leaf, leaf_block, Head, opened, From, Line, Inside, LeafAt, Blanks, TextAt, MarkAt, Opening, OpensLeaf, OpensNode, OpensParagraph, OpensExtent, OpensAs, OpensBlockAt, is_blank_behind, next_is_blank, item_head, task_by, task_behind, behind_task, task_alone, item_opening, tag_behind, behind_tag, quote_opening, OpensFrom, Opens, OpensAt, Skeleton, Nil, Then, Node, Begins, Ends, behind_first, end_before, IsLeafHere, IsNodeHere, IsSequence}
 use Rattle.first_pass_grammar.specs.Derivation.{Tables, node_of, Derives}
 use Rattle.first_pass_grammar.proofs.NoIndex.{HasNoIndex, read_alone, paragraph_free, heading_free, marked_free}
 use Rattle.first_pass_grammar.specs.RawLines.{range_text, range_html}
+use Rattle.first_pass_grammar.proofs.RowLemmas.{rows_items}
 use Rattle.first_pass_grammar.proofs.Alike.{with_names, AlikeNodes, HoldsNoIndex, AlikeOpening, Alike, text_free, html_free, raw_alike, block_alike, fence_alike, forest_alike}
 
 -- a paragraph has one chain and leaves one list of lines
@@ -85,9 +86,9 @@ one_paragraph_opening d n path p lines marker o o' free (c, l, h, f) (c', l', h'
     let s = one_paragraph d n path _ [] lines c c' l l' h h' in
     let start : ℕ = offset (unindented p) in
     let chain : List Item = marker_items marker ++ c in
-    let same : o' ≡ OpensLeaf (Block start (paragraph_block start (start_of (length d.text) l) chain) false) Line l =
-    f' ∙ ap (λ z. OpensLeaf (Block start (paragraph_block start (start_of (length d.text) l') (marker_items marker ++ z)) false) Line l') (sym s.0)
-    ∙ ap (λ z. OpensLeaf (Block start (paragraph_block start (start_of (length d.text) z) chain) false) Line z) (sym s.1) in
+    let same : o' ≡ OpensLeaf (leaf_block Paragraph p (paragraph_block start (start_of (length d.text) l) chain) false) Line l =
+    f' ∙ ap (λ z. OpensLeaf (leaf_block Paragraph p (paragraph_block start (start_of (length d.text) l') (marker_items marker ++ z)) false) Line l') (sym s.0)
+    ∙ ap (λ z. OpensLeaf (leaf_block Paragraph p (paragraph_block start (start_of (length d.text) z) chain) false) Line z) (sym s.1) in
     alike_by d.names n o o' _ _ f same
     ((refl, block_alike d.names n start (start_of (length d.text) l) ParagraphBody ParagraphBody chain chain refl (read_alone d.names n chain (marked_free marker c free (paragraph_free d path start [] lines c l tt h))), refl), refl, tt, refl)
 
@@ -119,8 +120,8 @@ one_html d n start columns places end xs ys h k =
     ∙ block_alike d.names n start end HtmlBlock HtmlBlock h.chain k.chain refl (raw_alike range_html html_free d n [] [] (first_owing columns places) h.chain k.chain refl h.lines k.lines)
     ∙ sym (ap (read_nodes n) k.items_are)
 
-one_extent : (m n : Names) (p : Place) (e : Extent) (A B : List (ℕ × Item) → Type 0) (o o' : Opening) → ((xs ys : List (ℕ × Item)) → A xs → B ys → AlikeNodes m n xs ys) → OpensExtent p e A o → OpensExtent p e B o' → AlikeOpening m n o o'
-one_extent m n p e A B o o' one (xs, a, f) (ys, b, g) = alike_by m n o o' _ _ f g ((refl, one xs ys a b, refl), refl, tt, refl)
+one_extent : (m n : Names) (kind : Kind) (p : Place) (e : Extent) (A B : List (ℕ × Item) → Type 0) (o o' : Opening) → ((xs ys : List (ℕ × Item)) → A xs → B ys → AlikeNodes m n xs ys) → OpensExtent kind p e A o → OpensExtent kind p e B o' → AlikeOpening m n o o'
+one_extent m n kind p e A B o o' one (xs, a, f) (ys, b, g) = alike_by m n o o' _ _ f g ((refl, one xs ys a b, refl), refl, tt, refl)
 
 -- what begins at a place that is of a kind reads alike
 opens_once : (d : Document) (n : Names) (path : List Container) (p : Place) (lines : List Place) (k : Kind) (o o' : Opening) → OpensAs d path p lines k o → OpensAs (with_names d n) path p lines k o' → AlikeOpening d.names n o o'
@@ -130,18 +131,18 @@ opens_once d n path p lines IndentedCode o o' (xs, h, e) (ys, k, f) =
     alike_by d.names n o o' _ _ e f ((refl, one_code d n (moved_columns 4 p) (code_lines path lines).0 xs ys h k, refl), refl, tt, refl)
 opens_once d n path p lines (Metadata byte) o o' e f =
     let x : Extent = metadata_lines (length d.text) path byte lines in
-    one_extent d.names n p x (IsMetadata d (offset (unindented p)) byte x.places x.«end») (IsMetadata (with_names d n) (offset (unindented p)) byte x.places x.«end») o o'
+    one_extent d.names n (Metadata byte) p x (IsMetadata d (offset (unindented p)) byte x.places x.«end») (IsMetadata (with_names d n) (offset (unindented p)) byte x.places x.«end») o o'
     (one_metadata d n (offset (unindented p)) byte x.places x.«end») e f
 opens_once d n path p lines HtmlToEnd o o' (text, is, e) (text', is', f) =
     let found : Some text' ≡ Some text = sym is' ∙ is in
     let same : text' ≡ text = cc in
     let x : Extent = until_end (length d.text) path text (unindented p) lines in
-    one_extent d.names n p x (IsHtml d (offset (unindented p)) (indent p.rest) x.places x.«end») (IsHtml (with_names d n) (offset (unindented p)) (indent p.rest) x.places x.«end») o o'
+    one_extent d.names n HtmlToEnd p x (IsHtml d (offset (unindented p)) (indent p.rest) x.places x.«end») (IsHtml (with_names d n) (offset (unindented p)) (indent p.rest) x.places x.«end») o o'
     (one_html d n (offset (unindented p)) (indent p.rest) x.places x.«end») e
-    (subst (λ (t : List ℕ). let y = until_end (length d.text) path t (unindented p) lines in OpensExtent p y (IsHtml (with_names d n) (offset (unindented p)) (indent p.rest) y.places y.«end») o') same f)
+    (subst (λ (t : List ℕ). let y = until_end (length d.text) path t (unindented p) lines in OpensExtent HtmlToEnd p y (IsHtml (with_names d n) (offset (unindented p)) (indent p.rest) y.places y.«end») o') same f)
 opens_once d n path p lines HtmlToBlank o o' e f =
     let x : Extent = until_blank (length d.text) path (unindented p) lines in
-    one_extent d.names n p x (IsHtml d (offset (unindented p)) (indent p.rest) x.places x.«end») (IsHtml (with_names d n) (offset (unindented p)) (indent p.rest) x.places x.«end») o o'
+    one_extent d.names n HtmlToBlank p x (IsHtml d (offset (unindented p)) (indent p.rest) x.places x.«end») (IsHtml (with_names d n) (offset (unindented p)) (indent p.rest) x.places x.«end») o o'
     (one_html d n (offset (unindented p)) (indent p.rest) x.places x.«end») e f
 opens_once d n path p lines (ThematicBreak size) o o' e f =
     let start : ℕ = offset (unindented p) in
@@ -150,12 +151,12 @@ opens_once d n path p lines (AtxHeading level) o o' (c, e, h, f) (c', e', h', f'
     let text : ℕ = heading_text_at d.text (offset (unindented p)) (level_number level) in
     let s = one_heading d n text c c' e e' h h' in
     let start : ℕ = offset (unindented p) in
-    let same : o' ≡ OpensLeaf (Block p.line (heading_block start e level c) false) Line lines =
-    f' ∙ ap (λ z. OpensLeaf (Block p.line (heading_block start e' level z) false) Line lines) (sym s.0) ∙ ap (λ z. OpensLeaf (Block p.line (heading_block start z level c) false) Line lines) (sym s.1) in
+    let same : o' ≡ OpensLeaf (leaf_block (AtxHeading level) p (heading_block start e level c) false) Line lines =
+    f' ∙ ap (λ z. OpensLeaf (leaf_block (AtxHeading level) p (heading_block start e' level z) false) Line lines) (sym s.0) ∙ ap (λ z. OpensLeaf (leaf_block (AtxHeading level) p (heading_block start z level c) false) Line lines) (sym s.1) in
     alike_by d.names n o o' _ _ f same ((refl, block_alike d.names n start e (HeadingBody level None) (HeadingBody level None) c c refl (read_alone d.names n c (heading_free d text c e h)), refl), refl, tt, refl)
 opens_once d n path p lines (FencedCode count byte) o o' e f =
     let x : Extent = fenced_lines (length d.text) path (indent p.rest) byte count lines in
-    one_extent d.names n p x (IsFencedCode d (offset (unindented p)) count x.places x.«end») (IsFencedCode (with_names d n) (offset (unindented p)) count x.places x.«end») o o'
+    one_extent d.names n (FencedCode count byte) p x (IsFencedCode d (offset (unindented p)) count x.places x.«end») (IsFencedCode (with_names d n) (offset (unindented p)) count x.places x.«end») o o'
     (one_fence d n (offset (unindented p)) count x.places x.«end») e f
 opens_once d n path p lines Paragraph o o' e f = one_paragraph_opening d n path p lines None o o' tt e f
 
@@ -340,6 +341,8 @@ one_forest text options m n f g t u x y =
     let d : Document = document text options m in
     let s = (one_sequence d n x.skeleton y.skeleton [] Line (lines_at 0 text) [] [] tt x.sequence y.sequence).0 in
     let root : ℕ × (Item × Option (List ℕ)) = (0, (node_of 0 (length text) Root, None)) in (
-      ap (read_nodes m) x.forest_is ∙ ap (λ z. root ∷ z) (forest_alike m n 1 (length text) false None x.skeleton y.skeleton s) ∙ sym (ap (read_nodes n) y.forest_is),
+      ap (read_nodes m) (x.forest_is ∙ rows_items text x.skeleton)
+          ∙ ap (λ z. root ∷ z) (forest_alike m n 1 (length text) false None x.skeleton y.skeleton s)
+          ∙ sym (ap (read_nodes n) (y.forest_is ∙ rows_items text y.skeleton)),
       x.tables_are ∙ sym y.tables_are,
     )

@@ -9,8 +9,8 @@ use Rattle.first_pass_grammar.specs.declared.kind.Container.{Container}
 use Rattle.first_pass_grammar.specs.declared.kind.Container.TheVariants.{BlockQuote, ListItem}
 use Rattle.first_pass_grammar.specs.Leaves.{Document}
 use Rattle.first_pass_grammar.specs.Skeleton.{From, Line, end_before, Skeleton, IsSequence}
-use Rattle.first_pass_grammar.specs.Lists.{has_gap, run_behind, is_loosened, list_end}
-use Rattle.first_pass_grammar.specs.Derivation.{Tables, Derives, forest_of, tables_of, list_flags, tightened}
+use Rattle.first_pass_grammar.specs.OnePass.{has_gap, run_behind, is_loosened, list_end, forest_of}
+use Rattle.first_pass_grammar.specs.Derivation.{Tables, Derives, tables_of, list_flags, tightened}
 
 -- the lines of a text from an offset on, which is a line's start
 abbrev pub lines_from : List ℕ → ℕ → List Place

@@ -1,5 +1,5 @@
 -- The tree that the grammar derives from a text, and what the text defines.
-use Rattle.std.specs.Prelude.{◌≡◌, ℕ, suc, ◌==◌, ◌||◌, not, Bool, false, Option, Some, None, List, [], ◌∷◌, ◌++◌, length, map, if◌then◌else◌}
+use Rattle.std.specs.Prelude.{◌≡◌, ℕ, suc, ◌==◌, not, Bool, false, Option, List, [], ◌∷◌, ◌++◌, length, map, if◌then◌else◌}
 use Rattle.first_pass_items.specs.declared.item.Item.{Item}
 use Rattle.first_pass_items.specs.declared.item.ItemBody.{ItemBody}
 use Rattle.first_pass_items.specs.declared.item.ItemBody.TheVariants.{Root, Paragraph, TightParagraph, BlockQuote as BlockQuoteBody, List as ListBody, ListItem as ListItemBody}
@@ -7,8 +7,8 @@ use Rattle.first_pass_items.specs.declared.item.ListFlags.{ListFlags}
 use Rattle.first_pass_tree.specs.Forest.{at_depth}
 use Rattle.first_pass_lines.specs.Places.{lines_at}
 use Rattle.first_pass_grammar.specs.Leaves.{Document}
-use Rattle.first_pass_grammar.specs.Skeleton.{Leaf, BlankLine, Block, Opener, QuoteMarker, ItemMarker, Line, Skeleton, Nil, Then, Node, IsSequence}
-use Rattle.first_pass_grammar.specs.Lists.{list_end, is_loosened, has_gap, run_behind}
+use Rattle.first_pass_grammar.specs.Skeleton.{LeafBlock, Line, Skeleton, IsSequence}
+use Rattle.first_pass_grammar.specs.Rows.{What, ALeaf, AQuote, AList, AnItem, Rows, End, OneOf, is_loose, rows_of}
 
 abbrev pub node_of : ℕ → ℕ → ItemBody → Item
 node_of start «end» body = record { start = start; «end» = «end»; body = body }
@@ -26,38 +26,29 @@ tight_body body = body
 abbrev pub tightened : ℕ → ℕ × Item → ℕ × Item
 tightened depth n = (n.0, if n.0 == depth then record { start = n.1.start; «end» = n.1.«end»; body = tight_body n.1.body } else n.1)
 
--- the items of a leaf, put at a depth, in a tight list or not
-abbrev pub leaf_items : ℕ → Bool → Leaf → List (ℕ × Item)
-leaf_items depth tight BlankLine = []
-leaf_items depth tight (Block closes items gap) = if tight then map (tightened depth) (at_depth depth items) else at_depth depth items
+-- the items of a leaf block, put at a depth, in a tight list or not
+abbrev pub block_items : ℕ → Bool → LeafBlock → List (ℕ × Item)
+block_items depth tight block = if tight then map (tightened depth) (at_depth depth block.items) else at_depth depth block.items
 
--- the tightness of the list that an item of this byte goes on with, where it goes on with one
-abbrev pub tight_of : Option (ℕ × Bool) → ℕ → Option Bool
-tight_of None byte = None
-tight_of (Some list) byte = if list.0 == byte then Some list.1 else None
+-- the items of a row at a depth, directly in an item of a tight list or not: of a list that is loose or not
+abbrev pub row_items : ℕ → Bool → Bool → ℕ → What → List (ℕ × Item)
+row_items depth tight loose start (ALeaf block) = block_items depth tight block
+row_items depth tight loose start (AQuote kind e) = (depth, node_of start e (BlockQuoteBody kind)) ∷ []
+row_items depth tight loose start (AList byte number e) = (depth, node_of start e (ListBody (list_flags (not loose)) byte number)) ∷ []
+row_items depth tight loose start (AnItem columns e) = (depth, node_of start e (ListItemBody columns)) ∷ []
 
--- An item, and a list around it and those that follow it, where it goes on with none.
-abbrev pub list_item : ℕ → Option Bool → ℕ → ℕ → ℕ → ℕ → ℕ → (ℕ → Bool → List (ℕ × Item)) → (Option (ℕ × Bool) → List (ℕ × Item)) → ℕ → Bool → List (ℕ × Item)
-list_item depth (Some tight) start «end» byte number columns kids next last loose =
-    (suc depth, node_of start «end» (ListItemBody columns)) ∷ (kids (suc (suc depth)) tight ++ next (Some (byte, tight)))
-list_item depth None start «end» byte number columns kids next last loose =
-    (depth, node_of start last (ListBody (list_flags (not loose)) byte number))
-    ∷ (suc depth, node_of start «end» (ListItemBody columns)) ∷ (kids (suc (suc depth)) (not loose) ++ next (Some (byte, not loose)))
+-- What stands in a row is directly in an item of a tight list: in an item of such a list, or such a list's items.
+abbrev pub tight_in : Bool → Bool → What → Bool
+tight_in tight loose (ALeaf block) = false
+tight_in tight loose (AQuote kind e) = false
+tight_in tight loose (AList byte number e) = not loose
+tight_in tight loose (AnItem columns e) = tight
 
-abbrev pub container_items : ℕ → Option (ℕ × Bool) → Opener → ℕ → ℕ → (ℕ → Bool → List (ℕ × Item)) → (Option (ℕ × Bool) → List (ℕ × Item)) → (ℕ → ℕ) → (ℕ → Bool) → List (ℕ × Item)
-container_items depth list (QuoteMarker kind) start «end» kids next last loose = (depth, node_of start «end» (BlockQuoteBody kind)) ∷ (kids (suc depth) false ++ next None)
-container_items depth list (ItemMarker byte number columns) start «end» kids next last loose =
-    list_item depth (tight_of list byte) start «end» byte number columns kids next (last byte) (loose byte)
-
--- The items of a sequence in reading order, each with its depth, of which the blocks have this one: of a container that ends at an offset, in a
--- tight list or not, behind an item of a list with a byte, tight or not, if any.
-unfoldable pub forest_of : ℕ → ℕ → Bool → Option (ℕ × Bool) → Skeleton → List (ℕ × Item)
-forest_of depth last tight list Nil = []
-forest_of depth last tight list (Then BlankLine next) = forest_of depth last tight list next
-forest_of depth last tight list (Then (Block closes items gap) next) = leaf_items depth tight (Block closes items gap) ++ forest_of depth last tight None next
-forest_of depth last tight list (Node head e kids next) =
-    container_items depth list head.opener head.start e (λ d t. forest_of d e t None kids) (λ l. forest_of depth last tight l next)
-    (λ byte. list_end byte last next) (λ byte. has_gap false None false kids || is_loosened byte (run_behind false None false kids) next)
+-- The items of rows in reading order, each with its depth, of which the rows have this one, directly in an item of a tight list or not (CommonMark 5.3).
+unfoldable pub items_of : ℕ → Bool → Rows → List (ℕ × Item)
+items_of depth tight (End gap) = []
+items_of depth tight (OneOf row inner next) =
+    row_items depth tight (is_loose inner) row.start row.what ++ (items_of (suc depth) (tight_in tight (is_loose inner) row.what) inner ++ items_of depth tight next)
 
 -- A link reference definition: its label, destination and title as bytes, and its range (CommonMark 4.7).
 pub record LinkEntry : Type 0 where
@@ -84,5 +75,5 @@ root_of n = (0, record { start = 0; «end» = n; body = Root })
 pub record Derives (d : Document) (forest : List (ℕ × Item)) (tables : Tables) : Type 0 where
   pub skeleton : Skeleton
   pub sequence : IsSequence d skeleton [] Line (lines_at 0 d.text) []
-  pub forest_is : forest ≡ root_of (length d.text) ∷ forest_of 1 (length d.text) false None skeleton
+  pub forest_is : forest ≡ root_of (length d.text) ∷ items_of 1 false (rows_of false (length d.text) skeleton)
   pub tables_are : tables ≡ tables_of skeleton

@@ -6,9 +6,10 @@ pub mod Extents
 pub mod HtmlBlocks
 pub mod Kinds
 pub mod Leaves
-pub mod Lists
 pub mod Names
+pub mod OnePass
 pub mod OpenOrder
 pub mod Order
 pub mod RawLines
+pub mod Rows
 pub mod Skeleton

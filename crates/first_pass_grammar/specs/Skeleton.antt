@@ -20,22 +20,37 @@ use Rattle.first_pass_grammar.specs.Extents.{Extent}
 use Rattle.first_pass_grammar.specs.HtmlBlocks.{until_end, until_blank, IsHtml}
 use Rattle.first_pass_grammar.specs.Leaves.{Document, IsParagraph, IsHeading, heading_text_at, rule_block, heading_block, paragraph_block, marker_items}
 
--- a blank line; or a block with no blocks in it: where it ends a list before it, its items with their depths below it, and whether blank lines that
--- count are at the end of what it takes
+-- A block with no blocks in it (CommonMark 4): what begins at its place, where its line starts and its first byte that is no space or tab stands, its
+-- items with their depths below it, and whether blank lines that count are at the end of what it takes.
+pub record LeafBlock : Type 0 where
+  pub kind : Kind
+  pub line : ℕ
+  pub start : ℕ
+  pub items : List (ℕ × Item)
+  pub gap : Bool
+
+-- a blank line, or a leaf block
 pub data Leaf : Type 0 where
   BlankLine : Leaf
-  Block : ℕ → List (ℕ × Item) → Bool → Leaf
+  Block : LeafBlock → Leaf
+
+-- the leaf block of a kind that begins at a place
+abbrev pub block_at : Kind → Place → List (ℕ × Item) → Bool → LeafBlock
+block_at kind p items gap = record { kind = kind; line = p.line; start = offset (unindented p); items = items; gap = gap }
+
+abbrev pub leaf_block : Kind → Place → List (ℕ × Item) → Bool → Leaf
+leaf_block kind p items gap = Block (block_at kind p items gap)
 
 -- what opens a container: the marker of a block quote, with its kind; or of a list item, its byte and number, with the item's indent (CommonMark 5.1, 5.2)
 pub data Opener : Type 0 where
   QuoteMarker : Option BlockQuoteKind → Opener
   ItemMarker : ℕ → ℕ → ℕ → Opener
 
--- how a container begins: what opens it, where it starts, and where it ends a list before it
+-- how a container begins: what opens it, where its line starts, and where it starts itself
 pub record Head : Type 0 where
   pub opener : Opener
+  pub line : ℕ
   pub start : ℕ
-  pub closes : ℕ
 
 -- the container that is opened
 abbrev pub opened : Opener → Container
@@ -59,37 +74,37 @@ pub data Opening : Type 0 where
   OpensLeaf : Leaf → From → List Place → Opening
   OpensNode : Head → From → List Place → Opening
 
--- The paragraph whose text begins at a place, behind a task list item marker or not. A list before it ends at its first byte (this project).
+-- The paragraph whose text begins at a place, behind a task list item marker or not (CommonMark 4.8, GFM 5.3).
 unfoldable pub OpensParagraph : Document → List Container → Place → List Place → Option Item → Opening → Type 0
 OpensParagraph d path p lines marker opening =
     (chain : List Item) × (left : List Place) × IsParagraph d path (offset (unindented p)) [] lines chain left
-    × (opening ≡ OpensLeaf (Block (offset (unindented p)) (paragraph_block (offset (unindented p)) (start_of (length d.text) left) (marker_items marker ++ chain)) false) Line left)
+    × (opening ≡ OpensLeaf (leaf_block Paragraph p (paragraph_block (offset (unindented p)) (start_of (length d.text) left) (marker_items marker ++ chain)) false) Line left)
 
--- What a leaf block with these lines opens, of which this holds for its items: a list before it ends at the start of its line.
-abbrev pub OpensExtent : Place → Extent → (List (ℕ × Item) → Type 0) → Opening → Type 0
-OpensExtent p e Are opening = (items : List (ℕ × Item)) × Are items × (opening ≡ OpensLeaf (Block p.line items false) Line e.left)
+-- what a leaf block of a kind with these lines opens, of which this holds for its items
+abbrev pub OpensExtent : Kind → Place → Extent → (List (ℕ × Item) → Type 0) → Opening → Type 0
+OpensExtent kind p e Are opening = (items : List (ℕ × Item)) × Are items × (opening ≡ OpensLeaf (leaf_block kind p items false) Line e.left)
 
--- What a kind opens at a place that has these lines behind it, inside the containers of the path. A list before another block than a
--- paragraph ends at the start of the block's line (this project). The blank lines at the end of indented code count (CommonMark 4.4, and this project).
+-- What a kind opens at a place that has these lines behind it, inside the containers of the path. The blank lines at the end of indented code count
+-- (CommonMark 4.4, and this project).
 unfoldable pub OpensAs : Document → List Container → Place → List Place → Kind → Opening → Type 0
 OpensAs d path p lines Blank opening = opening ≡ OpensLeaf BlankLine Line lines
 OpensAs d path p lines IndentedCode opening =
     (items : List (ℕ × Item)) × IsIndentedCode d (moved_columns 4 p) (code_lines path lines).0 items
-    × (opening ≡ OpensLeaf (Block p.line items (last_is_blank (code_lines path lines).0)) Line (code_lines path lines).1)
+    × (opening ≡ OpensLeaf (leaf_block IndentedCode p items (last_is_blank (code_lines path lines).0)) Line (code_lines path lines).1)
 OpensAs d path p lines (Metadata byte) opening =
-    let e = metadata_lines (length d.text) path byte lines in OpensExtent p e (IsMetadata d (offset (unindented p)) byte e.places e.«end») opening
+    let e = metadata_lines (length d.text) path byte lines in OpensExtent (Metadata byte) p e (IsMetadata d (offset (unindented p)) byte e.places e.«end») opening
 OpensAs d path p lines HtmlToEnd opening =
     (text : List ℕ) × (html_end (drop 1 (all_taken p.rest).left) ≡ Some text)
-    × (let e = until_end (length d.text) path text (unindented p) lines in OpensExtent p e (IsHtml d (offset (unindented p)) (indent p.rest) e.places e.«end») opening)
+    × (let e = until_end (length d.text) path text (unindented p) lines in OpensExtent HtmlToEnd p e (IsHtml d (offset (unindented p)) (indent p.rest) e.places e.«end») opening)
 OpensAs d path p lines HtmlToBlank opening =
-    let e = until_blank (length d.text) path (unindented p) lines in OpensExtent p e (IsHtml d (offset (unindented p)) (indent p.rest) e.places e.«end») opening
-OpensAs d path p lines (ThematicBreak size) opening = opening ≡ OpensLeaf (Block p.line (rule_block (offset (unindented p)) size) false) Line lines
+    let e = until_blank (length d.text) path (unindented p) lines in OpensExtent HtmlToBlank p e (IsHtml d (offset (unindented p)) (indent p.rest) e.places e.«end») opening
+OpensAs d path p lines (ThematicBreak size) opening = opening ≡ OpensLeaf (leaf_block (ThematicBreak size) p (rule_block (offset (unindented p)) size) false) Line lines
 OpensAs d path p lines (AtxHeading level) opening =
     (chain : List Item) × (end_of_line : ℕ) × IsHeading d (heading_text_at d.text (offset (unindented p)) (level_number level)) chain end_of_line
-    × (opening ≡ OpensLeaf (Block p.line (heading_block (offset (unindented p)) end_of_line level chain) false) Line lines)
+    × (opening ≡ OpensLeaf (leaf_block (AtxHeading level) p (heading_block (offset (unindented p)) end_of_line level chain) false) Line lines)
 OpensAs d path p lines (FencedCode count byte) opening =
     let e = fenced_lines (length d.text) path (indent p.rest) byte count lines in
-    OpensExtent p e (IsFencedCode d (offset (unindented p)) count e.places e.«end») opening
+    OpensExtent (FencedCode count byte) p e (IsFencedCode d (offset (unindented p)) count e.places e.«end») opening
 OpensAs d path p lines Paragraph opening = OpensParagraph d path p lines None opening
 
 -- What a leaf opens at a place: what its kind says.
@@ -105,9 +120,9 @@ abbrev pub next_is_blank : List Container → List Place → Bool
 next_is_blank path [] = false
 next_is_blank path (line ∷ lines) = is_blank_behind (after path line.rest)
 
--- a list item starts where the reading of its line had come before its indentation, and there it ends a list of another kind before it (this project)
+-- a list item starts where the reading of its line had come before its indentation (this project)
 abbrev pub item_head : Place → ℕ → ℕ → ℕ → Head
-item_head p byte number columns = record { opener = ItemMarker byte number columns; start = offset p; closes = offset p }
+item_head p byte number columns = record { opener = ItemMarker byte number columns; line = p.line; start = offset p }
 
 abbrev pub task_by : ℕ → Rest → Option (Bool × Rest) → Option Item × Rest
 task_by line r None = (None, r)
@@ -138,9 +153,9 @@ item_opening d path p lines byte number columns (marker, r) =
     else OpensNode (item_head p byte number columns) (task_alone marker (at_rest p r) Line) lines)
     else OpensNode (item_head p byte number columns) (behind_task marker (at_rest p r)) lines
 
--- a block quote starts at its `>`, and ends a list before it at the start of its line (this project)
+-- a block quote starts at its `>` (this project)
 abbrev pub quote_head : Place → Option BlockQuoteKind → Head
-quote_head p kind = record { opener = QuoteMarker kind; start = quote_start p; closes = p.line }
+quote_head p kind = record { opener = QuoteMarker kind; line = p.line; start = quote_start p }
 
 -- the kind that a tag which stands here gives a block quote, where one does and the option is on (GitHub's alerts)
 abbrev pub tag_behind : Options → Rest → Option BlockQuoteKind
@@ -168,14 +183,14 @@ abbrev pub Opens : Document → List Container → Place → List Place → Open
 Opens d path p lines opening = OpensFrom d path p lines (item_at p.rest) (quote_inside p) opening
 
 -- What begins where blocks go on: where no container does what the kind of the place says; behind a task list item marker a paragraph, and where
--- nothing is behind it the marker alone.
+-- nothing is behind it the marker alone, in the place of a paragraph.
 abbrev pub OpensAt : Document → List Container → From → Place → List Place → Opening → Type 0
 OpensAt d path Line p lines opening = Opens d path p lines opening
 OpensAt d path (Inside q) p lines opening = Opens d path p lines opening
 OpensAt d path (LeafAt q) p lines opening = OpensBlockAt d path p lines opening
 OpensAt d path (Blanks e) p lines opening = Opens d path p lines opening
 OpensAt d path (TextAt marker q) p lines opening = OpensParagraph d path p lines (Some marker) opening
-OpensAt d path (MarkAt marker q from) p lines opening = opening ≡ OpensLeaf (Block p.line ((0, marker) ∷ []) false) Line lines
+OpensAt d path (MarkAt marker q from) p lines opening = opening ≡ OpensLeaf (leaf_block Paragraph p ((0, marker) ∷ []) false) Line lines
 
 -- The blocks of a container, with what is in each: a first block, and those after it.
 pub data Skeleton : Type 0 where

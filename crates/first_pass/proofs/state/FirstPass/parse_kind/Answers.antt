@@ -18,7 +18,7 @@ use Rattle.first_pass.proofs.OrderLemmas.{ordered_none, ordered_blank_read}
 use Rattle.first_pass.proofs.OrderSteps.{line_or-below, ordered_leaf, unindented_later, place_before_end}
 use Rattle.first_pass.proofs.LeafLemmas.{ready_blank_leaf, ready_paragraph, line_end_of}
 use Rattle.first_pass_text.proofs.KindLemmas.{Says, kind_says}
-use Rattle.first_pass.proofs.KindBlocks.{marked_some, paragraph_named, columns_are, html_blank_added, AddsHtml, html_moved, adds_moved, ready_kind}
+use Rattle.first_pass.proofs.KindBlocks.{marked_some, marked_other, paragraph_named, columns_are, html_blank_added, AddsHtml, html_moved, adds_moved, ready_kind}
 use Rattle.first_pass.proofs.BlankBehind.{list_finished_blank, path_added, ready_behind, behind_on, ordered_behind}
 use Rattle.first_pass.specs.Adding.{behind_blank}
 use Rattle.first_pass_open.specs.Path.{path_of}
@@ -277,7 +277,7 @@ returns-in_ok-lines-in-HtmlToBlank-clause-ready c =
     let ends : lines.«end» ≡ (html_to_blank text (path_of q.tree) u).«end» = e.end u place ∙ ap (λ (r : Reading). (html_to_blank text (path_of r.tree) u).«end») rem in
     let path : path_of h.reading.tree ≡ path_of q.tree = ap path_of added_html.tree_is ∙ path_added q.tree added_html.items (subst (λ (r : Reading). IsForest r.tree) rem c.is_forest-in-HtmlToBlank.ensures) in
     λ names more ready. let own : Extends names (names_of h.allocs) = more in
-    let done = ready_kind text self.source.options (names_of h.allocs) names old h.reading.tree p HtmlToBlank false lines.next c.is_forest.ensures (subst (IsKind self.source.options c.args.before) (ap kind_of c.in-HtmlToBlank.is) c.requires.kind) own kind c.requires.no_empty ready h.reading.empty_item h.reading.blank none blank in
+    let done = ready_kind text self.source.options (names_of h.allocs) names old h.reading.tree p HtmlToBlank false lines.next c.is_forest.ensures (subst (IsKind self.source.options c.args.before) (ap kind_of c.in-HtmlToBlank.is) c.requires.kind) refl own kind c.requires.no_empty ready h.reading.empty_item h.reading.blank none blank in
     let z = c.read_blank_behind.new.reading in
     subst (λ n. Ready (document text self.source.options names) z (lines_from text n)) (sym result_is)
     (subst (λ r. Ready (document text self.source.options names) r (lines_from text (behind_blank text lines.«end» lines.next))) (sym c.read_blank_behind.ensures.reading)
@@ -401,7 +401,7 @@ returns-in_ok-next-in-Marked c =
       later = e.boundary.0;
       boundary = last;
       ready = λ names more ready.
-          ready_kind text self.source.options (names_of new.allocs) names old new.reading.tree p (marked_kind leaf) new.reading.blank next c.is_forest.ensures kind more
+          ready_kind text self.source.options (names_of new.allocs) names old new.reading.tree p (marked_kind leaf) new.reading.blank next c.is_forest.ensures kind (marked_other leaf) more
           (adds_moved text text self.source.options self.source.options (names_of new.allocs) p (marked_kind leaf) new.reading.blank f.tree q.tree new.reading.tree next refl refl (ap (λ (r : Reading). r.tree) rem) e.block)
           c.requires.no_empty ready new.reading.empty_item new.reading.blank none refl;
       order = λ first ordered.
