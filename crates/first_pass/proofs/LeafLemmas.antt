@@ -18,7 +18,7 @@ use Rattle.first_pass_grammar.specs.Containers.{at_rest, prefix}
 use Rattle.first_pass_grammar.specs.Kinds.{Kind, Blank, ThematicBreak, AtxHeading, Paragraph, unindented, quote_inside, item_at, IsKind}
 use Rattle.first_pass_grammar.specs.Leaves.{Document, IsParagraph, IsHeading, heading_text_at, rule_block, heading_block, paragraph_block, marker_items}
 use Rattle.first_pass_grammar.specs.OnePass.{leaf_closes}
-use Rattle.first_pass_grammar.specs.Skeleton.{BlankLine, LeafBlock, Block, block_at, leaf_block, Line, Inside, LeafAt, IsLeafHere, Opening, OpensLeaf, OpensParagraph, OpensAs, OpensBlockAt, OpensFrom, Opens}
+use Rattle.first_pass_grammar.specs.Skeleton.{BlankLine, LeafBlock, Block, block_at, leaf_block, Line, Inside, At, ALeafAlone, IsLeafHere, Opening, OpensLeaf, OpensParagraph, OpensAs, OpensBlockAt, OpensFrom, Opens}
 use Rattle.first_pass_grammar.specs.Completion.{lines_from, Frame, containers_of, AreBelow, Completes}
 use Rattle.first_pass_grammar.proofs.Completions.{completes-leaf, completes-blank, completes-block, completes-text, counts_in}
 use Rattle.first_pass_text.specs.Appends.{line_end_at, AddsParagraph, AddsHeading}
@@ -94,13 +94,13 @@ lazy_block d r new p lines left at block opens new_is none lazy =
     let os : List ℕ = map (λ (i : TreeIndex). i.0) f.spine in
     let plain = plain_by f.nodes f.spine frames lazy.ready.are_open (ap is_list lazy.quote) in
     let path = open_path f.nodes f.spine frames lazy.ready.are_open in
-    let first : IsLeafHere d (containers_of frames) (LeafAt p) lines (Block block) Line left = record {
+    let first : IsLeafHere d (containers_of frames) (At p ALeafAlone) lines (Block block) Line left = record {
       place = p;
       behind = lines;
       begins = (refl, refl);
       opens = subst (λ z. OpensBlockAt d z p lines (OpensLeaf (Block block) Line left)) path opens;
     } in
-    let k = completes-leaf d frames f.nodes os (LeafAt p) lines left block plain (λ path mid. refl) first lazy.ready.completes in
+    let k = completes-leaf d frames f.nodes os (At p ALeafAlone) lines left block plain (λ path mid. refl) first lazy.ready.completes in
     let q = with_block d f frames block.items block.gap left lazy.ready.are_open lazy.ready.completes.below k in
     let same : list_finished at r ≡ r = finishes_nothing at r lazy.kind lazy.quote lazy.blank none in
     subst (λ z. ReadyAt d z block.gap Line left) (sym (new_is ∙ ap (λ (z : Reading). added z.tree block.items) same)) q
@@ -127,7 +127,7 @@ ready_blank_leaf d r p lines kind none (inr lazy) =
     let frames : List Frame = lazy.ready.frames in
     let os : List ℕ = map (λ (i : TreeIndex). i.0) f.spine in
     let blank : OpensAs d (containers_of frames) p lines Blank (OpensLeaf BlankLine Line lines) = refl in
-    let first : IsLeafHere d (containers_of frames) (LeafAt p) lines BlankLine Line lines = record {
+    let first : IsLeafHere d (containers_of frames) (At p ALeafAlone) lines BlankLine Line lines = record {
       place = p;
       behind = lines;
       begins = (refl, refl);
@@ -137,7 +137,7 @@ ready_blank_leaf d r p lines kind none (inr lazy) =
     let now : ReadyAt d f false Line lines = record {
       frames = frames;
       are_open = lazy.ready.are_open;
-      completes = subst (λ t. Completes d t frames f.nodes os Line lines) counts (completes-blank d false frames f.nodes os (LeafAt p) lines lines (λ path mid. refl) first lazy.ready.completes);
+      completes = subst (λ t. Completes d t frames f.nodes os Line lines) counts (completes-blank d false frames f.nodes os (At p ALeafAlone) lines lines (λ path mid. refl) first lazy.ready.completes);
     } in
     subst (λ q. Ready d q lines) (sym (kind_blank_is r (top_body r.tree) lazy.kind lazy.quote)) (ready_plain d r lines none (subst (λ t. ReadyAt d f t Line lines) (sym lazy.blank) now))
 

@@ -18,7 +18,7 @@ use Rattle.first_pass_grammar.specs.declared.kind.Container.TheVariants.{BlockQu
 use Rattle.first_pass_grammar.specs.Containers.{at_rest, prefix}
 use Rattle.first_pass_grammar.specs.Kinds.{is_blank_rest, quote_inside, quote_start, item_at}
 use Rattle.first_pass_grammar.specs.Leaves.{Document}
-use Rattle.first_pass_grammar.specs.Skeleton.{From, Line, Inside, Blanks, Opening, OpensNode, next_is_blank, item_head, task_behind, behind_task, task_alone, item_opening, quote_head, tag_behind, behind_tag, quote_opening, OpensFrom, Opens}
+use Rattle.first_pass_grammar.specs.Skeleton.{From, Line, Inside, Blanks, Opening, OpensNode, next_is_blank, item_head, task_behind, behind_task, behind_marker, task_alone, item_opening, quote_head, tag_behind, behind_tag, quote_opening, OpensFrom, Opens}
 use Rattle.first_pass_grammar.specs.Derivation.{node_of, list_flags}
 use Rattle.first_pass_grammar.specs.Completion.{lines_from, Frame, InContainer, InList, containers_of, AreBelow, IsPlain, Completes}
 use Rattle.first_pass_grammar.proofs.Tightening.{modify-append, length-modify}
@@ -315,11 +315,11 @@ emptied_opened g start columns =
     (modify-at g.nodes [] (length g.spine + 1, node_of start 0 (ListItemBody columns)) (length g.nodes) (λ x. record { start = x.start; «end» = x.«end»; body = ListItemBody 0 }) refl)
 
 empty_opening : (d : Document) (path : List Container) (p : Place) (lines : List Place) (byte number columns : ℕ) (marker : Option Item) (rest : Rest) (e : ℕ) → is_blank_rest rest ≡ true → next_is_blank (ListItem columns ∷ path) lines ≡ true → start_of (length d.text) lines ≡ e
-    → item_opening d path p lines byte number columns (marker, rest) ≡ OpensNode (item_head p byte number 0) (task_alone marker (at_rest p rest) (Blanks e)) lines
-empty_opening d path p lines byte number columns marker rest e h n e_is = rw (h, n) (ap (λ k. OpensNode (item_head p byte number 0) (task_alone marker (at_rest p rest) (Blanks k)) lines) e_is)
+    → item_opening d path p lines byte number columns (marker, rest) ≡ OpensNode (item_head p byte number 0) (task_alone marker (at_rest p rest) (Some e)) lines
+empty_opening d path p lines byte number columns marker rest e h n e_is = rw (h, n) (ap (λ k. OpensNode (item_head p byte number 0) (task_alone marker (at_rest p rest) (Some k)) lines) e_is)
 
 line_opening : (d : Document) (path : List Container) (p : Place) (lines : List Place) (byte number columns : ℕ) (marker : Option Item) (rest : Rest) → is_blank_rest rest ≡ true → next_is_blank (ListItem columns ∷ path) lines ≡ false
-    → item_opening d path p lines byte number columns (marker, rest) ≡ OpensNode (item_head p byte number columns) (task_alone marker (at_rest p rest) Line) lines
+    → item_opening d path p lines byte number columns (marker, rest) ≡ OpensNode (item_head p byte number columns) (task_alone marker (at_rest p rest) None) lines
 line_opening d path p lines byte number columns marker rest h n = rw (h, n) refl
 
 in_item : (d : Document) (f : Forest Item) (e columns : ℕ) (lines : List Place) (t blank : Bool) → blank ≡ false → next_is_blank (path_of f) lines ≡ t → ReadyBeforeLine d f e lines t → ReadyInItem d f e columns lines blank
@@ -338,17 +338,17 @@ opened_path g start m n path below is =
     top n ∙ ap (λ z. ListItem n ∷ z) (same n ∙ sym (same m) ∙ outer)
 
 -- a task list item marker with nothing behind it, in the item that is innermost
-ready_marked : (d : Document) (f : Forest Item) (marker : Option Item) (p : Place) (from : From) (lines : List Place) (ix : TreeIndex) (rest : List TreeIndex) (columns : ℕ) → f.spine ≡ ix ∷ rest → body_at f.nodes ix.0 ≡ Some (ListItemBody columns)
-    → ReadyAt d f false (task_alone marker p from) lines → ReadyAt d (with_child f marker) false from lines
-ready_marked d f None p from lines ix rest columns spine body ready = ready
-ready_marked d f (Some x) p from lines ix rest columns spine body ready =
+ready_marked : (d : Document) (f : Forest Item) (marker : Option Item) (p : Place) (blanks : Option ℕ) (lines : List Place) (ix : TreeIndex) (rest : List TreeIndex) (columns : ℕ) → f.spine ≡ ix ∷ rest → body_at f.nodes ix.0 ≡ Some (ListItemBody columns)
+    → ReadyAt d f false (task_alone marker p blanks) lines → ReadyAt d (with_child f marker) false (behind_marker blanks) lines
+ready_marked d f None p blanks lines ix rest columns spine body ready = ready
+ready_marked d f (Some x) p blanks lines ix rest columns spine body ready =
     let plain = in_item_plain f.nodes ix rest ready.frames columns body (subst (λ s. AreOpen f.nodes s ready.frames) spine ready.are_open) in
     let os : List ℕ = map (λ (i : TreeIndex). i.0) f.spine in
-    let k = completes-mark d ready.frames f.nodes os x p from lines plain ready.completes in
+    let k = completes-mark d ready.frames f.nodes os x p blanks lines plain ready.completes in
     record {
       frames = ready.frames;
       are_open = open_below f.nodes (f.nodes ++ (length f.spine + 1, x) ∷ []) (length f.nodes) f.spine ready.frames (λ i h. frame-append f.nodes ((length f.spine + 1, x) ∷ []) i h) ready.completes.below ready.are_open;
-      completes = subst (λ z. Completes d false ready.frames (f.nodes ++ (z, x) ∷ []) os from lines) (depth_of f.spine) k;
+      completes = subst (λ z. Completes d false ready.frames (f.nodes ++ (z, x) ∷ []) os (behind_marker blanks) lines) (depth_of f.spine) k;
     }
 
 emptied_marked : (f : Forest Item) (ix : TreeIndex) (marker : Option Item) → ix.0 < length f.nodes
@@ -385,7 +385,7 @@ empty_by d r p lines item marker rest e true next forest is task blank e_is none
     let q : Reading = item_opened (offset p) byte number columns r in
     let place : TreeIndex = record { 0 = length g.nodes } in
     let item_node : ℕ → Item = λ k. node_of (offset p) 0 (ListItemBody k) in
-    let from : From = task_alone marker (at_rest p rest) (Blanks e) in
+    let from : From = task_alone marker (at_rest p rest) (Some e) in
     let opens : Opens d (path_of r.tree) p lines (OpensNode (item_head p byte number 0) from lines) =
     subst (Opens d (path_of r.tree) p lines) (ap (item_opening d (path_of r.tree) p lines byte number columns) task ∙ empty_opening d (path_of r.tree) p lines byte number columns marker rest e blank next e_is)
     (opens_item d (path_of r.tree) p lines item is) in
@@ -395,7 +395,7 @@ empty_by d r p lines item marker rest e true next forest is task blank e_is none
     let within : place.0 < length (appended g (item_node columns)).nodes = omega arith in
     let below : AreBelow (length q.tree.nodes) (map (λ (i : TreeIndex). i.0) q.tree.spine) = AreBelow-more _ _ (length g.nodes ∷ map (λ (i : TreeIndex). i.0) g.spine) (omega arith) done.0.completes.below in
     let marked : ReadyAt d (with_child (pushed (appended g (item_node 0)) place) marker) false (Blanks e) lines =
-    ready_marked d (pushed (appended g (item_node 0)) place) marker (at_rest p rest) (Blanks e) lines place g.spine 0 refl (item_body g (offset p) 0) done.0 in
+    ready_marked d (pushed (appended g (item_node 0)) place) marker (at_rest p rest) (Some e) lines place g.spine 0 refl (item_body g (offset p) 0) done.0 in
     let same = ap (λ z. with_child z marker) (sym (emptied_opened g (offset p) columns)) ∙ emptied_marked (appended g (item_node columns)) place marker within in
     let path : path_of (with_child q.tree marker) ≡ ListItem columns ∷ path_of r.tree =
     marked_path q.tree marker below ∙ opened_path g (offset p) 0 columns (path_of r.tree) done.0.completes.below done.1 in
@@ -412,13 +412,13 @@ empty_by d r p lines item marker rest e false next forest is task blank e_is non
     let g : Forest Item = (list_continued (offset p) byte number r).tree in
     let q : Reading = item_opened (offset p) byte number columns r in
     let place : TreeIndex = record { 0 = length g.nodes } in
-    let from : From = task_alone marker (at_rest p rest) Line in
+    let from : From = task_alone marker (at_rest p rest) None in
     let opens : Opens d (path_of r.tree) p lines (OpensNode (item_head p byte number columns) from lines) =
     subst (Opens d (path_of r.tree) p lines) (ap (item_opening d (path_of r.tree) p lines byte number columns) task ∙ line_opening d (path_of r.tree) p lines byte number columns marker rest blank next)
     (opens_item d (path_of r.tree) p lines item is) in
     let done = item_is_open d r p lines byte number columns from forest opens none ready in
     let more : length q.tree.nodes ≡ length g.nodes + 1 = length-append g.nodes ((length g.spine + 1, node_of (offset p) 0 (ListItemBody columns)) ∷ []) in
-    let marked : ReadyAt d (with_child q.tree marker) false Line lines = ready_marked d q.tree marker (at_rest p rest) Line lines place g.spine columns refl (item_body g (offset p) columns) done.0 in
+    let marked : ReadyAt d (with_child q.tree marker) false Line lines = ready_marked d q.tree marker (at_rest p rest) None lines place g.spine columns refl (item_body g (offset p) columns) done.0 in
     let path : path_of (with_child q.tree marker) ≡ ListItem columns ∷ path_of r.tree = marked_path q.tree marker done.0.completes.below ∙ done.1 in
     record {
       place = place;

@@ -16,7 +16,7 @@ use Rattle.first_pass_grammar.specs.declared.kind.Container.TheVariants.{BlockQu
 use Rattle.first_pass_grammar.specs.Containers.{at_rest, after, front}
 use Rattle.first_pass_grammar.specs.Kinds.{unindented, interrupts, ends_tag}
 use Rattle.first_pass_grammar.specs.Leaves.{Document}
-use Rattle.first_pass_grammar.specs.Skeleton.{From, Line, LeafAt, behind_tag}
+use Rattle.first_pass_grammar.specs.Skeleton.{From, Line, At, ALeafAlone, behind_tag}
 use Rattle.first_pass_grammar.specs.Completion.{lines_from, Frame, InContainer}
 use Rattle.first_pass_grammar.proofs.Completions.{counts_in}
 use Rattle.first_pass_lists.specs.Closing.{top_body, is_list, popped, item_finished_by, item_finished, list_left, gap_tree, gap_noted, list_finished}
@@ -60,19 +60,19 @@ tag_end : (path : List Container) → ends_tag path (line_rest []) ≡ true
 tag_end path = ap (λ r. nat_lt (indent r) 4 && interrupts (is_some (after path (line_rest []))) r) (front-end path) ∙ end_by (is_some (after path (line_rest [])))
 
 tag_by : (path : List Container) (line : Place) (lines : List Place) (t : Bool) → ends_tag path line.rest ≡ t
-    → behind_tag path (line ∷ lines) ≡ (if t then (Line, line ∷ lines) else (LeafAt (unindented (at_rest line (front path line.rest))), lines))
+    → behind_tag path (line ∷ lines) ≡ (if t then (Line, line ∷ lines) else (At (unindented (at_rest line (front path line.rest))) ALeafAlone, lines))
 tag_by path line lines t is = rw is refl
 
 -- where blocks go on behind its tag, at the line that begins at an offset
 tag_line : (path : List Container) (text : List ℕ) (at : ℕ) (t : Bool) → ends_tag path (line_rest (drop at text)) ≡ t
     → (let lines : List Place = lines_from text at in
-    behind_tag path lines ≡ (if t then (Line, lines) else (LeafAt (unindented (place_at at (front path (line_rest (drop at text))))), lines_from text (at + line_len (drop at text)))))
+    behind_tag path lines ≡ (if t then (Line, lines) else (At (unindented (place_at at (front path (line_rest (drop at text))))) ALeafAlone, lines_from text (at + line_len (drop at text)))))
 tag_line path text at t is =
     elim (cases_lt at (length text)) [
-      | inl within ↦ (let first = lines_at-line text at within in ap (behind_tag path) first ∙ tag_by path (line_place at (drop at text)) (lines_from text (at + line_len (drop at text))) t is ∙ ap (λ z. if t then (Line, z) else (LeafAt (unindented (place_at at (front path (line_rest (drop at text))))), lines_from text (at + line_len (drop at text)))) (sym first))
+      | inl within ↦ (let first = lines_at-line text at within in ap (behind_tag path) first ∙ tag_by path (line_place at (drop at text)) (lines_from text (at + line_len (drop at text))) t is ∙ ap (λ z. if t then (Line, z) else (At (unindented (place_at at (front path (line_rest (drop at text))))) ALeafAlone, lines_from text (at + line_len (drop at text)))) (sym first))
       | inr past ↦ (let none : lines_from text at ≡ [] = lines_at-end text at past in
           let over : t ≡ true = sym is ∙ ap (λ bs. ends_tag path (line_rest bs)) (ends_past text at past) ∙ tag_end path in
-          ap (behind_tag path) none ∙ ap (λ z. (Line, z)) (sym none) ∙ ap (λ u. if u then (Line, lines_from text at) else (LeafAt (unindented (place_at at (front path (line_rest (drop at text))))), lines_from text (at + line_len (drop at text)))) (sym over))
+          ap (behind_tag path) none ∙ ap (λ z. (Line, z)) (sym none) ∙ ap (λ u. if u then (Line, lines_from text at) else (At (unindented (place_at at (front path (line_rest (drop at text))))) ALeafAlone, lines_from text (at + line_len (drop at text)))) (sym over))
     ]
 
 -- the line behind its tag, which is read as any other

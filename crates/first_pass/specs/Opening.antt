@@ -12,7 +12,7 @@ use Rattle.first_pass_grammar.specs.declared.kind.Container.TheVariants.{BlockQu
 use Rattle.first_pass_grammar.specs.Containers.{prefix}
 use Rattle.first_pass_grammar.specs.Kinds.{item_at}
 use Rattle.first_pass_grammar.specs.Leaves.{Document}
-use Rattle.first_pass_grammar.specs.Skeleton.{From, Inside, LeafAt, TextAt, behind_tag}
+use Rattle.first_pass_grammar.specs.Skeleton.{From, Inside, At, ALeafAlone, TextOf, behind_tag}
 use Rattle.first_pass_grammar.specs.Completion.{lines_from, IsPlain}
 use Rattle.first_pass.specs.declared.containers.Behind.{Behind}
 use Rattle.first_pass.specs.declared.containers.Behind.TheVariants.{Leaf as BehindLeaf, TaskText, NextLine, Tag}
@@ -27,7 +27,7 @@ use Rattle.first_pass.specs.State.{Ready, ReadyAt}
 -- a task list item marker is remembered, with its paragraph at a place in the line, in what is no list
 pub record ReadyText (d : Document) (r : Reading) (marker : Item) (p : Place) (lines : List Place) : Type 0 where
   pub blank : r.blank ≡ false
-  pub ready : ReadyAt d r.tree false (TextAt marker p) lines
+  pub ready : ReadyAt d r.tree false (At p (TextOf marker)) lines
   pub plain : IsPlain ready.frames
 
 -- a block quote with a tag is innermost, before blocks go on with these lines
@@ -43,7 +43,7 @@ ReadyTagged d r lines = ReadyInQuote d r (behind_tag (path_of r.tree) lines).0 (
 
 -- in that line, at the place of a leaf
 abbrev pub ReadyLazy : Document → Reading → Place → List Place → Type 0
-ReadyLazy d r p lines = ReadyInQuote d r (LeafAt p) lines
+ReadyLazy d r p lines = ReadyInQuote d r (At p ALeafAlone) lines
 
 -- a leaf is at a place in a line, where no container begins or behind the tag of a block quote
 abbrev pub ReadyLeaf : Document → Reading → Place → List Place → Type 0

@@ -14,7 +14,7 @@ use Rattle.first_pass_tokens.specs.Chains.{text_token, touches, add_token, add_t
 use Rattle.first_pass_grammar.specs.Names.{Names, NamesText, index_of, kind_alone, read, read_nodes}
 use Rattle.first_pass_grammar.specs.Leaves.{Document, document, block_with}
 use Rattle.first_pass_grammar.specs.RawLines.{AreColumns, ends_with_both, Ranges, range_text, range_html, raw_items, AreRawLines, spaces}
-use Rattle.first_pass_grammar.specs.Skeleton.{LeafBlock, Leaf, BlankLine, Block, Head, Opener, QuoteMarker, ItemMarker, From, Line, Inside, LeafAt, Blanks, TextAt, MarkAt, Opening, OpensLeaf, OpensNode, Skeleton, Nil, Then, Node}
+use Rattle.first_pass_grammar.specs.Skeleton.{LeafBlock, Leaf, BlankLine, Block, Head, Opener, QuoteMarker, ItemMarker, From, Line, Blanks, At, May, Anything, ALeafAlone, TextOf, MarkAlone, Opening, OpensLeaf, OpensNode, Skeleton, Nil, Then, Node}
 use Rattle.first_pass_grammar.specs.Kinds.{Kind}
 use Rattle.first_pass_grammar.specs.Rows.{is_paragraph, is_quote_marker}
 use Rattle.first_pass_grammar.specs.OnePass.{list_byte, joins, counts_with, run_behind, has_gap, list_end, is_loosened, head_closes, leaf_items, tight_of, list_item, container_items, forest_of}
@@ -46,11 +46,11 @@ AlikeLeaf m n (Block b) (Block b') = (stands b ≡ stands b') × AlikeNodes m n 
 -- where blocks go on stands no item that has an index
 abbrev pub HoldsNoIndex : From → Type 0
 HoldsNoIndex Line = Unit {0}
-HoldsNoIndex (Inside p) = Unit {0}
-HoldsNoIndex (LeafAt p) = Unit {0}
 HoldsNoIndex (Blanks e) = Unit {0}
-HoldsNoIndex (TextAt marker p) = HasNoIndex marker
-HoldsNoIndex (MarkAt marker p from) = HasNoIndex marker × HoldsNoIndex from
+HoldsNoIndex (At p Anything) = Unit {0}
+HoldsNoIndex (At p ALeafAlone) = Unit {0}
+HoldsNoIndex (At p (TextOf marker)) = HasNoIndex marker
+HoldsNoIndex (At p (MarkAlone marker blanks)) = HasNoIndex marker
 
 abbrev pub AlikeOpening : Names → Names → Opening → Opening → Type 0
 AlikeOpening m n (OpensLeaf leaf there left) (OpensLeaf leaf' there' left') = AlikeLeaf m n leaf leaf' × (there ≡ there') × HoldsNoIndex there × (left ≡ left')

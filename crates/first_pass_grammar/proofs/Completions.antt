@@ -14,7 +14,7 @@ use Rattle.first_pass_grammar.specs.declared.kind.Container.TheVariants.{BlockQu
 use Rattle.first_pass_grammar.specs.Containers.{taken}
 use Rattle.first_pass_grammar.specs.Names.{Names}
 use Rattle.first_pass_grammar.specs.Leaves.{Document}
-use Rattle.first_pass_grammar.specs.Skeleton.{Leaf, LeafBlock, BlankLine, Block, block_at, Head, Opener, QuoteMarker, ItemMarker, From, Line, Inside, Blanks, TextAt, MarkAt, Opening, OpensLeaf, OpensNode, OpensParagraph, Opens, Skeleton, Nil, Then, Node, Begins, Ends, behind_first, end_before, IsLeafHere, IsNodeHere, IsSequence}
+use Rattle.first_pass_grammar.specs.Skeleton.{Leaf, LeafBlock, BlankLine, Block, block_at, Head, Opener, QuoteMarker, ItemMarker, From, Line, Inside, Blanks, At, TextOf, MarkAlone, behind_marker, Opening, OpensLeaf, OpensNode, OpensParagraph, Opens, Skeleton, Nil, Then, Node, Begins, Ends, behind_first, end_after, end_before, IsLeafHere, IsNodeHere, IsSequence}
 use Rattle.first_pass_grammar.specs.Kinds.{Kind, Paragraph}
 use Rattle.first_pass_grammar.specs.Rows.{is_paragraph}
 use Rattle.first_pass_grammar.specs.OnePass.{joins, counts_with, run_behind, has_gap, list_end, is_loosened, leaf_closes, head_closes, leaf_items, container_items, forest_of}
@@ -721,17 +721,23 @@ completes-block d frames nodes os p lines left b plain opens c =
 -- behind the paragraph of a task list item marker
 pub completes-text : (d : Document) (frames : List Frame) (nodes : List (ℕ × Item)) (os : List ℕ) (marker : Item) (p : Place) (lines left : List Place) (b : LeafBlock)
     → IsPlain frames → OpensParagraph d (containers_of frames) p lines (Some marker) (OpensLeaf (Block b) Line left)
-    → Completes d false frames nodes os (TextAt marker p) lines → Completes d b.gap frames (nodes ++ leaf_items (suc (length os)) false (Block b)) os Line left
+    → Completes d false frames nodes os (At p (TextOf marker)) lines → Completes d b.gap frames (nodes ++ leaf_items (suc (length os)) false (Block b)) os Line left
 completes-text d frames nodes os marker p lines left b plain opens c =
-    completes-leaf d frames nodes os (TextAt marker p) lines left b plain (λ path mid. refl) (record { place = p; behind = lines; begins = (refl, refl); opens = opens }) c
+    completes-leaf d frames nodes os (At p (TextOf marker)) lines left b plain (λ path mid. refl) (record { place = p; behind = lines; begins = (refl, refl); opens = opens }) c
+
+mark_alike : (n : ℕ) (blanks : Option ℕ) (path : List Container) (mid : List Place) → end_after n path blanks mid ≡ end_before n path (behind_marker blanks) mid
+mark_alike n None path mid = refl
+mark_alike n (Some e) path mid = refl
 
 -- behind a task list item marker with nothing behind it on its line
-pub completes-mark : (d : Document) (frames : List Frame) (nodes : List (ℕ × Item)) (os : List ℕ) (marker : Item) (p : Place) (from : From) (lines : List Place)
-    → IsPlain frames → Completes d false frames nodes os (MarkAt marker p from) lines → Completes d false frames (nodes ++ (suc (length os), marker) ∷ []) os from lines
-completes-mark d frames nodes os marker p from lines plain c =
+pub completes-mark : (d : Document) (frames : List Frame) (nodes : List (ℕ × Item)) (os : List ℕ) (marker : Item) (p : Place) (blanks : Option ℕ) (lines : List Place)
+    → IsPlain frames → Completes d false frames nodes os (At p (MarkAlone marker blanks)) lines
+    → Completes d false frames (nodes ++ (suc (length os), marker) ∷ []) os (behind_marker blanks) lines
+completes-mark d frames nodes os marker p blanks lines plain c =
     let deep : suc (length os) + 0 ≡ suc (length os) = omega arith in
-    subst (λ depth. Completes d false frames (nodes ++ (depth, marker) ∷ []) os from lines) deep
-    (completes-leaf d frames nodes os (MarkAt marker p from) lines lines (block_at Paragraph p ((0, marker) ∷ []) false) plain (λ path mid. refl) (record { place = p; behind = lines; begins = (refl, refl); opens = refl }) c)
+    subst (λ depth. Completes d false frames (nodes ++ (depth, marker) ∷ []) os (behind_marker blanks) lines) deep
+    (completes-leaf d frames nodes os (At p (MarkAlone marker blanks)) lines lines (block_at Paragraph p ((0, marker) ∷ []) false) plain (mark_alike (length d.text) blanks)
+    (record { place = p; behind = lines; begins = (refl, refl); opens = refl }) c)
 
 -- whether a run of blank lines counts with one more, inside what is open
 abbrev pub counts_in : List Frame → Bool → Bool

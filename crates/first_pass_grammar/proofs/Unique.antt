@@ -22,7 +22,7 @@ use Rattle.first_pass_grammar.specs.Leaves.{Document, document, add_break, IsPar
 use Rattle.first_pass_grammar.specs.CodeBlocks.{code_lines, without_blanks, last_end, IsIndentedCode, metadata_lines, metadata_kind, IsMetadata, fenced_lines, info_string, IsFencedCode}
 use Rattle.first_pass_grammar.specs.HtmlBlocks.{until_end, until_blank, first_owing, IsHtml}
 use Rattle.first_pass_grammar.specs.Extents.{Extent}
-use Rattle.first_pass_grammar.specs.Skeleton.{Leaf, leaf_block, Head, opened, From, Line, Inside, LeafAt, Blanks, TextAt, MarkAt, Opening, OpensLeaf, OpensNode, OpensParagraph, OpensExtent, OpensAs, OpensBlockAt, is_blank_behind, next_is_blank, item_head, task_by, task_behind, behind_task, task_alone, item_opening, tag_behind, behind_tag, quote_opening, OpensFrom, Opens, OpensAt, Skeleton, Nil, Then, Node, Begins, Ends, behind_first, end_before, IsLeafHere, IsNodeHere, IsSequence}
+use Rattle.first_pass_grammar.specs.Skeleton.{Leaf, leaf_block, Head, opened, From, Line, Inside, Blanks, At, May, Anything, ALeafAlone, TextOf, MarkAlone, behind_marker, Opening, OpensLeaf, OpensNode, OpensParagraph, OpensExtent, OpensAs, OpensBlockAt, is_blank_behind, next_is_blank, item_head, task_by, task_behind, behind_task, task_alone, item_opening, tag_behind, behind_tag, quote_opening, OpensFrom, Opens, OpensAt, Skeleton, Nil, Then, Node, Begins, Ends, behind_first, end_before, IsLeafHere, IsNodeHere, IsSequence}
 use Rattle.first_pass_grammar.specs.Derivation.{Tables, node_of, Derives}
 use Rattle.first_pass_grammar.proofs.NoIndex.{HasNoIndex, read_alone, paragraph_free, heading_free, marked_free}
 use Rattle.first_pass_grammar.specs.RawLines.{range_text, range_html}
@@ -181,9 +181,13 @@ behind_free : (marker : Option Item) (p : Place) → IfSome marker HasNoIndex �
 behind_free None p h = tt
 behind_free (Some marker) p h = h
 
-alone_free : (marker : Option Item) (p : Place) (from : From) → IfSome marker HasNoIndex → HoldsNoIndex from → HoldsNoIndex (task_alone marker p from)
-alone_free None p from h k = k
-alone_free (Some marker) p from h k = (h, k)
+marker_free : (blanks : Option ℕ) → HoldsNoIndex (behind_marker blanks)
+marker_free None = tt
+marker_free (Some e) = tt
+
+alone_free : (marker : Option Item) (p : Place) (blanks : Option ℕ) → IfSome marker HasNoIndex → HoldsNoIndex (task_alone marker p blanks)
+alone_free None p blanks h = marker_free blanks
+alone_free (Some marker) p blanks h = h
 
 unless_opens : (t : Bool) (o o' : Opening) → OpensFree o → OpensFree o' → OpensFree (if t then o else o')
 unless_opens true o o' h k = h
@@ -191,10 +195,10 @@ unless_opens false o o' h k = k
 
 item_free : (d : Document) (path : List Container) (p : Place) (lines : List Place) (byte number columns : ℕ) (task : Option Item × Rest) → IfSome task.0 HasNoIndex → OpensFree (item_opening d path p lines byte number columns task)
 item_free d path p lines byte number columns (marker, r) h =
-    let blanks : From = Blanks (start_of (length d.text) lines) in
+    let blanks : Option ℕ = Some (start_of (length d.text) lines) in
     unless_opens (is_blank_rest r) _ _
-    (unless_opens (next_is_blank (ListItem columns ∷ path) lines) (OpensNode (item_head p byte number 0) (task_alone marker (at_rest p r) blanks) lines) (OpensNode (item_head p byte number columns) (task_alone marker (at_rest p r) Line) lines)
-    (alone_free marker (at_rest p r) blanks h tt) (alone_free marker (at_rest p r) Line h tt))
+    (unless_opens (next_is_blank (ListItem columns ∷ path) lines) (OpensNode (item_head p byte number 0) (task_alone marker (at_rest p r) blanks) lines) (OpensNode (item_head p byte number columns) (task_alone marker (at_rest p r) None) lines)
+    (alone_free marker (at_rest p r) blanks h) (alone_free marker (at_rest p r) None h))
     (behind_free marker (at_rest p r) h)
 
 first_free : (t : Bool) (x y : From × List Place) → HoldsNoIndex x.0 → HoldsNoIndex y.0 → HoldsNoIndex (if◌then◌else◌ {A = From × List Place} t x y).0
@@ -203,7 +207,7 @@ first_free false x y h k = k
 
 tag_free : (path : List Container) (lines : List Place) → HoldsNoIndex (behind_tag path lines).0
 tag_free path [] = tt
-tag_free path (line ∷ lines) = first_free (ends_tag path line.rest) (Line, line ∷ lines) (LeafAt (unindented (at_rest line (front path line.rest))), lines) tt tt
+tag_free path (line ∷ lines) = first_free (ends_tag path line.rest) (Line, line ∷ lines) (At (unindented (at_rest line (front path line.rest))) ALeafAlone, lines) tt tt
 
 quote_free : (path : List Container) (p inside : Place) (lines : List Place) (kind : Option BlockQuoteKind) → OpensFree (quote_opening path p inside lines kind)
 quote_free path p inside lines None = tt
@@ -225,19 +229,16 @@ one_opening d n path p lines o o' e f = opens_from d n path p lines (item_at p.r
 opens_at : (d : Document) (n : Names) (path : List Container) (from : From) (p : Place) (lines : List Place) (o o' : Opening) → HoldsNoIndex from
     → OpensAt d path from p lines o → OpensAt (with_names d n) path from p lines o' → AlikeOpening d.names n o o'
 opens_at d n path Line p lines o o' h e f = one_opening d n path p lines o o' e f
-opens_at d n path (Inside q) p lines o o' h e f = one_opening d n path p lines o o' e f
-opens_at d n path (LeafAt q) p lines o o' h e f = opens_block d n path p lines o o' e f
+opens_at d n path (At q Anything) p lines o o' h e f = one_opening d n path p lines o o' e f
+opens_at d n path (At q ALeafAlone) p lines o o' h e f = opens_block d n path p lines o o' e f
 opens_at d n path (Blanks x) p lines o o' h e f = one_opening d n path p lines o o' e f
-opens_at d n path (TextAt marker q) p lines o o' h e f = one_paragraph_opening d n path p lines (Some marker) o o' h e f
-opens_at d n path (MarkAt marker q from) p lines o o' h e f =
-    alike_by d.names n o o' _ _ e f ((refl, ap (λ (z : List (Item × Option (List ℕ))). map (λ (r : Item × Option (List ℕ)). (0, r)) z) (read_alone d.names n (marker ∷ []) (h.0, tt)), refl), refl, tt, refl)
+opens_at d n path (At q (TextOf marker)) p lines o o' h e f = one_paragraph_opening d n path p lines (Some marker) o o' h e f
+opens_at d n path (At q (MarkAlone marker blanks)) p lines o o' h e f =
+    alike_by d.names n o o' _ _ e f ((refl, ap (λ (z : List (Item × Option (List ℕ))). map (λ (r : Item × Option (List ℕ)). (0, r)) z) (read_alone d.names n (marker ∷ []) (h, tt)), refl), refl, tt, refl)
 
 -- a block begins at one place
 begins_once : (path : List Container) (from : From) (lines : List Place) (p q : Place) (a b : List Place) → Begins path from lines p a → Begins path from lines q b → (p ≡ q) × (a ≡ b)
-begins_once path (Inside x) lines p q a b (e, f) (g, h) = (cc, cc)
-begins_once path (LeafAt x) lines p q a b (e, f) (g, h) = (cc, cc)
-begins_once path (TextAt m x) lines p q a b (e, f) (g, h) = (cc, cc)
-begins_once path (MarkAt m x y) lines p q a b (e, f) (g, h) = (cc, cc)
+begins_once path (At x may) lines p q a b (e, f) (g, h) = (cc, cc)
 begins_once path Line [] p q a b e f = absurd e
 begins_once path Line (line ∷ lines) p q a b (t, f) (u, h) = let s : Some p ≡ Some q = sym t ∙ u in (cc, cc)
 begins_once path (Blanks e) [] p q a b m f = absurd m
@@ -249,10 +250,7 @@ blank_taken line q (Some r) t b = let e : at_rest line r ≡ q = cc in ap (λ z.
 
 -- where a sequence ends no block begins
 pub ends_not_begins : (path : List Container) (from : From) (lines : List Place) (p : Place) (a : List Place) → Ends path from lines → Begins path from lines p a → ⊥
-ends_not_begins path (Inside x) lines p a e b = e
-ends_not_begins path (LeafAt x) lines p a e b = e
-ends_not_begins path (TextAt m x) lines p a e b = e
-ends_not_begins path (MarkAt m x y) lines p a e b = e
+ends_not_begins path (At x may) lines p a e b = e
 ends_not_begins path Line [] p a e b = b
 ends_not_begins path Line (line ∷ lines) p a e (t, h) = let n : None ≡ Some p = sym (ap (option_map (at_rest line)) e) ∙ t in cc
 ends_not_begins path (Blanks x) [] p a e b = b
@@ -303,10 +301,10 @@ ends_at_once d (Node head e' kids next) path from lines left e (inside, behind, 
 behind_first_free : (from there : From) → HoldsNoIndex from → HoldsNoIndex there → HoldsNoIndex (behind_first from there)
 behind_first_free (Blanks e) there h k = tt
 behind_first_free Line there h k = k
-behind_first_free (Inside p) there h k = k
-behind_first_free (LeafAt p) there h k = k
-behind_first_free (TextAt marker p) there h k = k
-behind_first_free (MarkAt marker p from) there h k = h.1
+behind_first_free (At p Anything) there h k = k
+behind_first_free (At p ALeafAlone) there h k = k
+behind_first_free (At p (TextOf marker)) there h k = k
+behind_first_free (At p (MarkAlone marker blanks)) there h k = marker_free blanks
 
 -- two sequences from one place on are alike, and leave the same lines
 pub one_sequence : (d : Document) (n : Names) (s t : Skeleton) (path : List Container) (from : From) (lines a b : List Place) → HoldsNoIndex from

@@ -57,16 +57,29 @@ abbrev pub opened : Opener → Container
 opened (QuoteMarker kind) = BlockQuote kind
 opened (ItemMarker byte number indent) = ListItem indent
 
--- Where blocks go on: at the next line; at a place inside a line; at such a place where no container begins, behind a block quote's tag; in an item that
--- takes blank lines alone, at the next line as long as it is blank, with the offset behind the line of the item's marker; behind a task list item
--- marker, at the place where its text begins; or at such a marker with nothing behind it on its line, with where blocks go on then (GFM 5.3).
+-- What may begin at a place inside a line: any block; a leaf block alone, behind a block quote's tag; the text of a task, behind its marker; or such a
+-- marker alone, with nothing behind it on its line, in an item that takes blank lines alone, with the offset behind that line, or in one that doesn't
+-- (GFM 5.3, and this project).
+pub data May : Type 0 where
+  Anything : May
+  ALeafAlone : May
+  TextOf : Item → May
+  MarkAlone : Item → Option ℕ → May
+
+-- Where blocks go on: at the next line; in an item that takes blank lines alone, at the next line as long as it is blank, with the offset behind the line
+-- of the item's marker; or at a place inside a line, with what may begin there.
 pub data From : Type 0 where
   Line : From
-  Inside : Place → From
-  LeafAt : Place → From
   Blanks : ℕ → From
-  TextAt : Item → Place → From
-  MarkAt : Item → Place → From → From
+  At : Place → May → From
+
+abbrev pub Inside : Place → From
+Inside p = At p Anything
+
+-- at the line behind an item's marker, in an item that takes blank lines alone or doesn't
+abbrev pub behind_marker : Option ℕ → From
+behind_marker None = Line
+behind_marker (Some e) = Blanks e
 
 -- What begins at a place: a leaf, with where the blocks behind it go on and the lines that it leaves; or a container, with where the blocks in
 -- it go on and the lines behind.
@@ -136,12 +149,12 @@ task_behind options line r = task_by line r (if has options 16 then task_of r el
 -- where blocks go on behind the markers of an item
 abbrev pub behind_task : Option Item → Place → From
 behind_task None p = Inside p
-behind_task (Some marker) p = TextAt marker p
+behind_task (Some marker) p = At p (TextOf marker)
 
 -- the same where nothing is behind them on their line
-abbrev pub task_alone : Option Item → Place → From → From
-task_alone None p from = from
-task_alone (Some marker) p from = MarkAt marker p from
+abbrev pub task_alone : Option Item → Place → Option ℕ → From
+task_alone None p blanks = behind_marker blanks
+task_alone (Some marker) p blanks = At p (MarkAlone marker blanks)
 
 -- The item whose marker has this byte and number. An item may begin with one blank line, that of its marker; where the next is blank too, the item
 -- takes blank lines alone, and its indent is 0 (CommonMark 5.2).
@@ -149,8 +162,8 @@ abbrev pub item_opening : Document → List Container → Place → List Place �
 item_opening d path p lines byte number columns (marker, r) =
     if is_blank_rest r
     then (if next_is_blank (ListItem columns ∷ path) lines
-    then OpensNode (item_head p byte number 0) (task_alone marker (at_rest p r) (Blanks (start_of (length d.text) lines))) lines
-    else OpensNode (item_head p byte number columns) (task_alone marker (at_rest p r) Line) lines)
+    then OpensNode (item_head p byte number 0) (task_alone marker (at_rest p r) (Some (start_of (length d.text) lines))) lines
+    else OpensNode (item_head p byte number columns) (task_alone marker (at_rest p r) None) lines)
     else OpensNode (item_head p byte number columns) (behind_task marker (at_rest p r)) lines
 
 -- a block quote starts at its `>` (this project)
@@ -165,7 +178,7 @@ tag_behind options r = option_map (λ tag. tag.0) (if has options 2048 then past
 -- belongs to the quote, and a leaf begins behind its columns (this project).
 abbrev pub behind_tag : List Container → List Place → From × List Place
 behind_tag path [] = (Line, [])
-behind_tag path (line ∷ lines) = if ends_tag path line.rest then (Line, line ∷ lines) else (LeafAt (unindented (at_rest line (front path line.rest))), lines)
+behind_tag path (line ∷ lines) = if ends_tag path line.rest then (Line, line ∷ lines) else (At (unindented (at_rest line (front path line.rest))) ALeafAlone, lines)
 
 -- The block quote inside which a place is, behind its marker and with a tag there or none.
 abbrev pub quote_opening : List Container → Place → Place → List Place → Option BlockQuoteKind → Opening
@@ -182,15 +195,18 @@ OpensFrom d path p lines None None opening = OpensBlockAt d path p lines opening
 abbrev pub Opens : Document → List Container → Place → List Place → Opening → Type 0
 Opens d path p lines opening = OpensFrom d path p lines (item_at p.rest) (quote_inside p) opening
 
--- What begins where blocks go on: where no container does what the kind of the place says; behind a task list item marker a paragraph, and where
--- nothing is behind it the marker alone, in the place of a paragraph.
+-- What begins where blocks go on: where no container may, what the kind of the place says; behind a task list item marker a paragraph; or the marker
+-- alone, in the place of a paragraph.
+abbrev pub OpensIf : Document → List Container → May → Place → List Place → Opening → Type 0
+OpensIf d path Anything p lines opening = Opens d path p lines opening
+OpensIf d path ALeafAlone p lines opening = OpensBlockAt d path p lines opening
+OpensIf d path (TextOf marker) p lines opening = OpensParagraph d path p lines (Some marker) opening
+OpensIf d path (MarkAlone marker blanks) p lines opening = opening ≡ OpensLeaf (leaf_block Paragraph p ((0, marker) ∷ []) false) Line lines
+
 abbrev pub OpensAt : Document → List Container → From → Place → List Place → Opening → Type 0
 OpensAt d path Line p lines opening = Opens d path p lines opening
-OpensAt d path (Inside q) p lines opening = Opens d path p lines opening
-OpensAt d path (LeafAt q) p lines opening = OpensBlockAt d path p lines opening
 OpensAt d path (Blanks e) p lines opening = Opens d path p lines opening
-OpensAt d path (TextAt marker q) p lines opening = OpensParagraph d path p lines (Some marker) opening
-OpensAt d path (MarkAt marker q from) p lines opening = opening ≡ OpensLeaf (leaf_block Paragraph p ((0, marker) ∷ []) false) Line lines
+OpensAt d path (At q may) p lines opening = OpensIf d path may p lines opening
 
 -- The blocks of a container, with what is in each: a first block, and those after it.
 pub data Skeleton : Type 0 where
@@ -201,10 +217,7 @@ pub data Skeleton : Type 0 where
 
 -- Where a block begins: at a place inside a line, or behind what the path takes of the next line.
 abbrev pub Begins : List Container → From → List Place → Place → List Place → Type 0
-Begins path (Inside p) lines q behind = (q ≡ p) × (behind ≡ lines)
-Begins path (LeafAt p) lines q behind = (q ≡ p) × (behind ≡ lines)
-Begins path (TextAt marker p) lines q behind = (q ≡ p) × (behind ≡ lines)
-Begins path (MarkAt marker p from) lines q behind = (q ≡ p) × (behind ≡ lines)
+Begins path (At p may) lines q behind = (q ≡ p) × (behind ≡ lines)
 Begins path Line [] q behind = ⊥
 Begins path Line (line ∷ lines) q behind = (taken path line ≡ Some q) × (behind ≡ lines)
 Begins path (Blanks e) [] q behind = ⊥
@@ -213,10 +226,7 @@ Begins path (Blanks e) (line ∷ lines) q behind = (taken path line ≡ Some q) 
 -- A sequence of blocks ends where the next line doesn't go on with its path, or with the text; in an item that takes blank lines alone also where
 -- the next line isn't blank.
 abbrev pub Ends : List Container → From → List Place → Type 0
-Ends path (Inside p) lines = ⊥
-Ends path (LeafAt p) lines = ⊥
-Ends path (TextAt marker p) lines = ⊥
-Ends path (MarkAt marker p from) lines = ⊥
+Ends path (At p may) lines = ⊥
 Ends path Line [] = Unit {0}
 Ends path Line (line ∷ lines) = after path line.rest ≡ None
 Ends path (Blanks e) lines = next_is_blank path lines ≡ false
@@ -225,20 +235,28 @@ Ends path (Blanks e) lines = next_is_blank path lines ≡ false
 abbrev pub behind_first : From → From → From
 behind_first (Blanks e) there = Blanks e
 behind_first Line there = there
-behind_first (Inside p) there = there
-behind_first (LeafAt p) there = there
-behind_first (TextAt marker p) there = there
-behind_first (MarkAt marker p from) there = from
+behind_first (At p Anything) there = there
+behind_first (At p ALeafAlone) there = there
+behind_first (At p (TextOf marker)) there = there
+behind_first (At p (MarkAlone marker blanks)) there = behind_marker blanks
+
+-- the offset behind the line of an item's marker, where the item takes blank lines alone
+abbrev pub blanks_alone : From → Option ℕ
+blanks_alone Line = None
+blanks_alone (Blanks e) = Some e
+blanks_alone (At p Anything) = None
+blanks_alone (At p ALeafAlone) = None
+blanks_alone (At p (TextOf marker)) = None
+blanks_alone (At p (MarkAlone marker blanks)) = blanks
 
 -- Where a container ends before these lines, with a path around it: at the start of the next line; an item that takes blank lines alone ends behind the
 -- line of its marker, where the next line goes on with that path (this project).
+abbrev pub end_after : ℕ → List Container → Option ℕ → List Place → ℕ
+end_after n path None lines = start_of n lines
+end_after n path (Some e) lines = if next_goes_on path lines then e else start_of n lines
+
 abbrev pub end_before : ℕ → List Container → From → List Place → ℕ
-end_before n path (Blanks e) lines = if next_goes_on path lines then e else start_of n lines
-end_before n path Line lines = start_of n lines
-end_before n path (Inside p) lines = start_of n lines
-end_before n path (LeafAt p) lines = start_of n lines
-end_before n path (TextAt marker p) lines = start_of n lines
-end_before n path (MarkAt marker p from) lines = end_before n path from lines
+end_before n path from lines = end_after n path (blanks_alone from) lines
 
 -- a first block that is a leaf, where the blocks behind it go on, and the lines that it leaves
 pub record IsLeafHere (d : Document) (path : List Container) (from : From) (lines : List Place) (leaf : Leaf) (there : From) (left : List Place) : Type 0 where
