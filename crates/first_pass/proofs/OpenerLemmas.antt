@@ -18,6 +18,7 @@ use Rattle.first_pass_grammar.specs.declared.kind.Container.TheVariants.{BlockQu
 use Rattle.first_pass_grammar.specs.Containers.{at_rest, prefix}
 use Rattle.first_pass_grammar.specs.Kinds.{is_blank_rest, quote_inside, quote_start, item_at}
 use Rattle.first_pass_grammar.specs.Leaves.{Document}
+use Rattle.first_pass_grammar.specs.OpenOrder.{is_in_item}
 use Rattle.first_pass_grammar.specs.Skeleton.{From, Line, Inside, Blanks, Opening, OpensNode, next_is_blank, item_head, task_behind, behind_task, behind_marker, task_alone, item_opening, quote_head, tag_behind, behind_tag, quote_opening, OpensFrom, Opens}
 use Rattle.first_pass_grammar.specs.Derivation.{node_of, list_flags}
 use Rattle.first_pass_grammar.specs.Completion.{lines_from, Frame, InContainer, InList, containers_of, AreBelow, IsPlain, Completes}
@@ -438,9 +439,10 @@ ready_empty_item d r p lines item marker rest e forest is task blank e_is none r
     empty_by d r p lines item marker rest e (next_is_blank (ListItem item.0.2 ∷ path_of r.tree) lines) refl forest is task blank e_is none ready
 
 -- what is opened where more of the line is left
-pub opened_behind : (marker : Option Item) (empty : Option ℕ) (old new : Rest) (e : ℕ) → ((x : Item) → marker ≡ Some x → is_text x.body ≡ false) → length new.left < length old.left → empty ≡ None → IsOpenedAt (task_text marker) empty old new e
-opened_behind None empty old new e mark less none = (less, none)
-opened_behind (Some x) empty old new e mark less none = (mark x refl, none)
+pub opened_behind : (marker : Option Item) (q : Reading) (old new : Rest) (e : ℕ) → ((x : Item) → marker ≡ Some x → is_text x.body ≡ false) → length new.left < length old.left → q.empty_item ≡ None → is_in_item q.tree ≡ true
+    → IsOpenedAt (task_text marker) q old new e
+opened_behind None q old new e mark less none inside = (less, none)
+opened_behind (Some x) q old new e mark less none inside = (mark x refl, none, inside)
 
 pub ready_behind : (d : Document) (r : Reading) (p : Place) (e : ℕ) (marker : Option Item) → (r.blank ≡ false) × (now : ReadyAt d r.tree false (behind_task marker p) (lines_from d.text e)) × IsPlain now.frames → ReadyIn d r p e (task_text marker)
 ready_behind d r p e None (blank, ready, plain) = subst (λ t. ReadyAt d r.tree t (Inside p) (lines_from d.text e)) (sym blank) ready

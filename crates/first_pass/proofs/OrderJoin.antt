@@ -16,8 +16,8 @@ use Rattle.first_pass_grammar.specs.Leaves.{Document, document, content_at}
 use Rattle.first_pass_text.specs.Appends.{text_upto}
 use Rattle.std.proofs.lemmas.Str.{IsUtf8-take, IsCharBoundary-from_take}
 use Rattle.std.proofs.lemmas.List.{length-take-le}
-use Rattle.first_pass_grammar.specs.Order.{Extent, extent_of, extents, is_task_marker, Row, Empty, Node, laid, IsBetween, IsLead, Fits}
-use Rattle.first_pass_grammar.specs.OpenOrder.{laid_open, FitsOpen, IsOrderedTo}
+use Rattle.first_pass_grammar.specs.Order.{Extent, extent_of, extents, is_task_marker, Row, Empty, Node, laid, IsBetween, Within, Elsewhere, InItem, InText, in_item, below, beyond, IsLead, Fits}
+use Rattle.first_pass_grammar.specs.OpenOrder.{laid_open, open_item, FitsOpen, IsOrderedTo}
 use Rattle.first_pass_grammar.proofs.Orders.{beside, ended_at, laid_open-beside, length-places, fits-order, fits-later, extents-ended}
 use Rattle.first_pass.proofs.OrderLemmas.{ordered_later, ordered_appended}
 
@@ -33,28 +33,30 @@ last_of : (row : Row) → (row ≡ Empty) ⊎ HasLast row
 last_of Empty = inl refl
 last_of (Node x kids next) = inr (last_by x kids next (last_of next))
 
-no_lead : (text : List ℕ) (lead : Option ℕ) (from : ℕ) (x : Extent) → x.marker ≡ false → IsLead text lead from x → ⊥
-no_lead text None from x plain h = h
-no_lead text (Some before) from x plain h = (let z : true ≡ false = sym h.0 ∙ plain in cc)
+no_lead : (text : List ℕ) (w : Within) (from : ℕ) (x : Extent) → x.marker ≡ false → IsLead text w from x → ⊥
+no_lead text Elsewhere from x plain h = h
+no_lead text InItem from x plain h = h
+no_lead text (InText before) from x plain h = (let z : true ≡ false = sym h.0 ∙ plain in cc)
 
 -- a row whose last node ends later
-fits_last : (text : List ℕ) (lead : Option ℕ) (from to e : ℕ) (before : Row) (x : Extent) (kids : Row) → x.marker ≡ false → x.«end» ≤ e → IsCharBoundary text e
-    → Fits text lead from to (beside before (Node x kids Empty)) → Fits text lead from e (beside before (Node (ended_at x e) kids Empty))
+fits_last : (text : List ℕ) (w : Within) (from to e : ℕ) (before : Row) (x : Extent) (kids : Row) → x.marker ≡ false → x.«end» ≤ e → IsCharBoundary text e
+    → Fits text w from to (beside before (Node x kids Empty)) → Fits text w from e (beside before (Node (ended_at x e) kids Empty))
 unfolding Fits
-fits_last text lead from to e Empty x kids plain later b (inl (between, inside, room)) =
+fits_last text w from to e Empty x kids plain later b (inl (between, inside, room)) =
     let o = between.order in
-    inl (record { behind = between.behind; order = omega arith; before = omega arith; starts = between.starts; ends = b }, fits-later text (if x.paragraph then Some from else None) x.start x.«end» e kids later inside, omega arith)
-fits_last text lead from to e Empty x kids plain later b (inr (first, inside, room)) = absurd (no_lead text lead from x plain first)
-fits_last text lead from to e (Node y more before) x kids plain later b (inl (between, inside, rest)) =
-    let rest' = fits_last text None y.«end» to e before x kids plain later b rest in
-    inl (record { behind = between.behind; order = between.order; before = fits-order text None y.«end» e (beside before (Node (ended_at x e) kids Empty)) rest'; starts = between.starts; ends = between.ends }, inside, rest')
-fits_last text lead from to e (Node y more before) x kids plain later b (inr (first, inside, rest)) = inr (first, inside, fits_last text None from to e before x kids plain later b rest)
+    inl (record { behind = between.behind; order = omega arith; before = omega arith; starts = between.starts; ends = b }, fits-later text (below (in_item w) from x) x.start x.«end» e kids later inside, omega arith)
+fits_last text w from to e Empty x kids plain later b (inr (first, inside, room)) = absurd (no_lead text w from x plain first)
+fits_last text w from to e (Node y more before) x kids plain later b (inl (between, inside, rest)) =
+    let rest' = fits_last text (beyond w) y.«end» to e before x kids plain later b rest in
+    inl (record { behind = between.behind; order = between.order; before = fits-order text (beyond w) y.«end» e (beside before (Node (ended_at x e) kids Empty)) rest'; starts = between.starts; ends = between.ends }, inside, rest')
+fits_last text w from to e (Node y more before) x kids plain later b (inr (first, inside, rest)) = inr (first, inside, fits_last text Elsewhere from to e before x kids plain later b rest)
 
 fits_open_last : (text : List ℕ) (to e : ℕ) (levels : List (Row × Extent)) (before : Row) (x : Extent) (kids : Row) → x.marker ≡ false → x.«end» ≤ e → IsCharBoundary text e
     → FitsOpen text to levels (beside before (Node x kids Empty)) → FitsOpen text e levels (beside before (Node (ended_at x e) kids Empty))
 unfolding FitsOpen
-fits_open_last text to e [] before x kids plain later b h = fits_last text None 0 to e before x kids plain later b h
-fits_open_last text to e (level ∷ levels) before x kids plain later b (h, starts, rest) = (fits_last text None level.1.start to e before x kids plain later b h, starts, rest)
+fits_open_last text to e [] before x kids plain later b h = fits_last text Elsewhere 0 to e before x kids plain later b h
+fits_open_last text to e (level ∷ levels) before x kids plain later b (from, low, h, starts, rest) =
+    (from, low, fits_last text (below (open_item levels) from level.1) level.1.start to e before x kids plain later b h, starts, rest)
 
 -- nodes that are no less deep
 abbrev AreDeep : ℕ → List (ℕ × Extent) → Type 0

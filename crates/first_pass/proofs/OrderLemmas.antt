@@ -9,8 +9,8 @@ use Rattle.first_pass_items.specs.declared.item.ItemBody.TheVariants.{BlockQuote
 use Rattle.first_pass_tree.specs.declared.tree_index.TreeIndex.{TreeIndex}
 use Rattle.first_pass_tree.specs.Forest.{Forest, empty_forest, with_end_at, with_body_at, body_at, modify, at_depth, appended, added, item_at}
 use Rattle.first_pass_grammar.specs.Derivation.{list_flags, tightened}
-use Rattle.first_pass_grammar.specs.Order.{Extent, is_paragraph, is_task_marker, extent_of, extents, Row, Empty, Node, laid, IsBetween, Fits, FitsBetween, IsOrdered}
-use Rattle.first_pass_grammar.specs.OpenOrder.{laid_open, AreAt, FitsOpen, IsOrderedTo}
+use Rattle.first_pass_grammar.specs.Order.{Extent, is_paragraph, is_task_marker, is_list_item, extent_of, extents, Row, Empty, Node, laid, IsBetween, Elsewhere, InItem, Fits, FitsBetween, IsOrdered}
+use Rattle.first_pass_grammar.specs.OpenOrder.{laid_open, AreAt, open_item, FitsOpen, item_on_top, within_top, IsOrderedTo}
 use Rattle.first_pass_grammar.proofs.Orders.{beside, ended_at, extents-append, length-extents, extents-at_depth, laid-at_depth, laid-one, laid_open-beside, laid_open-pushed, laid_open-level, laid_open-popped, laid_open-root, length-places, fits-one, fits_open-later, fits_open-beside, fits_open-pushed, fits_open-popped, extents-ended, extents-kept, extent-tightened, fits-whole}
 use Rattle.first_pass_open.specs.OpenBlock.{closed_by}
 use Rattle.first_pass_lists.specs.Closing.{remembered, tight_run, tight_at, tight_items, loosened_by, top_body, is_list, is_list_of, is_item, popped_by, popped_at, popped, item_finished_by, item_finished, list_left, gap_tree, list_finished, loosened_top, list_kept, begun, list_continued, emptied, blank_read_by, blank_read}
@@ -45,8 +45,25 @@ ordered_later text f a b later within h = record {
   whole = h.whole;
 }
 
+-- the extent at a place says whether an item stands there
+item_there : (nodes : List (ℕ × Item)) (front : List (ℕ × Extent)) (n : ℕ × Extent) (more : List (ℕ × Extent)) (k : ℕ) → extents nodes ≡ front ++ n ∷ more → k ≡ length front → item_on_top (body_at nodes k) ≡ n.1.item
+item_there [] [] n more k is at = cc
+item_there [] (y ∷ front) n more k is at = cc
+item_there (m ∷ nodes) [] n more zero is at = (let x : (m.0, extent_of m.1) ≡ n = cc in ap (λ (z : ℕ × Extent). z.1.item) x)
+item_there (m ∷ nodes) [] n more (suc k) is at = absurd (omega arith)
+item_there (m ∷ nodes) (y ∷ front) n more zero is at = absurd (omega arith)
+item_there (m ∷ nodes) (y ∷ front) n more (suc k) is at = (let z : extents nodes ≡ front ++ n ∷ more = cc in item_there nodes front n more k z (omega arith))
+
+item_open : (nodes : List (ℕ × Item)) (root : Extent) (levels : List (Row × Extent)) (row : Row) (spine : List TreeIndex) → extents nodes ≡ laid_open root levels row → AreAt root levels spine
+    → open_item levels ≡ item_on_top (option_and_then (λ ix. body_at nodes ix.0) (slice_get spine 0))
+item_open nodes root [] row [] is at = refl
+item_open nodes root [] row (ix ∷ spine) is at = absurd at
+item_open nodes root (level ∷ levels) row [] is at = absurd at
+item_open nodes root (level ∷ levels) row (ix ∷ spine) is at =
+    sym (item_there nodes (laid_open root levels level.0) (suc (length levels), level.1) (laid (suc (suc (length levels))) row) ix.0 (is ∙ laid_open-level root level levels row) at.0)
+
 -- more nodes in the innermost open one
-ordered_more : (text : List ℕ) (f g : Forest Item) (a b : ℕ) (more : Row) → extents g.nodes ≡ extents f.nodes ++ laid (suc (length f.spine)) more → g.spine ≡ f.spine → Fits text None a b more → b ≤ length text
+ordered_more : (text : List ℕ) (f g : Forest Item) (a b : ℕ) (more : Row) → extents g.nodes ≡ extents f.nodes ++ laid (suc (length f.spine)) more → g.spine ≡ f.spine → Fits text (within_top f) a b more → b ≤ length text
     → IsOrderedTo text f a → IsOrderedTo text g b
 ordered_more text f g a b more nodes spine fits within h =
     let n : length f.spine ≡ length h.levels = length-places h.root h.levels f.spine h.places in
@@ -57,7 +74,7 @@ ordered_more text f g a b more nodes spine fits within h =
       nodes = nodes ∙ ap (λ (z : List (ℕ × Extent)). z ++ laid (suc (length f.spine)) more) h.nodes ∙ ap (λ (k : ℕ). laid_open h.root h.levels h.row ++ laid (suc k) more) n
           ∙ sym (laid_open-beside h.root h.levels h.row more);
       places = subst (λ (s : List TreeIndex). AreAt h.root h.levels s) (sym spine) h.places;
-      fits = fits_open-beside text a b h.levels h.row more h.fits fits;
+      fits = fits_open-beside text a b h.levels h.row more h.fits (subst (λ t. Fits text (if t then InItem else Elsewhere) a b more) (sym (item_open f.nodes h.root h.levels h.row f.spine h.nodes h.places)) fits);
       within = within;
       whole = h.whole;
     }
@@ -69,10 +86,10 @@ ordered_appended text f a b x between within h =
     ordered_more text f (appended f x) a b (Node (extent_of x) Empty Empty)
     (extents-append f.nodes ((length f.spine + 1, x) ∷ []) ∙ ap (λ (k : ℕ). extents f.nodes ++ (k, extent_of x) ∷ []) d
     ∙ ap (λ (z : List (ℕ × Extent)). extents f.nodes ++ z) (sym (laid-one (suc (length f.spine)) (extent_of x))))
-    refl (fits-one text a b (extent_of x) between) within h
+    refl (fits-one text (within_top f) a b (extent_of x) between) within h
 
 -- a block added
-pub ordered_added : (text : List ℕ) (f : Forest Item) (a b : ℕ) (items : List (ℕ × Item)) → FitsBetween text a b items → b ≤ length text → IsOrderedTo text f a → IsOrderedTo text (added f items) b
+pub ordered_added : (text : List ℕ) (f : Forest Item) (a b : ℕ) (items : List (ℕ × Item)) → FitsBetween text (within_top f) a b items → b ≤ length text → IsOrderedTo text f a → IsOrderedTo text (added f items) b
 ordered_added text f a b items (row, is, fits, few) within h =
     let d : ℕ = length f.spine + 1 in
     let z : d + 0 ≡ suc (length f.spine) = omega arith in
@@ -116,7 +133,7 @@ first_at text utf8 =
     let z : 0 ≤ 0 = omega arith in
     let l : length text ≤ length text = omega arith in
     record {
-      root = record { start = 0; «end» = length text; paragraph = false; marker = false };
+      root = record { start = 0; «end» = length text; paragraph = false; marker = false; item = false };
       levels = [];
       row = Empty;
       nodes = refl;
@@ -283,20 +300,21 @@ ordered_item_finished text r at h =
     ordered_none text (item_finished r) at p.1 h.within p.0
 
 -- a list made loose keeps its extent
-list_extent : (x : Item) (a b : ItemBody) → x.body ≡ a → is_paragraph a ≡ is_paragraph b → is_task_marker a ≡ is_task_marker b → extent_of (record { start = x.start; «end» = x.«end»; body = b }) ≡ extent_of x
-list_extent x a b is p m =
-    ap (λ (t : Bool). record { start = x.start; «end» = x.«end»; paragraph = t; marker = is_task_marker b }) (sym p)
-    ∙ ap (λ (t : Bool). record { start = x.start; «end» = x.«end»; paragraph = is_paragraph a; marker = t }) (sym m)
-    ∙ ap (λ (c : ItemBody). record { start = x.start; «end» = x.«end»; paragraph = is_paragraph c; marker = is_task_marker c }) (sym is)
+list_extent : (x : Item) (a b : ItemBody) → x.body ≡ a → is_paragraph a ≡ is_paragraph b → is_task_marker a ≡ is_task_marker b → is_list_item a ≡ is_list_item b → extent_of (record { start = x.start; «end» = x.«end»; body = b }) ≡ extent_of x
+list_extent x a b is p m i =
+    ap (λ (t : Bool). record { start = x.start; «end» = x.«end»; paragraph = t; marker = is_task_marker b; item = is_list_item b }) (sym p)
+    ∙ ap (λ (t : Bool). record { start = x.start; «end» = x.«end»; paragraph = is_paragraph a; marker = t; item = is_list_item b }) (sym m)
+    ∙ ap (λ (t : Bool). record { start = x.start; «end» = x.«end»; paragraph = is_paragraph a; marker = is_task_marker a; item = t }) (sym i)
+    ∙ ap (λ (c : ItemBody). record { start = x.start; «end» = x.«end»; paragraph = is_paragraph c; marker = is_task_marker c; item = is_list_item c }) (sym is)
 
--- another body at a place, no paragraph and no marker before or after
-pub extents-body : (nodes : List (ℕ × Item)) (k : ℕ) (a b : ItemBody) → body_at nodes k ≡ Some a → is_paragraph a ≡ is_paragraph b → is_task_marker a ≡ is_task_marker b
+-- another body at a place, which is a paragraph, a marker or an item as before
+pub extents-body : (nodes : List (ℕ × Item)) (k : ℕ) (a b : ItemBody) → body_at nodes k ≡ Some a → is_paragraph a ≡ is_paragraph b → is_task_marker a ≡ is_task_marker b → is_list_item a ≡ is_list_item b
     → extents (modify nodes k (λ x. record x { body = b })) ≡ extents nodes
-extents-body nodes k a b is p m = extents-kept nodes k (λ x. record x { body = b }) a is (λ x e. list_extent x a b e p m)
+extents-body nodes k a b is p m i = extents-kept nodes k (λ x. record x { body = b }) a is (λ x e. list_extent x a b e p m i)
 
 loosened_kept : (text : List ℕ) (f : Forest Item) (ix : TreeIndex) (a : ℕ) (b : Option ItemBody) → body_at f.nodes ix.0 ≡ b → IsOrderedTo text f a → IsOrderedTo text (loosened_by f ix b) a
 loosened_kept text f ix a (Some (ListBody flags byte number)) is h =
-    ordered_same text f (with_body_at f ix (ListBody (list_flags false) byte number)) a (extents-body f.nodes ix.0 (ListBody flags byte number) (ListBody (list_flags false) byte number) is refl refl) refl h
+    ordered_same text f (with_body_at f ix (ListBody (list_flags false) byte number)) a (extents-body f.nodes ix.0 (ListBody flags byte number) (ListBody (list_flags false) byte number) is refl refl refl) refl h
 loosened_kept text f ix a None is h = h
 loosened_kept text f ix a (Some b) is h = h
 
@@ -372,7 +390,7 @@ emptied_kept text r at columns (ix ∷ rest) spine is h =
     let g : Forest Item = with_body_at r.tree ix (ListItemBody 0) in
     let body : body_at g.nodes ix.0 ≡ Some (ListItemBody 0) = body-changed r.tree.nodes ix.0 (λ x. record x { body = ListItemBody 0 }) (ListItemBody columns) (ListItemBody 0) is (λ x e. refl) in
     let top : top_body g ≡ body_at g.nodes ix.0 = ap (λ (s : List TreeIndex). option_and_then (λ ix. body_at g.nodes ix.0) (slice_get s 0)) spine in
-    ordered_changed text r g true at (extents-body r.tree.nodes ix.0 (ListItemBody columns) (ListItemBody 0) is refl refl) refl (λ item. ap is_item (top ∙ body)) h
+    ordered_changed text r g true at (extents-body r.tree.nodes ix.0 (ListItemBody columns) (ListItemBody 0) is refl refl refl) refl (λ item. ap is_item (top ∙ body)) h
 
 emptied_by : (text : List ℕ) (r : Reading) (at columns : ℕ) (t : Bool) → top_body r.tree ≡ Some (ListItemBody columns) → IsOrderedAt text r at → IsOrderedAt text (record r { tree = if t then emptied r.tree r.tree.spine else r.tree; blank = true }) at
 emptied_by text r at columns true is h = emptied_kept text r at columns r.tree.spine refl is h

@@ -18,6 +18,8 @@ use Rattle.first_pass_names.proofs.NameLemmas.{extends_none}
 use Rattle.first_pass_raw.proofs.IndentedLemmas.{first_at, first_is}
 use Rattle.first_pass_raw.proofs.RawOrder.{IsPlaced, fence_plain, ends_before_next, kept_last, indented_fits, fenced_fits, metadata_fits, html_fits, indented_behind_placed, indented_behind_few, fenced_behind_placed, metadata_behind_placed, to_end_placed, to_blank_placed, fenced_behind_before, metadata_behind_before, to_end_before}
 use Rattle.first_pass_text.specs.Between.{AddsBetween}
+use Rattle.first_pass_grammar.specs.OpenOrder.{within_top}
+use Rattle.first_pass_grammar.proofs.Orders.{between-any}
 
 -- a place at an offset between characters
 place_of : (text : List ℕ) (start : ℕ) (p : Place) → IsCharBoundary text start → IsPlaceAt text start p → IsPlaceOf text p
@@ -37,7 +39,7 @@ module _ (text : List ℕ) (options : Options) (names : Names) (old new : Forest
       record {
         items = a.items;
         tree_is = a.tree_is;
-        fits = fenced_fits (document text options names) start count e a.items u (a.are names (extends_none names)) b (fenced_behind_placed text u (path_of old) columns byte count start b) from next low before;
+        fits = between-any text (within_top old) from _ a.items (fenced_fits (document text options names) start count e a.items u (a.are names (extends_none names)) b (fenced_behind_placed text u (path_of old) columns byte count start b) from next low before);
       }
 
   pub metadata_between : (byte : ℕ) → is_content byte ≡ true → (let e : Extent = metadata_behind text (path_of old) byte start in AddsRaw text options names (λ d. IsMetadata d start byte e.places e.«end») e.left old new next)
@@ -48,7 +50,7 @@ module _ (text : List ℕ) (options : Options) (names : Names) (old new : Forest
       record {
         items = a.items;
         tree_is = a.tree_is;
-        fits = metadata_fits (document text options names) start byte e a.items u (a.are names (extends_none names)) b (metadata_behind_placed text u (path_of old) byte start b) from next low before;
+        fits = between-any text (within_top old) from _ a.items (metadata_fits (document text options names) start byte e a.items u (a.are names (extends_none names)) b (metadata_behind_placed text u (path_of old) byte start b) from next low before);
       }
 
   pub to_end_between : (tag : List ℕ) (columns : ℕ) → ((p : Place) → IsPlaceAt text start p → let e : Extent = html_to_end text (path_of old) tag p in AddsRaw text options names (λ d. IsHtml d start columns e.places e.«end») e.left old new next)
@@ -62,7 +64,7 @@ module _ (text : List ℕ) (options : Options) (names : Names) (old new : Forest
       record {
         items = a.items;
         tree_is = a.tree_is;
-        fits = html_fits (document text options names) start columns e a.items u (a.are names (extends_none names)) b (subst (λ n. IsPlaced text n e) i.offset_is (to_end_placed text u (path_of old) tag p (place_of text start p b i))) from next low before;
+        fits = between-any text (within_top old) from _ a.items (html_fits (document text options names) start columns e a.items u (a.are names (extends_none names)) b (subst (λ n. IsPlaced text n e) i.offset_is (to_end_placed text u (path_of old) tag p (place_of text start p b i))) from next low before);
       }
 
   pub to_blank_between : (columns : ℕ) (p : Place) → IsPlaceAt text start p → (let e : Extent = html_to_blank text (path_of old) p in AddsRaw text options names (λ d. IsHtml d start columns e.places e.«end») e.left old new next)
@@ -72,7 +74,7 @@ module _ (text : List ℕ) (options : Options) (names : Names) (old new : Forest
       record {
         items = a.items;
         tree_is = a.tree_is;
-        fits = html_fits (document text options names) start columns e a.items u (a.are names (extends_none names)) b (subst (λ n. IsPlaced text n e) i.offset_is (to_blank_placed text u (path_of old) p (place_of text start p b i))) from e.«end» low (omega arith);
+        fits = between-any text (within_top old) from _ a.items (html_fits (document text options names) start columns e a.items u (a.are names (extends_none names)) b (subst (λ n. IsPlaced text n e) i.offset_is (to_blank_placed text u (path_of old) p (place_of text start p b i))) from e.«end» low (omega arith));
       }
 
   -- where it ends is between characters
@@ -92,5 +94,5 @@ module _ (text : List ℕ) (options : Options) (names : Names) (old new : Forest
       record {
         items = a.items;
         tree_is = a.tree_is;
-        fits = indented_fits (document text options names) p all.0 a.items (start_of (length text) all.1) u (a.is names (extends_none names)) placed (indented_behind_few text u (path_of old) p (place_of text start p b i)) from next (omega arith) (omega arith);
+        fits = between-any text (within_top old) from _ a.items (indented_fits (document text options names) p all.0 a.items (start_of (length text) all.1) u (a.is names (extends_none names)) placed (indented_behind_few text u (path_of old) p (place_of text start p b i)) from next (omega arith) (omega arith));
       }

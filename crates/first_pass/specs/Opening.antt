@@ -1,9 +1,9 @@
 -- What is said of a container that is opened (private functions alone cite this).
-use Rattle.std.specs.Prelude.{◌≡◌, ◌⊎◌, ℕ, ◌<◌, ◌≤◌, false, List, length, Option, Some, None, if◌then◌else◌}
+use Rattle.std.specs.Prelude.{◌≡◌, ◌⊎◌, ℕ, ◌<◌, ◌≤◌, true, false, List, length, Option, Some, None, if◌then◌else◌}
 use Rattle.first_pass_items.specs.declared.item.Item.{Item}
 use Rattle.first_pass_tree.specs.Forest.{Forest, is_text}
 use Rattle.first_pass_grammar.specs.Order.{GrowsBy}
-use Rattle.first_pass_grammar.specs.OpenOrder.{IsOrderedTo}
+use Rattle.first_pass_grammar.specs.OpenOrder.{IsOrderedTo, is_in_item}
 use Rattle.first_pass.specs.Ordered.{IsOrderedAt}
 use Rattle.first_pass_text.specs.Between.{StandsBefore}
 use Rattle.first_pass_lines.specs.Rest.{Rest}
@@ -49,12 +49,13 @@ ReadyLazy d r p lines = ReadyInQuote d r (At p ALeafAlone) lines
 abbrev pub ReadyLeaf : Document → Reading → Place → List Place → Type 0
 ReadyLeaf d r p lines = ((item_at p.rest ≡ None) × (prefix (BlockQuote None) p.rest ≡ None) × ReadyAt d r.tree r.blank (Inside p) lines) ⊎ ReadyLazy d r p lines
 
--- behind the containers no other begins, nor an empty item; a task list item marker is no text; or the whole line is taken, in an item or a block quote
-abbrev pub IsBehind : Behind → Option ℕ → Rest → ℕ → Type 0
-IsBehind BehindLeaf empty r e = (item_at r ≡ None) × (prefix (BlockQuote None) r ≡ None) × (empty ≡ None)
-IsBehind (TaskText marker) empty r e = (is_text marker.body ≡ false) × (empty ≡ None)
-IsBehind (NextLine next) empty r e = next ≡ e
-IsBehind (Tag next) empty r e = (next ≡ e) × (empty ≡ None)
+-- behind the containers no other begins, nor an empty item; a task list item marker is no text, and stands in an item; or the whole line is taken, in an item
+-- or a block quote
+abbrev pub IsBehind : Behind → Reading → Rest → ℕ → Type 0
+IsBehind BehindLeaf q r e = (item_at r ≡ None) × (prefix (BlockQuote None) r ≡ None) × (q.empty_item ≡ None)
+IsBehind (TaskText marker) q r e = (is_text marker.body ≡ false) × (q.empty_item ≡ None) × (is_in_item q.tree ≡ true)
+IsBehind (NextLine next) q r e = next ≡ e
+IsBehind (Tag next) q r e = (next ≡ e) × (q.empty_item ≡ None)
 
 -- the marker of a list item, of which these are the byte, the number and the indent
 abbrev pub marker_of : ℕ × ℕ × ℕ → ListMarker
@@ -66,9 +67,9 @@ task_text None = None
 task_text (Some marker) = Some (TaskText marker)
 
 -- a container was opened, and a part of the line taken; or it is known what is behind the containers
-abbrev pub IsOpenedAt : Option Behind → Option ℕ → Rest → Rest → ℕ → Type 0
-IsOpenedAt None empty old new e = (length new.left < length old.left) × (empty ≡ None)
-IsOpenedAt (Some behind) empty old new e = IsBehind behind empty new e
+abbrev pub IsOpenedAt : Option Behind → Reading → Rest → Rest → ℕ → Type 0
+IsOpenedAt None q old new e = (length new.left < length old.left) × (q.empty_item ≡ None)
+IsOpenedAt (Some behind) q old new e = IsBehind behind q new e
 
 -- what the pass remembers goes on at a place in the line, or behind the line, which ends at an offset
 abbrev pub ReadyBehind : Document → Reading → Place → ℕ → Behind → Type 0

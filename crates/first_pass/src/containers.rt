@@ -119,7 +119,7 @@ pub(crate) fn open_containers<'a>(
     ensures place { OnOk result (IsPlaceOf source.entry.text.now (place_at start_ix line_start.new)) }
     ensures same_end { OnOk result (line_end (place_at start_ix line_start.new)
         ≡ line_end (place_at start_ix line_start.old)) }
-    ensures behind { IfOk result (λ answer. IsBehind answer reading.new.empty_item line_start.new
+    ensures behind { IfOk result (λ answer. IsBehind answer reading.new line_start.new
         (line_end (place_at start_ix line_start.old))) }
     ensures ready { IfOk result (λ answer. (names : Names) →
         ReadyAt (document source.entry.text.now source.entry.options names) reading.old.tree reading.old.blank
@@ -157,7 +157,7 @@ fn open_container<'a>(
     ensures place { OnOk result (IsPlaceOf source.entry.text.now (place_at start_ix line_start.new)) }
     ensures same_end { OnOk result (line_end (place_at start_ix line_start.new)
         ≡ line_end (place_at start_ix line_start.old)) }
-    ensures opened { IfOk result (λ answer. IsOpenedAt answer reading.new.empty_item line_start.old line_start.new
+    ensures opened { IfOk result (λ answer. IsOpenedAt answer reading.new line_start.old line_start.new
         (line_end (place_at start_ix line_start.old))) }
     ensures ready { IfOk result (λ answer. (names : Names) →
         ReadyAt (document source.entry.text.now source.entry.options names) reading.old.tree reading.old.blank

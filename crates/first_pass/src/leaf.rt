@@ -7,7 +7,7 @@ ghost use Rattle.first_pass_names.specs.TableEntries.{no_names};
 ghost use Rattle.first_pass_grammar.specs.Leaves.{document, rule_block};
 ghost use Rattle.first_pass_lists.specs.Closing.{with_tree};
 ghost use Rattle.first_pass_text.specs.Appends.{AddsParagraph, AddsHeading};
-ghost use Rattle.first_pass_text.specs.Between.{AddsBetween, StandsBefore};
+ghost use Rattle.first_pass_text.specs.Between.{AddsBetween, IsInItem, StandsBefore};
 ghost use Rattle.first_pass.specs.Views.{allocs_of, reading_of, source_of, source_options, source_text, tree_of};
 
 use crate::state::FirstPass;
@@ -32,7 +32,7 @@ impl<'a> FirstPass<'a> {
         ensures block { IfOk result (λ next.
             AddsParagraph (document (source_text self.old) (source_options self.old) no_names) start_ix tasklist_marker
             (tree_of self.old) (tree_of self.new) next) }
-        ensures fits { IfOk result (λ next. (from : ℕ)
+        ensures fits { IfOk result (λ next. IsInItem (tree_of self.old) tasklist_marker → (from : ℕ)
             → StandsBefore (source_text self.old) from start_ix tasklist_marker
             → AddsBetween (source_text self.old) from next (tree_of self.old) (tree_of self.new)) }
     {

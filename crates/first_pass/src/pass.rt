@@ -1,6 +1,6 @@
 //! The block pass: the lines of a text, one block after the other.
 
-ghost use Rattle.std.specs.Prelude.{◌≡◌, ◌<◌, ◌≤◌, ◌+◌, ◌-◌, ◌*◌, min, false, [], length, None, Some, IsSome, slice_get, IfOk, IfSome, OnOk, IsUtf8, IsCharBoundary, ℕ};
+ghost use Rattle.std.specs.Prelude.{◌≡◌, ◌<◌, ◌≤◌, ◌+◌, ◌-◌, ◌*◌, min, true, false, [], length, None, Some, IsSome, slice_get, IfOk, IfSome, OnOk, IsUtf8, IsCharBoundary, ℕ};
 ghost use Rattle.first_pass_lines.specs.Places.{place_at, offset, line_end, IsPlaceOf};
 ghost use Rattle.first_pass_walk.specs.Walk.{MarksSpecial};
 ghost use Rattle.first_pass_scan.specs.MetadataSearch.{IsKnownOf};
@@ -24,7 +24,7 @@ ghost use Rattle.first_pass.specs.Ordered.{IsOrderedAt};
 ghost use Rattle.first_pass_text.specs.Found.{HasEnd, IsFoundWith, kind_of, marked_kind};
 ghost use Rattle.first_pass_text.specs.Between.{AddsBetween, StandsBefore};
 ghost use Rattle.first_pass_grammar.specs.Order.{IsOrdered, GrowsBy};
-ghost use Rattle.first_pass_grammar.specs.OpenOrder.{IsOrderedTo};
+ghost use Rattle.first_pass_grammar.specs.OpenOrder.{IsOrderedTo, is_in_item};
 ghost use Rattle.first_pass.specs.State.{Ready, ReadyAt};
 ghost use Rattle.first_pass_names.specs.TableEntries.{tables, no_tables, names_of};
 ghost use Rattle.first_pass_grammar.specs.Names.{Names, Extends};
@@ -180,6 +180,7 @@ impl<'a> FirstPass<'a> {
         requires utf8 { IsUtf8 (source_text self.old) }
         requires place { IsPlaceOf (source_text self.old) (place_at start_ix line_start) }
         requires marker { is_text marker.body ≡ false }
+        requires item { is_in_item (tree_of self.old) ≡ true }
         requires no_empty { (reading_of self.old).empty_item ≡ None }
         ensures source { OnOk result (source_of self.new ≡ source_of self.old) }
         ensures allocs { OnOk result (allocs_of self.new ≡ allocs_of self.old) }

@@ -1,5 +1,5 @@
 -- Rows of nodes and where they fit, as nodes are added, opened and closed.
-use Rattle.std.proofs.Common.{◌≡◌, inl, inr, ℕ, zero, suc, ◌+◌, ◌-◌, ◌*◌, ◌<◌, ◌≤◌, ◌==◌, Bool, true, false, if◌then◌else◌, List, [], ◌∷◌, ◌++◌, length, Option, Some, None, IsCharBoundary, refl, sym, ap, subst, ◌∙◌, arith, append_assoc}
+use Rattle.std.proofs.Common.{◌≡◌, inl, inr, ℕ, zero, suc, ◌+◌, ◌-◌, ◌*◌, ◌<◌, ◌≤◌, ◌==◌, ◌&&◌, Bool, true, false, if◌then◌else◌, List, [], ◌∷◌, ◌++◌, length, Option, Some, None, IsCharBoundary, refl, sym, ap, subst, ◌∙◌, arith, append_assoc}
 use Rattle.std.proofs.lemmas.List.{append-nil, map-append, length-map}
 use Rattle.first_pass_items.specs.declared.item.Item.{Item}
 use Rattle.first_pass_items.specs.declared.item.ItemBody.{ItemBody}
@@ -11,8 +11,8 @@ use Rattle.first_pass_tokens.specs.Order.{AreInOrder}
 use Rattle.first_pass_tokens.specs.TreeTokens.{leaves}
 use Rattle.first_pass_tokens.proofs.OrderLemmas.{order_bound}
 use Rattle.first_pass_grammar.specs.Derivation.{tight_body, tightened}
-use Rattle.first_pass_grammar.specs.Order.{Extent, is_paragraph, is_task_marker, extent_of, extents, Row, Empty, Node, laid, IsBetween, IsLead, Fits, FitsBetween}
-use Rattle.first_pass_grammar.specs.OpenOrder.{laid_open, AreAt, FitsOpen}
+use Rattle.first_pass_grammar.specs.Order.{Extent, is_paragraph, is_task_marker, is_list_item, extent_of, extents, Row, Empty, Node, laid, IsBetween, Within, Elsewhere, InItem, InText, in_item, below, beyond, IsLead, Fits, FitsBetween}
+use Rattle.first_pass_grammar.specs.OpenOrder.{laid_open, AreAt, open_item, FitsOpen}
 
 -- a row, and another behind it
 abbrev pub beside : Row → Row → Row
@@ -21,7 +21,7 @@ beside (Node x kids next) more = Node x kids (beside next more)
 
 -- a range with another end
 abbrev pub ended_at : Extent → ℕ → Extent
-ended_at x e = record { start = x.start; «end» = e; paragraph = x.paragraph; marker = x.marker }
+ended_at x e = record { start = x.start; «end» = e; paragraph = x.paragraph; marker = x.marker; item = x.item }
 
 -- the extents of more nodes
 pub extents-append : (nodes more : List (ℕ × Item)) → extents (nodes ++ more) ≡ extents nodes ++ extents more
@@ -100,11 +100,12 @@ length-places root (level ∷ levels) [] h = absurd h
 length-places root (level ∷ levels) (ix ∷ spine) h = ap suc (length-places root levels spine h.1)
 
 -- where a row fits, there is room
-pub fits-order : (text : List ℕ) (lead : Option ℕ) (from to : ℕ) (row : Row) → Fits text lead from to row → from ≤ to
+pub fits-order : (text : List ℕ) (w : Within) (from to : ℕ) (row : Row) → Fits text w from to row → from ≤ to
 unfolding Fits
-fits-order text lead from to Empty h = h
-fits-order text lead from to (Node x kids next) (inl (b, k, n)) = let r = fits-order text None x.«end» to next n in let s : from ≤ x.start = b.behind in let t : x.start ≤ x.«end» = b.order in omega arith
-fits-order text lead from to (Node x kids next) (inr (l, k, n)) = fits-order text None from to next n
+fits-order text w from to Empty h = h
+fits-order text w from to (Node x kids next) (inl (b, k, n)) =
+    let r = fits-order text (beyond w) x.«end» to next n in let s : from ≤ x.start = b.behind in let t : x.start ≤ x.«end» = b.order in omega arith
+fits-order text w from to (Node x kids next) (inr (l, k, n)) = fits-order text Elsewhere from to next n
 
 between-later : (text : List ℕ) (from a b : ℕ) (x : Extent) → a ≤ b → IsBetween text from a x → IsBetween text from b x
 between-later text from a b x more h = let t : x.«end» ≤ a = h.before in record { behind = h.behind; order = h.order; before = omega arith; starts = h.starts; ends = h.ends }
@@ -113,80 +114,123 @@ between-earlier : (text : List ℕ) (a b to : ℕ) (x : Extent) → a ≤ b → 
 between-earlier text a b to x more h = let t : b ≤ x.start = h.behind in record { behind = omega arith; order = h.order; before = h.before; starts = h.starts; ends = h.ends }
 
 -- a row fits up to a later offset
-pub fits-later : (text : List ℕ) (lead : Option ℕ) (from a b : ℕ) (row : Row) → a ≤ b → Fits text lead from a row → Fits text lead from b row
+pub fits-later : (text : List ℕ) (w : Within) (from a b : ℕ) (row : Row) → a ≤ b → Fits text w from a row → Fits text w from b row
 unfolding Fits
-fits-later text lead from a b Empty more h = let t : from ≤ a = h in omega arith
-fits-later text lead from a b (Node x kids next) more (inl (h, k, n)) = inl (between-later text from a b x more h, k, fits-later text None x.«end» a b next more n)
-fits-later text lead from a b (Node x kids next) more (inr (l, k, n)) = inr (l, k, fits-later text None from a b next more n)
+fits-later text w from a b Empty more h = let t : from ≤ a = h in omega arith
+fits-later text w from a b (Node x kids next) more (inl (h, k, n)) = inl (between-later text from a b x more h, k, fits-later text (beyond w) x.«end» a b next more n)
+fits-later text w from a b (Node x kids next) more (inr (l, k, n)) = inr (l, k, fits-later text Elsewhere from a b next more n)
 
--- a row fits with other leads as well
-fits-lead : (text : List ℕ) (lead other : Option ℕ) (from to : ℕ) (row : Row) → ((x : Extent) → IsLead text lead from x → IsLead text other from x) → Fits text lead from to row → Fits text other from to row
+any_by : (text : List ℕ) (item : Bool) (v : Within) (from to : ℕ) (row : Row) → (Fits text Elsewhere from to row → Fits text v from to row)
+    → Fits text (if item then InItem else Elsewhere) from to row → Fits text (if item then InItem else v) from to row
+any_by text true v from to row wider h = h
+any_by text false v from to row wider h = wider h
+
+-- what fits elsewhere fits anywhere
+pub fits-any : (text : List ℕ) (w : Within) (from to : ℕ) (row : Row) → Fits text Elsewhere from to row → Fits text w from to row
 unfolding Fits
-fits-lead text lead other from to Empty wider h = h
-fits-lead text lead other from to (Node x kids next) wider (inl h) = inl h
-fits-lead text lead other from to (Node x kids next) wider (inr (l, k, n)) = inr (wider x l, k, n)
+fits-any text w from to Empty h = h
+fits-any text w from to (Node x kids next) (inl (b, k, n)) =
+    inl (b, any_by text x.item (if in_item w && x.paragraph then InText from else Elsewhere) x.start x.«end» kids (λ e. fits-any text _ x.start x.«end» kids e) k, fits-any text (beyond w) x.«end» to next n)
+fits-any text w from to (Node x kids next) (inr (l, k, n)) = absurd l
 
--- a row with no lead fits where one may be
-pub fits-any_lead : (text : List ℕ) (lead : Option ℕ) (from to : ℕ) (row : Row) → Fits text None from to row → Fits text lead from to row
-fits-any_lead text lead from to row h = fits-lead text None lead from to row (λ x l. absurd l) h
+fits-beyond : (text : List ℕ) (w : Within) (from to : ℕ) (row : Row) → Fits text (beyond w) from to row → Fits text w from to row
+fits-beyond text Elsewhere from to row h = h
+fits-beyond text InItem from to row h = h
+fits-beyond text (InText before) from to row h = fits-any text (InText before) from to row h
+
+beyond-again : (text : List ℕ) (w : Within) (from to : ℕ) (row : Row) → Fits text (beyond w) from to row → Fits text (beyond (beyond w)) from to row
+beyond-again text Elsewhere from to row h = h
+beyond-again text InItem from to row h = h
+beyond-again text (InText before) from to row h = h
+
+behind-lead : (text : List ℕ) (w : Within) (at from to : ℕ) (x : Extent) (row : Row) → IsLead text w at x → Fits text (beyond w) from to row → Fits text Elsewhere from to row
+behind-lead text Elsewhere at from to x row l h = absurd l
+behind-lead text InItem at from to x row l h = absurd l
+behind-lead text (InText before) at from to x row l h = h
 
 -- a lead may stand from an earlier offset on
-pub fits-earlier_lead : (text : List ℕ) (a b from to : ℕ) (row : Row) → a ≤ b → Fits text (Some b) from to row → Fits text (Some a) from to row
-fits-earlier_lead text a b from to row more h = fits-lead text (Some b) (Some a) from to row (λ x l. (l.0, between-earlier text a b from x more l.1)) h
+fits-earlier_lead : (text : List ℕ) (a b from to : ℕ) (row : Row) → a ≤ b → Fits text (InText b) from to row → Fits text (InText a) from to row
+unfolding Fits
+fits-earlier_lead text a b from to Empty more h = h
+fits-earlier_lead text a b from to (Node x kids next) more (inl h) = inl h
+fits-earlier_lead text a b from to (Node x kids next) more (inr (l, k, n)) = inr ((l.0, between-earlier text a b from x more l.1), k, n)
 
-lead_by : (text : List ℕ) (t : Bool) (a b from to : ℕ) (row : Row) → a ≤ b → Fits text (if t then Some b else None) from to row → Fits text (if t then Some a else None) from to row
-lead_by text true a b from to row more h = fits-earlier_lead text a b from to row more h
-lead_by text false a b from to row more h = h
+below_by : (text : List ℕ) (item lead : Bool) (a b from to : ℕ) (row : Row) → a ≤ b
+    → Fits text (if item then InItem else (if lead then InText b else Elsewhere)) from to row → Fits text (if item then InItem else (if lead then InText a else Elsewhere)) from to row
+below_by text true lead a b from to row more h = h
+below_by text false true a b from to row more h = fits-earlier_lead text a b from to row more h
+below_by text false false a b from to row more h = h
+
+earlier_by : (text : List ℕ) (w : Within) (a b to : ℕ) (row : Row) → ((x : Extent) → IsLead text w b x → ⊥) → a ≤ b → Fits text w b to row → Fits text w a to row
+unfolding Fits
+earlier_by text w a b to Empty none more h = let t : b ≤ to = h in omega arith
+earlier_by text w a b to (Node x kids next) none more (inl (h, k, n)) = inl (between-earlier text a b to x more h, below_by text x.item (in_item w && x.paragraph) a b x.start x.«end» kids more k, n)
+earlier_by text w a b to (Node x kids next) none more (inr (l, k, n)) = absurd (none x l)
 
 -- a row fits from an earlier offset on
-pub fits-earlier : (text : List ℕ) (a b to : ℕ) (row : Row) → a ≤ b → Fits text None b to row → Fits text None a to row
-unfolding Fits
-fits-earlier text a b to Empty more h = let t : b ≤ to = h in omega arith
-fits-earlier text a b to (Node x kids next) more (inl (h, k, n)) = inl (between-earlier text a b to x more h, lead_by text x.paragraph a b x.start x.«end» kids more k, n)
-fits-earlier text a b to (Node x kids next) more (inr (l, k, n)) = absurd l
+fits-earlier : (text : List ℕ) (w : Within) (a b to : ℕ) (row : Row) → a ≤ b → Fits text (beyond w) b to row → Fits text (beyond w) a to row
+fits-earlier text Elsewhere a b to row more h = earlier_by text Elsewhere a b to row (λ x l. l) more h
+fits-earlier text InItem a b to row more h = earlier_by text InItem a b to row (λ x l. l) more h
+fits-earlier text (InText before) a b to row more h = earlier_by text Elsewhere a b to row (λ x l. l) more h
 
 -- a row fits behind another
-pub fits-beside : (text : List ℕ) (lead : Option ℕ) (from mid to : ℕ) (row more : Row) → Fits text lead from mid row → Fits text None mid to more → Fits text lead from to (beside row more)
+pub fits-beside : (text : List ℕ) (w : Within) (from mid to : ℕ) (row more : Row) → Fits text w from mid row → Fits text (beyond w) mid to more → Fits text w from to (beside row more)
 unfolding Fits
-fits-beside text lead from mid to Empty more h behind = let t : from ≤ mid = h in fits-any_lead text lead from to more (fits-earlier text from mid to more t behind)
-fits-beside text lead from mid to (Node x kids next) more (inl (h, k, n)) behind =
-    inl (between-later text from mid to x (fits-order text None mid to more behind) h, k, fits-beside text None x.«end» mid to next more n behind)
-fits-beside text lead from mid to (Node x kids next) more (inr (l, k, n)) behind = inr (l, k, fits-beside text None from mid to next more n behind)
+fits-beside text w from mid to Empty more h behind = let t : from ≤ mid = h in fits-beyond text w from to more (fits-earlier text w from mid to more t behind)
+fits-beside text w from mid to (Node x kids next) more (inl (h, k, n)) behind =
+    inl (between-later text from mid to x (fits-order text (beyond w) mid to more behind) h, k, fits-beside text (beyond w) x.«end» mid to next more n (beyond-again text w mid to more behind))
+fits-beside text w from mid to (Node x kids next) more (inr (l, k, n)) behind = inr (l, k, fits-beside text Elsewhere from mid to next more n (behind-lead text w from mid to x more l behind))
 
 -- a row of one node fits
-pub fits-one : (text : List ℕ) (from to : ℕ) (x : Extent) → IsBetween text from to x → Fits text None from to (Node x Empty Empty)
+pub fits-one : (text : List ℕ) (w : Within) (from to : ℕ) (x : Extent) → IsBetween text from to x → Fits text w from to (Node x Empty Empty)
 unfolding Fits
-fits-one text from to x h = inl (h, h.order, h.before)
+fits-one text w from to x h = inl (h, h.order, h.before)
 
 -- what is open is in order up to a later offset
 pub fits_open-later : (text : List ℕ) (a b : ℕ) (levels : List (Row × Extent)) (row : Row) → a ≤ b → FitsOpen text a levels row → FitsOpen text b levels row
 unfolding FitsOpen
-fits_open-later text a b [] row more h = fits-later text None 0 a b row more h
-fits_open-later text a b (level ∷ levels) row more h = (fits-later text None level.1.start a b row more h.0, h.1, h.2)
+fits_open-later text a b [] row more h = fits-later text Elsewhere 0 a b row more h
+fits_open-later text a b (level ∷ levels) row more (before, m, h, starts, rest) = (before, m, fits-later text (below (open_item levels) before level.1) level.1.start a b row more h, starts, rest)
+
+beyond_by : (text : List ℕ) (item lead : Bool) (before from to : ℕ) (row : Row) → Fits text (if item then InItem else Elsewhere) from to row
+    → Fits text (beyond (if item then InItem else (if lead then InText before else Elsewhere))) from to row
+beyond_by text true lead before from to row h = h
+beyond_by text false true before from to row h = h
+beyond_by text false false before from to row h = h
 
 -- more nodes in the innermost open one fit
-pub fits_open-beside : (text : List ℕ) (mid to : ℕ) (levels : List (Row × Extent)) (row more : Row) → FitsOpen text mid levels row → Fits text None mid to more → FitsOpen text to levels (beside row more)
+pub fits_open-beside : (text : List ℕ) (mid to : ℕ) (levels : List (Row × Extent)) (row more : Row) → FitsOpen text mid levels row → Fits text (if open_item levels then InItem else Elsewhere) mid to more
+    → FitsOpen text to levels (beside row more)
 unfolding FitsOpen
-fits_open-beside text mid to [] row more h behind = fits-beside text None 0 mid to row more h behind
-fits_open-beside text mid to (level ∷ levels) row more h behind = (fits-beside text None level.1.start mid to row more h.0 behind, h.1, h.2)
+fits_open-beside text mid to [] row more h behind = fits-beside text Elsewhere 0 mid to row more h behind
+fits_open-beside text mid to (level ∷ levels) row more (before, m, h, starts, rest) behind = (
+  before,
+  m,
+  fits-beside text (below (open_item levels) before level.1) level.1.start mid to row more h (beyond_by text level.1.item (open_item levels && level.1.paragraph) before mid to more behind),
+  starts,
+  rest,
+)
 
 -- a node that is opened fits
 pub fits_open-pushed : (text : List ℕ) (a : ℕ) (x : Extent) (levels : List (Row × Extent)) (row : Row) → a ≤ x.start → IsCharBoundary text x.start → FitsOpen text a levels row → FitsOpen text x.start ((row, x) ∷ levels) Empty
 unfolding FitsOpen Fits
-fits_open-pushed text a x levels row more starts h = let t : x.start ≤ x.start = omega arith in (t, starts, fits_open-later text a x.start levels row more h)
+fits_open-pushed text a x levels row more starts h = let t : x.start ≤ x.start = omega arith in (a, more, t, starts, h)
+
+inside_by : (t : Bool) → in_item (if t then InItem else Elsewhere) ≡ t
+inside_by true = refl
+inside_by false = refl
 
 -- the innermost open node fits once it is closed
 pub fits_open-popped : (text : List ℕ) (at e : ℕ) (level : Row × Extent) (levels : List (Row × Extent)) (row : Row) → at ≤ e → IsCharBoundary text e → FitsOpen text at (level ∷ levels) row
     → FitsOpen text e levels (beside level.0 (Node (ended_at level.1 e) row Empty))
 unfolding FitsOpen Fits
-fits_open-popped text at e level levels row more ends h =
+fits_open-popped text at e level levels row more ends (before, m, h, starts, rest) =
     let x : Extent = level.1 in
-    let inside : Fits text None x.start e row = fits-later text None x.start at e row more h.0 in
-    let order : x.start ≤ e = fits-order text None x.start e row inside in
-    let here : x.start ≤ x.start = omega arith in
+    let inside : Fits text (below (open_item levels) before x) x.start e row = fits-later text (below (open_item levels) before x) x.start at e row more h in
+    let order : x.start ≤ e = fits-order text (below (open_item levels) before x) x.start e row inside in
     let last : e ≤ e = omega arith in
-    fits_open-beside text x.start e levels level.0 (Node (ended_at x e) row Empty) h.2
-    (inl (record { behind = here; order = order; before = last; starts = h.1; ends = ends }, fits-any_lead text (if x.paragraph then Some x.start else None) x.start e row inside, last))
+    fits_open-beside text before e levels level.0 (Node (ended_at x e) row Empty) rest
+    (inl (record { behind = m; order = order; before = last; starts = starts; ends = ends }, subst (λ t. Fits text (below t before x) x.start e row) (sym (inside_by (open_item levels))) inside, last))
 
 -- with another end, the extent of a node has that end
 pub extents-ended : (nodes : List (ℕ × Item)) (before : List (ℕ × Extent)) (n : ℕ × Extent) (more : List (ℕ × Extent)) (k e : ℕ) → extents nodes ≡ before ++ n ∷ more → k ≡ length before
@@ -218,10 +262,15 @@ marker_tight : (b : ItemBody) → is_task_marker (tight_body b) ≡ is_task_mark
 marker_tight ParagraphBody = refl
 marker_tight b = refl
 
+item_tight : (b : ItemBody) → is_list_item (tight_body b) ≡ is_list_item b
+item_tight ParagraphBody = refl
+item_tight b = refl
+
 extent_by : (t : Bool) (x : Item) → extent_of (if t then record { start = x.start; «end» = x.«end»; body = tight_body x.body } else x) ≡ extent_of x
 extent_by true x =
-    ap (λ (p : Bool). record { start = x.start; «end» = x.«end»; paragraph = p; marker = is_task_marker (tight_body x.body) }) (paragraph_tight x.body)
-    ∙ ap (λ (m : Bool). record { start = x.start; «end» = x.«end»; paragraph = is_paragraph x.body; marker = m }) (marker_tight x.body)
+    ap (λ (p : Bool). record { start = x.start; «end» = x.«end»; paragraph = p; marker = is_task_marker (tight_body x.body); item = is_list_item (tight_body x.body) }) (paragraph_tight x.body)
+    ∙ ap (λ (m : Bool). record { start = x.start; «end» = x.«end»; paragraph = is_paragraph x.body; marker = m; item = is_list_item (tight_body x.body) }) (marker_tight x.body)
+    ∙ ap (λ (i : Bool). record { start = x.start; «end» = x.«end»; paragraph = is_paragraph x.body; marker = is_task_marker x.body; item = i }) (item_tight x.body)
 extent_by false x = refl
 
 -- a paragraph made tight keeps its extent
@@ -230,13 +279,13 @@ extent-tightened depth n = extent_by (n.0 == depth) n.1
 
 -- where no node but the root is open, the whole tree is in order
 pub fits-whole : (text : List ℕ) (root : Extent) (to : ℕ) (row : Row) → IsBetween text 0 (length text) root → root.start ≡ 0 → root.«end» ≡ length text → to ≤ length text → FitsOpen text to [] row
-    → Fits text None 0 (length text) (Node root row Empty)
+    → Fits text Elsewhere 0 (length text) (Node root row Empty)
 unfolding FitsOpen Fits
 fits-whole text root to row whole start_is end_is within h =
     let later : to ≤ root.«end» = omega arith in
     let last : root.«end» ≤ length text = omega arith in
-    let inside : Fits text None root.start root.«end» row = subst (λ (n : ℕ). Fits text None n root.«end» row) (sym start_is) (fits-later text None 0 to root.«end» row later h) in
-    inl (whole, fits-any_lead text (if root.paragraph then Some 0 else None) root.start root.«end» row inside, last)
+    let inside : Fits text Elsewhere root.start root.«end» row = subst (λ (n : ℕ). Fits text Elsewhere n root.«end» row) (sym start_is) (fits-later text Elsewhere 0 to root.«end» row later h) in
+    inl (whole, fits-any text (below false 0 root) root.start root.«end» row inside, last)
 
 -- items side by side, nothing below them
 unfoldable pub row_of : List Item → Row
@@ -251,12 +300,16 @@ row_of-laid k (x ∷ xs) =
     let none : k + 0 ≡ k = omega arith in
     ap (λ (j : ℕ). (j, extent_of x) ∷ extents (at_depth k (leaves xs))) none ∙ ap (λ (row : List (ℕ × Extent)). (k, extent_of x) ∷ row) (row_of-laid k xs)
 
-pub row_of-fits : (text : List ℕ) (lead : Option ℕ) (from to : ℕ) (chain : List Item) → AreInOrder text from to chain → Fits text lead from to (row_of chain)
+pub row_of-fits : (text : List ℕ) (w : Within) (from to : ℕ) (chain : List Item) → AreInOrder text from to chain → Fits text w from to (row_of chain)
 unfolding Fits row_of
-row_of-fits text lead from to [] h = h
-row_of-fits text lead from to (x ∷ xs) h =
+row_of-fits text w from to [] h = h
+row_of-fits text w from to (x ∷ xs) h =
     let later = order_bound text x.«end» to xs h.4 in
-    inl (record { behind = h.0; order = h.1; before = later; starts = h.2; ends = h.3 }, h.1, row_of-fits text None x.«end» to xs h.4)
+    inl (record { behind = h.0; order = h.1; before = later; starts = h.2; ends = h.3 }, h.1, row_of-fits text (beyond w) x.«end» to xs h.4)
+
+-- a block that fits elsewhere fits anywhere
+pub between-any : (text : List ℕ) (w : Within) (from to : ℕ) (items : List (ℕ × Item)) → FitsBetween text Elsewhere from to items → FitsBetween text w from to items
+between-any text w from to items (row, is, fits, few) = (row, is, fits-any text w from to row fits, few)
 
 -- putting items deeper drops none
 pub length-at_depth : (d : ℕ) (items : List (ℕ × Item)) → length (at_depth d items) ≡ length items
@@ -268,12 +321,12 @@ pub length-block : (x : Item) (chain : List Item) → length (block_of x (leaves
 length-block x chain = ap suc (length-at_depth 1 (leaves chain) ∙ length-map chain (λ (y : Item). (0, y)))
 
 -- A block of a chain lies between two offsets where its item does, and the chain is in order within that; and it has few items where the chain has.
-pub block_fits : (text : List ℕ) (from to : ℕ) (x : Item) (chain : List Item) → IsBetween text from to (extent_of x) → AreInOrder text x.start x.«end» chain → (from < to → suc (length chain) ≤ 4 * (to - from))
-    → FitsBetween text from to (block_of x (leaves chain))
+pub block_fits : (text : List ℕ) (w : Within) (from to : ℕ) (x : Item) (chain : List Item) → IsBetween text from to (extent_of x) → AreInOrder text x.start x.«end» chain → (from < to → suc (length chain) ≤ 4 * (to - from))
+    → FitsBetween text w from to (block_of x (leaves chain))
 unfolding laid Fits
-block_fits text from to x chain between order few = (
+block_fits text w from to x chain between order few = (
   Node (extent_of x) (row_of chain) Empty,
   ap (λ (ns : List (ℕ × Extent)). (0, extent_of x) ∷ ns) (row_of-laid 1 chain ∙ sym (append-nil (laid 1 (row_of chain)))),
-  inl (between, row_of-fits text (if is_paragraph x.body then Some from else None) x.start x.«end» chain order, between.before),
+  inl (between, row_of-fits text (below (in_item w) from (extent_of x)) x.start x.«end» chain order, between.before),
   λ apart. (let some = few apart in let size = length-block x chain in omega arith),
 )

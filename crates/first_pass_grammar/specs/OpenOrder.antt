@@ -1,9 +1,11 @@
 -- Order in a tree some of whose nodes are open (this project).
-use Rattle.std.specs.Prelude.{◌≡◌, ℕ, suc, ◌≤◌, List, [], ◌∷◌, ◌++◌, length, None, IsCharBoundary}
+use Rattle.std.specs.Prelude.{◌≡◌, ℕ, suc, ◌≤◌, Bool, false, List, [], ◌∷◌, ◌++◌, length, slice_get, Option, Some, None, IsCharBoundary, if◌then◌else◌}
+use Rattle.std.specs.Option.{option_and_then}
 use Rattle.first_pass_items.specs.declared.item.Item.{Item}
+use Rattle.first_pass_items.specs.declared.item.ItemBody.{ItemBody}
 use Rattle.first_pass_tree.specs.declared.tree_index.TreeIndex.{TreeIndex}
-use Rattle.first_pass_tree.specs.Forest.{Forest}
-use Rattle.first_pass_grammar.specs.Order.{Extent, extents, Row, laid, IsBetween, Fits}
+use Rattle.first_pass_tree.specs.Forest.{Forest, body_at}
+use Rattle.first_pass_grammar.specs.Order.{Extent, extents, is_list_item, Row, laid, IsBetween, Within, Elsewhere, InItem, below, Fits}
 
 -- The nodes in reading order of which some are open, each in the one around it behind a row: these are listed from the innermost on, and below that is
 -- another row.
@@ -18,10 +20,29 @@ AreAt root [] (ix ∷ spine) = ⊥
 AreAt root (level ∷ levels) [] = ⊥
 AreAt root (level ∷ levels) (ix ∷ spine) = (ix.0 ≡ length (laid_open root levels level.0)) × AreAt root levels spine
 
--- in each open node what is below it lies behind its start and in order, up to the next open one or to an offset
+-- the innermost open node is a list item
+abbrev pub open_item : List (Row × Extent) → Bool
+open_item [] = false
+open_item (level ∷ levels) = level.1.item
+
+-- in each open node what is below it lies behind its start and in order, up to the next open one or to an offset; before an open node stands what is up to
+-- its start
 unfoldable pub FitsOpen : List ℕ → ℕ → List (Row × Extent) → Row → Type 0
-FitsOpen text to [] row = Fits text None 0 to row
-FitsOpen text to (level ∷ levels) row = Fits text None level.1.start to row × IsCharBoundary text level.1.start × FitsOpen text level.1.start levels level.0
+FitsOpen text to [] row = Fits text Elsewhere 0 to row
+FitsOpen text to (level ∷ levels) row =
+    (before : ℕ) × (before ≤ level.1.start) × Fits text (below (open_item levels) before level.1) level.1.start to row × IsCharBoundary text level.1.start
+    × FitsOpen text before levels level.0
+
+-- where what is added to a tree stands: in a list item, or elsewhere
+abbrev pub item_on_top : Option ItemBody → Bool
+item_on_top None = false
+item_on_top (Some body) = is_list_item body
+
+abbrev pub is_in_item : Forest Item → Bool
+is_in_item f = item_on_top (option_and_then (λ ix. body_at f.nodes ix.0) (slice_get f.spine 0))
+
+abbrev pub within_top : Forest Item → Within
+within_top f = if is_in_item f then InItem else Elsewhere
 
 -- The nodes of a tree are in order up to an offset, those that are open reaching further.
 pub record IsOrderedTo (text : List ℕ) (f : Forest Item) (to : ℕ) : Type 0 where

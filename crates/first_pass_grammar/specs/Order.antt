@@ -1,15 +1,16 @@
 -- Order: which ranges lie in one another, and which behind one another (this project).
-use Rattle.std.specs.Prelude.{◌≡◌, ◌⊎◌, ℕ, suc, ◌+◌, ◌-◌, ◌*◌, ◌<◌, ◌≤◌, Bool, true, false, List, [], ◌∷◌, ◌++◌, length, map, Option, Some, None, IsCharBoundary, if◌then◌else◌}
+use Rattle.std.specs.Prelude.{◌≡◌, ◌⊎◌, ℕ, suc, ◌+◌, ◌-◌, ◌*◌, ◌<◌, ◌≤◌, ◌&&◌, Bool, true, false, List, [], ◌∷◌, ◌++◌, length, map, IsCharBoundary, if◌then◌else◌}
 use Rattle.first_pass_items.specs.declared.item.Item.{Item}
 use Rattle.first_pass_items.specs.declared.item.ItemBody.{ItemBody}
-use Rattle.first_pass_items.specs.declared.item.ItemBody.TheVariants.{Paragraph, TightParagraph, TaskListMarker}
+use Rattle.first_pass_items.specs.declared.item.ItemBody.TheVariants.{Paragraph, TightParagraph, TaskListMarker, ListItem}
 
--- the range of a node, and whether it is a paragraph, or the marker of a task list item
+-- the range of a node, and whether it is a paragraph, the marker of a task list item, or a list item
 pub record Extent : Type 0 where
   pub start : ℕ
   pub «end» : ℕ
   pub paragraph : Bool
   pub marker : Bool
+  pub item : Bool
 
 abbrev pub is_paragraph : ItemBody → Bool
 is_paragraph Paragraph = true
@@ -20,8 +21,12 @@ abbrev pub is_task_marker : ItemBody → Bool
 is_task_marker (TaskListMarker checked) = true
 is_task_marker _ = false
 
+abbrev pub is_list_item : ItemBody → Bool
+is_list_item (ListItem columns) = true
+is_list_item _ = false
+
 abbrev pub extent_of : Item → Extent
-extent_of x = record { start = x.start; «end» = x.«end»; paragraph = is_paragraph x.body; marker = is_task_marker x.body }
+extent_of x = record { start = x.start; «end» = x.«end»; paragraph = is_paragraph x.body; marker = is_task_marker x.body; item = is_list_item x.body }
 
 -- the extents of nodes, each with its depth
 abbrev pub extents : List (ℕ × Item) → List (ℕ × Extent)
@@ -45,24 +50,48 @@ pub record IsBetween (text : List ℕ) (from to : ℕ) (x : Extent) : Type 0 whe
   pub starts : IsCharBoundary text x.start
   pub ends : IsCharBoundary text x.«end»
 
--- a task list item marker, which may stand from an offset on before another
-abbrev pub IsLead : List ℕ → Option ℕ → ℕ → Extent → Type 0
-IsLead text None from x = ⊥
-IsLead text (Some before) from x = (x.marker ≡ true) × IsBetween text before from x
+-- where a row stands: directly in a list item; directly in a paragraph of one, before whose start the marker of a task may stand, from an offset on; or
+-- elsewhere (GFM 5.3, and this project)
+pub data Within : Type 0 where
+  Elsewhere : Within
+  InItem : Within
+  InText : ℕ → Within
 
--- The nodes of a row lie between two offsets, one behind the other, and what is below each lies within it. Only a task list item marker that is first in
--- a paragraph may stand before the paragraph's start, where the paragraph itself might (GFM 5.3, and this project).
-unfoldable pub Fits : List ℕ → Option ℕ → ℕ → ℕ → Row → Type 0
-Fits text lead from to Empty = from ≤ to
-Fits text lead from to (Node x kids next) =
-    (IsBetween text from to x × Fits text (if x.paragraph then Some from else None) x.start x.«end» kids × Fits text None x.«end» to next)
-    ⊎ (IsLead text lead from x × Fits text None x.start x.«end» kids × Fits text None from to next)
+abbrev pub in_item : Within → Bool
+in_item Elsewhere = false
+in_item InItem = true
+in_item (InText before) = false
 
--- The items of a block, each with its depth below it, lie between two offsets in order. Where these are apart, there are at most four items for each byte
--- between them.
-abbrev pub FitsBetween : List ℕ → ℕ → ℕ → List (ℕ × Item) → Type 0
-FitsBetween text from to items =
-    (row : Row) × (extents items ≡ laid 0 row) × Fits text None from to row × (from < to → length items ≤ 4 * (to - from))
+-- what is directly in a node, which stands directly in a list item or not, behind an offset
+abbrev pub below : Bool → ℕ → Extent → Within
+below inside from x = if x.item then InItem else (if inside && x.paragraph then InText from else Elsewhere)
+
+-- what stands in the same node behind another
+abbrev pub beyond : Within → Within
+beyond Elsewhere = Elsewhere
+beyond InItem = InItem
+beyond (InText before) = Elsewhere
+
+-- the marker of a task, first in its paragraph
+abbrev pub IsLead : List ℕ → Within → ℕ → Extent → Type 0
+IsLead text Elsewhere from x = ⊥
+IsLead text InItem from x = ⊥
+IsLead text (InText before) from x = (x.marker ≡ true) × IsBetween text before from x
+
+-- The nodes of a row, which stands so, lie between two offsets, one behind the other, and what is below each lies within it. Only the marker of a task that
+-- is first in a paragraph may stand before the paragraph's start, within the list item around it, where the paragraph itself might (GFM 5.3, and this
+-- project).
+unfoldable pub Fits : List ℕ → Within → ℕ → ℕ → Row → Type 0
+Fits text within from to Empty = from ≤ to
+Fits text within from to (Node x kids next) =
+    (IsBetween text from to x × Fits text (below (in_item within) from x) x.start x.«end» kids × Fits text (beyond within) x.«end» to next)
+    ⊎ (IsLead text within from x × Fits text Elsewhere x.start x.«end» kids × Fits text Elsewhere from to next)
+
+-- The items of a block, which stands so, each with its depth below it, lie between two offsets in order. Where these are apart, there are at most four
+-- items for each byte between them.
+abbrev pub FitsBetween : List ℕ → Within → ℕ → ℕ → List (ℕ × Item) → Type 0
+FitsBetween text within from to items =
+    (row : Row) × (extents items ≡ laid 0 row) × Fits text within from to row × (from < to → length items ≤ 4 * (to - from))
 
 -- Nodes became others, at most four more for each byte between two offsets.
 abbrev pub GrowsBy : ℕ → ℕ → List (ℕ × Item) → List (ℕ × Item) → Type 0
@@ -70,4 +99,4 @@ GrowsBy from to old new = length new ≤ length old + 4 * (to - from)
 
 -- The nodes of a finished tree, the root among them, lie in order between 0 and the text's length.
 abbrev pub IsOrdered : List ℕ → List (ℕ × Item) → Type 0
-IsOrdered text nodes = (row : Row) × (extents nodes ≡ laid 0 row) × Fits text None 0 (length text) row
+IsOrdered text nodes = (row : Row) × (extents nodes ≡ laid 0 row) × Fits text Elsewhere 0 (length text) row

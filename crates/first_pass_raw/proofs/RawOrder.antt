@@ -28,7 +28,7 @@ use Rattle.first_pass_grammar.specs.Extents.{Extent as Lines, with_line, ends_at
 use Rattle.first_pass_grammar.specs.CodeBlocks.{code_place, code_by, code_lines, unless_blank, without_blanks, last_end, IsIndentedCode, closing_fence_end, fence_verdict, fence_judge, IsFencedCode, metadata_verdict, metadata_judge, metadata_kind, IsMetadata}
 use Rattle.first_pass_grammar.specs.HtmlBlocks.{holds, is_empty, tag_verdict, tag_judge, blank_judge, first_owing, IsHtml}
 use Rattle.first_pass_grammar.specs.Completion.{lines_from}
-use Rattle.first_pass_grammar.specs.Order.{FitsBetween}
+use Rattle.first_pass_grammar.specs.Order.{Elsewhere, FitsBetween}
 use Rattle.first_pass_grammar.proofs.Orders.{block_fits}
 use Rattle.first_pass_raw.specs.RawBlocks.{behind_line_at, code_behind, fenced_behind, metadata_behind, html_to_end, html_to_blank}
 use Rattle.first_pass_open.proofs.PlaceLemmas.{all_keep, after_keeps, place_end, line_start_end}
@@ -203,10 +203,10 @@ few_by text from to start stop n ps least (inr some) placed behind before apart 
 
 -- A block of raw lines fits where it begins and ends.
 raw_fits : (range : Ranges) → IsRange range → (d : Document) (from to start stop : ℕ) (body : ItemBody) (ps : List Place) (chain : List Item) (items : List (ℕ × Item)) → IsUtf8 d.text → items ≡ block_with start stop body chain
-    → AreRawLines range d [] ps chain → IsCharBoundary d.text start → IsCharBoundary d.text stop → ArePlaced d.text start ps stop → AreFew start ps → from ≤ start → stop ≤ to → FitsBetween d.text from to items
+    → AreRawLines range d [] ps chain → IsCharBoundary d.text start → IsCharBoundary d.text stop → ArePlaced d.text start ps stop → AreFew start ps → from ≤ start → stop ≤ to → FitsBetween d.text Elsewhere from to items
 raw_fits range r d from to start stop body ps chain items u is lines b c placed few behind before =
-    subst (FitsBetween d.text from to) (sym is)
-    (block_fits d.text from to (record { start = start; «end» = stop; body = body }) chain (record { behind = behind; order = placed_bound d.text start stop ps placed; before = before; starts = b; ends = c })
+    subst (FitsBetween d.text Elsewhere from to) (sym is)
+    (block_fits d.text Elsewhere from to (record { start = start; «end» = stop; body = body }) chain (record { behind = behind; order = placed_bound d.text start stop ps placed; before = before; starts = b; ends = c })
     (lines_in_order range r d ps start start stop [] chain u placed (omega arith) lines) (few_by d.text from to start stop (length chain) ps (lines_few range r d ps [] chain lines) few placed behind before))
 
 -- what lines are left without the blank ones at the end
@@ -269,7 +269,7 @@ kept_few from ps (inr some) = inr (kept_bytes from ps some)
 
 -- Indented code fits where its lines do.
 pub indented_fits : (d : Document) (p : Place) (further : List Place) (items : List (ℕ × Item)) (limit : ℕ) → IsUtf8 d.text → IsIndentedCode d p further items → ArePlaced d.text (offset p) (p ∷ further) limit → AreFew (offset p) (p ∷ further)
-    → (from to : ℕ) → from ≤ offset p → last_end (offset p) (without_blanks (p ∷ further)) ≤ to → FitsBetween d.text from to items
+    → (from to : ℕ) → from ≤ offset p → last_end (offset p) (without_blanks (p ∷ further)) ≤ to → FitsBetween d.text Elsewhere from to items
 unfolding ArePlaced
 indented_fits d p further items limit u is placed few from to behind before =
     let all : List Place = without_blanks (p ∷ further) in
@@ -278,12 +278,12 @@ indented_fits d p further items limit u is placed few from to behind before =
 
 -- So do a fenced code block, a metadata block and an HTML block.
 pub fenced_fits : (d : Document) (start count : ℕ) (e : Lines) (items : List (ℕ × Item)) → IsUtf8 d.text → IsFencedCode d start count e.places e.«end» items → IsCharBoundary d.text start → IsPlaced d.text start e
-    → (from to : ℕ) → from ≤ start → e.«end» ≤ to → FitsBetween d.text from to items
+    → (from to : ℕ) → from ≤ start → e.«end» ≤ to → FitsBetween d.text Elsewhere from to items
 fenced_fits d start count e items u is b placed from to behind before =
     raw_fits range_text text_range d from to start e.«end» (FencedCodeBlock is.info) e.places is.chain items u is.items_are is.lines b placed.boundary placed.places placed.few behind before
 
 pub metadata_fits : (d : Document) (start byte : ℕ) (e : Lines) (items : List (ℕ × Item)) → IsUtf8 d.text → IsMetadata d start byte e.places e.«end» items → IsCharBoundary d.text start → IsPlaced d.text start e
-    → (from to : ℕ) → from ≤ start → e.«end» ≤ to → FitsBetween d.text from to items
+    → (from to : ℕ) → from ≤ start → e.«end» ≤ to → FitsBetween d.text Elsewhere from to items
 metadata_fits d start byte e items u is b placed from to behind before =
     raw_fits range_text text_range d from to start e.«end» (MetadataBlock (metadata_kind byte)) e.places is.chain items u is.items_are is.lines b placed.boundary placed.places placed.few behind before
 
@@ -300,7 +300,7 @@ owing_few columns from (p ∷ ps) (inl one) = inl one
 owing_few columns from (p ∷ ps) (inr some) = inr some
 
 pub html_fits : (d : Document) (start columns : ℕ) (e : Lines) (items : List (ℕ × Item)) → IsUtf8 d.text → IsHtml d start columns e.places e.«end» items → IsCharBoundary d.text start → IsPlaced d.text start e
-    → (from to : ℕ) → from ≤ start → e.«end» ≤ to → FitsBetween d.text from to items
+    → (from to : ℕ) → from ≤ start → e.«end» ≤ to → FitsBetween d.text Elsewhere from to items
 html_fits d start columns e items u is b placed from to behind before =
     raw_fits range_html html_range d from to start e.«end» HtmlBlock (first_owing columns e.places) is.chain items u is.items_are is.lines b placed.boundary
     (owing_placed d.text columns start e.«end» e.places placed.places) (owing_few columns start e.places placed.few) behind before

@@ -22,6 +22,7 @@ use Rattle.first_pass_tokens.proofs.LineLemmas.{ends_line as line_ends}
 use Rattle.first_pass_tokens.proofs.OrderLemmas.{order_bound, order_from, order_to}
 use Rattle.first_pass_tokens.proofs.CutOrder.{cut_in_order, line_none_escaped}
 use Rattle.first_pass_grammar.specs.Leaves.{Document, is_put_aside, kept_len, heading_chain, heading_text_at, heading_block, rule_block, IsHeading, content_at}
+use Rattle.first_pass_grammar.specs.OpenOrder.{within_top}
 use Rattle.first_pass_grammar.proofs.Orders.{block_fits}
 use Rattle.first_pass_text.specs.Appends.{AddsHeading, line_end_at}
 use Rattle.first_pass_text.specs.Between.{AddsBetween}
@@ -223,7 +224,7 @@ pub rule_fits : (text : List ℕ) (from ix size : ℕ) (old new : Forest Item) �
 rule_fits text from ix size old new tree_is behind starts ends = record {
   items = rule_block ix size;
   tree_is = tree_is;
-  fits = block_fits text from (ix + size) (record { start = ix; «end» = ix + size; body = Rule }) [] (record { behind = behind; order = omega arith; before = omega arith; starts = starts; ends = ends }) (omega arith) (λ some. omega arith);
+  fits = block_fits text (within_top old) from (ix + size) (record { start = ix; «end» = ix + size; body = Rule }) [] (record { behind = behind; order = omega arith; before = omega arith; starts = starts; ends = ends }) (omega arith) (λ some. omega arith);
 }
 
 -- The text of an ATX heading begins between characters.
@@ -252,7 +253,7 @@ heading_fits d start level old new next u b h order from behind =
     record {
       items = heading_block start next level h.chain;
       tree_is = h.tree_is;
-      fits = block_fits d.text from next (record { start = start; «end» = next; body = HeadingBody level None }) h.chain
+      fits = block_fits d.text (within_top old) from next (record { start = start; «end» = next; body = HeadingBody level None }) h.chain
           (record { behind = behind; order = omega arith; before = omega arith; starts = b; ends = ends })
           (order_from d.text start text_at next h.chain (heading_in_order d text_at h.chain next (omega arith) h.line order) (omega arith))
           (let few = heading_few d text_at h.chain next h.line order in λ some. omega arith);

@@ -1,5 +1,5 @@
 -- A paragraph's tokens are in order, and so is its block.
-use Rattle.std.proofs.Common.{◌≡◌, inl, inr, ℕ, ◌+◌, ◌-◌, ◌*◌, ◌<◌, ◌≤◌, suc, List, [], ◌∷◌, ◌++◌, length, drop, Option, Some, None, IfSome, IsUtf8, IsCharBoundary, refl, sym, ap, subst, ◌∙◌, arith}
+use Rattle.std.proofs.Common.{◌≡◌, inl, inr, ℕ, ◌+◌, ◌-◌, ◌*◌, ◌<◌, ◌≤◌, suc, ◌&&◌, Bool, true, false, if◌then◌else◌, List, [], ◌∷◌, ◌++◌, length, drop, Option, Some, None, IfSome, IsUtf8, IsCharBoundary, refl, sym, ap, subst, ◌∙◌, arith}
 use Rattle.std.proofs.lemmas.List.{append-nil}
 use Rattle.std.proofs.lemmas.Bool.{cases_lt}
 use Rattle.first_pass_items.specs.declared.item.Item.{Item}
@@ -19,10 +19,11 @@ use Rattle.first_pass_grammar.specs.Containers.{at_rest, front}
 use Rattle.first_pass_grammar.specs.Kinds.{unindented}
 use Rattle.first_pass_grammar.specs.Leaves.{Document, content_at, add_break, IsParagraph, paragraph_block, marker_items}
 use Rattle.first_pass_grammar.specs.Completion.{lines_from}
-use Rattle.first_pass_grammar.specs.Order.{Extent, Empty, Node, extent_of, extents, laid, Fits, FitsBetween, IsBetween}
+use Rattle.first_pass_grammar.specs.Order.{Extent, Empty, Node, extent_of, extents, laid, Within, Elsewhere, InItem, InText, in_item, Fits, FitsBetween, IsBetween}
+use Rattle.first_pass_grammar.specs.OpenOrder.{is_in_item, within_top}
 use Rattle.first_pass_text.specs.Appends.{line_end_at, AddsParagraph}
 use Rattle.first_pass_grammar.proofs.Orders.{length-block, row_of, row_of-laid, row_of-fits}
-use Rattle.first_pass_text.specs.Between.{AddsBetween, StandsBefore}
+use Rattle.first_pass_text.specs.Between.{AddsBetween, IsInItem, StandsBefore}
 use Rattle.first_pass_open.specs.Path.{path_of}
 use Rattle.first_pass_text.proofs.ParagraphLemmas.{line_end-text}
 use Rattle.first_pass_open.proofs.PlaceLemmas.{text_place}
@@ -132,25 +133,32 @@ paragraph_few from start next marker chain low few some =
     let marked = few_marked marker chain in
     omega arith
 
+-- a task list item marker stands in a list item
+abbrev StandsIn : Within → Option Item → Type 0
+StandsIn w None = Unit {0}
+StandsIn w (Some m) = in_item w ≡ true
+
 -- what stands below a paragraph
-kids_fit : (text : List ℕ) (from start next : ℕ) (marker : Option Item) (chain : List Item) → AreInOrder text start next chain → StandsBefore text from start marker
-    → (from ≤ start) × Fits text (Some from) start next (row_of (marker_items marker ++ chain))
+kids_fit : (text : List ℕ) (w : Within) (from start next : ℕ) (marker : Option Item) (chain : List Item) → AreInOrder text start next chain → StandsBefore text from start marker → StandsIn w marker
+    → (from ≤ start) × Fits text (if in_item w && true then InText from else Elsewhere) start next (row_of (marker_items marker ++ chain))
 unfolding Fits row_of
-kids_fit text from start next None chain h stands = (stands, row_of-fits text (Some from) start next chain h)
-kids_fit text from start next (Some m) chain h stands =
-    let b : IsBetween text from start (extent_of m) = stands.1 in
-    (omega (arith, b.behind, b.order, b.before), inr (stands, b.order, row_of-fits text None start next chain h))
+kids_fit text w from start next None chain h stands inside = (stands, row_of-fits text (if in_item w && true then InText from else Elsewhere) start next chain h)
+kids_fit text w from start next (Some m) chain h stands inside =
+    let b : IsBetween text from start (extent_of m) = stands.1 in (
+      omega (arith, b.behind, b.order, b.before),
+      subst (λ t. Fits text (if t && true then InText from else Elsewhere) start next (row_of (m ∷ chain))) (sym inside) (inr (stands, b.order, row_of-fits text Elsewhere start next chain h)),
+    )
 
 block_laid : (start next : ℕ) (chain : List Item) → extents (paragraph_block start next chain) ≡ laid 0 (Node (extent_of (record { start = start; «end» = next; body = Paragraph })) (row_of chain) Empty)
 unfolding laid
 block_laid start next chain =
     ap (λ (row : List (ℕ × Extent)). (0, extent_of (record { start = start; «end» = next; body = Paragraph })) ∷ row) (row_of-laid 1 chain ∙ sym (append-nil (laid 1 (row_of chain))))
 
-paragraph_between : (text : List ℕ) (from start next : ℕ) (marker : Option Item) (chain : List Item) → IsCharBoundary text start → IsCharBoundary text next → AreInOrder text start next chain → HaveBytes chain → StandsBefore text from start marker
-    → FitsBetween text from next (paragraph_block start next (marker_items marker ++ chain))
+paragraph_between : (text : List ℕ) (w : Within) (from start next : ℕ) (marker : Option Item) (chain : List Item) → IsCharBoundary text start → IsCharBoundary text next → AreInOrder text start next chain → HaveBytes chain → StandsBefore text from start marker → StandsIn w marker
+    → FitsBetween text w from next (paragraph_block start next (marker_items marker ++ chain))
 unfolding Fits
-paragraph_between text from start next marker chain starts ends h bytes stands =
-    let kids = kids_fit text from start next marker chain h stands in
+paragraph_between text w from start next marker chain starts ends h bytes stands inside =
+    let kids = kids_fit text w from start next marker chain h stands inside in
     let order = order_bound text start next chain h in
     let x : Item = record { start = start; «end» = next; body = Paragraph } in (
       Node (extent_of x) (row_of (marker_items marker ++ chain)) Empty,
@@ -159,15 +167,23 @@ paragraph_between text from start next marker chain starts ends h bytes stands =
       paragraph_few from start next marker chain kids.0 (few_in_order text start next chain h bytes),
     )
 
+inside_top : (t : Bool) → t ≡ true → in_item (if t then InItem else Elsewhere) ≡ true
+inside_top true h = refl
+inside_top false h = h
+
+top_stands : (old : Forest Item) (marker : Option Item) → IsInItem old marker → StandsIn (within_top old) marker
+top_stands old None h = h
+top_stands old (Some m) h = inside_top (is_in_item old) h
+
 -- The block of a paragraph lies between an offset that its marker or its text stands behind, and the line behind it.
 pub paragraph_fits : (d : Document) (start : ℕ) (marker : Option Item) (old new : Forest Item) (next : ℕ) → AddsParagraph d start marker old new next → IsUtf8 d.text → IsCharBoundary d.text start
-    → (from : ℕ) → StandsBefore d.text from start marker → AddsBetween d.text from next old new
-paragraph_fits d start marker old new next adds utf8 boundary from stands =
+    → IsInItem old marker → (from : ℕ) → StandsBefore d.text from start marker → AddsBetween d.text from next old new
+paragraph_fits d start marker old new next adds utf8 boundary inside from stands =
     let whole = paragraph_in_order d (path_of old) start adds.chain (lines_from d.text next) utf8 boundary adds.lines in
     let order : AreInOrder d.text start next adds.chain = subst (λ to. AreInOrder d.text start to adds.chain) (start_of-lines d.text next adds.boundary.0) whole in
     let bytes : HaveBytes adds.chain = paragraph_has_bytes d (path_of old) start adds.chain (lines_from d.text next) utf8 boundary adds.lines in
     record {
       items = paragraph_block start next (marker_items marker ++ adds.chain);
       tree_is = adds.tree_is;
-      fits = paragraph_between d.text from start next marker adds.chain boundary adds.boundary order bytes stands;
+      fits = paragraph_between d.text (within_top old) from start next marker adds.chain boundary adds.boundary order bytes stands (top_stands old marker inside);
     }

@@ -3,14 +3,20 @@ use Rattle.std.specs.Prelude.{◌≡◌, ℕ, ◌≤◌, true, List, Option, Som
 use Rattle.first_pass_items.specs.declared.item.Item.{Item}
 use Rattle.first_pass_tree.specs.Forest.{Forest, added}
 use Rattle.first_pass_grammar.specs.Order.{extent_of, is_task_marker, IsBetween, FitsBetween}
+use Rattle.first_pass_grammar.specs.OpenOrder.{is_in_item, within_top}
 
 -- A block is a last child of the innermost open node, and its nodes lie between two offsets in order, at most four for each byte there.
 pub record AddsBetween (text : List ℕ) (from to : ℕ) (old new : Forest Item) : Type 0 where
   pub items : List (ℕ × Item)
   pub tree_is : new ≡ added old items
-  pub fits : FitsBetween text from to items
+  pub fits : FitsBetween text (within_top old) from to items
 
 -- a task list item marker lies between two offsets, if there is one
 abbrev pub StandsBefore : List ℕ → ℕ → ℕ → Option Item → Type 0
 StandsBefore text from to None = from ≤ to
 StandsBefore text from to (Some x) = (is_task_marker x.body ≡ true) × IsBetween text from to (extent_of x)
+
+-- a task list item marker stands in a list item that is innermost (GFM 5.3)
+abbrev pub IsInItem : Forest Item → Option Item → Type 0
+IsInItem f None = Unit {0}
+IsInItem f (Some x) = is_in_item f ≡ true

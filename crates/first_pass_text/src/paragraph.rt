@@ -8,7 +8,7 @@ ghost use Rattle.first_pass_grammar.specs.Leaves.{document};
 ghost use Rattle.first_pass_tree.specs.Forest.{is_text};
 ghost use Rattle.first_pass_text.specs.Appends.{AppendsParagraph, AddsParagraph, with_closed_break};
 ghost use Rattle.first_pass_open.specs.OpenBlock.{with_child};
-ghost use Rattle.first_pass_text.specs.Between.{AddsBetween, StandsBefore};
+ghost use Rattle.first_pass_text.specs.Between.{AddsBetween, IsInItem, StandsBefore};
 
 use crate::interrupt::next_paragraph_text;
 use first_pass_items::item::{Item, ItemBody};
@@ -72,7 +72,8 @@ pub fn parse_paragraph(
     ensures block { IfOk result (λ next.
         AddsParagraph (document source.entry.text.now source.entry.options no_names) start_ix tasklist_marker tree.old
         tree.new next) }
-    ensures fits { IfOk result (λ next. (from : ℕ) → StandsBefore source.entry.text.now from start_ix tasklist_marker
+    ensures fits { IfOk result (λ next. IsInItem tree.old tasklist_marker → (from : ℕ)
+        → StandsBefore source.entry.text.now from start_ix tasklist_marker
         → AddsBetween source.entry.text.now from next tree.old tree.new) }
 {
     tree.is_forest();

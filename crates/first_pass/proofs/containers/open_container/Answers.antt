@@ -18,7 +18,7 @@ use Rattle.first_pass_lists.specs.declared.list.ListMarker.{ListMarker}
 use Rattle.first_pass_lists.specs.declared.reading.Reading.{Reading}
 use Rattle.first_pass.specs.Opening.{IsOpenedAt, marker_of, task_text, ReadyIn, ReadyTagged, line_or, OrderedIn, GrowsIn}
 use Rattle.first_pass.specs.Ordered.{IsOrderedAt}
-use Rattle.first_pass_grammar.specs.OpenOrder.{IsOrderedTo}
+use Rattle.first_pass_grammar.specs.OpenOrder.{item_on_top, is_in_item, IsOrderedTo}
 use Rattle.first_pass_open.specs.OpenBlock.{with_child}
 use Rattle.first_pass.specs.State.{Ready, ReadyAt}
 use Rattle.first_pass_open.proofs.PlaceLemmas.{item_keeps, item_shorter, behind_keeps, markers_keep, mark_is_no_text, quote_taken, prefix_keeps, quote_prefix_shorter, place_end, read_end}
@@ -54,12 +54,14 @@ returns-then-is_none-clause-same_end c = (markers_keep c.args.source.text.now _ 
 
 pub returns-then-is_none-clause-opened : goal.returns-then-is_none-clause-opened
 returns-then-is_none-clause-opened c =
-    subst (λ o. IsOpenedAt o c.open_item.new.self.empty_item c.args.line_start.now c.scan_task-marker.new.line_start (line_end (place_at c.args.start_ix c.args.line_start.now))) (sym c.behind_marker.ensures)
-    (opened_behind c.scan_task-marker.result c.open_item.new.self.empty_item c.args.line_start.now c.scan_task-marker.new.line_start (line_end (place_at c.args.start_ix c.args.line_start.now))
+    subst (λ o. IsOpenedAt o c.open_item.new.self c.args.line_start.now c.scan_task-marker.new.line_start (line_end (place_at c.args.start_ix c.args.line_start.now))) (sym c.behind_marker.ensures)
+    (opened_behind c.scan_task-marker.result c.open_item.new.self c.args.line_start.now c.scan_task-marker.new.line_start (line_end (place_at c.args.start_ix c.args.line_start.now))
     (λ x is. mark_is_no_text c.args.source.options c.args.start_ix c.scan_item.new.line_start x (sym c.scan_task-marker.ensures.marker ∙ is))
     (markers_keep c.args.source.text.now _ c.args.start_ix c.args.line_start.now _ c.scan_task-marker.new.line_start c.requires.utf8 (taken c) c.scan_task-marker.ensures.rest c.requires.place).2
     (ap (λ (q : Reading). q.empty_item) c.in_ok-open_item.ensures
-    ∙ list_continued_none (c.args.start_ix + c.bytes_scanned.result) c.in-Some.item.byte c.in-Some.item.number c.args.reading.now))
+    ∙ list_continued_none (c.args.start_ix + c.bytes_scanned.result) c.in-Some.item.byte c.in-Some.item.number c.args.reading.now)
+    (ap (λ (q : Reading). is_in_item q.tree) c.in_ok-open_item.ensures
+    ∙ ap item_on_top (top_begun (c.args.start_ix + c.bytes_scanned.result) (ListItemBody c.in-Some.item.indent) (list_continued (c.args.start_ix + c.bytes_scanned.result) c.in-Some.item.byte c.in-Some.item.number c.args.reading.now))))
 
 -- what is remembered with the item open
 opened_is : (c : goal.After-behind_marker) → c.open_item.new.self

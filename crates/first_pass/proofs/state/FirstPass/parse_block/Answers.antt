@@ -34,7 +34,7 @@ returns-in_ok-next-in-TaskText-clause-later c =
 -- the line ends behind the empty item
 item_end : (c : goal.After-drop-line_start-in-NextLine-1) → c.in-NextLine.next ≡ c.args.start_ix + line_len (drop c.args.start_ix c.args.self.now.source.text.now)
 item_end c =
-    let behind = subst (λ o. IsBehind o c.open_containers.new.reading.empty_item c.open_containers.new.line_start (line_end (place_at c.args.start_ix c.in-Some.line_start))) c.in-NextLine.is c.in_ok-open_containers.ensures.behind in
+    let behind = subst (λ o. IsBehind o c.open_containers.new.reading c.open_containers.new.line_start (line_end (place_at c.args.start_ix c.in-Some.line_start))) c.in-NextLine.is c.in_ok-open_containers.ensures.behind in
     behind ∙ c.in-Some.ensures.same_end
 
 pub returns-in-NextLine-clause-later : goal.returns-in-NextLine-clause-later
@@ -53,14 +53,14 @@ returns-in-NextLine-clause-boundary c =
 pub parse_tagged-requires-clause-boundary : goal.parse_tagged-requires-clause-boundary
 parse_tagged-requires-clause-boundary c =
     let text = c.args.self.now.source.text.now in
-    let behind = subst (λ o. IsBehind o c.open_containers.new.reading.empty_item c.open_containers.new.line_start (line_end (place_at c.args.start_ix c.in-Some.line_start))) c.in-Tag.is c.in_ok-open_containers.ensures.behind in
+    let behind = subst (λ o. IsBehind o c.open_containers.new.reading c.open_containers.new.line_start (line_end (place_at c.args.start_ix c.in-Some.line_start))) c.in-Tag.is c.in_ok-open_containers.ensures.behind in
     subst (IsCharBoundary text) (sym (behind.0 ∙ c.in-Some.ensures.same_end)) (line_end_boundary text c.args.start_ix c.enter_line.ensures.utf8 c.requires.boundary c.requires.within)
 
 pub returns-in_ok-next-in-Tag-clause-later : goal.returns-in_ok-next-in-Tag-clause-later
 returns-in_ok-next-in-Tag-clause-later c =
     let within = line_len-within c.args.self.now.source.text.now c.args.start_ix c.requires.within in
     let some = within.0 in
-    let behind = subst (λ o. IsBehind o c.open_containers.new.reading.empty_item c.open_containers.new.line_start (line_end (place_at c.args.start_ix c.in-Some.line_start))) c.in-Tag.is c.in_ok-open_containers.ensures.behind in
+    let behind = subst (λ o. IsBehind o c.open_containers.new.reading c.open_containers.new.line_start (line_end (place_at c.args.start_ix c.in-Some.line_start))) c.in-Tag.is c.in_ok-open_containers.ensures.behind in
     let e = behind.0 ∙ c.in-Some.ensures.same_end in
     let later = c.in_ok-next-in-Tag.ensures.later in
     let fits = c.in_ok-next-in-Tag.ensures.boundary.0 in

@@ -136,7 +136,7 @@ returns-in_ok-next-in-Paragraph-clause-order c =
     let rem : f ≡ list_finished at old = c.finish_list.ensures in
     let new = c.parse_paragraph.new.self in
     let fits : (from : ℕ) → StandsBefore text from at None → AddsBetween text from next f.tree new.reading.tree =
-    c.in_ok-next-in-Paragraph.ensures.fits in
+    c.in_ok-next-in-Paragraph.ensures.fits tt in
     let adds : AddsBetween text at next (list_finished at old).tree new.reading.tree = subst (λ (z : Reading). AddsBetween text at next z.tree new.reading.tree) rem (fits at (omega arith)) in
     let none = ap (λ (r : Reading). r.empty_item) c.in_ok-next-in-Paragraph.ensures.reading ∙ ap (λ (r : Reading). r.empty_item) rem ∙ list_finished_none at old in
     λ first ordered. ordered_leaf text old new.reading c.args.start_ix (offset p) at at next (omega arith) (omega arith) (inr refl) boundary.0 boundary c.requires.no_empty ordered adds last.0 none
@@ -168,7 +168,7 @@ returns-in_ok-next-in-Paragraph-clause-few c =
     let later = unindented_later text start c.args.before c.requires.utf8 c.requires.place in
     let behind = returns-in_ok-next-in-Paragraph-clause-later c in
     let before = left_before p (leaf_left self.source.options c.args.before (kind_of c.args.found) c.requires.kind (no_blank (kind_of c.args.found) Paragraph (ap kind_of c.in-Paragraph.is) (λ b. cc))) in
-    let fits : (from : ℕ) → StandsBefore text from at None → AddsBetween text from next f.tree new.reading.tree = c.in_ok-next-in-Paragraph.ensures.fits in
+    let fits : (from : ℕ) → StandsBefore text from at None → AddsBetween text from next f.tree new.reading.tree = c.in_ok-next-in-Paragraph.ensures.fits tt in
     let adds : AddsBetween text (offset p) next q.tree new.reading.tree = subst (λ (z : Reading). AddsBetween text (offset p) next z.tree new.reading.tree) rem (fits (offset p) (omega arith)) in
     let block = block_count text (offset p) next q.tree new.reading.tree adds (omega arith) in
     let same = list_finished_count at old in

@@ -64,7 +64,7 @@ returns-clause-order c =
     λ o. let b = o.stands.1 in
     let before = b.before in
     ordered_block text self.reading.tree new.reading o.from next
-    (c.in_ok-next.ensures.fits o.from (o.stands.0, record { behind = b.behind; order = b.order; before = omega arith; starts = b.starts; ends = b.ends })) c.in_ok-next.ensures.block.boundary.0 ((ap (λ (r : Reading). r.empty_item) c.in_ok-next.ensures.reading) ∙ c.requires.no_empty) o.ordered
+    (c.in_ok-next.ensures.fits c.requires.item o.from (o.stands.0, record { behind = b.behind; order = b.order; before = omega arith; starts = b.starts; ends = b.ends })) c.in_ok-next.ensures.block.boundary.0 ((ap (λ (r : Reading). r.empty_item) c.in_ok-next.ensures.reading) ∙ c.requires.no_empty) o.ordered
 
 pub returns-clause-few : goal.returns-clause-few
 returns-clause-few c = λ from stands apart.
@@ -76,4 +76,4 @@ returns-clause-few c = λ from stands apart.
     let b = stands.1 in
     let before = b.before in
     block_count text from c.in_ok-next.next self.reading.tree new.reading.tree
-    (c.in_ok-next.ensures.fits from (stands.0, record { behind = b.behind; order = b.order; before = omega arith; starts = b.starts; ends = b.ends })) apart
+    (c.in_ok-next.ensures.fits c.requires.item from (stands.0, record { behind = b.behind; order = b.order; before = omega arith; starts = b.starts; ends = b.ends })) apart
