@@ -18,7 +18,7 @@ use Rattle.first_pass_grammar.specs.Containers.{at_rest, prefix}
 use Rattle.first_pass_grammar.specs.Kinds.{Kind, Blank, ThematicBreak, AtxHeading, Paragraph, unindented, quote_inside, item_at, IsKind}
 use Rattle.first_pass_grammar.specs.Leaves.{Document, IsParagraph, IsHeading, heading_text_at, rule_block, heading_block, paragraph_block, marker_items}
 use Rattle.first_pass_grammar.specs.OnePass.{leaf_closes}
-use Rattle.first_pass_grammar.specs.Skeleton.{BlankLine, LeafBlock, Block, block_at, leaf_block, Line, Inside, At, ALeafAlone, IsLeafHere, Opening, OpensLeaf, OpensParagraph, OpensAs, OpensBlockAt, OpensFrom, Opens}
+use Rattle.first_pass_grammar.specs.Skeleton.{BlankLine, LeafBlock, Block, block_at, leaf_block, Line, Inside, At, ALeafAlone, IsFirst, Opening, OpensLeaf, OpensParagraph, OpensAs, OpensBlockAt, OpensFrom, Opens}
 use Rattle.first_pass_grammar.specs.Completion.{lines_from, Frame, containers_of, AreBelow, Completes}
 use Rattle.first_pass_grammar.proofs.Completions.{completes-leaf, completes-blank, completes-block, completes-text, counts_in}
 use Rattle.first_pass_text.specs.Appends.{line_end_at, AddsParagraph, AddsHeading}
@@ -94,7 +94,7 @@ lazy_block d r new p lines left at block opens new_is none lazy =
     let os : List ℕ = map (λ (i : TreeIndex). i.0) f.spine in
     let plain = plain_by f.nodes f.spine frames lazy.ready.are_open (ap is_list lazy.quote) in
     let path = open_path f.nodes f.spine frames lazy.ready.are_open in
-    let first : IsLeafHere d (containers_of frames) (At p ALeafAlone) lines (Block block) Line left = record {
+    let first : IsFirst d (containers_of frames) (At p ALeafAlone) lines (OpensLeaf (Block block) Line left) = record {
       place = p;
       behind = lines;
       begins = (refl, refl);
@@ -127,7 +127,7 @@ ready_blank_leaf d r p lines kind none (inr lazy) =
     let frames : List Frame = lazy.ready.frames in
     let os : List ℕ = map (λ (i : TreeIndex). i.0) f.spine in
     let blank : OpensAs d (containers_of frames) p lines Blank (OpensLeaf BlankLine Line lines) = refl in
-    let first : IsLeafHere d (containers_of frames) (At p ALeafAlone) lines BlankLine Line lines = record {
+    let first : IsFirst d (containers_of frames) (At p ALeafAlone) lines (OpensLeaf BlankLine Line lines) = record {
       place = p;
       behind = lines;
       begins = (refl, refl);

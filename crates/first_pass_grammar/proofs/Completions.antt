@@ -14,7 +14,7 @@ use Rattle.first_pass_grammar.specs.declared.kind.Container.TheVariants.{BlockQu
 use Rattle.first_pass_grammar.specs.Containers.{taken}
 use Rattle.first_pass_grammar.specs.Names.{Names}
 use Rattle.first_pass_grammar.specs.Leaves.{Document}
-use Rattle.first_pass_grammar.specs.Skeleton.{Leaf, LeafBlock, BlankLine, Block, block_at, Head, Opener, QuoteMarker, ItemMarker, From, Line, Inside, Blanks, At, TextOf, MarkAlone, behind_marker, Opening, OpensLeaf, OpensNode, OpensParagraph, Opens, Skeleton, Nil, Then, Node, Begins, Ends, behind_first, end_after, end_before, IsLeafHere, IsNodeHere, IsSequence}
+use Rattle.first_pass_grammar.specs.Skeleton.{Leaf, LeafBlock, BlankLine, Block, block_at, Head, Opener, QuoteMarker, ItemMarker, From, Line, Inside, Blanks, At, TextOf, MarkAlone, behind_marker, Opening, OpensLeaf, OpensNode, OpensParagraph, Opens, Skeleton, Nil, Then, Node, Begins, Ends, behind_first, end_after, end_before, IsFirst, IsSequence}
 use Rattle.first_pass_grammar.specs.Kinds.{Kind, Paragraph}
 use Rattle.first_pass_grammar.specs.Rows.{is_paragraph}
 use Rattle.first_pass_grammar.specs.OnePass.{joins, counts_with, run_behind, has_gap, list_end, is_loosened, leaf_closes, head_closes, leaf_items, container_items, forest_of}
@@ -115,23 +115,18 @@ extend d (InContainer c ∷ frames) list list' run run' gap nodes nodes' (o ∷ 
     )
 
 -- What begins inside a line begins at the line.
-enter_leaf : (d : Document) (path : List Container) (line q : Place) (lines : List Place) (leaf : Leaf) (there : From) (left : List Place)
-    → taken path line ≡ Some q → IsLeafHere d path (Inside q) lines leaf there left → IsLeafHere d path Line (line ∷ lines) leaf there left
-enter_leaf d path line q lines leaf there left is first =
-    record { place = first.place; behind = first.behind; begins = (is ∙ ap (λ z. Some z) (sym first.begins.0), first.begins.1); opens = first.opens }
-
-enter_node : (d : Document) (path : List Container) (line q : Place) (lines : List Place) (head : Head) (inside : From) (left : List Place)
-    → taken path line ≡ Some q → IsNodeHere d path (Inside q) lines head inside left → IsNodeHere d path Line (line ∷ lines) head inside left
-enter_node d path line q lines head inside left is first =
+enter_first : (d : Document) (path : List Container) (line q : Place) (lines : List Place) (opening : Opening)
+    → taken path line ≡ Some q → IsFirst d path (Inside q) lines opening → IsFirst d path Line (line ∷ lines) opening
+enter_first d path line q lines opening is first =
     record { place = first.place; behind = first.behind; begins = (is ∙ ap (λ z. Some z) (sym first.begins.0), first.begins.1); opens = first.opens }
 
 enter_seq : (d : Document) (s : Skeleton) (path : List Container) (line q : Place) (lines left : List Place)
     → taken path line ≡ Some q → IsSequence d s path (Inside q) lines left → IsSequence d s path Line (line ∷ lines) left
 unfolding IsSequence
 enter_seq d Nil path line q lines left is seq = absurd seq.0
-enter_seq d (Then leaf next) path line q lines left is (there, mid, first, seq) = (there, mid, enter_leaf d path line q lines leaf there mid is first, seq)
+enter_seq d (Then leaf next) path line q lines left is (there, mid, first, seq) = (there, mid, enter_first d path line q lines (OpensLeaf leaf there mid) is first, seq)
 enter_seq d (Node head e kids next) path line q lines left is (inside, behind, mid, first, inner, ends, seq) =
-    (inside, behind, mid, enter_node d path line q lines head inside behind is first, inner, ends, seq)
+    (inside, behind, mid, enter_first d path line q lines (OpensNode head inside behind) is first, inner, ends, seq)
 
 enter_step : (d : Document) (frames : List Frame) (list : Pending) (run : Bool) (nodes : List (ℕ × Item)) (os : List ℕ) (line q : Place) (lines : List Place) (forest : List (ℕ × Item)) (tables : Tables)
     → taken (containers_of frames) line ≡ Some q
@@ -145,17 +140,12 @@ enter_step d (InList byte loose ∷ frames) list run nodes (o ∷ os) line q lin
 enter_step d (InContainer c ∷ frames) list run nodes (o ∷ os) line q lines forest tables is (s, mid, seq, fin) =
     (s, mid, enter_seq d s (c ∷ containers_of frames) line q lines mid is seq, fin)
 
-leaf_here : (d : Document) (path : List Container) (p : Place) (lines : List Place) (leaf : Leaf) (there : From) (left : List Place)
-    → Opens d path p lines (OpensLeaf leaf there left) → IsLeafHere d path (Inside p) lines leaf there left
-leaf_here d path p lines leaf there left opens = record { place = p; behind = lines; begins = (refl, refl); opens = opens }
-
-node_here : (d : Document) (path : List Container) (p : Place) (lines : List Place) (head : Head) (inside : From) (left : List Place)
-    → Opens d path p lines (OpensNode head inside left) → IsNodeHere d path (Inside p) lines head inside left
-node_here d path p lines head inside left opens = record { place = p; behind = lines; begins = (refl, refl); opens = opens }
+first_here : (d : Document) (path : List Container) (p : Place) (lines : List Place) (opening : Opening) → Opens d path p lines opening → IsFirst d path (Inside p) lines opening
+first_here d path p lines opening opens = record { place = p; behind = lines; begins = (refl, refl); opens = opens }
 
 -- a block with no blocks in it, before which no gap is to be noted
 block_step : (d : Document) (frames : List Frame) (nodes : List (ℕ × Item)) (os : List ℕ) (from : From) (lines left : List Place) (b : LeafBlock) (forest : List (ℕ × Item)) (tables : Tables)
-    → IsPlain frames → EndsAlike (length d.text) from (behind_first from Line) → IsLeafHere d (containers_of frames) from lines (Block b) Line left
+    → IsPlain frames → EndsAlike (length d.text) from (behind_first from Line) → IsFirst d (containers_of frames) from lines (OpensLeaf (Block b) Line left)
     → Finish d NoList b.gap frames (nodes ++ leaf_items (suc (length os)) false (Block b)) os (behind_first from Line) left forest tables → Finish d NoList false frames nodes os from lines forest tables
 unfolding IsSequence forest_of run_behind has_gap rendered
 block_step d frames nodes os from lines left b forest tables plain alike first fin =
@@ -171,7 +161,7 @@ block_step d frames nodes os from lines left b forest tables plain alike first f
 
 -- a blank line, where a list may go on
 blank_step : (d : Document) (frames : List Frame) (list : Pending) (run : Bool) (nodes : List (ℕ × Item)) (os : List ℕ) (from : From) (lines left : List Place) (forest : List (ℕ × Item)) (tables : Tables)
-    → IsPlain frames → EndsAlike (length d.text) from (behind_first from Line) → IsLeafHere d (containers_of frames) from lines BlankLine Line left
+    → IsPlain frames → EndsAlike (length d.text) from (behind_first from Line) → IsFirst d (containers_of frames) from lines (OpensLeaf BlankLine Line left)
     → Finish d list (counts_with (in_quote frames) (byte_in list) run) frames nodes os (behind_first from Line) left forest tables → Finish d list run frames nodes os from lines forest tables
 unfolding IsSequence forest_of run_behind has_gap rendered is_loosened list_end
 blank_step d frames NoList run nodes os from lines left forest tables plain alike first fin =
@@ -213,7 +203,7 @@ quote_step d frames nodes os p lines behind kind start line some_end inside fore
     let run : Bool = run_behind true None false kids in
     extend d frames NoList NoList false run false nodes later os (Inside p) Line lines mid forest tables (λ s. Node head e kids s) plain (λ path mid. refl)
     (λ s left seq. record {
-      seq = (inside, behind, mid, node_here d path p lines head inside behind opens, inner, refl, seq);
+      seq = (inside, behind, mid, first_here d path p lines (OpensNode head inside behind) opens, inner, refl, seq);
       items = λ last. quote_items k last e start kind line nodes kids s;
       runs = refl;
       gaps = refl;
@@ -267,7 +257,7 @@ list_step d frames nodes os p lines behind byte number columns start line some_e
     let gap : Bool = has_gap false None false kids in
     extend d frames NoList (OneList (length nodes) byte gap) false run false nodes later os (Inside p) Line lines mid forest tables (λ s. Node head e kids s) plain (λ path mid. refl)
     (λ s left seq. record {
-      seq = (inside, behind, mid, node_here d path p lines head inside behind opens, inner, refl, seq);
+      seq = (inside, behind, mid, first_here d path p lines (OpensNode head inside behind) opens, inner, refl, seq);
       items = λ last. list_items k last e start some_end byte number columns line flags nodes kids s;
       runs = refl;
       gaps = refl;
@@ -350,7 +340,7 @@ item_step d frames run loose nodes o os p lines behind byte number columns start
     let gap : Bool = (loose || run) || has_gap false None false kids in
     extend d frames (OneList o byte loose) (OneList o byte gap) run next false nodes later os (Inside p) Line lines mid forest tables (λ s. Node head e kids s) plain (λ path mid. refl)
     (λ s left seq. record {
-      seq = (inside, behind, mid, node_here d path p lines head inside behind opens, inner, refl, seq);
+      seq = (inside, behind, mid, first_here d path p lines (OpensNode head inside behind) opens, inner, refl, seq);
       items = λ last. joined_items k last e start byte number columns line o run loose nodes kids s below;
       runs = run-item (in_quote frames) byte number columns start line e run kids s;
       gaps = gap-item (in_quote frames) byte number columns start line e run kids s;
@@ -393,21 +383,16 @@ alike_away m n byte at (OpensNode head inside behind) (OpensLeaf leaf' there' le
 alike_away m n byte at (OpensNode head inside behind) (OpensNode head' inside' behind') a away = subst (λ (h : Head). (head_closes h ≡ at) × (joins (Some byte) h.opener ≡ false)) a.0 away
 
 -- a first block opens at the place where the sequence goes on
-leaf_at : (d : Document) (path : List Container) (p : Place) (lines : List Place) (leaf : Leaf) (there : From) (left : List Place) → IsLeafHere d path (Inside p) lines leaf there left → Opens d path p lines (OpensLeaf leaf there left)
-leaf_at d path p lines leaf there left f =
-    subst (λ z. Opens d path p z (OpensLeaf leaf there left)) f.begins.1 (subst (λ z. Opens d path z f.behind (OpensLeaf leaf there left)) f.begins.0 f.opens)
-
-node_at : (d : Document) (path : List Container) (p : Place) (lines : List Place) (head : Head) (inside : From) (left : List Place) → IsNodeHere d path (Inside p) lines head inside left → Opens d path p lines (OpensNode head inside left)
-node_at d path p lines head inside left f =
-    subst (λ z. Opens d path p z (OpensNode head inside left)) f.begins.1 (subst (λ z. Opens d path z f.behind (OpensNode head inside left)) f.begins.0 f.opens)
+opens_first : (d : Document) (path : List Container) (p : Place) (lines : List Place) (opening : Opening) → IsFirst d path (Inside p) lines opening → Opens d path p lines opening
+opens_first d path p lines opening f = subst (λ z. Opens d path p z opening) f.begins.1 (subst (λ z. Opens d path z f.behind opening) f.begins.0 f.opens)
 
 ends_list : (d : Document) (path : List Container) (p : Place) (lines mid : List Place) (byte at : ℕ) (o : Opening) (s : Skeleton) → Opens d path p lines o → OpensAway byte at o → IsSequence d s path (Inside p) lines mid → EndsList byte at s
 unfolding IsSequence
 ends_list d path p lines mid byte at o Nil opens away seq = absurd seq.0
 ends_list d path p lines mid byte at o (Then leaf next) opens away (there, left, first, seq) =
-    away_leaf byte at leaf there left next (alike_away d.names d.names byte at o (OpensLeaf leaf there left) (one_opening d d.names path p lines _ _ opens (leaf_at d path p lines leaf there left first)) away)
+    away_leaf byte at leaf there left next (alike_away d.names d.names byte at o (OpensLeaf leaf there left) (one_opening d d.names path p lines _ _ opens (opens_first d path p lines (OpensLeaf leaf there left) first)) away)
 ends_list d path p lines mid byte at o (Node head e kids next) opens away (inside, behind, left, first, inner, ends, seq) =
-    alike_away d.names d.names byte at o (OpensNode head inside behind) (one_opening d d.names path p lines _ _ opens (node_at d path p lines head inside behind first)) away
+    alike_away d.names d.names byte at o (OpensNode head inside behind) (one_opening d d.names path p lines _ _ opens (opens_first d path p lines (OpensNode head inside behind) first)) away
 
 loose-away : (byte at : ℕ) (run : Bool) (s : Skeleton) → EndsList byte at s → is_loosened byte run s ≡ false
 unfolding is_loosened
@@ -512,7 +497,7 @@ gap_noted : (d : Document) (path : List Container) (p : Place) (lines mid : List
 unfolding IsSequence
 gap_noted d path p lines mid o quoted run Nil opens block seq = absurd seq.0
 gap_noted d path p lines mid o quoted run (Then leaf next) opens block (there, left, first, seq) =
-    leaf_noted quoted run leaf there left next (alike_block d.names d.names o (OpensLeaf leaf there left) (one_opening d d.names path p lines _ _ opens (leaf_at d path p lines leaf there left first)) block)
+    leaf_noted quoted run leaf there left next (alike_block d.names d.names o (OpensLeaf leaf there left) (one_opening d d.names path p lines _ _ opens (opens_first d path p lines (OpensLeaf leaf there left) first)) block)
 gap_noted d path p lines mid o quoted run (Node head e kids next) opens block seq = node_noted quoted run head e kids next
 
 -- a gap noted before a block
@@ -703,7 +688,7 @@ completes-enter d run frames nodes os line q lines is c = record {
 
 -- behind a block with no blocks in it, wherever it begins
 pub completes-leaf : (d : Document) (frames : List Frame) (nodes : List (ℕ × Item)) (os : List ℕ) (from : From) (lines left : List Place) (b : LeafBlock)
-    → IsPlain frames → EndsAlike (length d.text) from (behind_first from Line) → IsLeafHere d (containers_of frames) from lines (Block b) Line left
+    → IsPlain frames → EndsAlike (length d.text) from (behind_first from Line) → IsFirst d (containers_of frames) from lines (OpensLeaf (Block b) Line left)
     → Completes d false frames nodes os from lines → Completes d b.gap frames (nodes ++ leaf_items (suc (length os)) false (Block b)) os (behind_first from Line) left
 completes-leaf d frames nodes os from lines left b plain alike first c = record {
   below = AreBelow-more _ _ os (let k = length-append nodes (leaf_items (suc (length os)) false (Block b)) in omega arith) c.below;
@@ -716,7 +701,7 @@ pub completes-block : (d : Document) (frames : List Frame) (nodes : List (ℕ ×
     → IsPlain frames → Opens d (containers_of frames) p lines (OpensLeaf (Block b) Line left)
     → Completes d false frames nodes os (Inside p) lines → Completes d b.gap frames (nodes ++ leaf_items (suc (length os)) false (Block b)) os Line left
 completes-block d frames nodes os p lines left b plain opens c =
-    completes-leaf d frames nodes os (Inside p) lines left b plain (λ path mid. refl) (leaf_here d (containers_of frames) p lines (Block b) Line left opens) c
+    completes-leaf d frames nodes os (Inside p) lines left b plain (λ path mid. refl) (first_here d (containers_of frames) p lines (OpensLeaf (Block b) Line left) opens) c
 
 -- behind the paragraph of a task list item marker
 pub completes-text : (d : Document) (frames : List Frame) (nodes : List (ℕ × Item)) (os : List ℕ) (marker : Item) (p : Place) (lines left : List Place) (b : LeafBlock)
@@ -746,7 +731,7 @@ counts_in (InContainer c ∷ frames) run = counts_with (is_quote c) None run
 counts_in (InList byte loose ∷ frames) run = true
 
 blank_any : (d : Document) (frames : List Frame) (run : Bool) (nodes : List (ℕ × Item)) (os : List ℕ) (from : From) (lines left : List Place) (forest : List (ℕ × Item)) (tables : Tables)
-    → IsShaped frames → EndsAlike (length d.text) from (behind_first from Line) → IsLeafHere d (containers_of frames) from lines BlankLine Line left
+    → IsShaped frames → EndsAlike (length d.text) from (behind_first from Line) → IsFirst d (containers_of frames) from lines (OpensLeaf BlankLine Line left)
     → Finish d NoList (counts_in frames run) frames nodes os (behind_first from Line) left forest tables → Finish d NoList run frames nodes os from lines forest tables
 unfolding Finish
 blank_any d [] run nodes os from lines left forest tables shape alike first fin = blank_step d [] NoList run nodes os from lines left forest tables tt alike first fin
@@ -756,7 +741,7 @@ blank_any d (InList byte loose ∷ frames) run nodes (o ∷ os) from lines left 
 
 -- behind a blank line, wherever it begins
 pub completes-blank : (d : Document) (run : Bool) (frames : List Frame) (nodes : List (ℕ × Item)) (os : List ℕ) (from : From) (lines left : List Place)
-    → EndsAlike (length d.text) from (behind_first from Line) → IsLeafHere d (containers_of frames) from lines BlankLine Line left
+    → EndsAlike (length d.text) from (behind_first from Line) → IsFirst d (containers_of frames) from lines (OpensLeaf BlankLine Line left)
     → Completes d run frames nodes os from lines → Completes d (counts_in frames run) frames nodes os (behind_first from Line) left
 completes-blank d run frames nodes os from lines left alike first c = record {
   below = c.below;
@@ -768,7 +753,7 @@ completes-blank d run frames nodes os from lines left alike first c = record {
 pub completes-blank_line : (d : Document) (run : Bool) (frames : List Frame) (nodes : List (ℕ × Item)) (os : List ℕ) (p : Place) (lines left : List Place)
     → Opens d (containers_of frames) p lines (OpensLeaf BlankLine Line left)
     → Completes d run frames nodes os (Inside p) lines → Completes d (counts_in frames run) frames nodes os Line left
-completes-blank_line d run frames nodes os p lines left opens c = completes-blank d run frames nodes os (Inside p) lines left (λ path mid. refl) (leaf_here d (containers_of frames) p lines BlankLine Line left opens) c
+completes-blank_line d run frames nodes os p lines left opens c = completes-blank d run frames nodes os (Inside p) lines left (λ path mid. refl) (first_here d (containers_of frames) p lines (OpensLeaf BlankLine Line left) opens) c
 
 -- behind a blank line in an item that takes blank lines alone
 pub completes-only_blank : (d : Document) (run : Bool) (columns : ℕ) (frames : List Frame) (nodes : List (ℕ × Item)) (os : List ℕ) (e : ℕ) (line p : Place) (lines : List Place)

@@ -22,7 +22,7 @@ use Rattle.first_pass_grammar.specs.Leaves.{Document, document, add_break, IsPar
 use Rattle.first_pass_grammar.specs.CodeBlocks.{code_lines, without_blanks, last_end, IsIndentedCode, metadata_lines, metadata_kind, IsMetadata, fenced_lines, info_string, IsFencedCode}
 use Rattle.first_pass_grammar.specs.HtmlBlocks.{until_end, until_blank, first_owing, IsHtml}
 use Rattle.first_pass_grammar.specs.Extents.{Extent}
-use Rattle.first_pass_grammar.specs.Skeleton.{Leaf, leaf_block, Head, opened, From, Line, Inside, Blanks, At, May, Anything, ALeafAlone, TextOf, MarkAlone, behind_marker, Opening, OpensLeaf, OpensNode, OpensParagraph, OpensExtent, OpensAs, OpensBlockAt, is_blank_behind, next_is_blank, item_head, task_by, task_behind, behind_task, task_alone, item_opening, tag_behind, behind_tag, quote_opening, OpensFrom, Opens, OpensAt, Skeleton, Nil, Then, Node, Begins, Ends, behind_first, end_before, IsLeafHere, IsNodeHere, IsSequence}
+use Rattle.first_pass_grammar.specs.Skeleton.{Leaf, leaf_block, Head, opened, From, Line, Inside, Blanks, At, May, Anything, ALeafAlone, TextOf, MarkAlone, behind_marker, Opening, OpensLeaf, OpensNode, OpensParagraph, OpensExtent, OpensAs, OpensBlockAt, is_blank_behind, next_is_blank, item_head, task_by, task_behind, behind_task, task_alone, item_opening, tag_behind, behind_tag, quote_opening, OpensFrom, Opens, OpensAt, Skeleton, Nil, Then, Node, Begins, Ends, behind_first, end_before, IsFirst, IsSequence}
 use Rattle.first_pass_grammar.specs.Derivation.{Tables, node_of, Derives}
 use Rattle.first_pass_grammar.proofs.NoIndex.{HasNoIndex, read_alone, paragraph_free, heading_free, marked_free}
 use Rattle.first_pass_grammar.specs.RawLines.{range_text, range_html}
@@ -257,46 +257,21 @@ ends_not_begins path (Blanks x) [] p a e b = b
 ends_not_begins path (Blanks x) (line ∷ lines) p a e (t, h, b) = let n : true ≡ false = sym (blank_taken line p (after path line.rest) t b) ∙ e in cc
 
 -- a first block opens as one thing
-leaf_once : (d : Document) (n : Names) (path : List Container) (from : From) (lines : List Place) (leaf leaf' : Leaf) (there there' : From) (left left' : List Place) → HoldsNoIndex from
-    → IsLeafHere d path from lines leaf there left → IsLeafHere (with_names d n) path from lines leaf' there' left' → AlikeOpening d.names n (OpensLeaf leaf there left) (OpensLeaf leaf' there' left')
-leaf_once d n path from lines leaf leaf' there there' left left' h f g =
+first_once : (d : Document) (n : Names) (path : List Container) (from : From) (lines : List Place) (o o' : Opening) → HoldsNoIndex from
+    → IsFirst d path from lines o → IsFirst (with_names d n) path from lines o' → AlikeOpening d.names n o o'
+first_once d n path from lines o o' h f g =
     let w = begins_once path from lines f.place g.place f.behind g.behind f.begins g.begins in
-    opens_at d n path from g.place g.behind _ _ h (subst (λ z. OpensAt d path from g.place z (OpensLeaf leaf there left)) w.1 (subst (λ z. OpensAt d path from z f.behind (OpensLeaf leaf there left)) w.0 f.opens)) g.opens
+    opens_at d n path from g.place g.behind o o' h (subst (λ z. OpensAt d path from g.place z o) w.1 (subst (λ z. OpensAt d path from z f.behind o) w.0 f.opens)) g.opens
 
-leaf_not_node : (d : Document) (n : Names) (path : List Container) (from : From) (lines : List Place) (leaf : Leaf) (there : From) (left : List Place) (head : Head) (inside : From) (behind : List Place) → HoldsNoIndex from
-    → IsLeafHere d path from lines leaf there left → IsNodeHere (with_names d n) path from lines head inside behind → ⊥
-leaf_not_node d n path from lines leaf there left head inside behind h f g =
-    let w = begins_once path from lines f.place g.place f.behind g.behind f.begins g.begins in
-    opens_at d n path from g.place g.behind (OpensLeaf leaf there left) (OpensNode head inside behind) h
-    (subst (λ z. OpensAt d path from g.place z (OpensLeaf leaf there left)) w.1 (subst (λ z. OpensAt d path from z f.behind (OpensLeaf leaf there left)) w.0 f.opens)) g.opens
-
-node_not_leaf : (d : Document) (n : Names) (path : List Container) (from : From) (lines : List Place) (head : Head) (inside : From) (behind : List Place) (leaf : Leaf) (there : From) (left : List Place) → HoldsNoIndex from
-    → IsNodeHere d path from lines head inside behind → IsLeafHere (with_names d n) path from lines leaf there left → ⊥
-node_not_leaf d n path from lines head inside behind leaf there left h f g =
-    let w = begins_once path from lines f.place g.place f.behind g.behind f.begins g.begins in
-    opens_at d n path from g.place g.behind (OpensNode head inside behind) (OpensLeaf leaf there left) h
-    (subst (λ z. OpensAt d path from g.place z (OpensNode head inside behind)) w.1 (subst (λ z. OpensAt d path from z f.behind (OpensNode head inside behind)) w.0 f.opens)) g.opens
-
-node_once : (d : Document) (n : Names) (path : List Container) (from : From) (lines : List Place) (head head' : Head) (inside inside' : From) (behind behind' : List Place) → HoldsNoIndex from
-    → IsNodeHere d path from lines head inside behind → IsNodeHere (with_names d n) path from lines head' inside' behind' → AlikeOpening d.names n (OpensNode head inside behind) (OpensNode head' inside' behind')
-node_once d n path from lines head head' inside inside' behind behind' h f g =
-    let w = begins_once path from lines f.place g.place f.behind g.behind f.begins g.begins in
-    opens_at d n path from g.place g.behind _ _ h (subst (λ z. OpensAt d path from g.place z (OpensNode head inside behind)) w.1 (subst (λ z. OpensAt d path from z f.behind (OpensNode head inside behind)) w.0 f.opens)) g.opens
-
-node_ends : (d : Document) (path : List Container) (from : From) (lines : List Place) (head : Head) (inside : From) (behind : List Place)
-    → Ends path from lines → IsNodeHere d path from lines head inside behind → ⊥
-node_ends d path from lines head inside behind e f = ends_not_begins path from lines f.place f.behind e f.begins
-
-leaf_ends : (d : Document) (path : List Container) (from : From) (lines : List Place) (leaf : Leaf) (there : From) (left : List Place)
-    → Ends path from lines → IsLeafHere d path from lines leaf there left → ⊥
-leaf_ends d path from lines leaf there left e f = ends_not_begins path from lines f.place f.behind e f.begins
+first_ends : (d : Document) (path : List Container) (from : From) (lines : List Place) (o : Opening) → Ends path from lines → IsFirst d path from lines o → ⊥
+first_ends d path from lines o e f = ends_not_begins path from lines f.place f.behind e f.begins
 
 -- where a sequence ends it has no block
 pub ends_at_once : (d : Document) (s : Skeleton) (path : List Container) (from : From) (lines left : List Place) → Ends path from lines → IsSequence d s path from lines left → (s ≡ Nil) × (left ≡ lines)
 unfolding IsSequence
 ends_at_once d Nil path from lines left e (f, g) = (refl, g)
-ends_at_once d (Then leaf next) path from lines left e (there, mid, first, seq) = absurd (leaf_ends d path from lines leaf there mid e first)
-ends_at_once d (Node head e' kids next) path from lines left e (inside, behind, mid, first, inner, is, seq) = absurd (node_ends d path from lines head inside behind e first)
+ends_at_once d (Then leaf next) path from lines left e (there, mid, first, seq) = absurd (first_ends d path from lines (OpensLeaf leaf there mid) e first)
+ends_at_once d (Node head e' kids next) path from lines left e (inside, behind, mid, first, inner, is, seq) = absurd (first_ends d path from lines (OpensNode head inside behind) e first)
 
 behind_first_free : (from there : From) → HoldsNoIndex from → HoldsNoIndex there → HoldsNoIndex (behind_first from there)
 behind_first_free (Blanks e) there h k = tt
@@ -311,21 +286,21 @@ pub one_sequence : (d : Document) (n : Names) (s t : Skeleton) (path : List Cont
     → IsSequence d s path from lines a → IsSequence (with_names d n) t path from lines b → Alike d.names n s t × (a ≡ b)
 unfolding IsSequence
 one_sequence d n Nil Nil path from lines a b free (e, f) (g, h) = (tt, cc)
-one_sequence d n Nil (Then leaf next) path from lines a b free (e, f) (there, mid, first, seq) = absurd (leaf_ends (with_names d n) path from lines leaf there mid e first)
-one_sequence d n Nil (Node head x kids next) path from lines a b free (e, f) (inside, behind, mid, first, inner, is, seq) = absurd (node_ends (with_names d n) path from lines head inside behind e first)
-one_sequence d n (Then leaf next) Nil path from lines a b free (there, mid, first, seq) (e, f) = absurd (leaf_ends d path from lines leaf there mid e first)
-one_sequence d n (Node head x kids next) Nil path from lines a b free (inside, behind, mid, first, inner, is, seq) (e, f) = absurd (node_ends d path from lines head inside behind e first)
+one_sequence d n Nil (Then leaf next) path from lines a b free (e, f) (there, mid, first, seq) = absurd (first_ends (with_names d n) path from lines (OpensLeaf leaf there mid) e first)
+one_sequence d n Nil (Node head x kids next) path from lines a b free (e, f) (inside, behind, mid, first, inner, is, seq) = absurd (first_ends (with_names d n) path from lines (OpensNode head inside behind) e first)
+one_sequence d n (Then leaf next) Nil path from lines a b free (there, mid, first, seq) (e, f) = absurd (first_ends d path from lines (OpensLeaf leaf there mid) e first)
+one_sequence d n (Node head x kids next) Nil path from lines a b free (inside, behind, mid, first, inner, is, seq) (e, f) = absurd (first_ends d path from lines (OpensNode head inside behind) e first)
 one_sequence d n (Then leaf next) (Then leaf' next') path from lines a b free (there, mid, first, seq) (there', mid', first', seq') =
-    let o = leaf_once d n path from lines leaf leaf' there there' mid mid' free first first' in
+    let o = first_once d n path from lines (OpensLeaf leaf there mid) (OpensLeaf leaf' there' mid') free first first' in
     let r = one_sequence d n next next' path (behind_first from there) mid a b (behind_first_free from there free o.2) seq
     (subst (λ z. IsSequence (with_names d n) next' path (behind_first from there) z b) (sym o.3) (subst (λ z. IsSequence (with_names d n) next' path (behind_first from z) mid' b) (sym o.1) seq')) in
     ((o.0, r.0), r.1)
 one_sequence d n (Then leaf next) (Node head x kids next') path from lines a b free (there, mid, first, seq) (inside, behind, mid', first', inner, is, seq') =
-    absurd (leaf_not_node d n path from lines leaf there mid head inside behind free first first')
+    absurd (first_once d n path from lines (OpensLeaf leaf there mid) (OpensNode head inside behind) free first first')
 one_sequence d n (Node head x kids next) (Then leaf next') path from lines a b free (inside, behind, mid', first', inner, is, seq') (there, mid, first, seq) =
-    absurd (node_not_leaf d n path from lines head inside behind leaf there mid free first' first)
+    absurd (first_once d n path from lines (OpensNode head inside behind) (OpensLeaf leaf there mid) free first' first)
 one_sequence d n (Node head x kids next) (Node head' x' kids' next') path from lines a b free (inside, behind, mid, first, inner, is, seq) (inside', behind', mid', first', inner', is', seq') =
-    let o = node_once d n path from lines head head' inside inside' behind behind' free first first' in
+    let o = first_once d n path from lines (OpensNode head inside behind) (OpensNode head' inside' behind') free first first' in
     let h = one_sequence d n kids kids' (opened head.opener ∷ path) inside behind mid mid' o.2 inner
     (subst (λ (z : Head). IsSequence (with_names d n) kids' (opened z.opener ∷ path) inside behind mid') (sym o.0)
     (subst (λ z. IsSequence (with_names d n) kids' (opened head'.opener ∷ path) z behind mid') (sym o.1) (subst (λ z. IsSequence (with_names d n) kids' (opened head'.opener ∷ path) inside' z mid') (sym o.3) inner'))) in

@@ -258,26 +258,19 @@ end_after n path (Some e) lines = if next_goes_on path lines then e else start_o
 abbrev pub end_before : ℕ → List Container → From → List Place → ℕ
 end_before n path from lines = end_after n path (blanks_alone from) lines
 
--- a first block that is a leaf, where the blocks behind it go on, and the lines that it leaves
-pub record IsLeafHere (d : Document) (path : List Container) (from : From) (lines : List Place) (leaf : Leaf) (there : From) (left : List Place) : Type 0 where
+-- the first block of a sequence, and what it opens
+pub record IsFirst (d : Document) (path : List Container) (from : From) (lines : List Place) (opening : Opening) : Type 0 where
   pub place : Place
   pub behind : List Place
   pub begins : Begins path from lines place behind
-  pub opens : OpensAt d path from place behind (OpensLeaf leaf there left)
-
--- a first block that is a container, where the blocks in it go on, and the lines behind
-pub record IsNodeHere (d : Document) (path : List Container) (from : From) (lines : List Place) (head : Head) (inside : From) (left : List Place) : Type 0 where
-  pub place : Place
-  pub behind : List Place
-  pub begins : Begins path from lines place behind
-  pub opens : OpensAt d path from place behind (OpensNode head inside left)
+  pub opens : OpensAt d path from place behind opening
 
 -- The blocks of a container, whose path this is, take what is from here on up to the lines that are left.
 unfoldable pub IsSequence : Document → Skeleton → List Container → From → List Place → List Place → Type 0
 IsSequence d Nil path from lines left = Ends path from lines × (left ≡ lines)
 IsSequence d (Then leaf next) path from lines left =
-    (there : From) × (mid : List Place) × IsLeafHere d path from lines leaf there mid × IsSequence d next path (behind_first from there) mid left
+    (there : From) × (mid : List Place) × IsFirst d path from lines (OpensLeaf leaf there mid) × IsSequence d next path (behind_first from there) mid left
 IsSequence d (Node head e kids next) path from lines left =
-    (inside : From) × (behind : List Place) × (mid : List Place) × IsNodeHere d path from lines head inside behind
+    (inside : From) × (behind : List Place) × (mid : List Place) × IsFirst d path from lines (OpensNode head inside behind)
     × IsSequence d kids (opened head.opener ∷ path) inside behind mid × (e ≡ end_before (length d.text) path inside mid)
     × IsSequence d next path (behind_first from Line) mid left
