@@ -18,7 +18,7 @@ use Rattle.first_pass_grammar.specs.declared.kind.Container.TheVariants.{BlockQu
 use Rattle.first_pass_grammar.specs.Containers.{at_rest, has_columns, prefix, after}
 use Rattle.first_pass_grammar.specs.Kinds.{Blank, all_taken, is_blank_rest, quote_inside, item_at}
 use Rattle.first_pass_grammar.specs.Leaves.{Document}
-use Rattle.first_pass_grammar.specs.Skeleton.{BlankLine, From, Line, Inside, Blanks, OpensLeaf, OpensAs, OpensFrom, Opens, is_blank_behind, next_is_blank, end_before}
+use Rattle.first_pass_grammar.specs.Skeleton.{BlankLine, From, Line, Inside, Blanks, OpensLeaf, OpensAs, OpensQuote, OpensFrom, Opens, is_blank_behind, next_is_blank, end_before}
 use Rattle.first_pass_grammar.specs.Derivation.{node_of}
 use Rattle.first_pass_grammar.specs.Completion.{Frame, InContainer, InList, containers_of, AreBelow, Completes}
 use Rattle.first_pass_text.proofs.KindLemmas.{blank_kind}
@@ -138,8 +138,8 @@ no_item r h = no_item_by (nat_lt (indent r) 4) r h
 pub opens_blank : (d : Document) (path : List Container) (p : Place) (lines : List Place) → is_blank_rest p.rest ≡ true → Opens d path p lines (OpensLeaf BlankLine Line lines)
 unfolding OpensFrom OpensAs
 opens_blank d path p lines h =
-    subst (λ o. OpensFrom d path p lines o (quote_inside p) (OpensLeaf BlankLine Line lines)) (sym (no_item p.rest h))
-    (subst (λ o. OpensFrom d path p lines None (option_map (at_rest p) o) (OpensLeaf BlankLine Line lines)) (sym (no_quote p.rest h))
+    subst (λ o. OpensFrom d path p lines o (OpensLeaf BlankLine Line lines)) (sym (no_item p.rest h))
+    (subst (λ o. OpensQuote d path p lines (option_map (at_rest p) o) (OpensLeaf BlankLine Line lines)) (sym (no_quote p.rest h))
     (Blank, blank_kind d.options p.rest h, refl))
 
 -- inside a line that all open containers go on with

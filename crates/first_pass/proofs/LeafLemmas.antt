@@ -18,7 +18,7 @@ use Rattle.first_pass_grammar.specs.Containers.{at_rest, prefix}
 use Rattle.first_pass_grammar.specs.Kinds.{Kind, Blank, ThematicBreak, AtxHeading, Paragraph, unindented, quote_inside, item_at, IsKind}
 use Rattle.first_pass_grammar.specs.Leaves.{Document, IsParagraph, IsHeading, heading_text_at, rule_block, heading_block, paragraph_block, marker_items}
 use Rattle.first_pass_grammar.specs.OnePass.{leaf_closes}
-use Rattle.first_pass_grammar.specs.Skeleton.{BlankLine, LeafBlock, Block, block_at, leaf_block, Line, Inside, At, ALeafAlone, IsFirst, Opening, OpensLeaf, OpensParagraph, OpensAs, OpensBlockAt, OpensFrom, Opens}
+use Rattle.first_pass_grammar.specs.Skeleton.{BlankLine, LeafBlock, Block, block_at, leaf_block, Line, Inside, At, ALeafAlone, IsFirst, Opening, OpensLeaf, OpensParagraph, OpensAs, OpensBlockAt, OpensQuote, OpensFrom, Opens}
 use Rattle.first_pass_grammar.specs.Completion.{lines_from, Frame, containers_of, AreBelow, Completes}
 use Rattle.first_pass_grammar.proofs.Completions.{completes-leaf, completes-blank, completes-block, completes-text, counts_in}
 use Rattle.first_pass_text.specs.Appends.{line_end_at, AddsParagraph, AddsHeading}
@@ -48,8 +48,8 @@ line_end_of text p i =
 no_container : (d : Document) (path : List Container) (p : Place) (lines : List Place) (k : Kind) (o : Opening) → item_at p.rest ≡ None → prefix (BlockQuote None) p.rest ≡ None → IsKind d.options p.rest k → OpensAs d path p lines k o → Opens d path p lines o
 unfolding OpensFrom
 no_container d path p lines k o no_item none kind opens =
-    subst (λ i. OpensFrom d path p lines i (quote_inside p) o) (sym no_item)
-    (subst (λ (q : Option Rest). OpensFrom d path p lines None (option_map (at_rest p) q) o) (sym none) (k, kind, opens))
+    subst (λ i. OpensFrom d path p lines i o) (sym no_item)
+    (subst (λ (q : Option Rest). OpensQuote d path p lines (option_map (at_rest p) q) o) (sym none) (k, kind, opens))
 
 -- a block ends any list at the place that it says
 block_away : (b : Option ItemBody) (at : ℕ) (block : LeafBlock) (left : List Place) → leaf_closes block ≡ at → EndsListAt at b (OpensLeaf (Block block) Line left)

@@ -19,7 +19,7 @@ use Rattle.first_pass_grammar.specs.Containers.{at_rest, prefix}
 use Rattle.first_pass_grammar.specs.Kinds.{is_blank_rest, quote_inside, quote_start, item_at}
 use Rattle.first_pass_grammar.specs.Leaves.{Document}
 use Rattle.first_pass_grammar.specs.OpenOrder.{is_in_item}
-use Rattle.first_pass_grammar.specs.Skeleton.{From, Line, Inside, Blanks, Opening, OpensNode, next_is_blank, item_head, task_behind, behind_task, behind_marker, task_alone, item_opening, quote_head, tag_behind, behind_tag, quote_opening, OpensFrom, Opens}
+use Rattle.first_pass_grammar.specs.Skeleton.{From, Line, Inside, Blanks, Opening, OpensNode, next_is_blank, item_head, task_behind, behind_task, behind_marker, task_alone, item_opening, quote_head, tag_behind, behind_tag, quote_opening, OpensQuote, OpensFrom, Opens}
 use Rattle.first_pass_grammar.specs.Derivation.{node_of, list_flags}
 use Rattle.first_pass_grammar.specs.Completion.{lines_from, Frame, InContainer, InList, containers_of, AreBelow, IsPlain, Completes}
 use Rattle.first_pass_grammar.proofs.Tightening.{modify-append, length-modify}
@@ -67,7 +67,7 @@ opens_quote : (d : Document) (path : List Container) (p : Place) (lines : List P
 unfolding OpensFrom
 opens_quote d path p lines r none is =
     let opening : Opening = quote_opening path p (at_rest p r) lines (tag_behind d.options r) in
-    subst (λ o. OpensFrom d path p lines o (quote_inside p) opening) (sym none) (subst (λ o. OpensFrom d path p lines None (option_map (at_rest p) o) opening) (sym is) refl)
+    subst (λ o. OpensFrom d path p lines o opening) (sym none) (subst (λ o. OpensQuote d path p lines (option_map (at_rest p) o) opening) (sym is) refl)
 
 -- what a block quote is once it is opened
 quote_body : (f : Forest Item) (start : ℕ) (kind : Option BlockQuoteKind) → body_at (appended f (node_of start 0 (BlockQuoteBody kind))).nodes (length f.nodes) ≡ Some (BlockQuoteBody kind)
@@ -275,13 +275,13 @@ pub item_absent : (o : Option ((ℕ × ℕ × ℕ) × Rest)) (found : Option Lis
 item_absent None found old new e h = (refl, h.1)
 item_absent (Some item) found old new e h = (let z : None ≡ Some (marker_of item.0) = sym e ∙ h.0 in cc)
 
-opens_item : (d : Document) (path : List Container) (p : Place) (lines : List Place) (item : (ℕ × ℕ × ℕ) × Rest) → item_at p.rest ≡ Some item → Opens d path p lines (item_opening d path p lines item.0.0 item.0.1 item.0.2 (task_behind d.options p.line item.1))
+opens_item : (d : Document) (path : List Container) (p : Place) (lines : List Place) (item : (ℕ × ℕ × ℕ) × Rest) → item_at p.rest ≡ Some item → Opens d path p lines (item_opening d path p lines (item.0.0, item.0.1, item.0.2) (task_behind d.options p.line item.1))
 unfolding OpensFrom
-opens_item d path p lines item is = subst (λ o. OpensFrom d path p lines o (quote_inside p) (item_opening d path p lines item.0.0 item.0.1 item.0.2 (task_behind d.options p.line item.1))) (sym is) refl
+opens_item d path p lines item is = subst (λ o. OpensFrom d path p lines o (item_opening d path p lines (item.0.0, item.0.1, item.0.2) (task_behind d.options p.line item.1))) (sym is) refl
 
 -- what the markers open
 inside_by : (d : Document) (path : List Container) (p : Place) (lines : List Place) (byte number columns : ℕ) (marker : Option Item) (rest : Rest) → is_blank_rest rest ≡ false
-    → item_opening d path p lines byte number columns (marker, rest) ≡ OpensNode (item_head p byte number columns) (behind_task marker (at_rest p rest)) lines
+    → item_opening d path p lines (byte, number, columns) (marker, rest) ≡ OpensNode (item_head p byte number columns) (behind_task marker (at_rest p rest)) lines
 inside_by d path p lines byte number columns marker rest h = rw h refl
 
 item_body : (g : Forest Item) (start columns : ℕ) → body_at (g.nodes ++ (length g.spine + 1, node_of start 0 (ListItemBody columns)) ∷ []) (length g.nodes) ≡ Some (ListItemBody columns)
@@ -302,7 +302,7 @@ ready_item d r p lines item marker rest forest is task some none ready =
     let from : From = behind_task marker (at_rest p rest) in
     let inside : Opening = OpensNode (item_head p item.0.0 item.0.1 item.0.2) from lines in
     let opens : Opens d (path_of r.tree) p lines inside =
-    subst (Opens d (path_of r.tree) p lines) (ap (item_opening d (path_of r.tree) p lines item.0.0 item.0.1 item.0.2) task ∙ inside_by d (path_of r.tree) p lines item.0.0 item.0.1 item.0.2 marker rest some) (opens_item d (path_of r.tree) p lines item is) in
+    subst (Opens d (path_of r.tree) p lines) (ap (item_opening d (path_of r.tree) p lines (item.0.0, item.0.1, item.0.2)) task ∙ inside_by d (path_of r.tree) p lines item.0.0 item.0.1 item.0.2 marker rest some) (opens_item d (path_of r.tree) p lines item is) in
     let done = item_is_open d r p lines item.0.0 item.0.1 item.0.2 from forest opens none ready in
     let g : Forest Item = (list_continued (offset p) item.0.0 item.0.1 r).tree in
     let q : Reading = item_opened (offset p) item.0.0 item.0.1 item.0.2 r in
@@ -316,11 +316,11 @@ emptied_opened g start columns =
     (modify-at g.nodes [] (length g.spine + 1, node_of start 0 (ListItemBody columns)) (length g.nodes) (λ x. record { start = x.start; «end» = x.«end»; body = ListItemBody 0 }) refl)
 
 empty_opening : (d : Document) (path : List Container) (p : Place) (lines : List Place) (byte number columns : ℕ) (marker : Option Item) (rest : Rest) (e : ℕ) → is_blank_rest rest ≡ true → next_is_blank (ListItem columns ∷ path) lines ≡ true → start_of (length d.text) lines ≡ e
-    → item_opening d path p lines byte number columns (marker, rest) ≡ OpensNode (item_head p byte number 0) (task_alone marker (at_rest p rest) (Some e)) lines
+    → item_opening d path p lines (byte, number, columns) (marker, rest) ≡ OpensNode (item_head p byte number 0) (task_alone marker (at_rest p rest) (Some e)) lines
 empty_opening d path p lines byte number columns marker rest e h n e_is = rw (h, n) (ap (λ k. OpensNode (item_head p byte number 0) (task_alone marker (at_rest p rest) (Some k)) lines) e_is)
 
 line_opening : (d : Document) (path : List Container) (p : Place) (lines : List Place) (byte number columns : ℕ) (marker : Option Item) (rest : Rest) → is_blank_rest rest ≡ true → next_is_blank (ListItem columns ∷ path) lines ≡ false
-    → item_opening d path p lines byte number columns (marker, rest) ≡ OpensNode (item_head p byte number columns) (task_alone marker (at_rest p rest) None) lines
+    → item_opening d path p lines (byte, number, columns) (marker, rest) ≡ OpensNode (item_head p byte number columns) (task_alone marker (at_rest p rest) None) lines
 line_opening d path p lines byte number columns marker rest h n = rw (h, n) refl
 
 in_item : (d : Document) (f : Forest Item) (e columns : ℕ) (lines : List Place) (t blank : Bool) → blank ≡ false → next_is_blank (path_of f) lines ≡ t → ReadyBeforeLine d f e lines t → ReadyInItem d f e columns lines blank
@@ -388,7 +388,7 @@ empty_by d r p lines item marker rest e true next forest is task blank e_is none
     let item_node : ℕ → Item = λ k. node_of (offset p) 0 (ListItemBody k) in
     let from : From = task_alone marker (at_rest p rest) (Some e) in
     let opens : Opens d (path_of r.tree) p lines (OpensNode (item_head p byte number 0) from lines) =
-    subst (Opens d (path_of r.tree) p lines) (ap (item_opening d (path_of r.tree) p lines byte number columns) task ∙ empty_opening d (path_of r.tree) p lines byte number columns marker rest e blank next e_is)
+    subst (Opens d (path_of r.tree) p lines) (ap (item_opening d (path_of r.tree) p lines (byte, number, columns)) task ∙ empty_opening d (path_of r.tree) p lines byte number columns marker rest e blank next e_is)
     (opens_item d (path_of r.tree) p lines item is) in
     let done = item_is_open d r p lines byte number 0 from forest opens none ready in
     let more : length (appended g (item_node columns)).nodes ≡ length g.nodes + 1 = length-append g.nodes ((length g.spine + 1, item_node columns) ∷ []) in
@@ -415,7 +415,7 @@ empty_by d r p lines item marker rest e false next forest is task blank e_is non
     let place : TreeIndex = record { 0 = length g.nodes } in
     let from : From = task_alone marker (at_rest p rest) None in
     let opens : Opens d (path_of r.tree) p lines (OpensNode (item_head p byte number columns) from lines) =
-    subst (Opens d (path_of r.tree) p lines) (ap (item_opening d (path_of r.tree) p lines byte number columns) task ∙ line_opening d (path_of r.tree) p lines byte number columns marker rest blank next)
+    subst (Opens d (path_of r.tree) p lines) (ap (item_opening d (path_of r.tree) p lines (byte, number, columns)) task ∙ line_opening d (path_of r.tree) p lines byte number columns marker rest blank next)
     (opens_item d (path_of r.tree) p lines item is) in
     let done = item_is_open d r p lines byte number columns from forest opens none ready in
     let more : length q.tree.nodes ≡ length g.nodes + 1 = length-append g.nodes ((length g.spine + 1, node_of (offset p) 0 (ListItemBody columns)) ∷ []) in

@@ -22,7 +22,7 @@ use Rattle.first_pass_grammar.specs.Leaves.{Document, document, add_break, IsPar
 use Rattle.first_pass_grammar.specs.CodeBlocks.{code_lines, without_blanks, last_end, IsIndentedCode, metadata_lines, metadata_kind, IsMetadata, fenced_lines, info_string, IsFencedCode}
 use Rattle.first_pass_grammar.specs.HtmlBlocks.{until_end, until_blank, first_owing, IsHtml}
 use Rattle.first_pass_grammar.specs.Extents.{Extent}
-use Rattle.first_pass_grammar.specs.Skeleton.{Leaf, leaf_block, Head, opened, From, Line, Inside, Blanks, At, May, Anything, ALeafAlone, TextOf, MarkAlone, behind_marker, Opening, OpensLeaf, OpensNode, OpensParagraph, OpensExtent, OpensAs, OpensBlockAt, is_blank_behind, next_is_blank, item_head, task_by, task_behind, behind_task, task_alone, item_opening, tag_behind, behind_tag, quote_opening, OpensFrom, Opens, OpensAt, Skeleton, Nil, Then, Node, Begins, Ends, behind_first, end_before, IsFirst, IsSequence}
+use Rattle.first_pass_grammar.specs.Skeleton.{Leaf, leaf_block, Head, opened, From, Line, Inside, Blanks, At, May, Anything, ALeafAlone, TextOf, MarkAlone, behind_marker, Opening, OpensLeaf, OpensNode, OpensParagraph, OpensExtent, OpensAs, OpensBlockAt, is_blank_behind, next_is_blank, item_head, task_by, task_behind, behind_task, task_alone, item_opening, tag_behind, behind_tag, quote_opening, OpensQuote, OpensFrom, Opens, OpensAt, Skeleton, Nil, Then, Node, Begins, Ends, behind_first, end_before, IsFirst, IsSequence}
 use Rattle.first_pass_grammar.specs.Derivation.{Tables, node_of, Derives}
 use Rattle.first_pass_grammar.proofs.NoIndex.{HasNoIndex, read_alone, paragraph_free, heading_free, marked_free}
 use Rattle.first_pass_grammar.specs.RawLines.{range_text, range_html}
@@ -193,7 +193,7 @@ unless_opens : (t : Bool) (o o' : Opening) → OpensFree o → OpensFree o' → 
 unless_opens true o o' h k = h
 unless_opens false o o' h k = k
 
-item_free : (d : Document) (path : List Container) (p : Place) (lines : List Place) (byte number columns : ℕ) (task : Option Item × Rest) → IfSome task.0 HasNoIndex → OpensFree (item_opening d path p lines byte number columns task)
+item_free : (d : Document) (path : List Container) (p : Place) (lines : List Place) (byte number columns : ℕ) (task : Option Item × Rest) → IfSome task.0 HasNoIndex → OpensFree (item_opening d path p lines (byte, number, columns) task)
 item_free d path p lines byte number columns (marker, r) h =
     let blanks : Option ℕ = Some (start_of (length d.text) lines) in
     unless_opens (is_blank_rest r) _ _
@@ -213,18 +213,22 @@ quote_free : (path : List Container) (p inside : Place) (lines : List Place) (ki
 quote_free path p inside lines None = tt
 quote_free path p inside lines (Some kind) = tag_free (BlockQuote (Some kind) ∷ path) lines
 
-opens_from : (d : Document) (n : Names) (path : List Container) (p : Place) (lines : List Place) (i : Option ((ℕ × ℕ × ℕ) × Rest)) (q : Option Place) (o o' : Opening)
-    → OpensFrom d path p lines i q o → OpensFrom (with_names d n) path p lines i q o' → AlikeOpening d.names n o o'
+opens_quote : (d : Document) (n : Names) (path : List Container) (p : Place) (lines : List Place) (q : Option Place) (o o' : Opening)
+    → OpensQuote d path p lines q o → OpensQuote (with_names d n) path p lines q o' → AlikeOpening d.names n o o'
+opens_quote d n path p lines (Some inside) o o' e f = alike_by d.names n o o' _ _ e f (node_alike d.names n _ (quote_free path p inside lines (tag_behind d.options inside.rest)))
+opens_quote d n path p lines None o o' e f = opens_block d n path p lines o o' e f
+
+opens_from : (d : Document) (n : Names) (path : List Container) (p : Place) (lines : List Place) (i : Option ((ℕ × ℕ × ℕ) × Rest)) (o o' : Opening)
+    → OpensFrom d path p lines i o → OpensFrom (with_names d n) path p lines i o' → AlikeOpening d.names n o o'
 unfolding OpensFrom
-opens_from d n path p lines (Some item) q o o' e f =
+opens_from d n path p lines (Some item) o o' e f =
     alike_by d.names n o o' _ _ e f
     (node_alike d.names n _ (item_free d path p lines item.0.0 item.0.1 item.0.2 (task_behind d.options p.line item.1) (task_free p.line item.1 (if has d.options 16 then task_of item.1 else None))))
-opens_from d n path p lines None (Some inside) o o' e f = alike_by d.names n o o' _ _ e f (node_alike d.names n _ (quote_free path p inside lines (tag_behind d.options inside.rest)))
-opens_from d n path p lines None None o o' e f = opens_block d n path p lines o o' e f
+opens_from d n path p lines None o o' e f = opens_quote d n path p lines (quote_inside p) o o' e f
 
 -- a place opens one thing, read alike
 pub one_opening : (d : Document) (n : Names) (path : List Container) (p : Place) (lines : List Place) (o o' : Opening) → Opens d path p lines o → Opens (with_names d n) path p lines o' → AlikeOpening d.names n o o'
-one_opening d n path p lines o o' e f = opens_from d n path p lines (item_at p.rest) (quote_inside p) o o' e f
+one_opening d n path p lines o o' e f = opens_from d n path p lines (item_at p.rest) o o' e f
 
 opens_at : (d : Document) (n : Names) (path : List Container) (from : From) (p : Place) (lines : List Place) (o o' : Opening) → HoldsNoIndex from
     → OpensAt d path from p lines o → OpensAt (with_names d n) path from p lines o' → AlikeOpening d.names n o o'

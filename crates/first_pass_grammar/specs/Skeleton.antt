@@ -156,10 +156,10 @@ abbrev pub task_alone : Option Item → Place → Option ℕ → From
 task_alone None p blanks = behind_marker blanks
 task_alone (Some marker) p blanks = At p (MarkAlone marker blanks)
 
--- The item whose marker has this byte and number. An item may begin with one blank line, that of its marker; where the next is blank too, the item
+-- The item whose marker has this byte, number and indent. An item may begin with one blank line, that of its marker; where the next is blank too, the item
 -- takes blank lines alone, and its indent is 0 (CommonMark 5.2).
-abbrev pub item_opening : Document → List Container → Place → List Place → ℕ → ℕ → ℕ → Option Item × Rest → Opening
-item_opening d path p lines byte number columns (marker, r) =
+abbrev pub item_opening : Document → List Container → Place → List Place → ℕ × ℕ × ℕ → Option Item × Rest → Opening
+item_opening d path p lines (byte, number, columns) (marker, r) =
     if is_blank_rest r
     then (if next_is_blank (ListItem columns ∷ path) lines
     then OpensNode (item_head p byte number 0) (task_alone marker (at_rest p r) (Some (start_of (length d.text) lines))) lines
@@ -187,13 +187,16 @@ quote_opening path p inside lines (Some kind) =
     OpensNode (quote_head p (Some kind)) (behind_tag (BlockQuote (Some kind) ∷ path) lines).0 (behind_tag (BlockQuote (Some kind) ∷ path) lines).1
 
 -- What begins at a place: a list item where one does, else a block quote where one does, else what the kind of the place says.
-unfoldable pub OpensFrom : Document → List Container → Place → List Place → Option ((ℕ × ℕ × ℕ) × Rest) → Option Place → Opening → Type 0
-OpensFrom d path p lines (Some item) quote opening = opening ≡ item_opening d path p lines item.0.0 item.0.1 item.0.2 (task_behind d.options p.line item.1)
-OpensFrom d path p lines None (Some inside) opening = opening ≡ quote_opening path p inside lines (tag_behind d.options inside.rest)
-OpensFrom d path p lines None None opening = OpensBlockAt d path p lines opening
+abbrev pub OpensQuote : Document → List Container → Place → List Place → Option Place → Opening → Type 0
+OpensQuote d path p lines (Some inside) opening = opening ≡ quote_opening path p inside lines (tag_behind d.options inside.rest)
+OpensQuote d path p lines None opening = OpensBlockAt d path p lines opening
+
+unfoldable pub OpensFrom : Document → List Container → Place → List Place → Option ((ℕ × ℕ × ℕ) × Rest) → Opening → Type 0
+OpensFrom d path p lines (Some item) opening = opening ≡ item_opening d path p lines item.0 (task_behind d.options p.line item.1)
+OpensFrom d path p lines None opening = OpensQuote d path p lines (quote_inside p) opening
 
 abbrev pub Opens : Document → List Container → Place → List Place → Opening → Type 0
-Opens d path p lines opening = OpensFrom d path p lines (item_at p.rest) (quote_inside p) opening
+Opens d path p lines opening = OpensFrom d path p lines (item_at p.rest) opening
 
 -- What begins where blocks go on: where no container may, what the kind of the place says; behind a task list item marker a paragraph; or the marker
 -- alone, in the place of a paragraph.
