@@ -10,7 +10,9 @@ use std::process::ExitCode;
 
 fn run(rt: &HostRuntime) -> Result<(), BlocksFault> {
     let words = words_of(rt)?;
-    blocks_run(rt.alloc(), words.as_slice(), rt.stdin(), rt.stdout())
+    let mut input = rt.stdin();
+    let mut output = rt.stdout();
+    blocks_run(rt.alloc(), words.as_slice(), &mut input, &mut output)
 }
 
 fn main(rt: HostRuntime) -> ExitCode {

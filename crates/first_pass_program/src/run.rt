@@ -31,23 +31,9 @@ const PIECE: usize = 8192;
 ///
 /// Faults are found in this order: the options, before the first read and without memory; the reads;
 /// UTF-8 of the whole input; the pass; the writes. `OutOfMemory` comes at the request that was refused.
-/// What was written at a fault is nothing, or a beginning of the whole output. What the reader and the
-/// writer hold at the end is said of `print_blocks`, whose answer this is.
-pub fn blocks_run<R: Read + Drop, W: Write + Drop>(
-    alloc: Global,
-    words: &[String],
-    mut input: R,
-    mut output: W,
-) -> Result<(), BlocksFault>
-    ensures ok { OnOk result ((bits : ℕ) × StandFor words.now bits) }
-    ensures bad_options { ((bits : ℕ) → StandFor words.now bits → ⊥) → result ≡ Err BadOptions }
-    ensures options { (bits : ℕ) → StandFor words.now bits → result ≡ Err BadOptions → ⊥ }
-{
-    print_blocks(alloc, words, &mut input, &mut output)
-}
-
-/// As `blocks_run`, over a reader and a writer that are lent.
-pub fn print_blocks<R: Read, W: Write>(
+/// What was written at a fault is nothing, or a beginning of the whole output. Reader and writer are lent,
+/// so that what they hold at the end can be said.
+pub fn blocks_run<R: Read, W: Write>(
     alloc: Global,
     words: &[String],
     input: &mut R,
@@ -57,6 +43,8 @@ pub fn print_blocks<R: Read, W: Write>(
         (W.contents output.old) (W.contents output.new)) }
     ensures fault { IfErr result (λ fault. Leaves fault words.now (R.remaining input.old) (R.remaining input.new)
         (W.contents output.old) (W.contents output.new)) }
+    ensures bad_options { ((bits : ℕ) → StandFor words.now bits → ⊥) → result ≡ Err BadOptions }
+    ensures options { (bits : ℕ) → StandFor words.now bits → result ≡ Err BadOptions → ⊥ }
 {
     let options = match parse_options(words) {
         Some(options) => options,
