@@ -33,10 +33,10 @@ unfoldable pub ends_with_pipe : List ℕ → Bool
 ends_with_pipe text =
     slice_index text (length text - 1) == 124 && not (nat_le 2 (length text) && slice_index text (length text - 2) == 92)
 
--- the run of so many bytes that the text begins with, which stands in the content at a place (CommonMark 6.2, delimiter run)
+-- the run of so many bytes that the text begins with, which stands in the content at a place; one of no bytes has no delimiter, and so none of the cases of one (CommonMark 6.2, delimiter run)
 unfoldable pub run_beside : List ℕ → List ℕ → ℕ → ℕ → TableParseMode → DelimiterRun
 run_beside content text size at mode = record {
-  delimiter = slice_index text 0;
+  delimiter = slice_index (take size text) 0;
   size = size;
   in_row = is_row mode;
   behind_pipe = ends_with_pipe (take at content);

@@ -1,6 +1,6 @@
 //! Delimiter runs beside characters: whether they can open or close.
 
-ghost use Rattle.std.specs.Prelude.{◌≡◌, ◌<◌, ◌≤◌, length, drop, take, IsCharBoundary};
+ghost use Rattle.std.specs.Prelude.{◌≡◌, ◌≤◌, length, drop, take, slice_index, IsCharBoundary};
 ghost use Rattle.first_pass_below.specs.Flank as flanks;
 ghost use Rattle.first_pass_below.specs.Flanking.{is_left_flanking, is_right_flanking, underscore_opens, underscore_closes, GoesBy};
 
@@ -20,7 +20,7 @@ pub enum TableParseMode {
 /// A delimiter run, and what stands beside it (CommonMark 6.2).
 #[derive(Clone, Copy)]
 pub struct DelimiterRun {
-    /// The byte that the run is made of.
+    /// The byte that the run is made of; 0 where the run has no bytes.
     pub delimiter: u8,
     /// Whether the run stands in a row of a table.
     pub in_row: bool,
@@ -46,7 +46,8 @@ pub fn is_punctuation(c: char) -> bool
 
 /// Whether the delimiter run of `run_len` bytes that `suffix` begins with can open, where it stands in
 /// the content `s` at the offset `ix`. `suffix` runs on behind the run to the end of the text; in a row
-/// of a table, which `mode` says, a pipe ends a cell. CommonMark 6.2, GFM 4.10 and 6.5.
+/// of a table, which `mode` says, a pipe ends a cell. A run of no bytes goes by what stands beside it alone.
+/// CommonMark 6.2, GFM 4.10 and 6.5.
 #[tactic(auto, unfolding(crate::specs::Flank::can_open))]
 pub fn delim_run_can_open(
     s: &str,
@@ -57,7 +58,6 @@ pub fn delim_run_can_open(
 ) -> bool
     requires place { ix ≤ length s.now }
     requires place_boundary { IsCharBoundary s.now ix }
-    requires some { 0 < run_len }
     requires within { run_len ≤ length suffix.now }
     requires run_boundary { IsCharBoundary suffix.now run_len }
     ensures value { result ≡ flanks.can_open (flanks.run_beside s.now suffix.now run_len ix mode) }
@@ -74,7 +74,8 @@ pub fn delim_run_can_open(
 
 /// Whether the delimiter run of `run_len` bytes that `suffix` begins with can close, where it stands in
 /// the content `s` at the offset `ix`. `suffix` runs on behind the run to the end of the text; in a row
-/// of a table, which `mode` says, a pipe ends a cell. CommonMark 6.2, GFM 4.10 and 6.5.
+/// of a table, which `mode` says, a pipe ends a cell. A run of no bytes goes by what stands beside it alone.
+/// CommonMark 6.2, GFM 4.10 and 6.5.
 #[tactic(auto, unfolding(crate::specs::Flank::can_close))]
 pub fn delim_run_can_close(
     s: &str,
@@ -85,7 +86,6 @@ pub fn delim_run_can_close(
 ) -> bool
     requires place { ix ≤ length s.now }
     requires place_boundary { IsCharBoundary s.now ix }
-    requires some { 0 < run_len }
     requires within { run_len ≤ length suffix.now }
     requires run_boundary { IsCharBoundary suffix.now run_len }
     ensures value { result ≡ flanks.can_close (flanks.run_beside s.now suffix.now run_len ix mode) }
@@ -120,19 +120,25 @@ fn run_beside(
 ) -> DelimiterRun
     requires place { ix ≤ length s.now }
     requires place_boundary { IsCharBoundary s.now ix }
-    requires some { 0 < run_len }
     requires within { run_len ≤ length suffix.now }
     requires run_boundary { IsCharBoundary suffix.now run_len }
     ensures { result ≡ flanks.run_beside s.now suffix.now run_len ix mode }
 {
     DelimiterRun {
-        delimiter: suffix.as_bytes()[0],
+        delimiter: first_byte(suffix[..run_len].as_bytes()),
         in_row: is_row(mode),
         behind_pipe: ends_with_pipe(s[..ix].as_bytes()),
         before: last_char(&s[..ix]),
         after: first_char(&suffix[run_len..]),
         size: run_len,
     }
+}
+
+// The first byte; 0 where there is none.
+fn first_byte(bytes: &[u8]) -> u8
+    ensures { result ≡ slice_index bytes.now 0 }
+{
+    bytes.first().copied().unwrap_or(0)
 }
 
 // Whether the line is a row of a table.

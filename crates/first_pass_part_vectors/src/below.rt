@@ -116,7 +116,7 @@ fn flanks(text: &str, at: usize, len: usize, mode: TableParseMode) -> Option<(bo
         return None;
     }
     let suffix = &text[at..];
-    if len == 0 || !suffix.is_char_boundary(len) {
+    if !suffix.is_char_boundary(len) {
         return None;
     }
     Some((
@@ -138,6 +138,10 @@ fn runs_flank_words(rt: HostRuntime) {
         ("\"abc\"_", 5, 1, false, true),
         (" abc***def", 4, 3, true, true),
         ("\"abc\"_\"def\"", 5, 1, true, true),
+        ("", 0, 0, false, false),
+        ("a", 1, 0, false, true),
+        ("a*b", 1, 0, false, true),
+        ("]'a", 1, 0, true, true),
         ("abc *** def", 4, 3, false, false),
         ("a _ b", 2, 1, false, false),
         ("foo_bar_", 3, 1, false, false),
