@@ -155,6 +155,26 @@ fn cuts_tokens(rt: HostRuntime) -> Result<(), Fail> {
 }
 
 #[test]
+fn cuts_nodes_with_children(rt: HostRuntime) -> Result<(), Fail> {
+    let mut tree = Tree::with_capacity(rt.alloc(), 5)?;
+    for start in [0, 6] {
+        tree.append(item(start, start + 5, ItemBody::BlockQuote(None)))?;
+        tree.push()?;
+        tree.append(item(start + 1, start + 5, ItemBody::Rule))?;
+        tree.pop();
+    }
+    tree.truncate_siblings(4);
+    let nodes = [
+        (0, item(0, 0, ItemBody::Root)),
+        (1, item(0, 4, ItemBody::BlockQuote(None))),
+        (2, item(1, 5, ItemBody::Rule)),
+    ];
+    check(&rt, &tree, &nodes, "truncate_siblings");
+    assert!(rt; tree.cur() == Some(TreeIndex(1)));
+    Ok(())
+}
+
+#[test]
 fn wraps_children(rt: HostRuntime) -> Result<(), Fail> {
     let mut tree = cut_paragraph(rt.alloc())?;
     tree.pop();

@@ -1,19 +1,19 @@
 -- The text of a heading.
-use Rattle.std.proofs.Common.{◌≡◌, ℕ, ◌+◌, ◌≤◌, ◌==◌, Bool, true, false, List, [], ◌∷◌, length, take, drop, slice_get, Option, Some, refl, sym, ap, subst, ◌∙◌, arith}
+use Rattle.std.proofs.Common.{◌≡◌, ℕ, ◌+◌, ◌≤◌, ◌==◌, Bool, true, false, List, [], ◌∷◌, length, take, drop, slice_get, Option, Some, refl, sym, ap, ◌∙◌, arith}
 use Rattle.std.proofs.lemmas.Bool.Decides.{nat_tests}
 use Rattle.std.specs.List.{prefix_len}
 use Rattle.std.proofs.lemmas.List.{drop-drop}
 use Rattle.first_pass_items.specs.declared.item.Item.{Item}
 use Rattle.first_pass_items.specs.declared.item.HeadingLevel.{HeadingLevel}
 use Rattle.first_pass_tree.specs.declared.tree_index.TreeIndex.{TreeIndex}
-use Rattle.first_pass_tree.specs.Forest.{Forest, open_place, childless, cut_siblings, HasLeaves}
+use Rattle.first_pass_tree.specs.Forest.{Forest, open_place, childless, cut_siblings}
 use Rattle.first_pass_lines.specs.Lines.{is_content, is_white, is_number_sign, line_len, level_number, atx_level}
 use Rattle.first_pass_lines.specs.Places.{line_place}
 use Rattle.first_pass_lines.proofs.HeadingFacts.{atx_level-signs}
 use Rattle.first_pass_lines.proofs.PlaceFacts.{bytes_line_end}
 use Rattle.first_pass_tokens.specs.Chains.{add_tokens, close_break, cut}
 use Rattle.first_pass_tokens.specs.TreeTokens.{chained, AppendsLine}
-use Rattle.first_pass_tokens.proofs.ChainLemmas.{with_tokens-chained, joins_none-fresh, chained-spine, childless-chained, has_leaves-chained, cut_siblings-chained}
+use Rattle.first_pass_tokens.proofs.ChainLemmas.{with_tokens-chained, joins_none-fresh, chained-spine, childless-chained, cut_siblings-chained}
 use Rattle.first_pass_grammar.specs.Leaves.{Document, content_at, kept_len, heading_chain, heading_text_at}
 use Rattle.first_pass_text.specs.Appends.{line_end_at, with_closed_break, AppendsHeading}
 use Rattle.first_pass_open.specs.OpenBlock.{IsJustPushed}
@@ -41,9 +41,6 @@ module _ (d : Document) (start n : ℕ) (old read last : Forest Item) (line_brea
 
   pub heading_open : slice_get last.spine 0 ≡ Some ix
   heading_open = ap (λ (f : Forest Item). slice_get f.spine 0) read_is ∙ ap (λ s. slice_get s 0) (chained-spine old whole ∙ pushed.innermost)
-
-  pub heading_leaves : HasLeaves last
-  heading_leaves = subst HasLeaves (sym read_is) (has_leaves-chained old whole innermost)
 
   -- nothing of the text is kept
   pub heading_empty : (new : Forest Item) (kept : ℕ) → new ≡ childless last ix → kept ≡ kept_len (take (line_len (drop start d.text)) (drop start d.text)) → kept ≡ 0 → n ≡ line_end_at d.text start

@@ -1,5 +1,5 @@
 -- Chains and trees: what a token adds and joins, what a cut leaves, and the block that a chain closes to.
-use Rattle.std.proofs.Common.{ℕ, suc, zero, ◌≡◌, ◌+◌, ◌-◌, ◌≤◌, ◌<◌, ◌==◌, ◌&&◌, Bool, true, false, List, [], ◌∷◌, ◌++◌, length, take, drop, Option, Some, None, MatchOption, nat_lt, slice_get, slice_index, refl, sym, ap, ◌∙◌, inl, inr, arith, length-append, append_assoc}
+use Rattle.std.proofs.Common.{ℕ, suc, zero, ◌≡◌, ◌+◌, ◌≤◌, ◌<◌, ◌==◌, ◌&&◌, Bool, true, false, List, [], ◌∷◌, ◌++◌, length, take, drop, Option, Some, None, MatchOption, nat_lt, slice_get, slice_index, refl, sym, ap, ◌∙◌, inl, inr, arith, length-append, append_assoc}
 use Rattle.std.specs.Option.{option_map}
 use Rattle.std.proofs.lemmas.List.{append-nil}
 use Rattle.std.proofs.Math.Seq.{take-append_seam, drop-append_seam}
@@ -8,7 +8,7 @@ use Rattle.first_pass_items.specs.declared.item.Item.{Item}
 use Rattle.first_pass_items.specs.declared.item.ItemBody.{ItemBody}
 use Rattle.first_pass_items.specs.declared.item.ItemBody.TheVariants.{SoftBreak, HardBreak}
 use Rattle.first_pass_tree.specs.declared.tree_index.TreeIndex.{TreeIndex}
-use Rattle.first_pass_tree.specs.Forest.{Forest, depths, item_at, modify, modified, appended, pushed, popped, cut_to, childless, is_text, is_escaped, cut_item, cut_tokens, cut_siblings, last_child, open_place, HasLeaves, ends_text_at, joins_at, with_end, with_end_at, with_text, at_depth, added, block_of}
+use Rattle.first_pass_tree.specs.Forest.{Forest, depths, item_at, modify, modified, appended, pushed, popped, cut_to, childless, is_text, is_escaped, cut_item, cut_tokens, cut_siblings, last_before, last_child, open_place, HasLeaves, ends_text_at, joins_at, with_end, with_end_at, with_text, at_depth, added, block_of}
 use Rattle.first_pass_tree.proofs.Blocks.{modify-at, forest-eq, block-calls}
 use Rattle.first_pass_tokens.specs.Chains.{is_backslash_break, close_break, text_token, touches, AreApart, add_token, add_tokens, add_text, cut}
 use Rattle.first_pass_tokens.specs.LineTokens.{is_break}
@@ -323,10 +323,11 @@ has_leaves-chained f chain last k low high =
     ap (λ (ns : List (ℕ × Item)). slice_index (depths ns) k) nodes ∙ behind_depth f.nodes (length f.spine + 1) chain k low' high' ∙ ap (λ (is : List TreeIndex). length is + 1) (sym spine)
 
 -- a cut
-pub cut_tokens-leaves : (e d : ℕ) (chain : List Item) → cut_tokens e (at_depth d (leaves chain)) ≡ at_depth d (leaves (cut e chain))
+pub cut_tokens-leaves : (e d : ℕ) (chain : List Item) → cut_tokens e d (at_depth d (leaves chain)) ≡ at_depth d (leaves (cut e chain))
 cut_tokens-leaves e d [] = refl
 cut_tokens-leaves e d (x ∷ xs) =
-    elim (cases_Bool (nat_lt x.start e)) [
+    cond-false _ _ _ (le-ltb d (d + 0) (omega arith))
+    ∙ elim (cases_Bool (nat_lt x.start e)) [
       | inl before ↦ cond-true _ _ _ before ∙ ap (λ (ns : List (ℕ × Item)). (d + 0, cut_item e x) ∷ ns) (cut_tokens-leaves e d xs)
           ∙ ap (λ (c : List Item). at_depth d (leaves c)) (sym (cond-true _ _ _ before))
       | inr behind ↦ cond-false _ _ _ behind
@@ -337,29 +338,41 @@ cut_tokens-leaves e d (x ∷ xs) =
           ∙ ap (λ (c : List Item). at_depth d (leaves c)) (sym (cond-false _ _ _ behind))
     ]
 
+last_at : (ds : List ℕ) (d n k : ℕ) → n ≡ suc k → slice_index ds k ≡ d → last_before ds d n ≡ k
+last_at ds d n k is at =
+    ap (last_before ds d) is ∙ cond-true _ _ _ (eq-eqb (slice_index ds k) d at)
+
 -- the current node of a chain is the last child
-last_chained : (f : Forest Item) (chain : List Item) → open_place f.spine + 1 ≡ length f.nodes → f.current ≡ None → last_child f.spine (length (chained f chain).nodes) ≡ (chained f chain).current
+last_chained : (f : Forest Item) (chain : List Item) → open_place f.spine + 1 ≡ length f.nodes → f.current ≡ None → last_child f.spine (chained f chain).nodes ≡ (chained f chain).current
 last_chained f [] last none = cond-false _ _ _ (le-ltb (open_place f.spine + 1) (length f.nodes) (omega arith)) ∙ sym none
 last_chained f (x ∷ xs) last none =
+    let g = chained f (x ∷ xs) in
+    let k = length f.nodes + length xs in
     let len = chained-length f (x ∷ xs) in
-    let place : length (chained f (x ∷ xs)).nodes - 1 ≡ length f.nodes + length xs = omega arith in
-    cond-true _ _ _ (lt-ltb (open_place f.spine + 1) (length (chained f (x ∷ xs)).nodes) (omega arith)) ∙ ap (λ (m : ℕ). Some (place_at m)) place ∙ sym (chained-current f x xs)
+    let spine = chained-spine f (x ∷ xs) in
+    let leaf = has_leaves-chained f (x ∷ xs) last k (omega (arith, last, ap open_place spine)) (omega (arith, len)) in
+    let at : slice_index (depths g.nodes) k ≡ length f.spine + 1 = leaf ∙ ap (λ (is : List TreeIndex). length is + 1) spine in
+    let place : last_before (depths g.nodes) (length f.spine + 1) (length g.nodes) ≡ k = last_at (depths g.nodes) _ _ k (omega arith) at in
+    cond-true _ _ _ (lt-ltb (open_place f.spine + 1) (length g.nodes) (omega arith)) ∙ ap (λ (m : ℕ). Some (place_at m)) place ∙ sym (chained-current f x xs)
 
 pub cut_siblings-chained : (f : Forest Item) (chain : List Item) (e : ℕ) → open_place f.spine + 1 ≡ length f.nodes → f.current ≡ None → cut_siblings (chained f chain) e ≡ chained f (cut e chain)
 cut_siblings-chained f chain e last none =
     let d = length f.spine + 1 in
     let g = chained f chain in
     let spine = chained-spine f chain in
+    let depth : length g.spine + 1 ≡ d = ap (λ (is : List TreeIndex). length is + 1) spine in
     let place : open_place g.spine + 1 ≡ length f.nodes = omega (arith, last, ap open_place spine) in
     let front : take (open_place g.spine + 1) g.nodes ≡ f.nodes =
     ap (λ (n : ℕ). take n g.nodes) place ∙ ap (take (length f.nodes)) (chained-nodes f chain) ∙ take-append_seam f.nodes (at_depth d (leaves chain)) in
     let back : drop (open_place g.spine + 1) g.nodes ≡ at_depth d (leaves chain) =
     ap (λ (n : ℕ). drop n g.nodes) place ∙ ap (drop (length f.nodes)) (chained-nodes f chain) ∙ drop-append_seam f.nodes (at_depth d (leaves chain)) in
     let nodes : (cut_siblings g e).nodes ≡ (chained f (cut e chain)).nodes =
-    ap (λ (ns : List (ℕ × Item)). ns ++ cut_tokens e (drop (open_place g.spine + 1) g.nodes)) front ∙ ap (λ (ns : List (ℕ × Item)). f.nodes ++ cut_tokens e ns) back
+    ap (λ (ns : List (ℕ × Item)). ns ++ cut_tokens e (length g.spine + 1) (drop (open_place g.spine + 1) g.nodes)) front
+    ∙ ap (λ (ns : List (ℕ × Item)). f.nodes ++ cut_tokens e (length g.spine + 1) ns) back
+    ∙ ap (λ (k : ℕ). f.nodes ++ cut_tokens e k (at_depth d (leaves chain))) depth
     ∙ ap (λ (ns : List (ℕ × Item)). f.nodes ++ ns) (cut_tokens-leaves e d chain) ∙ sym (chained-nodes f (cut e chain)) in
     forest-eq (cut_siblings g e) (chained f (cut e chain)) nodes (spine ∙ sym (chained-spine f (cut e chain)))
-    (ap (λ (is : List TreeIndex). last_child is (length (cut_siblings g e).nodes)) spine ∙ ap (λ (ns : List (ℕ × Item)). last_child f.spine (length ns)) nodes ∙ last_chained f (cut e chain) last none)
+    (ap (λ (is : List TreeIndex). last_child is (cut_siblings g e).nodes) spine ∙ ap (λ (ns : List (ℕ × Item)). last_child f.spine ns) nodes ∙ last_chained f (cut e chain) last none)
 
 -- the nodes before a chain
 taken_chained : (f : Forest Item) (chain : List Item) (n : ℕ) → n ≡ length f.nodes → take n (chained f chain).nodes ≡ f.nodes

@@ -1,44 +1,16 @@
 -- What a caller keeps of a tree over several calls.
-use Rattle.std.proofs.Common.{◌≡◌, ◌≢◌, ℕ, ◌+◌, ◌<◌, ◌≤◌, ◌⊎◌, List, [], ◌∷◌, ◌++◌, length, Some, Bool, true, false, ◌&&◌, eqb, get_or, refl, sym, ◌∙◌, ap, subst, ⊎_elim, arith, append_assoc}
+use Rattle.std.proofs.Common.{◌≡◌, ◌≢◌, ℕ, ◌+◌, ◌<◌, ◌⊎◌, List, [], ◌∷◌, ◌++◌, length, Some, Bool, true, false, ◌&&◌, eqb, get_or, refl, sym, ◌∙◌, ap, subst, ⊎_elim, arith, append_assoc}
 use Rattle.std.proofs.lemmas.List.{length-append, length-map, map-append, get_or_append_left, get_or_at}
-use Rattle.std.proofs.lemmas.Bool.{cases_lt}
 use Rattle.std.proofs.lemmas.Bool.Decides.{nat_tests}
 use Rattle.first_pass_items.specs.declared.item.Item.{Item}
 use Rattle.first_pass_items.specs.declared.item.ItemBody.TheVariants.{Text}
 use Rattle.first_pass_tree.specs.declared.tree_index.TreeIndex.{TreeIndex}
-use Rattle.first_pass_tree.specs.Forest.{Forest, IsForest, HasLeaves, IsChild, depths, open_place, modify, modified, item_at, is_text, ends_text_at, appended, pushed, added, at_depth, with_text, with_end_at}
-use Rattle.first_pass_tree.proofs.Keeps.{depths-modify}
+use Rattle.first_pass_tree.specs.Forest.{Forest, IsForest, IsChild, depths, open_place, item_at, is_text, ends_text_at, appended, added, at_depth, with_text, with_end_at}
 use Rattle.first_pass_tree.proofs.Depths.{open-last}
 use Rattle.first_pass_tree.proofs.Blocks.{at_depth-append}
 
 abbrev last_place : {T : Type 0} → Forest T → TreeIndex
 last_place f = record { 0 = length f.nodes }
-
--- a node just opened, behind which nothing stands, has no children yet
-pub leaves-pushed : {T : Type 0} (f : Forest T) (c : TreeIndex) → length f.nodes ≤ c.0 + 1 → HasLeaves (pushed f c)
-leaves-pushed f c l = λ k p q. absurd (omega (arith, l, p, q))
-
--- one more child keeps the children leaves
-pub leaves-appended : {T : Type 0} (f : Forest T) (x : T) → HasLeaves f → HasLeaves (appended f x)
-leaves-appended f x h = λ k p q.
-    let d = length f.spine + 1 in
-    let ns = f.nodes in
-    let m = map-append (λ n. n.0) ns ((d, x) ∷ []) in
-    let w = length-map ns (λ n. n.0) in
-    let s = length-append ns ((d, x) ∷ []) in
-    ap (λ v. get_or v k 0) m
-    ∙ ⊎_elim
-    (λ l. get_or_append_left (depths ns) (d ∷ []) 0 k (omega (arith, l, w)) ∙ h k p l)
-    (λ l. let e : length (depths ns) ≡ k = omega (arith, l, w, s, q) in get_or_at (depths ns) d [] 0 k e)
-    (cases_lt k (length ns))
-
--- so does a write to an item
-pub leaves-modified : {T : Type 0} (f : Forest T) (ix : TreeIndex) (g : T → T) → HasLeaves f → HasLeaves (modified f ix g)
-leaves-modified f ix g h = λ k p q.
-    let m = depths-modify f.nodes ix.0 g in
-    let w = length-map f.nodes (λ n. n.0) in
-    let v = length-map (modify f.nodes ix.0 g) (λ n. n.0) in
-    ap (λ ds. get_or ds k 0) m ∙ h k p (omega (arith, q, w, v, ap length m))
 
 -- a node just added is a child of the innermost open one
 pub child-appended : {T : Type 0} (f : Forest T) (x : T) → IsForest f → IsChild (appended f x) (last_place f)

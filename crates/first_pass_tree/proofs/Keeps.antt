@@ -1,6 +1,6 @@
 -- Each change of a forest leaves a forest.
-use Rattle.std.proofs.Common.{◌≡◌, ℕ, ◌+◌, ◌-◌, ◌<◌, ◌≤◌, ◌^◌, suc, zero, List, [], ◌∷◌, ◌++◌, length, get_or, set, take, drop, map, Some, None, true, false, Bool, nat_lt, eqb, ◌≢◌, ◌⊎◌, reverse, if◌then◌else◌, ◌&&◌, ◌==◌, slice_get, IfSome, Option, refl, sym, ◌∙◌, ap, subst, ⊎_elim, arith}
-use Rattle.std.proofs.lemmas.List.{take-take, drop-take, take-append-drop, length-append, length-reverse, get_or-reverse, map-append, length-map, take-map, get_or-map, get_or_past, take_more, reverse-append, get_or-append_right, get_or-drop, get_or-take, length-take-le, length-drop, get_or-set_other, length-set, get_or_append_left, get_or_at}
+use Rattle.std.proofs.Common.{◌≡◌, ℕ, ◌+◌, ◌-◌, ◌<◌, ◌≤◌, ◌^◌, suc, zero, List, [], ◌∷◌, ◌++◌, length, get_or, set, take, drop, map, Some, None, true, false, Bool, nat_lt, eqb, ◌≢◌, ◌⊎◌, reverse, slice_get, IfSome, Option, refl, sym, ◌∙◌, ap, subst, ⊎_elim, arith}
+use Rattle.std.proofs.lemmas.List.{length-append, length-reverse, get_or-reverse, map-append, length-map, take-map, get_or-map, get_or_past, take_more, reverse-append, get_or-append_right, get_or-drop, get_or-take, length-take-le, length-drop, get_or-set_other, length-set, get_or_append_left, get_or_at}
 use Rattle.std.proofs.lemmas.List.Sums.{prefix_len-drop_yes, prefix_len-drop_no, prefix_len-drop_all, prefix_len-le-length, prefix_len_is}
 use Rattle.std.proofs.lemmas.Bool.Decides.{nat_tests}
 use Rattle.std.proofs.lemmas.Bool.{cases_lt}
@@ -10,8 +10,8 @@ use Rattle.first_pass_tree.specs.declared.tree_index.TreeIndex.{TreeIndex}
 use Rattle.first_pass_items.specs.declared.item.AlignmentIndex.{AlignmentIndex}
 use Rattle.first_pass_items.specs.declared.item.Item.{Item}
 use Rattle.first_pass_items.specs.declared.item.ItemBody.{ItemBody}
-use Rattle.first_pass_items.specs.declared.item.ItemBody.TheVariants.{Text, Table, TableHead, TableRow, TableCell}
-use Rattle.first_pass_tree.specs.Forest.{Forest, IsForest, IsLastAt, IsOpenPath, IsPreorder, depths, item_at, modify, run_end, end_of, child_of, sibling_of, in_table, in_table_by, appended, popped, cut_to, kept_after, childless, wrapped, map_from, deeper, IsShallow, cut_tokens, cut_item, is_escaped, cut_siblings, HasLeaves, last_child, open_place, IsChild}
+use Rattle.first_pass_items.specs.declared.item.ItemBody.TheVariants.{Table, TableHead, TableRow, TableCell}
+use Rattle.first_pass_tree.specs.Forest.{Forest, IsForest, IsLastAt, IsOpenPath, IsPreorder, depths, item_at, modify, run_end, end_of, child_of, sibling_of, in_table, in_table_by, appended, popped, cut_to, kept_after, childless, wrapped, map_from, deeper, IsShallow, open_place, IsChild}
 use Rattle.first_pass_tree.proofs.Depths.{last-push, last-take, path-append, path-last_depth, path-take, preorder-append, preorder-take, path-take_open, open-last, last-order, depth-small, before-end}
 
 pub appended-is : {T : Type 0} (f : Forest T) (x : T) → IsForest f → IsForest (appended f x)
@@ -456,92 +456,6 @@ spine-small f xs e h l k a =
     let q : get_or (reverse xs) (length xs - 1 - k) d ≡ get_or xs k d = r ∙ ap (λ i. get_or xs i d) z in
     let v : (get_or xs k d).0 < 2 ^ 63 = omega (arith, ap (λ (t : TreeIndex). t.0) q) in
     subst (λ (o : Option TreeIndex). IfSome o (λ ix. ix.0 < 2 ^ 63)) (sym (get-read xs k d a)) v
-
-cut_by : ℕ → ℕ × Item → List (ℕ × Item) → Bool → Bool → List (ℕ × Item)
-cut_by e n rest true b = (n.0, cut_item e n.1) ∷ rest
-cut_by e n rest false true = (n.0, record { start = e - 1; «end» = e; body = Text false }) ∷ []
-cut_by e n rest false false = []
-
-cut_by-depths : (e : ℕ) (n : ℕ × Item) (ns rest : List (ℕ × Item)) (a b : Bool) → depths rest ≡ take (length rest) (depths ns) → depths (cut_by e n rest a b) ≡ take (length (cut_by e n rest a b)) (depths (n ∷ ns))
-unfolding cut_by
-cut_by-depths e n ns rest true b h = ap (λ z. n.0 ∷ z) h
-cut_by-depths e n ns rest false true h = refl
-cut_by-depths e n ns rest false false h = refl
-
-cut_by-is : (e : ℕ) (n : ℕ × Item) (ns : List (ℕ × Item)) (a b : Bool) → (if a then (n.0, cut_item e n.1) ∷ cut_tokens e ns else (if b then (n.0, record { start = e - 1; «end» = e; body = Text false }) ∷ [] else [])) ≡ cut_by e n (cut_tokens e ns) a b
-unfolding cut_by
-cut_by-is e n ns true b = refl
-cut_by-is e n ns false true = refl
-cut_by-is e n ns false false = refl
-
--- the cut keeps the depths of what stays
-pub cut-depths : (e : ℕ) (ns : List (ℕ × Item)) → depths (cut_tokens e ns) ≡ take (length (cut_tokens e ns)) (depths ns)
-cut-depths e [] = refl
-cut-depths e (n ∷ ns) =
-    rw (cut_by-is e n ns (nat_lt n.1.start e) (is_escaped n.1.body && (n.1.start == e)))
-    (cut_by-depths e n ns (cut_tokens e ns) (nat_lt n.1.start e) (is_escaped n.1.body && (n.1.start == e)) (cut-depths e ns))
-
-cut_by-length : (e : ℕ) (n : ℕ × Item) (ns rest : List (ℕ × Item)) (a b : Bool) → length rest ≤ length ns → length (cut_by e n rest a b) ≤ length (n ∷ ns)
-unfolding cut_by
-cut_by-length e n ns rest true b h = omega arith
-cut_by-length e n ns rest false true h = omega arith
-cut_by-length e n ns rest false false h = omega arith
-
-cut-length : (e : ℕ) (ns : List (ℕ × Item)) → length (cut_tokens e ns) ≤ length ns
-cut-length e [] = omega arith
-cut-length e (n ∷ ns) =
-    rw (cut_by-is e n ns (nat_lt n.1.start e) (is_escaped n.1.body && (n.1.start == e)))
-    (cut_by-length e n ns (cut_tokens e ns) (nat_lt n.1.start e) (is_escaped n.1.body && (n.1.start == e)) (cut-length e ns))
-
-take-two : {X : Type 0} (xs : List X) (p m : ℕ) → take p xs ++ take m (drop p xs) ≡ take (p + m) xs
-take-two xs p m =
-    ap (λ ys. ys ++ take m (drop p xs)) (sym (take-take p (p + m) xs (omega arith))) ∙ ap (λ ys. take p (take (p + m) xs) ++ ys) (sym (drop-take p m xs)) ∙ take-append-drop p (take (p + m) xs)
-
-drop-depths : {T : Type 0} (ns : List (ℕ × T)) (p : ℕ) → depths (drop p ns) ≡ drop p (depths ns)
-drop-depths ns zero = refl
-drop-depths [] (suc p) = refl
-drop-depths (n ∷ ns) (suc p) = drop-depths ns p
-
--- the current node after a cut
-last_child-is : (ds : List ℕ) (is : List TreeIndex) (n : ℕ) → n ≤ length ds → ((k : ℕ) → open_place is < k → k < length ds → get_or ds k 0 ≡ length is + 1) → IfSome (last_child is n) (λ c. IsLastAt (take n ds) (length is + 1) c.0)
-last_child-is ds is n l h =
-    ⊎_elim
-    (λ p.
-    let t : nat_lt (open_place is + 1) n ≡ true = grind (arith, nat_tests) in
-    let w = length-take-le n ds l in
-    let r : IsLastAt (take n ds) (length is + 1) (n - 1) = record {
-      within = omega arith;
-      depth = get_or-take n ds (n - 1) 0 (omega arith) ∙ h (n - 1) (omega arith) (omega arith);
-      behind = λ k a b. absurd (omega arith);
-    } in
-    subst (λ (b : Bool). IfSome {T = TreeIndex} (if b then Some (record { 0 = n - 1 }) else None) (λ c. IsLastAt (take n ds) (length is + 1) c.0)) (sym t) r)
-    (λ p.
-    let t : nat_lt (open_place is + 1) n ≡ false = grind (arith, nat_tests) in
-    subst (λ (b : Bool). IfSome {T = TreeIndex} (if b then Some (record { 0 = n - 1 }) else None) (λ c. IsLastAt (take n ds) (length is + 1) c.0)) (sym t) tt)
-    (cases_lt (open_place is + 1) n)
-
-pub cut_siblings-is : (f : Forest Item) (e : ℕ) → HasLeaves f → IsForest f → IsForest (cut_siblings f e)
-cut_siblings-is f e g h =
-    let ds = depths f.nodes in
-    let p = open_place f.spine + 1 in
-    let cs = cut_tokens e (drop p f.nodes) in
-    let m = length-map f.nodes (λ n. n.0) in
-    let o = open-last ds f.spine h.opened in
-    let l : p ≤ length f.nodes = omega (arith, o.within) in
-    let n : length (take p f.nodes ++ cs) ≡ p + length cs = omega (arith, length-append (take p f.nodes) cs, length-take-le p f.nodes l) in
-    let v : p + length cs ≤ length ds = omega (arith, cut-length e (drop p f.nodes), length-drop p f.nodes) in
-    let a : depths (take p f.nodes ++ cs) ≡ take p ds ++ take (length cs) (drop p ds) =
-    map-append (λ n. n.0) (take p f.nodes) cs ∙ ap (λ (x : List ℕ). x ++ depths cs) (sym (take-map (λ n. n.0) p f.nodes)) ∙ ap (λ (x : List ℕ). take p ds ++ x) (cut-depths e (drop p f.nodes) ∙ ap (take (length cs)) (drop-depths f.nodes p)) in
-    let b : depths (take p f.nodes ++ cs) ≡ take (length (take p f.nodes ++ cs)) ds = a ∙ take-two ds p (length cs) ∙ ap (λ k. take k ds) (sym n) in
-    let w : length (take p f.nodes ++ cs) ≤ length ds = omega arith in
-    record {
-      preorder = subst IsPreorder (sym b) (preorder-take ds _ w h.preorder);
-      opened = subst (λ (v : List ℕ). IsOpenPath v f.spine) (sym b) (path-take_open ds f.spine _ (omega arith) w h.opened);
-      at_current = subst (λ (v : List ℕ). IfSome (last_child f.spine (length (take p f.nodes ++ cs))) (λ c. IsLastAt v (length f.spine + 1) c.0)) (sym b) (last_child-is ds f.spine _ w (λ k a c. g k a (omega arith)));
-    }
-
-pub siblings-by : (f : Forest Item) (e p n : ℕ) (ns : List (ℕ × Item)) (cur : Option TreeIndex) → p ≡ open_place f.spine + 1 → ns ≡ take p f.nodes ++ cut_tokens e (drop p f.nodes) → n ≡ length ns → cur ≡ (if nat_lt p n then Some (record { 0 = n - 1 }) else None) → record f { nodes = ns; current = cur } ≡ cut_siblings f e
-siblings-by f e p n ns cur ep en el ec = cc
 
 pub item-read : {T : Type 0} (f now : Forest T) (ix : TreeIndex) (n : ℕ × T) → f ≡ now → ix.0 < length now.nodes → n ≡ get_or f.nodes ix.0 n → item_at now ix ≡ Some n.1
 item-read {T = T} f now ix n e l r =

@@ -197,27 +197,35 @@ is_escaped _ = false
 abbrev pub cut_item : ℕ → Item → Item
 cut_item e x = if nat_lt e x.«end» then record x { «end» = e } else x
 
--- the tokens up to the first that starts at an offset or behind it, none beyond the offset; where that one starts there behind a backslash, the backslash becomes a text
-abbrev pub cut_tokens : ℕ → List (ℕ × Item) → List (ℕ × Item)
-cut_tokens e [] = []
-cut_tokens e (n ∷ ns) =
-    if nat_lt n.1.start e
-    then (n.0, cut_item e n.1) ∷ cut_tokens e ns
-    else (if is_escaped n.1.body && (n.1.start == e) then (n.0, record { start = e - 1; «end» = e; body = Text false }) ∷ [] else [])
+-- nodes behind one of the next smaller depth, its children at the depth, cut at an offset: a child that starts before it stays, at most up to it, with all below; the first that doesn't goes, with all that follows, but where that is a text which starts there behind a backslash, the backslash becomes a text
+abbrev pub cut_tokens : ℕ → ℕ → List (ℕ × Item) → List (ℕ × Item)
+cut_tokens e d [] = []
+cut_tokens e d (n ∷ ns) =
+    if nat_lt d n.0
+    then n ∷ cut_tokens e d ns
+    else (if nat_lt n.1.start e
+    then (n.0, cut_item e n.1) ∷ cut_tokens e d ns
+    else (if is_escaped n.1.body && (n.1.start == e) then (n.0, record { start = e - 1; «end» = e; body = Text false }) ∷ [] else []))
 
 -- no child of the innermost open node has children
 abbrev pub HasLeaves : {T : Type 0} → Forest T → Type 0
 HasLeaves f = (k : ℕ) → open_place f.spine < k → k < length f.nodes → slice_index (depths f.nodes) k ≡ length f.spine + 1
 
--- the last node, where it is behind the innermost open one
-abbrev pub last_child : List TreeIndex → ℕ → Option TreeIndex
-last_child spine n = if nat_lt (open_place spine + 1) n then Some (record { 0 = n - 1 }) else None
+-- the last place of a depth before a place, or 0
+abbrev pub last_before : List ℕ → ℕ → ℕ → ℕ
+last_before ds d zero = 0
+last_before ds d (suc k) = if slice_index ds k == d then k else last_before ds d k
+
+-- the innermost open node's last child among these nodes, if it has any
+abbrev pub last_child : List TreeIndex → List (ℕ × Item) → Option TreeIndex
+last_child spine ns =
+    if nat_lt (open_place spine + 1) (length ns) then Some (record { 0 = last_before (depths ns) (length spine + 1) (length ns) }) else None
 
 -- with the innermost open node's children cut at an offset; the last of them is current
 abbrev pub cut_siblings : Forest Item → ℕ → Forest Item
 cut_siblings f e =
-    let ns = take (open_place f.spine + 1) f.nodes ++ cut_tokens e (drop (open_place f.spine + 1) f.nodes) in
-    record f { nodes = ns; current = last_child f.spine (length ns) }
+    let ns = take (open_place f.spine + 1) f.nodes ++ cut_tokens e (length f.spine + 1) (drop (open_place f.spine + 1) f.nodes) in
+    record f { nodes = ns; current = last_child f.spine ns }
 
 -- a block is a list of items with their depths below it, its own item first, at 0; here all at a depth
 abbrev pub at_depth : {T : Type 0} → ℕ → List (ℕ × T) → List (ℕ × T)
@@ -235,11 +243,6 @@ block_of x kids = (0, x) ∷ at_depth 1 kids
 -- a node one less deep
 abbrev pub shallower : {T : Type 0} → ℕ × T → ℕ × T
 shallower n = (n.0 - 1, n.1)
-
--- the last place of a depth before a place, or 0
-abbrev pub last_before : List ℕ → ℕ → ℕ → ℕ
-last_before ds d zero = 0
-last_before ds d (suc k) = if slice_index ds k == d then k else last_before ds d k
 
 -- the node is a child of the current one
 pub record IsChildOfCurrent {T : Type 0} (f : Forest T) (ix : TreeIndex) : Type 0 where

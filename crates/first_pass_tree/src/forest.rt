@@ -1,12 +1,12 @@
 //! The tree as one list in reading order, with the path of its open nodes.
 
 ghost use Rattle.std.specs.Prelude.{◌≡◌, ◌+◌, ◌<◌, ◌≤◌, ◌∷◌, [], ◌-◌, length, reverse, Some, None, if◌then◌else◌, IfOk, IfSome, OnOk, OnErr, IsSome, MatchOption, slice_get};
-ghost use Rattle.first_pass_tree.specs.Forest.{empty_forest, appended, pushed, popped, cut_to, with_text, with_item, with_end_at, with_body_at, item_at, depths, child_of, sibling_of, kept_after, childless, in_table, wrapped, IsChildOfCurrent, moved_out, IsChild, cut_siblings, HasLeaves, IsForest, end_of};
+ghost use Rattle.first_pass_tree.specs.Forest.{empty_forest, appended, pushed, popped, cut_to, with_text, with_item, with_end_at, with_body_at, item_at, depths, child_of, sibling_of, kept_after, childless, in_table, wrapped, IsChildOfCurrent, moved_out, IsChild, cut_siblings, IsForest, end_of};
 ghost use Rattle.first_pass_tree.specs.Subtrees.{IsSubtree};
 ghost use Rattle.std.specs.Borrow.{sem};
 
 use crate::node_list::{
-    child_in, cut_nodes, deeper_end, first_place, in_table_of, last_of_depth, last_place, lower,
+    child_in, cut_nodes, deeper_end, first_place, in_table_of, last_child, last_of_depth, lower,
     sibling_in, wrap,
 };
 use crate::subtrees::{Subtree, Subtrees};
@@ -260,19 +260,19 @@ impl Tree<Item> {
         self.cur = Some(TreeIndex(last_of_depth(&self.nodes, depth)));
     }
 
-    /// Cuts the children of the innermost open node, tokens without children, at the offset `end`. Those
-    /// that start before it stay, and one that crosses it ends there; the others go, but where the first of
-    /// them is a text that starts at `end` behind a backslash, that backslash takes its place as a text.
-    /// The last token that is left becomes current.
+    /// Cuts the tokens, which are the children of the innermost open node, at the offset `end`. Those that
+    /// start before it stay, with all that is below them, and one that crosses it ends there. The first that
+    /// doesn't start before it goes, and so do those behind it, with all below them; but where that first one
+    /// is a text that starts at `end` behind a backslash, the backslash takes its place as a text. The last
+    /// token that is left becomes current.
     pub fn truncate_siblings(&mut self, end: usize)
-        requires { HasLeaves self.old }
         ensures { self.new ≡ cut_siblings self.old end }
     {
-        let _count = self.nodes.len();
+        let depth = self.spine.len() + 1;
         let first = first_place(&self.spine);
         self.subtrees.cut_to(first);
-        cut_nodes(&mut self.nodes, first, end);
-        self.cur = last_place(first, self.nodes.len());
+        cut_nodes(&mut self.nodes, first, depth, end);
+        self.cur = last_child(&self.nodes, first, depth);
     }
 
     /// The current node's place, or `None` where there is none, as right after `push`.

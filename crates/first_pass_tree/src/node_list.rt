@@ -89,47 +89,51 @@ pub(crate) fn first_place(spine: &[TreeIndex]) -> usize
     }
 }
 
-/// The last of `count` places, or `None` where none is at `first` or behind it.
-pub(crate) fn last_place(first: usize, count: usize) -> Option<TreeIndex>
-    ensures { result ≡ (if nat_lt first count then Some (record { 0 = count - 1 }) else None) }
+/// The last place whose node has this depth, or `None` where no node stands at `first` or behind it.
+pub(crate) fn last_child(nodes: &[(usize, Item)], first: usize, depth: usize) -> Option<TreeIndex>
+    ensures { result ≡ (if nat_lt first (length nodes.now)
+        then Some (record { 0 = last_before (depths nodes.now) depth (length nodes.now) }) else None) }
 {
-    if first < count {
-        Some(TreeIndex(count - 1))
+    if first < nodes.len() {
+        Some(TreeIndex(last_of_depth(nodes, depth)))
     } else {
         None
     }
 }
 
-/// Cuts the tokens from the place `first` on at the offset `end`: see `Tree::truncate_siblings`.
-pub(crate) fn cut_nodes(nodes: &mut Vec<(usize, Item)>, first: usize, end: usize)
+/// Cuts the tokens from the place `first` on, which have this depth, at the offset `end`: see
+/// `Tree::truncate_siblings`.
+pub(crate) fn cut_nodes(nodes: &mut Vec<(usize, Item)>, first: usize, depth: usize, end: usize)
     requires first_in { first ≤ length nodes.old.items }
-    ensures { nodes.new.items ≡ take first nodes.old.items ++ cut_tokens end (drop first nodes.old.items) }
+    ensures { nodes.new.items ≡ take first nodes.old.items ++ cut_tokens end depth (drop first nodes.old.items) }
 {
     let mut kept = first;
     while kept < nodes.len() {
         let node = &mut nodes[kept];
-        if end <= node.1.start {
-            if node.1.start == end
-                && matches!(
-                    &node.1.body,
-                    ItemBody::Text {
-                        backslash_escaped: true
-                    }
-                )
-            {
-                node.1 = Item {
-                    start: end.saturating_sub(1),
-                    end,
-                    body: ItemBody::Text {
-                        backslash_escaped: false,
-                    },
-                };
-                kept += 1;
+        if node.0 <= depth {
+            if end <= node.1.start {
+                if node.1.start == end
+                    && matches!(
+                        &node.1.body,
+                        ItemBody::Text {
+                            backslash_escaped: true
+                        }
+                    )
+                {
+                    node.1 = Item {
+                        start: end.saturating_sub(1),
+                        end,
+                        body: ItemBody::Text {
+                            backslash_escaped: false,
+                        },
+                    };
+                    kept += 1;
+                }
+                break;
             }
-            break;
-        }
-        if end < node.1.end {
-            node.1.end = end;
+            if end < node.1.end {
+                node.1.end = end;
+            }
         }
         kept += 1;
     }

@@ -2,7 +2,7 @@ use Rattle.std.proofs.Common.{◌≡◌, ◌+◌, ◌-◌, ℕ, List, take, drop
 use Rattle.first_pass_lines.specs.Lines.{line_len}
 use Rattle.first_pass_names.specs.TableEntries.{no_names}
 use Rattle.first_pass_grammar.specs.Leaves.{Document, document, kept_len}
-use Rattle.first_pass_text.proofs.HeadingLemmas.{heading_open, heading_leaves, heading_empty, heading_cut}
+use Rattle.first_pass_text.proofs.HeadingLemmas.{heading_open, heading_empty, heading_cut}
 use Rattle.first_pass_text.proofs.ParagraphLemmas.{same_line, same_end}
 use Rattle.first_pass_text.proofs.heading.heading_text.Goals as goal
 
@@ -19,13 +19,6 @@ drop_children-requires c =
     let line = same_line c.as_bytes-bytes.result.now c.args.source.text.now c.args.source.options c.args.source.options c.args.start c.args.tree.now c.append_line.new.tree (c.in_ok-next.next, c.in_ok-next.line_break) c.as_bytes-bytes.ensures.value refl c.in_ok-next.ensures.line in
     let ends = same_end c.as_bytes-bytes.result.now c.args.source.text.now c.args.source.options c.args.source.options c.args.start (c.in_ok-next.next, c.in_ok-next.line_break) c.as_bytes-bytes.ensures.value refl c.in_ok-next.ensures.ends in
     heading_open d c.args.start c.in_ok-next.next c.args.tree.now c.append_line.new.tree c.append_last_backslash.new.tree c.in_ok-next.line_break c.args.node_ix c.requires.opened line c.in_ok-append_last_backslash.ensures
-
-pub truncate_siblings-requires : goal.truncate_siblings-requires
-truncate_siblings-requires c =
-    let d : Document = document c.args.source.text.now c.args.source.options no_names in
-    let line = same_line c.as_bytes-bytes.result.now c.args.source.text.now c.args.source.options c.args.source.options c.args.start c.args.tree.now c.append_line.new.tree (c.in_ok-next.next, c.in_ok-next.line_break) c.as_bytes-bytes.ensures.value refl c.in_ok-next.ensures.line in
-    let ends = same_end c.as_bytes-bytes.result.now c.args.source.text.now c.args.source.options c.args.source.options c.args.start (c.in_ok-next.next, c.in_ok-next.line_break) c.as_bytes-bytes.ensures.value refl c.in_ok-next.ensures.ends in
-    heading_leaves d c.args.start c.in_ok-next.next c.args.tree.now c.append_line.new.tree c.append_last_backslash.new.tree c.in_ok-next.line_break c.args.node_ix c.requires.opened line c.in_ok-append_last_backslash.ensures
 
 pub returns-then-kept-eq0 : goal.returns-then-kept-eq0
 returns-then-kept-eq0 c =

@@ -1,11 +1,12 @@
-use Rattle.std.proofs.Common.{arith, refl, sym, subst, ap, ◌∙◌, ◌≡◌, ◌<◌, ◌^◌, ◌+◌, List, length, reverse}
+use Rattle.std.proofs.Common.{arith, refl, sym, subst, ap, ◌∙◌, ◌≡◌, ◌<◌, ◌^◌, ◌+◌, ℕ, List, length, reverse, nat_lt, Option, Some, None, if◌then◌else◌}
 use Rattle.first_pass_items.specs.declared.item.Item.{Item}
 use Rattle.first_pass_tree.specs.declared.tree_index.TreeIndex.{TreeIndex}
-use Rattle.first_pass_tree.specs.Forest.{Forest, IsForest, HasLeaves, open_place, depths}
-use Rattle.first_pass_tree.proofs.Keeps.{spine-small, cut_siblings-is, siblings-by}
+use Rattle.first_pass_tree.specs.Forest.{Forest, IsForest, open_place, depths, last_before}
+use Rattle.first_pass_tree.proofs.Keeps.{spine-small}
+use Rattle.first_pass_tree.proofs.Cuts.{cut_siblings-is, siblings-by}
 use Rattle.first_pass_tree.proofs.SubtreeLemmas.{subtrees-joined}
 use Rattle.first_pass_tree.proofs.Depths.{open-last}
-use Rattle.std.proofs.lemmas.List.{length-map}
+use Rattle.std.proofs.lemmas.List.{length-map, length-reverse}
 use Rattle.first_pass_tree.proofs.forest.Tree+Item.truncate_siblings.Goals as goal
 
 pub first_place-first-requires : goal.first_place-first-requires
@@ -13,15 +14,19 @@ first_place-first-requires c =
     let l : length c.self.inside.nodes.items < 2 ^ 63 = omega (arith, c.self.inside.nodes.small, c.self.inside.nodes.ok) in
     rw c.deref.ensures.value (spine-small _ c.self.inside.spine.items refl c.self.invariant.forest l)
 
+-- the last of these nodes at a depth, where any stands at a place or behind it
+abbrev last_from : ℕ → ℕ → List (ℕ × Item) → Option TreeIndex
+last_from p d ns = if nat_lt p (length ns) then Some (record { 0 = last_before (depths ns) d (length ns) }) else None
+
 pub invariant_of-self : goal.invariant_of-self
 invariant_of-self c =
-    let q = subst (λ (v : Forest Item). HasLeaves v) (sym c.self.view_is) c.requires in
-    let f : Forest Item = record { nodes = c.self.inside.nodes.items; spine = reverse c.self.inside.spine.items; current = c.self.inside.cur } in
-    let p = c.first_place-first.ensures ∙ ap (λ (xs : List TreeIndex). open_place (reverse xs) + 1) c.deref.ensures.value in
-    let n : c.len.result ≡ length c.cut_nodes.new.nodes.items = omega arith in
     let ns = c.self.inside.nodes.items in
+    let f : Forest Item = record { nodes = ns; spine = reverse c.self.inside.spine.items; current = c.self.inside.cur } in
+    let p = c.first_place-first.ensures ∙ ap (λ (xs : List TreeIndex). open_place (reverse xs) + 1) c.deref.ensures.value in
+    let d : c.len-depth.result + 1 ≡ length (reverse c.self.inside.spine.items) + 1 = omega (arith, length-reverse c.self.inside.spine.items) in
+    let cur = c.last_child-self-inside.ensures ∙ ap (last_from c.first_place-first.result (c.len-depth.result + 1)) c.deref-2.ensures.value in
     let w = open-last (depths ns) (reverse c.self.inside.spine.items) c.self.invariant.forest.opened in
     record {
-      forest = subst (λ (v : Forest Item). IsForest v) (sym (siblings-by f c.args.end _ _ _ _ p c.cut_nodes.ensures n c.last_place-self-inside.ensures)) (cut_siblings-is f c.args.end q c.self.invariant.forest);
+      forest = subst (λ (v : Forest Item). IsForest v) (sym (siblings-by f c.args.end _ _ _ _ p d c.cut_nodes.ensures cur)) (cut_siblings-is f c.args.end c.self.invariant.forest);
       known = subtrees-joined ns c.cut_nodes.new.nodes.items _ c.first_place-first.result _ (omega (arith, w.within, length-map ns (λ n. n.0))) c.cut_nodes.ensures (c.cut_to.ensures (depths ns) (length ns) c.self.invariant.known);
     }
