@@ -46,6 +46,12 @@ by_list false text f line at low high o = ordered_later text f line at low high 
 pub ordered_in_line : (text : List ℕ) (f : Forest Item) (line at : ℕ) → line ≤ at → at ≤ length text → IsOrderedTo text f line → IsOrderedTo text f (line_or f line at)
 ordered_in_line text f line at low high o = by_list (is_list (top_body f)) text f line at low high o
 
+-- the same at a place in the line, which begins between characters
+pub ordered_at_place : (text : List ℕ) (f : Forest Item) (start : ℕ) (p : Place) → p.line ≡ start → IsCharBoundary text start → IsPlaceOf text p → IsOrderedTo text f start → IsCharBoundary text p.line × IsOrderedTo text f (line_or f p.line (offset p))
+ordered_at_place text f start p line boundary i o =
+    let within = i.within in
+    (subst (IsCharBoundary text) (sym line) boundary, ordered_in_line text f p.line (offset p) (omega arith) within (subst (IsOrderedTo text f) (sym line) o))
+
 or_below : (t : Bool) (line at : ℕ) → line ≤ at → (if t then line else at) ≤ at
 or_below true line at h = h
 or_below false line at h = omega arith

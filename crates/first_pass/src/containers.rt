@@ -2,11 +2,11 @@
 
 ghost use Rattle.std.specs.Prelude.{◌≡◌, ℕ, ◌+◌, ◌<◌, ◌≤◌, List, length, drop, Some, None, true, false, MatchOption, IfOk, IfSome, OnOk, IsUtf8, IsCharBoundary};
 ghost use Rattle.first_pass_lines.specs.Rest.{after_columns};
-ghost use Rattle.first_pass_lines.specs.Places.{Place, place_at, offset, line_end, start_of, IsPlaceOf};
+ghost use Rattle.first_pass_lines.specs.Places.{Place, offset, line_end, start_of, IsPlaceOf};
 ghost use Rattle.first_pass_grammar.specs.Names.{Names};
 ghost use Rattle.first_pass_grammar.specs.Leaves.{Document, document};
 ghost use Rattle.first_pass_grammar.specs.declared.kind.Container.TheVariants.{BlockQuote, ListItem};
-ghost use Rattle.first_pass_grammar.specs.Containers.{prefix, after, front};
+ghost use Rattle.first_pass_grammar.specs.Containers.{prefix, after, at_rest, front};
 ghost use Rattle.first_pass_grammar.specs.Kinds.{item_at};
 ghost use Rattle.first_pass_tree.specs.declared.tree_index.TreeIndex.{TreeIndex};
 ghost use Rattle.first_pass_open.specs.Path.{container_of, prefix_of, path_in, path_of, outer};
@@ -29,6 +29,7 @@ use first_pass_lists::reading::Reading;
 pub use first_pass_open::containers::scan_containers;
 use first_pass_open::containers::scan_quote;
 use first_pass_open::indentation::scan_indentation;
+use first_pass_open::place::Place;
 use first_pass_open::source::Source;
 use first_pass_scan::line_start::LineStart;
 use first_pass_text::paragraph::append_item;
@@ -66,32 +67,33 @@ pub(crate) fn close_containers(reading: &mut Reading, kept: usize, ix: usize)
     }
 }
 
-/// Closes the containers that the line doesn't go on with that begins at `start_ix`, and answers what is
-/// left of the line; `None` where it is a blank line, which is read then.
+/// Closes the containers that the line doesn't go on with that begins at `start_ix`, and answers the place behind
+/// those that it goes on with; `None` where it is a blank line, which is read then.
 pub(crate) fn enter_line<'a>(
     reading: &mut Reading,
     source: Source<'a>,
     start_ix: usize,
-) -> Option<LineStart<'a>>
+) -> Option<Place<'a>>
     requires within { start_ix < length source.text.now }
     requires boundary { IsCharBoundary source.text.now start_ix }
     ensures utf8 { IsUtf8 source.entry.text.now }
-    ensures place { IfSome result (λ line_start. IsPlaceOf source.entry.text.now (place_at start_ix line_start)) }
-    ensures same_end { IfSome result (λ line_start. line_end (place_at start_ix line_start)
+    ensures place { IfSome result (λ place. IsPlaceOf source.entry.text.now place) }
+    ensures same_line { IfSome result (λ place. place.line ≡ start_ix) }
+    ensures same_end { IfSome result (λ place. line_end place
         ≡ start_ix + line_len (drop start_ix source.entry.text.now)) }
-    ensures no_empty { IfSome result (λ line_start. reading.new.empty_item ≡ None) }
+    ensures no_empty { IfSome result (λ place. reading.new.empty_item ≡ None) }
     ensures ready { (names : Names) → Ready (document source.entry.text.now source.entry.options names) reading.old
         (lines_from source.entry.text.now start_ix)
         → MatchOption result
         (Ready (document source.entry.text.now source.entry.options names) reading.new (lines_from source.entry.text.now
         (start_ix + line_len (drop start_ix source.entry.text.now))))
-        (λ line_start. ReadyAt (document source.entry.text.now source.entry.options names) reading.new.tree
-        reading.new.blank (Inside (place_at start_ix line_start))
+        (λ place. ReadyAt (document source.entry.text.now source.entry.options names) reading.new.tree
+        reading.new.blank (Inside place)
         (lines_from source.entry.text.now (start_ix + line_len (drop start_ix source.entry.text.now)))) }
     ensures order { IsOrderedAt source.entry.text.now reading.old start_ix
         → MatchOption result
         (IsOrderedAt source.entry.text.now reading.new (start_ix + line_len (drop start_ix source.entry.text.now)))
-        (λ line_start. IsOrderedTo source.entry.text.now reading.new.tree start_ix) }
+        (λ place. IsOrderedTo source.entry.text.now reading.new.tree start_ix) }
     ensures none_added { length reading.new.tree.nodes ≡ length reading.old.tree.nodes }
 {
     let mut line_start = LineStart::new(rest_of(source.text.as_bytes(), start_ix));
@@ -102,105 +104,95 @@ pub(crate) fn enter_line<'a>(
         return None;
     }
     reading.finish_empty_list_item();
-    Some(line_start)
+    Some(Place {
+        line: start_ix,
+        rest: line_start,
+    })
 }
 
-/// Opens the containers that begin at a place in the line whose reading began at `start_ix`, one
-/// inside the other, takes their markers, and answers what is behind them (CommonMark 5).
+/// Opens the containers that begin at a place, one inside the other, takes their markers, and answers what is
+/// behind them (CommonMark 5).
 pub(crate) fn open_containers<'a>(
     reading: &mut Reading,
     source: Source<'a>,
-    start_ix: usize,
-    line_start: &mut LineStart<'a>,
+    place: &mut Place<'a>,
 ) -> Result<Behind, AllocError>
     requires utf8 { IsUtf8 source.text.now }
-    requires place { IsPlaceOf source.text.now (place_at start_ix line_start.old) }
+    requires place { IsPlaceOf source.text.now place.old }
     requires no_empty { reading.old.empty_item ≡ None }
-    ensures place { OnOk result (IsPlaceOf source.entry.text.now (place_at start_ix line_start.new)) }
-    ensures same_end { OnOk result (line_end (place_at start_ix line_start.new)
-        ≡ line_end (place_at start_ix line_start.old)) }
-    ensures behind { IfOk result (λ answer. IsBehind answer reading.new line_start.new
-        (line_end (place_at start_ix line_start.old))) }
+    ensures place { OnOk result (IsPlaceOf source.entry.text.now place.new) }
+    ensures same_line { OnOk result (place.new.line ≡ place.old.line) }
+    ensures same_end { OnOk result (line_end place.new ≡ line_end place.old) }
+    ensures behind { IfOk result (λ answer. IsBehind answer reading.new place.new.rest
+        (line_end place.old)) }
     ensures ready { IfOk result (λ answer. (names : Names) →
         ReadyAt (document source.entry.text.now source.entry.options names) reading.old.tree reading.old.blank
-        (Inside (place_at start_ix line_start.old))
-        (lines_from source.entry.text.now (line_end (place_at start_ix line_start.old)))
-        → ReadyBehind (document source.entry.text.now source.entry.options names) reading.new
-        (place_at start_ix line_start.new) (line_end (place_at start_ix line_start.old)) answer) }
-    ensures order { IfOk result (λ answer.
-        IsCharBoundary source.entry.text.now start_ix
-        → IsOrderedTo source.entry.text.now reading.old.tree (line_or reading.old.tree start_ix
-        (offset (place_at start_ix line_start.old)))
-        → OrderedBehind source.entry.text.now reading.new start_ix (offset (place_at start_ix line_start.new)) answer) }
-    ensures few { IfOk result (λ answer. GrowsBehind source.entry.text.now start_ix reading.old.tree.nodes
-        reading.new.tree.nodes (offset (place_at start_ix line_start.new)) answer) }
+        (Inside place.old) (lines_from source.entry.text.now (line_end place.old))
+        → ReadyBehind (document source.entry.text.now source.entry.options names) reading.new place.new
+        (line_end place.old) answer) }
+    ensures order { IfOk result (λ answer. IsCharBoundary source.entry.text.now place.old.line
+        → IsOrderedTo source.entry.text.now reading.old.tree
+        (line_or reading.old.tree place.old.line (offset place.old))
+        → OrderedBehind source.entry.text.now reading.new place.new.line (offset place.new) answer) }
+    ensures few { IfOk result (λ answer. GrowsBehind source.entry.text.now place.old.line reading.old.tree.nodes
+        reading.new.tree.nodes (offset place.new) answer) }
 {
     loop {
-        if let Some(behind) = open_container(reading, source, start_ix, line_start)? {
+        if let Some(behind) = open_container(reading, source, place)? {
             return Ok(behind);
         }
     }
 }
 
-// Opens the container that begins at a place in the line whose reading began at `start_ix`, and takes its
-// marker. Answers what is behind it, or what is at the place, if no container begins there; `None` where more of
-// the line is left in the container.
+// Opens the container that begins at a place, and takes its marker. Answers what is behind it, or what is at the
+// place, if no container begins there; `None` where more of the line is left in the container.
 fn open_container<'a>(
     reading: &mut Reading,
     source: Source<'a>,
-    start_ix: usize,
-    line_start: &mut LineStart<'a>,
+    place: &mut Place<'a>,
 ) -> Result<Option<Behind>, AllocError>
     requires utf8 { IsUtf8 source.text.now }
-    requires place { IsPlaceOf source.text.now (place_at start_ix line_start.old) }
+    requires place { IsPlaceOf source.text.now place.old }
     requires no_empty { reading.old.empty_item ≡ None }
-    ensures place { OnOk result (IsPlaceOf source.entry.text.now (place_at start_ix line_start.new)) }
-    ensures same_end { OnOk result (line_end (place_at start_ix line_start.new)
-        ≡ line_end (place_at start_ix line_start.old)) }
-    ensures opened { IfOk result (λ answer. IsOpenedAt answer reading.new line_start.old line_start.new
-        (line_end (place_at start_ix line_start.old))) }
+    ensures place { OnOk result (IsPlaceOf source.entry.text.now place.new) }
+    ensures same_line { OnOk result (place.new.line ≡ place.old.line) }
+    ensures same_end { OnOk result (line_end place.new ≡ line_end place.old) }
+    ensures opened { IfOk result (λ answer. IsOpenedAt answer reading.new place.old.rest place.new.rest
+        (line_end place.old)) }
     ensures ready { IfOk result (λ answer. (names : Names) →
         ReadyAt (document source.entry.text.now source.entry.options names) reading.old.tree reading.old.blank
-        (Inside (place_at start_ix line_start.old))
-        (lines_from source.entry.text.now (line_end (place_at start_ix line_start.old)))
-        → ReadyIn (document source.entry.text.now source.entry.options names) reading.new
-        (place_at start_ix line_start.new) (line_end (place_at start_ix line_start.old)) answer) }
-    ensures order { IfOk result (λ answer.
-        IsCharBoundary source.entry.text.now start_ix
-        → IsOrderedTo source.entry.text.now reading.old.tree (line_or reading.old.tree start_ix
-        (offset (place_at start_ix line_start.old)))
-        → OrderedIn source.entry.text.now reading.new start_ix (offset (place_at start_ix line_start.new)) answer) }
+        (Inside place.old) (lines_from source.entry.text.now (line_end place.old))
+        → ReadyIn (document source.entry.text.now source.entry.options names) reading.new place.new
+        (line_end place.old) answer) }
+    ensures order { IfOk result (λ answer. IsCharBoundary source.entry.text.now place.old.line
+        → IsOrderedTo source.entry.text.now reading.old.tree
+        (line_or reading.old.tree place.old.line (offset place.old))
+        → OrderedIn source.entry.text.now reading.new place.new.line (offset place.new) answer) }
     ensures few { IfOk result (λ answer. (first : List (ℕ × Item))
-        → GrowsBy start_ix (offset (place_at start_ix line_start.old)) first reading.old.tree.nodes
-        → GrowsIn source.entry.text.now start_ix first reading.new.tree.nodes
-        (offset (place_at start_ix line_start.new)) answer) }
+        → GrowsBy place.old.line (offset place.old) first reading.old.tree.nodes
+        → GrowsIn source.entry.text.now place.old.line first reading.new.tree.nodes (offset place.new) answer) }
 {
     reading.tree.is_forest();
-    let before = start_ix + line_start.bytes_scanned();
-    if let Some(item) = scan_item(line_start) {
+    source.is_short();
+    let before = place.offset();
+    if let Some(item) = scan_item(&mut place.rest) {
         reading.open_item(before, item)?;
-        let marker = scan_task(source, start_ix, line_start);
-        if scan_blank_line(line_start.left()).is_none() {
+        let marker = scan_task(source, place);
+        if scan_blank_line(place.left()).is_none() {
             return Ok(behind_marker(marker));
         }
         append_item(&mut reading.tree, marker)?;
-        let next = next_line(
-            source.text.as_bytes(),
-            start_ix + line_start.bytes_scanned(),
-        );
+        let next = next_line(source.text.as_bytes(), place.offset());
         reading.empty_item = Some(next);
         return Ok(Some(Behind::NextLine(next)));
     }
-    if let Some(quote) = scan_quote(line_start) {
-        let tag = scan_tag(source.options, line_start);
-        reading.open_quote(start_ix, start_ix + quote, tag)?;
+    if let Some(quote) = scan_quote(&mut place.rest) {
+        let tag = scan_tag(source.options, &place.rest);
+        reading.open_quote(place.line, place.line + quote, tag)?;
         if tag.is_none() {
             return Ok(None);
         }
-        let next = next_line(
-            source.text.as_bytes(),
-            start_ix + line_start.bytes_scanned(),
-        );
+        let next = next_line(source.text.as_bytes(), place.offset());
         return Ok(Some(Behind::Tag(next)));
     }
     Ok(Some(Behind::Leaf))
@@ -226,26 +218,24 @@ fn scan_tag<'a>(options: Options, line_start: &LineStart<'a>) -> Option<BlockQuo
     line_start.copy().scan_blockquote_tag()
 }
 
-// Takes the task list item marker behind an item's own, in the line whose reading began at `start_ix`,
-// where one is there and the option is on, and answers it; else takes nothing.
-fn scan_task<'a>(
-    source: Source<'a>,
-    start_ix: usize,
-    line_start: &mut LineStart<'a>,
-) -> Option<Item>
+// Takes the task list item marker behind an item's own, where one is there and the option is on, and answers it; else
+// takes nothing.
+fn scan_task<'a>(source: Source<'a>, place: &mut Place<'a>) -> Option<Item>
     requires utf8 { IsUtf8 source.text.now }
-    requires place { IsPlaceOf source.text.now (place_at start_ix line_start.old) }
-    ensures marker { result ≡ (task_behind source.entry.options start_ix line_start.old).0 }
-    ensures rest { line_start.new ≡ (task_behind source.entry.options start_ix line_start.old).1 }
+    requires place { IsPlaceOf source.text.now place.old }
+    ensures marker { result ≡ (task_behind source.entry.options place.old.line place.old.rest).0 }
+    ensures place { place.new
+        ≡ at_rest place.old (task_behind source.entry.options place.old.line place.old.rest).1 }
 {
     if !source.options.contains(Options::ENABLE_TASKLISTS) {
         return None;
     }
-    let start = start_ix + line_start.bytes_scanned();
-    let checked = line_start.scan_task_list_marker()?;
+    source.is_short();
+    let start = place.offset();
+    let checked = place.rest.scan_task_list_marker()?;
     Some(Item {
         start,
-        end: start_ix + line_start.bytes_scanned(),
+        end: place.offset(),
         body: ItemBody::TaskListMarker(checked),
     })
 }

@@ -1,7 +1,7 @@
 //! The block pass: the lines of a text, one block after the other.
 
 ghost use Rattle.std.specs.Prelude.{◌≡◌, ◌<◌, ◌≤◌, ◌+◌, ◌-◌, ◌*◌, min, true, false, [], length, None, Some, IsSome, slice_get, IfOk, IfSome, OnOk, IsUtf8, IsCharBoundary, ℕ};
-ghost use Rattle.first_pass_lines.specs.Places.{place_at, offset, line_end, IsPlaceOf};
+ghost use Rattle.first_pass_lines.specs.Places.{offset, line_end, IsPlaceOf};
 ghost use Rattle.first_pass_walk.specs.Walk.{MarksSpecial};
 ghost use Rattle.first_pass_scan.specs.MetadataSearch.{IsKnownOf};
 ghost use Rattle.first_pass_tokens.specs.LineTokens.{EndsLine};
@@ -15,13 +15,13 @@ ghost use Rattle.first_pass_text.specs.Appends.{text_upto};
 ghost use Rattle.first_pass_open.specs.OpenBlock.{closed_by};
 ghost use Rattle.first_pass_grammar.specs.Skeleton.{Inside, Line};
 ghost use Rattle.first_pass_tree.specs.Forest.{is_text};
-ghost use Rattle.first_pass_grammar.specs.Kinds.{item_at, IsKind, all_taken, unindented};
-ghost use Rattle.first_pass_lines.specs.Rest.{indent};
+ghost use Rattle.first_pass_grammar.specs.Kinds.{item_at};
+ghost use Rattle.first_pass_text.specs.declared.kinds.Found.TheVariants.{Marked};
 ghost use Rattle.first_pass.specs.Adding.{AddsKind};
 ghost use Rattle.first_pass.specs.Opening.{ReadyText, ReadyTagged, ReadyLeaf, line_or, OrderedText};
 ghost use Rattle.first_pass_lists.specs.Closing.{with_tree};
 ghost use Rattle.first_pass.specs.Ordered.{IsOrderedAt};
-ghost use Rattle.first_pass_text.specs.Found.{HasEnd, IsFoundWith, kind_of, marked_kind};
+ghost use Rattle.first_pass_text.specs.Found.{IsFoundAt, marked_kind};
 ghost use Rattle.first_pass_text.specs.Between.{AddsBetween, StandsBefore};
 ghost use Rattle.first_pass_grammar.specs.Order.{IsOrdered, GrowsBy};
 ghost use Rattle.first_pass_grammar.specs.OpenOrder.{IsOrderedTo, is_in_item};
@@ -40,8 +40,8 @@ use first_pass_lines::places::{next_line, rest_of};
 use first_pass_lists::reading::Reading;
 use first_pass_names::items::Allocations;
 use first_pass_open::indentation::scan_indentation;
+use first_pass_open::place::Place;
 use first_pass_open::source::Source;
-use first_pass_scan::line_start::LineStart;
 use first_pass_scan::metadata_search::MetadataEnds;
 use first_pass_text::interrupt::lazy_leaf;
 pub use first_pass_text::interrupt::scan_paragraph_interrupt_no_table;
@@ -120,16 +120,16 @@ impl<'a> FirstPass<'a> {
         ensures few { IfOk result (λ next. GrowsBy start_ix next (tree_of self.old).nodes
             (tree_of self.new).nodes) }
     {
-        let Some(mut line_start) = enter_line(&mut self.reading, self.source, start_ix) else {
+        let Some(mut place) = enter_line(&mut self.reading, self.source, start_ix) else {
             return Ok(next_line(self.source.text.as_bytes(), start_ix));
         };
-        match open_containers(&mut self.reading, self.source, start_ix, &mut line_start)? {
+        match open_containers(&mut self.reading, self.source, &mut place)? {
             Behind::Leaf => {
-                let next = self.parse_leaf(start_ix, line_start)?;
+                let next = self.parse_leaf(place)?;
                 Ok(next)
             }
             Behind::TaskText(marker) => {
-                let next = self.parse_task_text(start_ix, line_start, marker)?;
+                let next = self.parse_task_text(place, marker)?;
                 Ok(next)
             }
             Behind::NextLine(next) => Ok(next),
@@ -162,126 +162,103 @@ impl<'a> FirstPass<'a> {
     {
         match lazy_leaf(self.alloc, self.source, start, &self.reading.tree)? {
             None => Ok(start),
-            Some(line_start) => {
-                let next = self.parse_leaf(start, line_start)?;
+            Some(place) => {
+                let next = self.parse_leaf(place)?;
                 Ok(next)
             }
         }
     }
 
-    // Reads the paragraph behind the marker of a task list item, at a place in the line whose reading began
-    // at `start_ix`; answers as `parse_block`.
-    fn parse_task_text(
-        &mut self,
-        start_ix: usize,
-        line_start: LineStart<'a>,
-        marker: Item,
-    ) -> Result<usize, AllocError>
+    // Reads the paragraph behind the marker of a task list item, at a place; answers as `parse_block`.
+    fn parse_task_text(&mut self, place: Place<'a>, marker: Item) -> Result<usize, AllocError>
         requires utf8 { IsUtf8 (source_text self.old) }
-        requires place { IsPlaceOf (source_text self.old) (place_at start_ix line_start) }
+        requires place { IsPlaceOf (source_text self.old) place }
         requires marker { is_text marker.body ≡ false }
         requires item { is_in_item (tree_of self.old) ≡ true }
         requires no_empty { (reading_of self.old).empty_item ≡ None }
         ensures source { OnOk result (source_of self.new ≡ source_of self.old) }
         ensures allocs { OnOk result (allocs_of self.new ≡ allocs_of self.old) }
-        ensures later { IfOk result (λ next. line_end (place_at start_ix line_start.entry) ≤ next) }
+        ensures later { IfOk result (λ next. line_end place.entry ≤ next) }
         ensures boundary { IfOk result (λ next. IsCharBoundary (source_text self.old) next) }
         ensures ready { IfOk result (λ next. (names : Names)
             → ReadyText (document (source_text self.old) (source_options self.old) names) (reading_of self.old) marker
-            (place_at start_ix line_start.entry) (lines_from (source_text self.old)
-            (line_end (place_at start_ix line_start.entry)))
+            place.entry (lines_from (source_text self.old)
+            (line_end place.entry))
             → Ready (document (source_text self.old) (source_options self.old) names) (reading_of self.new)
             (lines_from (source_text self.old) next)) }
         ensures order { IfOk result (λ next. OrderedText (source_text self.old) (tree_of self.old) marker
-            (offset (place_at start_ix line_start.entry))
+            (offset place.entry)
             → IsOrderedAt (source_text self.old) (reading_of self.new) next) }
         ensures few { IfOk result (λ next. (from : ℕ) → StandsBefore (source_text self.old) from
-            (offset (place_at start_ix line_start.entry)) (Some marker) → from < next
+            (offset place.entry) (Some marker) → from < next
             → GrowsBy from next (tree_of self.old).nodes (tree_of self.new).nodes) }
     {
         self.source.is_short();
-        let mut line_start = line_start;
-        scan_indentation(&mut line_start);
-        let next = self.parse_paragraph(start_ix + line_start.bytes_scanned(), Some(marker))?;
+        let mut place = place;
+        scan_indentation(&mut place.rest);
+        let next = self.parse_paragraph(place.offset(), Some(marker))?;
         Ok(next)
     }
 
-    // Reads the leaf block that begins at a place in the line whose reading began at `start_ix`, where no
-    // container begins, or behind a block quote's tag; answers as `parse_block`.
-    fn parse_leaf(
-        &mut self,
-        start_ix: usize,
-        line_start: LineStart<'a>,
-    ) -> Result<usize, AllocError>
+    // Reads the leaf block that begins at a place where no container begins, or behind a block quote's tag; answers as
+    // `parse_block`.
+    fn parse_leaf(&mut self, place: Place<'a>) -> Result<usize, AllocError>
         requires utf8 { IsUtf8 (source_text self.old) }
-        requires place { IsPlaceOf (source_text self.old) (place_at start_ix line_start) }
+        requires place { IsPlaceOf (source_text self.old) place }
         requires no_empty { (reading_of self.old).empty_item ≡ None }
         ensures source { OnOk result (source_of self.new ≡ source_of self.old) }
         ensures names { OnOk result (Extends (names_of (allocs_of self.new)) (names_of (allocs_of self.old))) }
         ensures tables { OnOk result (tables (allocs_of self.new) ≡ tables (allocs_of self.old)) }
-        ensures later { IfOk result (λ next. line_end (place_at start_ix line_start.entry) ≤ next) }
+        ensures later { IfOk result (λ next. line_end place.entry ≤ next) }
         ensures boundary { IfOk result (λ next. IsCharBoundary (source_text self.old) next) }
         ensures ready { IfOk result (λ next. (names : Names) → Extends names (names_of (allocs_of self.new)) →
             ReadyLeaf (document (source_text self.old) (source_options self.old) names) (reading_of self.old)
-            (place_at start_ix line_start.entry)
-            (lines_from (source_text self.old) (line_end (place_at start_ix line_start.entry)))
+            place.entry (lines_from (source_text self.old) (line_end place.entry))
             → Ready (document (source_text self.old) (source_options self.old) names) (reading_of self.new)
             (lines_from (source_text self.old) next)) }
-        ensures order { IfOk result (λ next. IsCharBoundary (source_text self.old) start_ix
-            → IsOrderedTo (source_text self.old) (tree_of self.old) (line_or (tree_of self.old) start_ix
-            (offset (place_at start_ix line_start.entry)))
+        ensures order { IfOk result (λ next. IsCharBoundary (source_text self.old) place.entry.line
+            → IsOrderedTo (source_text self.old) (tree_of self.old) (line_or (tree_of self.old) place.entry.line
+            (offset place.entry))
             → IsOrderedAt (source_text self.old) (reading_of self.new) next) }
-        ensures few { IfOk result (λ next. GrowsBy (offset (place_at start_ix line_start.entry)) next
+        ensures few { IfOk result (λ next. GrowsBy (offset place.entry) next
             (tree_of self.old).nodes (tree_of self.new).nodes) }
     {
         self.source.is_short();
-        let before = line_start.copy();
-        let mut line_start = line_start;
-        let (found, columns) = kind_at(
-            self.source,
-            start_ix,
-            &mut line_start,
-            &mut self.metadata_ends,
-        );
-        let at = start_ix + line_start.bytes_scanned();
-        let next = self.parse_kind(start_ix, before, found, columns, at)?;
+        let mut behind = place.copy();
+        let (found, columns) = kind_at(self.source, &mut behind, &mut self.metadata_ends);
+        let next = self.parse_kind(place, found, columns, behind.offset())?;
         Ok(next)
     }
 
-    // Reads the leaf block that was found at a place in the line whose reading began at `start_ix`, behind so many
-    // columns, at the offset `at`; answers as `parse_block`.
+    // Reads the leaf block that was found at a place, behind so many columns, at the offset `at`; answers as
+    // `parse_block`.
     #[inline(always)]
     fn parse_kind(
         &mut self,
-        start_ix: usize,
-        before: LineStart<'a>,
+        place: Place<'a>,
         found: Found,
         columns: usize,
         at: usize,
     ) -> Result<usize, AllocError>
         requires utf8 { IsUtf8 (source_text self.old) }
-        requires place { IsPlaceOf (source_text self.old) (place_at start_ix before) }
+        requires place { IsPlaceOf (source_text self.old) place }
         requires no_empty { (reading_of self.old).empty_item ≡ None }
-        requires kind { IsKind (source_options self.old) before (kind_of found) }
-        requires end { IsFoundWith (all_taken before).left found }
-        requires columns { columns ≡ min 4 (indent before) }
-        requires at { at ≡ offset (unindented (place_at start_ix before)) }
+        requires found { IsFoundAt (source_options self.old) place found columns at }
         ensures source { OnOk result (source_of self.new ≡ source_of self.old) }
         ensures names { OnOk result (Extends (names_of (allocs_of self.new)) (names_of (allocs_of self.old))) }
         ensures tables { OnOk result (tables (allocs_of self.new) ≡ tables (allocs_of self.old)) }
-        ensures later { IfOk result (λ next. line_end (place_at start_ix before.entry) ≤ next) }
+        ensures later { IfOk result (λ next. line_end place.entry ≤ next) }
         ensures boundary { IfOk result (λ next. IsCharBoundary (source_text self.old) next) }
         ensures ready { IfOk result (λ next. (names : Names) → Extends names (names_of (allocs_of self.new)) →
             ReadyLeaf (document (source_text self.old) (source_options self.old) names) (reading_of self.old)
-            (place_at start_ix before.entry)
-            (lines_from (source_text self.old) (line_end (place_at start_ix before.entry)))
+            place.entry (lines_from (source_text self.old) (line_end place.entry))
             → Ready (document (source_text self.old) (source_options self.old) names) (reading_of self.new)
             (lines_from (source_text self.old) next)) }
-        ensures order { IfOk result (λ next. IsCharBoundary (source_text self.old) start_ix
-            → IsOrderedTo (source_text self.old) (tree_of self.old) (line_or (tree_of self.old) start_ix
-            (offset (place_at start_ix before.entry)))
+        ensures order { IfOk result (λ next. IsCharBoundary (source_text self.old) place.entry.line
+            → IsOrderedTo (source_text self.old) (tree_of self.old) (line_or (tree_of self.old) place.entry.line
+            (offset place.entry))
             → IsOrderedAt (source_text self.old) (reading_of self.new) next) }
-        ensures few { IfOk result (λ next. GrowsBy (offset (place_at start_ix before.entry)) next
+        ensures few { IfOk result (λ next. GrowsBy (offset place.entry) next
             (tree_of self.old).nodes (tree_of self.new).nodes) }
     {
         self.reading.tree.is_forest();
@@ -296,51 +273,46 @@ impl<'a> FirstPass<'a> {
                 Ok(next)
             }
             Found::HtmlToBlank => {
-                self.reading.finish_list(start_ix);
+                self.reading.finish_list(place.line);
                 self.reading.tree.is_forest();
                 let lines = self.parse_html_to_blank(at, columns)?;
                 Ok(read_blank_behind(&mut self.reading, self.source, lines))
             }
             Found::Marked(leaf) => {
-                self.reading.finish_list(start_ix);
-                let next = self.parse_marked(start_ix, before, leaf, columns, at)?;
+                self.reading.finish_list(place.line);
+                let next = self.parse_marked(place, leaf, columns, at)?;
                 Ok(next)
             }
         }
     }
 
-    // Appends the leaf block that is told by its mark, at a place in the line whose reading began at `start_ix`, behind
-    // so many columns, at the offset `at`.
+    // Appends the leaf block that is told by its mark, at a place, behind so many columns, at the offset `at`.
     fn parse_marked(
         &mut self,
-        start_ix: usize,
-        before: LineStart<'a>,
+        place: Place<'a>,
         leaf: MarkedLeaf,
         columns: usize,
         at: usize,
     ) -> Result<usize, AllocError>
         requires utf8 { IsUtf8 (source_text self.old) }
-        requires place { IsPlaceOf (source_text self.old) (place_at start_ix before) }
-        requires kind { IsKind (source_options self.old) before (marked_kind leaf) }
-        requires end { HasEnd (all_taken before).left leaf }
-        requires columns { columns ≡ min 4 (indent before) }
-        requires at { at ≡ offset (unindented (place_at start_ix before)) }
+        requires place { IsPlaceOf (source_text self.old) place }
+        requires found { IsFoundAt (source_options self.old) place (Marked leaf) columns at }
         requires not_blank { (reading_of self.old).blank ≡ false }
         ensures source { OnOk result (source_of self.new ≡ source_of self.old) }
         ensures empty_item { OnOk result ((reading_of self.new).empty_item ≡ (reading_of self.old).empty_item) }
         ensures names { OnOk result (Extends (names_of (allocs_of self.new)) (names_of (allocs_of self.old))) }
         ensures tables { OnOk result (tables (allocs_of self.new) ≡ tables (allocs_of self.old)) }
         ensures block { IfOk result (λ next. AddsKind (source_text self.old) (source_options self.old)
-            (names_of (allocs_of self.new)) (place_at start_ix before.entry) (marked_kind leaf)
+            (names_of (allocs_of self.new)) place.entry (marked_kind leaf)
             (reading_of self.new).blank (tree_of self.old) (tree_of self.new) next) }
-        ensures boundary { IfOk result (λ next. (line_end (place_at start_ix before.entry) ≤ next)
+        ensures boundary { IfOk result (λ next. (line_end place.entry ≤ next)
             × IsCharBoundary (source_text self.old) next) }
-        ensures fits { IfOk result (λ next. (from : ℕ) → from ≤ offset (place_at start_ix before.entry)
+        ensures fits { IfOk result (λ next. (from : ℕ) → from ≤ offset place.entry
             → AddsBetween (source_text self.old) from next (tree_of self.old) (tree_of self.new)) }
     {
         match leaf {
             MarkedLeaf::IndentedCode => {
-                let next = self.parse_code(start_ix, before)?;
+                let next = self.parse_code(place)?;
                 Ok(next)
             }
             MarkedLeaf::Metadata(byte) => {

@@ -4,7 +4,7 @@ ghost use Rattle.std.specs.Prelude.{◌≡◌, ◌≤◌, ◌<◌, ℕ, Some, tr
 ghost use Rattle.first_pass_lines.specs.Lines.{is_blank_line, is_content};
 ghost use Rattle.first_pass_scan.specs.LeafLines.{code_fence};
 ghost use Rattle.first_pass_lines.specs.Rest.{indent};
-ghost use Rattle.first_pass_lines.specs.Places.{Place, place_at, offset, line_end, IsPlaceOf};
+ghost use Rattle.first_pass_lines.specs.Places.{Place, offset, line_end, IsPlaceOf};
 ghost use Rattle.first_pass_grammar.specs.Names.{Extends};
 ghost use Rattle.first_pass_grammar.specs.Kinds.{IndentedCode, is_blank_rest};
 ghost use Rattle.first_pass_grammar.specs.RawLines.{range_text, range_html};
@@ -22,11 +22,11 @@ use crate::state::FirstPass;
 use first_pass_lines::places::next_line;
 use first_pass_lists::reading::Reading;
 use first_pass_open::open_block::BlockLines;
+use first_pass_open::place::Place;
 use first_pass_open::source::Source;
 use first_pass_raw::fenced_code::Fence;
 use first_pass_raw::raw_line::{RawKind, append_raw_line};
 use first_pass_raw::{fenced_code, html_block, indented_code, metadata_block};
-use first_pass_scan::line_start::LineStart;
 use std::alloc::AllocError;
 use std::cmp::max;
 
@@ -125,32 +125,28 @@ impl<'a> FirstPass<'a> {
         Ok(next)
     }
 
-    // The same behind the columns of a place in the line whose reading began at `start_ix`.
-    pub(crate) fn parse_code(
-        &mut self,
-        start_ix: usize,
-        before: LineStart<'a>,
-    ) -> Result<usize, AllocError>
+    // The same behind the columns of a place.
+    pub(crate) fn parse_code(&mut self, place: Place<'a>) -> Result<usize, AllocError>
         requires utf8 { IsUtf8 (source_text self.old) }
-        requires place { IsPlaceOf (source_text self.old) (place_at start_ix before) }
-        requires code { (is_blank_rest before ≡ false) × (nat_lt (indent before) 4 ≡ false) }
+        requires place { IsPlaceOf (source_text self.old) place }
+        requires code { (is_blank_rest place.rest ≡ false) × (nat_lt (indent place.rest) 4 ≡ false) }
         ensures source { OnOk result (source_of self.new ≡ source_of self.old) }
         ensures empty_item { OnOk result ((reading_of self.new).empty_item ≡ (reading_of self.old).empty_item) }
         ensures names { OnOk result (Extends (names_of (allocs_of self.new)) (names_of (allocs_of self.old))) }
         ensures tables { OnOk result (tables (allocs_of self.new) ≡ tables (allocs_of self.old)) }
         ensures block { IfOk result (λ next. AddsKind (source_text self.old) (source_options self.old)
-            (names_of (allocs_of self.new)) (place_at start_ix before.entry) IndentedCode (reading_of self.new).blank
+            (names_of (allocs_of self.new)) place.entry IndentedCode (reading_of self.new).blank
             (tree_of self.old) (tree_of self.new) next) }
-        ensures boundary { IfOk result (λ next. (line_end (place_at start_ix before.entry) ≤ next)
+        ensures boundary { IfOk result (λ next. (line_end place.entry ≤ next)
             × IsCharBoundary (source_text self.old) next) }
-        ensures fits { IfOk result (λ next. (from : ℕ) → from ≤ offset (place_at start_ix before.entry)
+        ensures fits { IfOk result (λ next. (from : ℕ) → from ≤ offset place.entry
             → AddsBetween (source_text self.old) from next (tree_of self.old) (tree_of self.new)) }
     {
         self.source.is_short();
-        let mut line_start = before;
-        line_start.scan_space_upto(4);
-        let at = start_ix + line_start.bytes_scanned();
-        let next = self.parse_indented_code_block(at, line_start.remaining_space())?;
+        let mut place = place;
+        place.rest.scan_space_upto(4);
+        let owed = place.rest.remaining_space();
+        let next = self.parse_indented_code_block(place.offset(), owed)?;
         Ok(next)
     }
 

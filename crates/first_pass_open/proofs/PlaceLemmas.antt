@@ -127,9 +127,9 @@ pub quote_absent : (o : Option Rest) (found : Option ℕ) (n : ℕ) (old new : R
 quote_absent None found n old new e m = (refl, m.1)
 quote_absent (Some r) found n old new e m = let z : None ≡ Some n = sym e ∙ m.0 in (cc, cc)
 
--- how far a line is read behind all columns
-pub at_read : (start n : ℕ) (r s : Rest) → n ≡ s.taken → s ≡ all_taken r → start + n ≡ offset (unindented (place_at start r))
-at_read start n r s e f = ap (λ k. start + k) (e ∙ ap (λ z. z.taken) f)
+-- how far a text is read behind what was taken at a place
+pub read_to : (f : Rest → Rest) (n : ℕ) (p q : Place) (s : Rest) → n ≡ offset (place_at q.line s) → s ≡ f q.rest → q ≡ p → n ≡ offset (place_at p.line (f p.rest))
+read_to f n p q s is rest same = is ∙ ap (λ (r : Rest). q.line + r.taken) rest ∙ ap (λ (z : Place). z.line + (f z.rest).taken) same
 
 no_line : (bs : List ℕ) → length bs ≤ 0 → line_len bs ≡ 0
 no_line [] h = line_len-none

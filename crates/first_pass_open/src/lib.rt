@@ -4,4 +4,5 @@
 pub mod containers;
 pub mod indentation;
 pub mod open_block;
+pub mod place;
 pub mod source;

@@ -1,7 +1,10 @@
 -- Which kind what was found at a place stands for, and the text that ends an HTML block.
-use Rattle.std.specs.Prelude.{◌≡◌, ℕ, List, drop, Some}
+use Rattle.std.specs.Prelude.{◌≡◌, ℕ, List, drop, min, Some}
+use Rattle.first_pass_items.specs.declared.option_set.Options.{Options}
+use Rattle.first_pass_lines.specs.Rest.{indent}
+use Rattle.first_pass_lines.specs.Places.{Place, offset}
 use Rattle.first_pass_html.specs.Starts.{html_end}
-use Rattle.first_pass_grammar.specs.Kinds.{Kind, Blank, IndentedCode, Metadata, HtmlToEnd, HtmlToBlank, ThematicBreak, AtxHeading, FencedCode, Paragraph}
+use Rattle.first_pass_grammar.specs.Kinds.{Kind, IsKind, unindented, Blank, IndentedCode, Metadata, HtmlToEnd, HtmlToBlank, ThematicBreak, AtxHeading, FencedCode, Paragraph}
 use Rattle.first_pass_text.specs.declared.kinds.Found.{Found}
 use Rattle.first_pass_text.specs.declared.kinds.Found.TheVariants.{Blank as FoundBlank, Paragraph as FoundParagraph, HtmlToBlank as FoundHtml, Marked}
 use Rattle.first_pass_text.specs.declared.kinds.MarkedLeaf.{MarkedLeaf}
@@ -30,3 +33,10 @@ HasEnd bs _ = Unit {0}
 abbrev pub IsFoundWith : List ℕ → Found → Type 0
 IsFoundWith bs (Marked leaf) = HasEnd bs leaf
 IsFoundWith bs _ = Unit {0}
+
+-- What was found at a place says what begins there, behind how many columns (4 are said where there are more), and at which offset.
+pub record IsFoundAt (options : Options) (p : Place) (found : Found) (columns at : ℕ) : Type 0 where
+  pub kind : IsKind options p.rest (kind_of found)
+  pub «end» : IsFoundWith (unindented p).rest.left found
+  pub columns_are : columns ≡ min 4 (indent p.rest)
+  pub at_is : at ≡ offset (unindented p)

@@ -5,7 +5,7 @@ ghost use Rattle.first_pass_lines.specs.Places.{line_rest, place_at, offset, IsP
 ghost use Rattle.first_pass_lines.specs.Rest.{indent};
 ghost use Rattle.first_pass_scan.specs.Markers.{is_bullet, listitem};
 ghost use Rattle.first_pass_grammar.specs.Containers.{after, front};
-ghost use Rattle.first_pass_grammar.specs.Kinds.{interrupts_with, item_interrupts, ends_paragraph, ends_tag, unindented, all_taken};
+ghost use Rattle.first_pass_grammar.specs.Kinds.{interrupts_with, item_interrupts, ends_paragraph, ends_tag, unindented};
 ghost use Rattle.first_pass_open.specs.Path.{path_of};
 
 use crate::kinds::html_kind;
@@ -16,6 +16,7 @@ use first_pass_lines::lines::{
 use first_pass_lines::places::rest_of;
 use first_pass_open::containers::scan_containers;
 use first_pass_open::indentation::scan_indentation;
+use first_pass_open::place::Place;
 use first_pass_open::source::Source;
 use first_pass_scan::leaf_scan::{scan_code_fence, scan_hrule};
 use first_pass_scan::line_start::{LineStart, scan_listitem};
@@ -75,24 +76,29 @@ pub fn scan_paragraph_interrupt_no_table(
 }
 
 // Whether the line that begins at `start` goes on with all open containers; the columns of indentation, but
-// 4 where there are more, behind what it takes for them; and what is left behind those columns.
+// 4 where there are more, behind what it takes for them; and the place behind those columns.
 fn scan_prefixes<'a>(
     source: Source<'a>,
     start: usize,
     tree: &Tree<Item>,
-) -> (bool, usize, LineStart<'a>)
+) -> (bool, usize, Place<'a>)
     requires { IsCharBoundary source.text.now start }
     ensures whole { result.0 ≡ is_some (after (path_of tree.now) (line_rest (drop start source.entry.text.now))) }
     ensures columns { result.1
         ≡ min 4 (indent (front (path_of tree.now) (line_rest (drop start source.entry.text.now)))) }
-    ensures behind { result.2 ≡ all_taken (front (path_of tree.now) (line_rest (drop start source.entry.text.now))) }
+    ensures behind { result.2 ≡ unindented (place_at start (front (path_of tree.now)
+        (line_rest (drop start source.entry.text.now)))) }
     ensures place { IsPlaceOf source.entry.text.now
         (unindented (place_at start (front (path_of tree.now) (line_rest (drop start source.entry.text.now))))) }
 {
     let mut line_start = LineStart::new(rest_of(source.text.as_bytes(), start));
     let kept = scan_containers(tree, &mut line_start, source.options, false);
     let columns = scan_indentation(&mut line_start);
-    (kept == tree.spine_len(), columns, line_start)
+    let place = Place {
+        line: start,
+        rest: line_start,
+    };
+    (kept == tree.spine_len(), columns, place)
 }
 
 /// Where the text of the line begins, as an offset into `text`, by which a paragraph goes on at the line
@@ -115,8 +121,9 @@ pub fn next_paragraph_text(
         (unindented (place_at start (front (path_of tree.now) (line_rest (drop start source.entry.text.now)))))) }
     ensures utf8 { IsUtf8 source.entry.text.now }
 {
-    let (whole, columns, line_start) = scan_prefixes(source, start, tree);
-    let at = start + line_start.bytes_scanned();
+    source.is_short();
+    let (whole, columns, place) = scan_prefixes(source, start, tree);
+    let at = place.offset();
     let interrupted = if columns < 4 {
         scan_paragraph_interrupt_no_table(alloc, &source.text[at..], whole, false, false, tree, 0)?
     } else {
@@ -125,30 +132,33 @@ pub fn next_paragraph_text(
     if interrupted { Ok(None) } else { Ok(Some(at)) }
 }
 
-// What is left of the line that begins at `start`, behind its columns, where it belongs to a block quote
-// with a tag that is innermost, whatever open containers it goes on with; `None` where it is read as any line.
+/// The place behind the columns of the line that begins at `start`, where the line belongs to a block quote with a tag
+/// that is innermost, whatever open containers it goes on with; `None` where it is read as any line.
 #[tactic(auto, unfolding(first_pass_grammar::specs::Kinds::interrupts))]
 pub fn lazy_leaf<'a>(
     alloc: Global,
     source: Source<'a>,
     start: usize,
     tree: &Tree<Item>,
-) -> Result<Option<LineStart<'a>>, AllocError>
+) -> Result<Option<Place<'a>>, AllocError>
     requires { IsCharBoundary source.text.now start }
     ensures value { IfOk result (λ leaf.
         leaf ≡ (if ends_tag (path_of tree.now) (line_rest (drop start source.entry.text.now))
-        then None else Some (all_taken (front (path_of tree.now) (line_rest (drop start source.entry.text.now)))))) }
+        then None
+        else Some (unindented (place_at start (front (path_of tree.now)
+        (line_rest (drop start source.entry.text.now))))))) }
     ensures place { OnOk result (IsPlaceOf source.entry.text.now
         (unindented (place_at start (front (path_of tree.now) (line_rest (drop start source.entry.text.now)))))) }
     ensures utf8 { IsUtf8 source.entry.text.now }
 {
-    let (whole, columns, line_start) = scan_prefixes(source, start, tree);
+    source.is_short();
+    let (whole, columns, place) = scan_prefixes(source, start, tree);
     if columns >= 4 {
-        return Ok(Some(line_start));
+        return Ok(Some(place));
     }
-    let rest = &source.text[start + line_start.bytes_scanned()..];
+    let rest = &source.text[place.offset()..];
     if scan_paragraph_interrupt_no_table(alloc, rest, whole, false, false, tree, 0)? {
         return Ok(None);
     }
-    Ok(Some(line_start))
+    Ok(Some(place))
 }

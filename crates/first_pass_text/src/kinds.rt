@@ -3,9 +3,9 @@
 ghost use Rattle.std.specs.Prelude.{◌≡◌, ◌+◌, ◌≤◌, min, length, drop, Some, None, IfOk, IfSome, MatchOption};
 ghost use Rattle.std.specs.Option.{option_map};
 ghost use Rattle.first_pass_lines.specs.Rest.{indent};
-ghost use Rattle.first_pass_lines.specs.Places.{place_at, IsPlaceOf};
+ghost use Rattle.first_pass_lines.specs.Places.{IsPlaceOf};
 ghost use Rattle.first_pass_scan.specs.MetadataSearch.{IsKnownOf};
-ghost use Rattle.first_pass_grammar.specs.Kinds.{html_kind, last_kind, metadata_at, IsKind, all_taken};
+ghost use Rattle.first_pass_grammar.specs.Kinds.{html_kind, last_kind, metadata_at, IsKind, unindented};
 ghost use Rattle.first_pass_text.specs.Found.{kind_of, IsFoundWith};
 
 use bitflags::Flags;
@@ -15,9 +15,9 @@ use first_pass_items::item::HeadingLevel;
 use first_pass_items::option_set::Options;
 use first_pass_lines::lines::{scan_atx_heading, scan_blank_line};
 use first_pass_open::indentation::scan_indentation;
+use first_pass_open::place::Place;
 use first_pass_open::source::Source;
 use first_pass_scan::leaf_scan::{scan_code_fence, scan_hrule};
-use first_pass_scan::line_start::LineStart;
 use first_pass_scan::metadata_search::{MetadataEnds, metadata_at};
 
 /// What begins at a place of a line where no container begins, with what was found of it.
@@ -107,28 +107,26 @@ fn metadata_behind(
     metadata_at(text, at, yaml, pluses, ends)
 }
 
-/// What begins at a place where no container does, in the line whose reading began at the offset `start`
-/// into the text; takes all columns before it, and says how many there were, but 4 where there were more
-/// (CommonMark 4).
+/// What begins at a place in a text where no container does; takes all columns before it, and says how many there
+/// were, but 4 where there were more (CommonMark 4).
 pub fn kind_at<'a>(
     source: Source<'_>,
-    start: usize,
-    line_start: &mut LineStart<'a>,
+    place: &mut Place<'a>,
     ends: &mut MetadataEnds,
 ) -> (Found, usize)
-    requires place { IsPlaceOf source.text.now (place_at start line_start.old) }
+    requires place { IsPlaceOf source.text.now place.old }
     requires known { IsKnownOf source.text.now ends.old }
-    ensures kind { IsKind source.entry.options line_start.old (kind_of result.0) }
-    ensures end { IsFoundWith (all_taken line_start.old).left result.0 }
-    ensures columns { result.1 ≡ min 4 (indent line_start.old) }
-    ensures rest { line_start.new ≡ all_taken line_start.old }
+    ensures kind { IsKind source.entry.options place.old.rest (kind_of result.0) }
+    ensures end { IsFoundWith (unindented place.old).rest.left result.0 }
+    ensures columns { result.1 ≡ min 4 (indent place.old.rest) }
+    ensures place { place.new ≡ unindented place.old }
     ensures known { IsKnownOf source.entry.text.now ends.new }
 {
-    if line_start.is_at_plain() {
+    if place.rest.is_at_plain() {
         return (Found::Paragraph, 0);
     }
-    let blank = scan_blank_line(line_start.left()).is_some();
-    let columns = scan_indentation(line_start);
+    let blank = scan_blank_line(place.rest.left()).is_some();
+    let columns = scan_indentation(&mut place.rest);
     if blank {
         return (Found::Blank, columns);
     }
@@ -136,15 +134,16 @@ pub fn kind_at<'a>(
         return (Found::Marked(MarkedLeaf::IndentedCode), columns);
     }
     let bytes = source.text.as_bytes();
-    let at = start + line_start.bytes_scanned();
+    let at = place.line + place.rest.bytes_scanned();
     if let Some(byte) = metadata_behind(bytes, at, columns, source.options, ends) {
         return (Found::Marked(MarkedLeaf::Metadata(byte)), columns);
     }
-    if let Some(found) = html_kind(line_start.left()) {
+    let left = place.rest.left();
+    if let Some(found) = html_kind(left) {
         return (found, columns);
     }
-    if scan_html_type_7(line_start.left()).is_some() {
+    if scan_html_type_7(left).is_some() {
         return (Found::HtmlToBlank, columns);
     }
-    (last_kind(line_start.left()), columns)
+    (last_kind(left), columns)
 }

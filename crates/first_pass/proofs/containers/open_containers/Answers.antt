@@ -1,8 +1,9 @@
 use Rattle.std.proofs.Common.{◌≡◌, ℕ, Some, sym, subst}
-use Rattle.first_pass_lines.specs.Places.{place_at, offset, line_end}
+use Rattle.first_pass_lines.specs.Places.{offset, line_end}
 use Rattle.first_pass_grammar.specs.Leaves.{document}
 use Rattle.first_pass_grammar.specs.Skeleton.{Inside}
 use Rattle.first_pass_grammar.specs.Completion.{lines_from}
+use Rattle.first_pass_grammar.specs.Order.{GrowsBy}
 use Rattle.first_pass.specs.State.{ReadyAt}
 use Rattle.first_pass.specs.Opening.{ReadyIn, ReadyBehind, GrowsIn}
 use Rattle.first_pass.proofs.containers.open_containers.Goals as goal
@@ -13,16 +14,18 @@ returns-in-Some-clause-ready c = λ names ready.
     let d = document text c.args.source.options names in
     let l = c.loop-behind in
     let e = l.invariant.same_end in
-    let p = place_at c.args.start_ix c.open_container.new.line_start in
-    let before = subst (λ (n : ℕ). ReadyAt d l.reading.tree l.reading.blank (Inside (place_at c.args.start_ix l.line_start)) (lines_from text n)) (sym e) (l.invariant.ready names ready) in
+    let p = c.open_container.new.place in
+    let before = subst (λ (n : ℕ). ReadyAt d l.reading.tree l.reading.blank (Inside l.place) (lines_from text n)) (sym e) (l.invariant.ready names ready) in
     let is : c.in_ok-behind.field-0 ≡ Some c.in-Some.behind = cc in
     subst (λ (n : ℕ). ReadyBehind d c.open_container.new.reading p n c.in-Some.behind) e
-    (subst (λ o. ReadyIn d c.open_container.new.reading p (line_end (place_at c.args.start_ix l.line_start)) o) is (c.in_ok-behind.ensures.ready names before))
+    (subst (λ o. ReadyIn d c.open_container.new.reading p (line_end l.place) o) is (c.in_ok-behind.ensures.ready names before))
 
 pub returns-in-Some-clause-few : goal.returns-in-Some-clause-few
 returns-in-Some-clause-few c =
     let l = c.loop-behind in
-    let line = c.args.start_ix in
     let first = c.args.reading.now.tree.nodes in
     let is : c.in_ok-behind.field-0 ≡ Some c.in-Some.behind = cc in
-    subst (GrowsIn c.args.source.text.now line first c.open_container.new.reading.tree.nodes (offset (place_at line c.open_container.new.line_start))) is (c.in_ok-behind.ensures.few first l.invariant.few)
+    let grows : GrowsIn c.args.source.text.now l.place.line first c.open_container.new.reading.tree.nodes (offset c.open_container.new.place) c.in_ok-behind.field-0 =
+    c.in_ok-behind.ensures.few first (subst (λ n. GrowsBy n (offset l.place) first l.reading.tree.nodes) (sym l.invariant.same_line) l.invariant.few) in
+    subst (λ n. GrowsIn c.args.source.text.now n first c.open_container.new.reading.tree.nodes (offset c.open_container.new.place) (Some c.in-Some.behind)) l.invariant.same_line
+    (subst (GrowsIn c.args.source.text.now l.place.line first c.open_container.new.reading.tree.nodes (offset c.open_container.new.place)) is grows)

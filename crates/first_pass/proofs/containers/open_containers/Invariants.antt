@@ -1,5 +1,5 @@
 use Rattle.std.proofs.Common.{◌≡◌, length, None, IsCharBoundary}
-use Rattle.first_pass_lines.specs.Places.{place_at, offset, line_end, IsPlaceOf}
+use Rattle.first_pass_lines.specs.Places.{offset, line_end, IsPlaceOf}
 use Rattle.first_pass_grammar.specs.Names.{Names}
 use Rattle.first_pass_grammar.specs.Leaves.{document}
 use Rattle.first_pass_grammar.specs.Skeleton.{Inside}
@@ -13,15 +13,16 @@ use Rattle.first_pass.proofs.containers.open_containers.Given as goal
 -- the containers are open that begin before this place
 abbrev pub invariant-loop-behind : goal.invariant-loop-behind
 invariant-loop-behind l = record {
-  place : IsPlaceOf l.source.text.now (place_at l.start_ix l.line_start);
-  same_end : line_end (place_at l.start_ix l.line_start) ≡ line_end (place_at l.start_ix l.fn.line_start);
+  place : IsPlaceOf l.source.text.now l.place;
+  same_line : l.place.line ≡ l.fn.place.line;
+  same_end : line_end l.place ≡ line_end l.fn.place;
   no_empty : l.reading.empty_item ≡ None;
-  ready : (names : Names) → ReadyAt (document l.source.text.now l.source.options names) l.initial.reading.tree l.initial.reading.blank (Inside (place_at l.start_ix l.fn.line_start)) (lines_from l.source.text.now (line_end (place_at l.start_ix l.fn.line_start)))
-      → ReadyAt (document l.source.text.now l.source.options names) l.reading.tree l.reading.blank (Inside (place_at l.start_ix l.line_start)) (lines_from l.source.text.now (line_end (place_at l.start_ix l.fn.line_start)));
-  order : IsCharBoundary l.source.text.now l.start_ix → IsOrderedTo l.source.text.now l.initial.reading.tree (line_or l.initial.reading.tree l.start_ix (offset (place_at l.start_ix l.fn.line_start)))
-      → IsOrderedTo l.source.text.now l.reading.tree (line_or l.reading.tree l.start_ix (offset (place_at l.start_ix l.line_start)));
-  few : GrowsBy l.start_ix (offset (place_at l.start_ix l.line_start)) l.initial.reading.tree.nodes l.reading.tree.nodes;
+  ready : (names : Names) → ReadyAt (document l.source.text.now l.source.options names) l.initial.reading.tree l.initial.reading.blank (Inside l.fn.place) (lines_from l.source.text.now (line_end l.fn.place))
+      → ReadyAt (document l.source.text.now l.source.options names) l.reading.tree l.reading.blank (Inside l.place) (lines_from l.source.text.now (line_end l.fn.place));
+  order : IsCharBoundary l.source.text.now l.fn.place.line → IsOrderedTo l.source.text.now l.initial.reading.tree (line_or l.initial.reading.tree l.fn.place.line (offset l.fn.place))
+      → IsOrderedTo l.source.text.now l.reading.tree (line_or l.reading.tree l.place.line (offset l.place));
+  few : GrowsBy l.fn.place.line (offset l.place) l.initial.reading.tree.nodes l.reading.tree.nodes;
 }
 
 abbrev pub decreases-loop-behind : goal.decreases-loop-behind
-decreases-loop-behind l = length l.line_start.left
+decreases-loop-behind l = length l.place.rest.left
