@@ -3,7 +3,9 @@ pub mod CountLemmas
 pub mod EnterLemmas
 pub mod FinishLemmas
 pub mod KindBlocks
+pub mod LeafAdded
 pub mod LeafLemmas
+pub mod LeafRead
 pub mod LineLemmas
 pub mod ListLemmas
 pub mod OpenLemmas

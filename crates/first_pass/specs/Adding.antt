@@ -1,9 +1,9 @@
 -- What is said of a leaf block that is added at a place (private functions alone cite this).
-use Rattle.std.specs.Prelude.{◌≡◌, ℕ, Bool, List, if◌then◌else◌, nat_lt}
+use Rattle.std.specs.Prelude.{◌≡◌, ℕ, ◌≤◌, Bool, List, if◌then◌else◌, nat_lt, IsCharBoundary}
 use Rattle.first_pass_items.specs.declared.option_set.Options.{Options}
 use Rattle.first_pass_items.specs.declared.item.Item.{Item}
 use Rattle.first_pass_tree.specs.Forest.{Forest, added}
-use Rattle.first_pass_lines.specs.Places.{Place, line_end}
+use Rattle.first_pass_lines.specs.Places.{Place, offset, line_end}
 use Rattle.first_pass_grammar.specs.Kinds.{Kind}
 use Rattle.first_pass_grammar.specs.Names.{Names, Extends}
 use Rattle.first_pass_grammar.specs.Leaves.{document}
@@ -11,8 +11,12 @@ use Rattle.first_pass_grammar.specs.Skeleton.{leaf_block, Line, OpensLeaf, Opens
 use Rattle.first_pass_grammar.specs.Completion.{lines_from}
 use Rattle.first_pass_open.specs.Path.{path_of}
 use Rattle.first_pass_text.specs.Appends.{line_end_at}
+use Rattle.first_pass_text.specs.Between.{AddsBetween}
+use Rattle.first_pass_names.specs.TableEntries.{tables, names_of}
 use Rattle.first_pass_lists.specs.Closing.{blank_read}
 use Rattle.first_pass_lists.specs.declared.reading.Reading.{Reading}
+use Rattle.first_pass.specs.declared.state.FirstPass.{FirstPass}
+use Rattle.first_pass.specs.Views.{allocs_of, reading_of, source_of, source_options, source_text, tree_of}
 
 -- A leaf block of a kind, which begins at a place, is a last child of the innermost open node, whatever more is named: with this end of a list before it,
 -- with or without blank lines at its end, and the lines from an offset on left.
@@ -20,6 +24,18 @@ pub record AddsKind (text : List ℕ) (options : Options) (names : Names) (p : P
   pub items : List (ℕ × Item)
   pub tree_is : new ≡ added old items
   pub opens : (more : Names) → Extends more names → OpensAs (document text options more) (path_of old) p (lines_from text (line_end p)) kind (OpensLeaf (leaf_block kind p items gap) Line (lines_from text next))
+
+-- A pass added such a block: it reads the same text, what was named keeps its name, no table changed, nor an empty item. The nodes of the block lie behind
+-- any offset before the place, and reading goes on at an offset behind the line of the place, between characters.
+pub record AddsLeaf (old new : FirstPass) (p : Place) (kind : Kind) (next : ℕ) : Type 0 where
+  pub source : source_of new ≡ source_of old
+  pub names : Extends (names_of (allocs_of new)) (names_of (allocs_of old))
+  pub tables : tables (allocs_of new) ≡ tables (allocs_of old)
+  pub empty_item : (reading_of new).empty_item ≡ (reading_of old).empty_item
+  pub block : AddsKind (source_text old) (source_options old) (names_of (allocs_of new)) p kind (reading_of new).blank (tree_of old) (tree_of new) next
+  pub later : line_end p ≤ next
+  pub boundary : IsCharBoundary (source_text old) next
+  pub fits : (from : ℕ) → from ≤ offset p → AddsBetween (source_text old) from next (tree_of old) (tree_of new)
 
 -- a blank line is read too that begins before an offset, where one does
 abbrev pub behind_blank : List ℕ → ℕ → ℕ → ℕ

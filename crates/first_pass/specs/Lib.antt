@@ -1,5 +1,6 @@
 pub mod Adding
 pub mod Opening
 pub mod Ordered
+pub mod Progress
 pub mod State
 pub mod Views

@@ -17,12 +17,13 @@ ghost use Rattle.first_pass_grammar.specs.Skeleton.{Inside, Line};
 ghost use Rattle.first_pass_tree.specs.Forest.{is_text};
 ghost use Rattle.first_pass_grammar.specs.Kinds.{item_at};
 ghost use Rattle.first_pass_text.specs.declared.kinds.Found.TheVariants.{Marked};
-ghost use Rattle.first_pass.specs.Adding.{AddsKind};
-ghost use Rattle.first_pass.specs.Opening.{ReadyText, ReadyTagged, ReadyLeaf, line_or, OrderedText};
+ghost use Rattle.first_pass.specs.Adding.{AddsLeaf};
+ghost use Rattle.first_pass.specs.Opening.{ReadyText, ReadyTagged, OrderedText};
 ghost use Rattle.first_pass_lists.specs.Closing.{with_tree};
 ghost use Rattle.first_pass.specs.Ordered.{IsOrderedAt};
+ghost use Rattle.first_pass.specs.Progress.{ReadsLeaf, WentOn};
 ghost use Rattle.first_pass_text.specs.Found.{IsFoundAt, marked_kind};
-ghost use Rattle.first_pass_text.specs.Between.{AddsBetween, StandsBefore};
+ghost use Rattle.first_pass_text.specs.Between.{StandsBefore};
 ghost use Rattle.first_pass_grammar.specs.Order.{IsOrdered, GrowsBy};
 ghost use Rattle.first_pass_grammar.specs.OpenOrder.{IsOrderedTo, is_in_item};
 ghost use Rattle.first_pass.specs.State.{Ready, ReadyAt};
@@ -145,18 +146,10 @@ impl<'a> FirstPass<'a> {
     fn parse_tagged(&mut self, start: usize) -> Result<usize, AllocError>
         requires boundary { IsCharBoundary (source_text self.old) start }
         requires no_empty { (reading_of self.old).empty_item ≡ None }
-        ensures source { OnOk result (source_of self.new ≡ source_of self.old) }
-        ensures names { OnOk result (Extends (names_of (allocs_of self.new)) (names_of (allocs_of self.old))) }
-        ensures tables { OnOk result (tables (allocs_of self.new) ≡ tables (allocs_of self.old)) }
-        ensures later { IfOk result (λ next. start ≤ next) }
-        ensures boundary { IfOk result (λ next. IsCharBoundary (source_text self.old) next) }
-        ensures ready { IfOk result (λ next. (names : Names) → Extends names (names_of (allocs_of self.new))
-            → ReadyTagged (document (source_text self.old) (source_options self.old) names) (reading_of self.old)
-            (lines_from (source_text self.old) start)
-            → Ready (document (source_text self.old) (source_options self.old) names) (reading_of self.new)
-            (lines_from (source_text self.old) next)) }
-        ensures order { IfOk result (λ next. IsOrderedTo (source_text self.old) (tree_of self.old) start
-            → IsOrderedAt (source_text self.old) (reading_of self.new) next) }
+        ensures read { IfOk result (λ next. WentOn self.old self.new start (λ names.
+            ReadyTagged (document (source_text self.old) (source_options self.old) names) (reading_of self.old)
+            (lines_from (source_text self.old) start))
+            (IsOrderedTo (source_text self.old) (tree_of self.old) start) next) }
         ensures few { IfOk result (λ next. GrowsBy start next (tree_of self.old).nodes
             (tree_of self.new).nodes) }
     {
@@ -176,19 +169,10 @@ impl<'a> FirstPass<'a> {
         requires marker { is_text marker.body ≡ false }
         requires item { is_in_item (tree_of self.old) ≡ true }
         requires no_empty { (reading_of self.old).empty_item ≡ None }
-        ensures source { OnOk result (source_of self.new ≡ source_of self.old) }
-        ensures allocs { OnOk result (allocs_of self.new ≡ allocs_of self.old) }
-        ensures later { IfOk result (λ next. line_end place.entry ≤ next) }
-        ensures boundary { IfOk result (λ next. IsCharBoundary (source_text self.old) next) }
-        ensures ready { IfOk result (λ next. (names : Names)
-            → ReadyText (document (source_text self.old) (source_options self.old) names) (reading_of self.old) marker
-            place.entry (lines_from (source_text self.old)
-            (line_end place.entry))
-            → Ready (document (source_text self.old) (source_options self.old) names) (reading_of self.new)
-            (lines_from (source_text self.old) next)) }
-        ensures order { IfOk result (λ next. OrderedText (source_text self.old) (tree_of self.old) marker
-            (offset place.entry)
-            → IsOrderedAt (source_text self.old) (reading_of self.new) next) }
+        ensures read { IfOk result (λ next. WentOn self.old self.new (line_end place.entry) (λ names.
+            ReadyText (document (source_text self.old) (source_options self.old) names) (reading_of self.old) marker
+            place.entry (lines_from (source_text self.old) (line_end place.entry)))
+            (OrderedText (source_text self.old) (tree_of self.old) marker (offset place.entry)) next) }
         ensures few { IfOk result (λ next. (from : ℕ) → StandsBefore (source_text self.old) from
             (offset place.entry) (Some marker) → from < next
             → GrowsBy from next (tree_of self.old).nodes (tree_of self.new).nodes) }
@@ -206,22 +190,9 @@ impl<'a> FirstPass<'a> {
         requires utf8 { IsUtf8 (source_text self.old) }
         requires place { IsPlaceOf (source_text self.old) place }
         requires no_empty { (reading_of self.old).empty_item ≡ None }
-        ensures source { OnOk result (source_of self.new ≡ source_of self.old) }
-        ensures names { OnOk result (Extends (names_of (allocs_of self.new)) (names_of (allocs_of self.old))) }
-        ensures tables { OnOk result (tables (allocs_of self.new) ≡ tables (allocs_of self.old)) }
-        ensures later { IfOk result (λ next. line_end place.entry ≤ next) }
-        ensures boundary { IfOk result (λ next. IsCharBoundary (source_text self.old) next) }
-        ensures ready { IfOk result (λ next. (names : Names) → Extends names (names_of (allocs_of self.new)) →
-            ReadyLeaf (document (source_text self.old) (source_options self.old) names) (reading_of self.old)
-            place.entry (lines_from (source_text self.old) (line_end place.entry))
-            → Ready (document (source_text self.old) (source_options self.old) names) (reading_of self.new)
-            (lines_from (source_text self.old) next)) }
-        ensures order { IfOk result (λ next. IsCharBoundary (source_text self.old) place.entry.line
-            → IsOrderedTo (source_text self.old) (tree_of self.old) (line_or (tree_of self.old) place.entry.line
-            (offset place.entry))
-            → IsOrderedAt (source_text self.old) (reading_of self.new) next) }
-        ensures few { IfOk result (λ next. GrowsBy (offset place.entry) next
-            (tree_of self.old).nodes (tree_of self.new).nodes) }
+        ensures read { IfOk result (λ next. ReadsLeaf self.old self.new place.entry next) }
+        ensures few { IfOk result (λ next. GrowsBy (offset place.entry) next (tree_of self.old).nodes
+            (tree_of self.new).nodes) }
     {
         self.source.is_short();
         let mut behind = place.copy();
@@ -244,22 +215,9 @@ impl<'a> FirstPass<'a> {
         requires place { IsPlaceOf (source_text self.old) place }
         requires no_empty { (reading_of self.old).empty_item ≡ None }
         requires found { IsFoundAt (source_options self.old) place found columns at }
-        ensures source { OnOk result (source_of self.new ≡ source_of self.old) }
-        ensures names { OnOk result (Extends (names_of (allocs_of self.new)) (names_of (allocs_of self.old))) }
-        ensures tables { OnOk result (tables (allocs_of self.new) ≡ tables (allocs_of self.old)) }
-        ensures later { IfOk result (λ next. line_end place.entry ≤ next) }
-        ensures boundary { IfOk result (λ next. IsCharBoundary (source_text self.old) next) }
-        ensures ready { IfOk result (λ next. (names : Names) → Extends names (names_of (allocs_of self.new)) →
-            ReadyLeaf (document (source_text self.old) (source_options self.old) names) (reading_of self.old)
-            place.entry (lines_from (source_text self.old) (line_end place.entry))
-            → Ready (document (source_text self.old) (source_options self.old) names) (reading_of self.new)
-            (lines_from (source_text self.old) next)) }
-        ensures order { IfOk result (λ next. IsCharBoundary (source_text self.old) place.entry.line
-            → IsOrderedTo (source_text self.old) (tree_of self.old) (line_or (tree_of self.old) place.entry.line
-            (offset place.entry))
-            → IsOrderedAt (source_text self.old) (reading_of self.new) next) }
-        ensures few { IfOk result (λ next. GrowsBy (offset place.entry) next
-            (tree_of self.old).nodes (tree_of self.new).nodes) }
+        ensures read { IfOk result (λ next. ReadsLeaf self.old self.new place.entry next) }
+        ensures few { IfOk result (λ next. GrowsBy (offset place.entry) next (tree_of self.old).nodes
+            (tree_of self.new).nodes) }
     {
         self.reading.tree.is_forest();
         match found {
@@ -298,17 +256,7 @@ impl<'a> FirstPass<'a> {
         requires place { IsPlaceOf (source_text self.old) place }
         requires found { IsFoundAt (source_options self.old) place (Marked leaf) columns at }
         requires not_blank { (reading_of self.old).blank ≡ false }
-        ensures source { OnOk result (source_of self.new ≡ source_of self.old) }
-        ensures empty_item { OnOk result ((reading_of self.new).empty_item ≡ (reading_of self.old).empty_item) }
-        ensures names { OnOk result (Extends (names_of (allocs_of self.new)) (names_of (allocs_of self.old))) }
-        ensures tables { OnOk result (tables (allocs_of self.new) ≡ tables (allocs_of self.old)) }
-        ensures block { IfOk result (λ next. AddsKind (source_text self.old) (source_options self.old)
-            (names_of (allocs_of self.new)) place.entry (marked_kind leaf)
-            (reading_of self.new).blank (tree_of self.old) (tree_of self.new) next) }
-        ensures boundary { IfOk result (λ next. (line_end place.entry ≤ next)
-            × IsCharBoundary (source_text self.old) next) }
-        ensures fits { IfOk result (λ next. (from : ℕ) → from ≤ offset place.entry
-            → AddsBetween (source_text self.old) from next (tree_of self.old) (tree_of self.new)) }
+        ensures { IfOk result (λ next. AddsLeaf self.old self.new place.entry (marked_kind leaf) next) }
     {
         match leaf {
             MarkedLeaf::IndentedCode => {

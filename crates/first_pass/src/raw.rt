@@ -13,7 +13,7 @@ ghost use Rattle.first_pass_grammar.specs.HtmlBlocks.{IsHtml};
 ghost use Rattle.first_pass_open.specs.Path.{path_of};
 ghost use Rattle.first_pass_names.specs.TableEntries.{tables, names_of};
 ghost use Rattle.first_pass_raw.specs.RawBlocks.{AppendsRaw, IsPlaceAt, AddsIndented, AddsRaw, behind_line_at, fenced_behind, metadata_behind, html_to_end, html_to_blank};
-ghost use Rattle.first_pass.specs.Adding.{AddsKind, behind_blank, with_blank};
+ghost use Rattle.first_pass.specs.Adding.{AddsLeaf, behind_blank, with_blank};
 ghost use Rattle.first_pass_lists.specs.Closing.{with_tree};
 ghost use Rattle.first_pass_text.specs.Between.{AddsBetween};
 ghost use Rattle.first_pass.specs.Views.{allocs_of, reading_of, source_of, source_options, source_text, tree_of};
@@ -130,17 +130,7 @@ impl<'a> FirstPass<'a> {
         requires utf8 { IsUtf8 (source_text self.old) }
         requires place { IsPlaceOf (source_text self.old) place }
         requires code { (is_blank_rest place.rest ≡ false) × (nat_lt (indent place.rest) 4 ≡ false) }
-        ensures source { OnOk result (source_of self.new ≡ source_of self.old) }
-        ensures empty_item { OnOk result ((reading_of self.new).empty_item ≡ (reading_of self.old).empty_item) }
-        ensures names { OnOk result (Extends (names_of (allocs_of self.new)) (names_of (allocs_of self.old))) }
-        ensures tables { OnOk result (tables (allocs_of self.new) ≡ tables (allocs_of self.old)) }
-        ensures block { IfOk result (λ next. AddsKind (source_text self.old) (source_options self.old)
-            (names_of (allocs_of self.new)) place.entry IndentedCode (reading_of self.new).blank
-            (tree_of self.old) (tree_of self.new) next) }
-        ensures boundary { IfOk result (λ next. (line_end place.entry ≤ next)
-            × IsCharBoundary (source_text self.old) next) }
-        ensures fits { IfOk result (λ next. (from : ℕ) → from ≤ offset place.entry
-            → AddsBetween (source_text self.old) from next (tree_of self.old) (tree_of self.new)) }
+        ensures { IfOk result (λ next. AddsLeaf self.old self.new place.entry IndentedCode next) }
     {
         self.source.is_short();
         let mut place = place;

@@ -18,8 +18,8 @@ returns-in_ok-next-in-Leaf-clause-later c =
     let within = line_len-within c.args.self.now.source.text.now c.args.start_ix c.requires.within in
     let some = within.0 in
     let e = c.in_ok-open_containers.ensures.same_end ∙ c.in-Some.ensures.same_end in
-    let later = c.in_ok-next-in-Leaf.ensures.later in
-    let fits = c.in_ok-next-in-Leaf.ensures.boundary.0 in
+    let later = c.in_ok-next-in-Leaf.ensures.read.later in
+    let fits = c.in_ok-next-in-Leaf.ensures.read.boundary.0 in
     (omega arith, omega arith)
 
 pub returns-in_ok-next-in-TaskText-clause-later : goal.returns-in_ok-next-in-TaskText-clause-later
@@ -27,8 +27,8 @@ returns-in_ok-next-in-TaskText-clause-later c =
     let within = line_len-within c.args.self.now.source.text.now c.args.start_ix c.requires.within in
     let some = within.0 in
     let e = c.in_ok-open_containers.ensures.same_end ∙ c.in-Some.ensures.same_end in
-    let later = c.in_ok-next-in-TaskText.ensures.later in
-    let fits = c.in_ok-next-in-TaskText.ensures.boundary.0 in
+    let later = c.in_ok-next-in-TaskText.ensures.read.later in
+    let fits = c.in_ok-next-in-TaskText.ensures.read.boundary.0 in
     (omega arith, omega arith)
 
 -- the line ends behind the empty item
@@ -62,8 +62,8 @@ returns-in_ok-next-in-Tag-clause-later c =
     let some = within.0 in
     let behind = subst (λ o. IsBehind o c.open_containers.new.reading c.open_containers.new.place.rest (line_end c.in-Some.place)) c.in-Tag.is c.in_ok-open_containers.ensures.behind in
     let e = behind.0 ∙ c.in-Some.ensures.same_end in
-    let later = c.in_ok-next-in-Tag.ensures.later in
-    let fits = c.in_ok-next-in-Tag.ensures.boundary.0 in
+    let later = c.in_ok-next-in-Tag.ensures.read.later in
+    let fits = c.in_ok-next-in-Tag.ensures.read.boundary.0 in
     (omega arith, omega arith)
 
 pub returns-in_ok-next-in-Leaf-clause-order : goal.returns-in_ok-next-in-Leaf-clause-order
@@ -73,8 +73,10 @@ returns-in_ok-next-in-Leaf-clause-order c =
     let q : Place = c.open_containers.new.place in
     let line = c.in_ok-open_containers.ensures.same_line ∙ c.in-Some.ensures.same_line in
     λ ordered. let o = ordered_at_place text c.enter_line.new.reading.tree c.args.start_ix p c.in-Some.ensures.same_line c.requires.boundary c.in-Some.ensures.place (c.in-Some.ensures.order ordered) in
-    c.in_ok-next-in-Leaf.ensures.order (subst (IsCharBoundary text) (sym line) c.requires.boundary)
-    (subst (OrderedBehind text c.open_containers.new.reading q.line (offset q)) c.in-Leaf.is (c.in_ok-open_containers.ensures.order o.0 o.1))
+    c.in_ok-next-in-Leaf.ensures.read.order (
+      subst (IsCharBoundary text) (sym line) c.requires.boundary,
+      subst (OrderedBehind text c.open_containers.new.reading q.line (offset q)) c.in-Leaf.is (c.in_ok-open_containers.ensures.order o.0 o.1),
+    )
 
 pub returns-in_ok-next-in-TaskText-clause-order : goal.returns-in_ok-next-in-TaskText-clause-order
 returns-in_ok-next-in-TaskText-clause-order c =
@@ -82,7 +84,7 @@ returns-in_ok-next-in-TaskText-clause-order c =
     let p : Place = c.in-Some.place in
     let q : Place = c.open_containers.new.place in
     λ ordered. let o = ordered_at_place text c.enter_line.new.reading.tree c.args.start_ix p c.in-Some.ensures.same_line c.requires.boundary c.in-Some.ensures.place (c.in-Some.ensures.order ordered) in
-    c.in_ok-next-in-TaskText.ensures.order (subst (OrderedBehind text c.open_containers.new.reading q.line (offset q)) c.in-TaskText.is (c.in_ok-open_containers.ensures.order o.0 o.1))
+    c.in_ok-next-in-TaskText.ensures.read.order (subst (OrderedBehind text c.open_containers.new.reading q.line (offset q)) c.in-TaskText.is (c.in_ok-open_containers.ensures.order o.0 o.1))
 
 pub returns-in-NextLine-clause-order : goal.returns-in-NextLine-clause-order
 returns-in-NextLine-clause-order c =
@@ -98,7 +100,7 @@ returns-in_ok-next-in-Tag-clause-order c =
     let p : Place = c.in-Some.place in
     let q : Place = c.open_containers.new.place in
     λ ordered. let o = ordered_at_place text c.enter_line.new.reading.tree c.args.start_ix p c.in-Some.ensures.same_line c.requires.boundary c.in-Some.ensures.place (c.in-Some.ensures.order ordered) in
-    c.in_ok-next-in-Tag.ensures.order (subst (OrderedBehind text c.open_containers.new.reading q.line (offset q)) c.in-Tag.is (c.in_ok-open_containers.ensures.order o.0 o.1))
+    c.in_ok-next-in-Tag.ensures.read.order (subst (OrderedBehind text c.open_containers.new.reading q.line (offset q)) c.in-Tag.is (c.in_ok-open_containers.ensures.order o.0 o.1))
 
 pub returns-in_ok-next-in-TaskText-clause-few : goal.returns-in_ok-next-in-TaskText-clause-few
 returns-in_ok-next-in-TaskText-clause-few c =
@@ -111,7 +113,7 @@ returns-in_ok-next-in-TaskText-clause-few c =
     let opened = c.open_containers.new.reading.tree.nodes in
     let g : GrowsText text c.in-Some.place.line before opened marker (offset p) = subst (GrowsBehind text c.in-Some.place.line before opened (offset p)) c.in-TaskText.is c.in_ok-open_containers.ensures.few in
     let none = c.enter_line.ensures.none_added in
-    let later = c.in_ok-next-in-TaskText.ensures.later in
+    let later = c.in_ok-next-in-TaskText.ensures.read.later in
     let here = place_before_end p in
     let low = g.order in
     let high = g.before in

@@ -31,32 +31,28 @@ parse_indented_code_block-requires-clause-code c =
     let e = read_to (after_columns 4) _ c.args.place _ _ c.offset.ensures c.scan_space_upto.ensures.rest c.place.view_is in
     ap (λ n. is_blank_line (drop n text)) e ∙ ap is_blank_line (sym i.left) ∙ blank_columns 4 c.args.place.rest ∙ c.requires.code.0
 
-pub returns-clause-block : goal.returns-clause-block
-returns-clause-block c =
-    let text = c.args.self.now.source.text.now in
+pub returns : goal.returns
+returns c =
+    let self = c.args.self.now in
+    let text = self.source.text.now in
     let p = c.args.place in
+    let q : Place = moved_columns 4 p in
+    let new = c.parse_indented_code_block.new.self in
+    let e = c.in_ok-next.ensures in
     let i = columns_keep text 4 p c.requires.utf8 c.requires.place in
     let there = read_to (after_columns 4) _ p _ _ c.offset.ensures c.scan_space_upto.ensures.rest c.place.view_is in
     let owed = c.remaining_space-owed.ensures.value ∙ ap (λ (r : Rest). r.owed) c.scan_space_upto.ensures.rest ∙ ap (λ (z : Place). (after_columns 4 z.rest).owed) c.place.view_is in
-    code_added text c.args.self.now.source.options _ p c.args.self.now.reading.tree c.parse_indented_code_block.new.self.reading.tree c.in_ok-next.next _ i
-    (c.in_ok-next.ensures.block (moved_columns 4 p) (record { offset_is = sym there; left_is = i.left ∙ ap (λ n. drop n text) (sym there) }) (sym owed))
-
-pub returns-clause-boundary : goal.returns-clause-boundary
-returns-clause-boundary c =
-    let text = c.args.self.now.source.text.now in
-    let p = c.args.place in
-    let i = columns_keep text 4 p c.requires.utf8 c.requires.place in
-    let e = read_to (after_columns 4) _ p _ _ c.offset.ensures c.scan_space_upto.ensures.rest c.place.view_is in
-    let ends = ap (behind_line_at text) e ∙ ap (λ bs. offset (moved_columns 4 p) + line_len bs) (sym i.left) ∙ columns_line_end 4 p in
-    let b = c.in_ok-next.ensures.boundary in
-    let later = b.0 in
-    (omega arith, b.1)
-
-pub returns-clause-fits : goal.returns-clause-fits
-returns-clause-fits c =
-    let text = c.args.self.now.source.text.now in
-    let p = c.args.place in
-    let i = columns_keep text 4 p c.requires.utf8 c.requires.place in
-    let e = read_to (after_columns 4) _ p _ _ c.offset.ensures c.scan_space_upto.ensures.rest c.place.view_is in
-    let later = offset_later text p.line p.rest _ c.requires.place i (columns_shorter 4 p.rest) in
-    λ from low. c.in_ok-next.ensures.fits from (omega arith)
+    let ends = ap (behind_line_at text) there ∙ ap (λ bs. offset q + line_len bs) (sym i.left) ∙ columns_line_end 4 p in
+    let low = offset_later text p.line p.rest q.rest c.requires.place i (columns_shorter 4 p.rest) in
+    let later = e.boundary.0 in
+    record {
+      source = e.source;
+      names = e.names;
+      tables = e.tables;
+      empty_item = e.empty_item;
+      block = code_added text self.source.options _ p self.reading.tree new.reading.tree c.in_ok-next.next _ i
+          (e.block q (record { offset_is = sym there; left_is = i.left ∙ ap (λ n. drop n text) (sym there) }) (sym owed));
+      later = omega arith;
+      boundary = e.boundary.1;
+      fits = λ from before. e.fits from (omega arith);
+    }

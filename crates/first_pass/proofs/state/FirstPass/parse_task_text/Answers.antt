@@ -1,4 +1,4 @@
-use Rattle.std.proofs.Common.{Some, refl, IsCharBoundary, sym, ap, subst, ◌∙◌, arith}
+use Rattle.std.proofs.Common.{ℕ, Some, refl, IsCharBoundary, sym, ap, subst, ◌∙◌, arith}
 use Rattle.first_pass_lists.specs.Closing.{remembered}
 use Rattle.first_pass_grammar.specs.Kinds.{all_taken}
 use Rattle.first_pass_grammar.specs.Leaves.{document}
@@ -9,7 +9,10 @@ use Rattle.first_pass.specs.State.{Ready}
 use Rattle.first_pass_open.proofs.PlaceLemmas.{all_keep, read_to}
 use Rattle.first_pass.proofs.CountLemmas.{block_count}
 use Rattle.first_pass.proofs.OrderSteps.{ordered_block, unindented_later}
-use Rattle.first_pass_names.specs.TableEntries.{no_names}
+use Rattle.first_pass_lines.specs.Places.{offset}
+use Rattle.first_pass_text.specs.Between.{AddsBetween, StandsBefore}
+use Rattle.first_pass_names.specs.TableEntries.{tables, names_of, no_names}
+use Rattle.first_pass_names.proofs.NameLemmas.{extends_equal}
 use Rattle.first_pass.proofs.KindBlocks.{paragraph_named}
 use Rattle.first_pass.proofs.LeafLemmas.{line_end_of, ready_text}
 use Rattle.first_pass.proofs.state.FirstPass.parse_task_text.Goals as goal
@@ -28,53 +31,38 @@ parse_paragraph-requires-clause-boundary c =
     let e = read_to all_taken _ c.args.place _ _ c.offset.ensures c.scan_indentation.ensures.rest c.place.view_is in
     subst (IsCharBoundary text) (sym e) i.boundary
 
-pub returns-clause-later : goal.returns-clause-later
-returns-clause-later c =
-    let text = c.args.self.now.source.text.now in
-    let i = all_keep text c.args.place.line c.args.place.rest c.requires.utf8 c.requires.place in
-    let e = read_to all_taken _ c.args.place _ _ c.offset.ensures c.scan_indentation.ensures.rest c.place.view_is in
-    let f = ap (line_end_at text) e ∙ line_end_of text c.args.place i in
-    let later = c.in_ok-next.ensures.block.later in
-    omega arith
-
-pub returns-clause-ready : goal.returns-clause-ready
-returns-clause-ready c = λ names.
+pub returns : goal.returns
+returns c =
     let self = c.args.self.now in
-    let d = document self.source.text.now self.source.options names in
+    let text = self.source.text.now in
+    let options = self.source.options in
     let p = c.args.place in
     let at = c.offset.result in
     let old : Reading = self.reading in
-    let i = all_keep self.source.text.now c.args.place.line c.args.place.rest c.requires.utf8 c.requires.place in
-    let e = read_to all_taken _ c.args.place _ _ c.offset.ensures c.scan_indentation.ensures.rest c.place.view_is in
     let new = c.parse_paragraph.new.self in
     let next = c.in_ok-next.next in
-    λ ready. subst (λ o. Ready d (remembered new.reading.tree o new.reading.blank) (lines_from self.source.text.now next)) (sym (ap (λ (r : Reading). r.empty_item) c.in_ok-next.ensures.reading))
-    (subst (λ b. Ready d (remembered new.reading.tree self.reading.empty_item b) (lines_from self.source.text.now next)) (sym (ap (λ (r : Reading). r.blank) c.in_ok-next.ensures.reading))
-    (ready_text d old new.reading.tree p at next c.args.marker e i (paragraph_named self.source.text.now self.source.options no_names names at (Some c.args.marker) self.reading.tree new.reading.tree next c.in_ok-next.ensures.block) c.requires.no_empty ready))
-
-pub returns-clause-order : goal.returns-clause-order
-returns-clause-order c =
-    let self = c.args.self.now in
-    let text = self.source.text.now in
-    let p = c.args.place in
-    let at = c.offset.result in
-    let next = c.in_ok-next.next in
-    let e = read_to all_taken _ c.args.place _ _ c.offset.ensures c.scan_indentation.ensures.rest c.place.view_is in
-    let later = unindented_later text c.args.place.line c.args.place.rest c.requires.utf8 c.requires.place in
-    let new = c.parse_paragraph.new.self in
-    λ o. let b = o.stands.1 in
-    let before = b.before in
-    ordered_block text self.reading.tree new.reading o.from next
-    (c.in_ok-next.ensures.fits c.requires.item o.from (o.stands.0, record { behind = b.behind; order = b.order; before = omega arith; starts = b.starts; ends = b.ends })) c.in_ok-next.ensures.block.boundary.0 ((ap (λ (r : Reading). r.empty_item) c.in_ok-next.ensures.reading) ∙ c.requires.no_empty) o.ordered
-
-pub returns-clause-few : goal.returns-clause-few
-returns-clause-few c = λ from stands apart.
-    let self = c.args.self.now in
-    let text = self.source.text.now in
-    let e = read_to all_taken _ c.args.place _ _ c.offset.ensures c.scan_indentation.ensures.rest c.place.view_is in
-    let later = unindented_later text c.args.place.line c.args.place.rest c.requires.utf8 c.requires.place in
-    let new = c.parse_paragraph.new.self in
-    let b = stands.1 in
-    let before = b.before in
-    block_count text from c.in_ok-next.next self.reading.tree new.reading.tree
-    (c.in_ok-next.ensures.fits c.requires.item from (stands.0, record { behind = b.behind; order = b.order; before = omega arith; starts = b.starts; ends = b.ends })) apart
+    let e = c.in_ok-next.ensures in
+    let i = all_keep text p.line p.rest c.requires.utf8 c.requires.place in
+    let there = read_to all_taken _ p _ _ c.offset.ensures c.scan_indentation.ensures.rest c.place.view_is in
+    let low = unindented_later text p.line p.rest c.requires.utf8 c.requires.place in
+    let ends = ap (line_end_at text) there ∙ line_end_of text p i in
+    let later = e.block.later in
+    let none = ap (λ (r : Reading). r.empty_item) e.reading in
+    let fits : (from : ℕ) → StandsBefore text from (offset p) (Some c.args.marker) → AddsBetween text from next self.reading.tree new.reading.tree =
+    λ from stands. let b = stands.1 in let before = b.before in
+    e.fits from (stands.0, record { behind = b.behind; order = b.order; before = omega arith; starts = b.starts; ends = b.ends }) in
+    record {
+      read = record {
+        source = e.source;
+        names = extends_equal _ _ (ap names_of e.allocs);
+        tables = ap tables e.allocs;
+        later = omega arith;
+        boundary = e.block.boundary;
+        ready = λ names more ready. let d = document text options names in
+            subst (λ o. Ready d (remembered new.reading.tree o new.reading.blank) (lines_from text next)) (sym none)
+            (subst (λ b. Ready d (remembered new.reading.tree self.reading.empty_item b) (lines_from text next)) (sym (ap (λ (r : Reading). r.blank) e.reading))
+            (ready_text d old new.reading.tree p at next c.args.marker there i (paragraph_named text options no_names names at (Some c.args.marker) self.reading.tree new.reading.tree next e.block) c.requires.no_empty ready));
+        order = λ o. ordered_block text self.reading.tree new.reading o.from next (fits o.from o.stands) e.block.boundary.0 (none ∙ c.requires.no_empty) o.ordered;
+      };
+      few = λ from stands apart. block_count text from next self.reading.tree new.reading.tree (fits from stands) apart;
+    }

@@ -1,0 +1,48 @@
+-- A pass read a leaf block, once it was added where a new block had ended what it ends.
+use Rattle.std.proofs.Common.{◌≡◌, inl, ℕ, None, refl, ◌∙◌, arith}
+use Rattle.first_pass_tree.specs.Forest.{IsForest}
+use Rattle.first_pass_lines.specs.Places.{Place, offset, IsPlaceOf}
+use Rattle.first_pass_grammar.specs.Kinds.{Kind, Blank, IsKind}
+use Rattle.first_pass_grammar.specs.Order.{GrowsBy}
+use Rattle.first_pass_names.specs.TableEntries.{names_of}
+use Rattle.first_pass_lists.specs.Closing.{list_finished}
+use Rattle.first_pass_lists.specs.declared.reading.Reading.{Reading}
+use Rattle.first_pass.specs.declared.state.FirstPass.{FirstPass}
+use Rattle.first_pass.specs.Views.{allocs_of, reading_of, source_options, source_text, tree_of}
+use Rattle.first_pass.specs.Adding.{AddsLeaf}
+use Rattle.first_pass.specs.Progress.{ReadsLeaf}
+use Rattle.first_pass.proofs.LineLemmas.{list_finished_none}
+use Rattle.first_pass.proofs.OrderSteps.{ordered_leaf}
+use Rattle.first_pass.proofs.KindBlocks.{ready_kind}
+use Rattle.first_pass.proofs.CountLemmas.{list_finished_count, block_count, leaf_left, left_before}
+
+-- What is said of a leaf block that was read: reading goes on behind it, and at most four nodes are new for each of its bytes.
+pub record IsLeafRead (old new : FirstPass) (p : Place) (next : ℕ) : Type 0 where
+  pub read : ReadsLeaf old new p next
+  pub few : GrowsBy (offset p) next (tree_of old).nodes (tree_of new).nodes
+
+-- a block that ends what the line's beginning ends
+pub leaf_read : (old new : FirstPass) (p : Place) (kind : Kind) (next : ℕ) → IsPlaceOf (source_text old) p → (reading_of old).empty_item ≡ None → IsForest (tree_of old) → IsKind (source_options old) p.rest kind → (kind ≡ Blank → ⊥)
+    → AddsLeaf (record old { reading = list_finished p.line (reading_of old) }) new p kind next → IsLeafRead old new p next
+leaf_read old new p kind next i empty forest is some e =
+    let text = source_text old in
+    let r : Reading = reading_of old in
+    let none = e.empty_item ∙ list_finished_none p.line r in
+    let later = e.later in
+    let before = left_before p (leaf_left (source_options old) p.rest kind is some) in
+    let fits = e.fits (offset p) (omega arith) in
+    let grows = block_count text (offset p) next (list_finished p.line r).tree (tree_of new) fits (omega arith) in
+    let same = list_finished_count p.line r in
+    record {
+      read = record {
+        source = e.source;
+        names = e.names;
+        tables = e.tables;
+        later = later;
+        boundary = e.boundary;
+        ready = λ more extends ready.
+            ready_kind text (source_options old) (names_of (allocs_of new)) more r (tree_of new) p kind (reading_of new).blank next forest is extends e.block empty ready (reading_of new).empty_item (reading_of new).blank none refl;
+        order = λ o. ordered_leaf text r (reading_of new) p.line (offset p) p.line (offset p) next (omega arith) (omega arith) (inl (refl, o.0)) i.within i.boundary empty o.1 fits e.boundary.0 none;
+      };
+      few = omega arith;
+    }
