@@ -1,8 +1,9 @@
 -- A pass read a leaf block, once it was added where a new block had ended what it ends.
-use Rattle.std.proofs.Common.{◌≡◌, inl, ℕ, None, refl, ◌∙◌, arith}
+use Rattle.std.proofs.Common.{◌≡◌, inl, ℕ, false, None, refl, ◌∙◌, arith}
 use Rattle.first_pass_tree.specs.Forest.{IsForest}
 use Rattle.first_pass_lines.specs.Places.{Place, offset, IsPlaceOf}
 use Rattle.first_pass_grammar.specs.Kinds.{Kind, Blank, IsKind}
+use Rattle.first_pass_grammar.specs.Rows.{is_paragraph}
 use Rattle.first_pass_grammar.specs.Order.{GrowsBy}
 use Rattle.first_pass_names.specs.TableEntries.{names_of}
 use Rattle.first_pass_lists.specs.Closing.{list_finished}
@@ -22,9 +23,9 @@ pub record IsLeafRead (old new : FirstPass) (p : Place) (next : ℕ) : Type 0 wh
   pub few : GrowsBy (offset p) next (tree_of old).nodes (tree_of new).nodes
 
 -- a block that ends what the line's beginning ends
-pub leaf_read : (old new : FirstPass) (p : Place) (kind : Kind) (next : ℕ) → IsPlaceOf (source_text old) p → (reading_of old).empty_item ≡ None → IsForest (tree_of old) → IsKind (source_options old) p.rest kind → (kind ≡ Blank → ⊥)
+pub leaf_read : (old new : FirstPass) (p : Place) (kind : Kind) (next : ℕ) → IsPlaceOf (source_text old) p → (reading_of old).empty_item ≡ None → IsForest (tree_of old) → IsKind (source_options old) p.rest kind → (kind ≡ Blank → ⊥) → is_paragraph kind ≡ false
     → AddsLeaf (record old { reading = list_finished p.line (reading_of old) }) new p kind next → IsLeafRead old new p next
-leaf_read old new p kind next i empty forest is some e =
+leaf_read old new p kind next i empty forest is some other e =
     let text = source_text old in
     let r : Reading = reading_of old in
     let none = e.empty_item ∙ list_finished_none p.line r in
@@ -41,7 +42,7 @@ leaf_read old new p kind next i empty forest is some e =
         later = later;
         boundary = e.boundary;
         ready = λ more extends ready.
-            ready_kind text (source_options old) (names_of (allocs_of new)) more r (tree_of new) p kind (reading_of new).blank next forest is extends e.block empty ready (reading_of new).empty_item (reading_of new).blank none refl;
+            ready_kind text (source_options old) (names_of (allocs_of new)) more r (tree_of new) p kind (reading_of new).blank next forest is other extends e.block empty ready (reading_of new).empty_item (reading_of new).blank none refl;
         order = λ o. ordered_leaf text r (reading_of new) p.line (offset p) p.line (offset p) next (omega arith) (omega arith) (inl (refl, o.0)) i.within i.boundary empty o.1 fits e.boundary.0 none;
       };
       few = omega arith;

@@ -65,6 +65,10 @@ pub finished_none : (r : Reading) → (item_finished r).empty_item ≡ None
 unfolding item_finished
 finished_none r = none_by r r.empty_item refl
 
+-- a place that is another, which stands in the text
+pub same_place : (text : List ℕ) (p q : Place) → p ≡ q → IsPlaceOf text q → IsPlaceOf text p
+same_place text p q same i = subst (IsPlaceOf text) (sym same) i
+
 -- the place in the line behind what it goes on with
 pub line_kept : (text bytes rest : List ℕ) (start kept : ℕ) (f : Forest Item) (line r : Rest) → IsUtf8 bytes → bytes ≡ text → rest ≡ drop start bytes → line ≡ line_rest rest → IsCharBoundary text start → after (path_in f.nodes (outer kept f.spine)) line ≡ Some r
     → IsPlaceOf text (place_at start r) × (line_end (place_at start r) ≡ start + line_len (drop start text))

@@ -1,5 +1,5 @@
 -- Order at each step of reading a line: containers opened, and what is behind them.
-use Rattle.std.proofs.Common.{◌≡◌, ◌⊎◌, inl, inr, ℕ, ◌+◌, ◌<◌, ◌≤◌, Bool, true, false, List, [], ◌∷◌, length, Option, Some, None, IsUtf8, IsCharBoundary, refl, sym, ap, subst, ◌∙◌, arith, length-append, if◌then◌else◌}
+use Rattle.std.proofs.Common.{◌≡◌, ◌⊎◌, inl, inr, ℕ, ◌+◌, ◌<◌, ◌≤◌, Bool, true, false, List, [], ◌∷◌, length, drop, Option, Some, None, IsUtf8, IsCharBoundary, refl, sym, ap, subst, ◌∙◌, arith, length-append, if◌then◌else◌}
 use Rattle.std.specs.Option.{option_map}
 use Rattle.first_pass_items.specs.declared.item.Item.{Item}
 use Rattle.first_pass_items.specs.declared.item.BlockQuoteKind.{BlockQuoteKind}
@@ -10,6 +10,8 @@ use Rattle.first_pass_items.specs.OptionWords.{has}
 use Rattle.first_pass_tree.specs.Forest.{Forest}
 use Rattle.first_pass_scan.specs.Markers.{task_of}
 use Rattle.first_pass_lines.specs.Rest.{Rest, indent, after_columns, past_quote}
+use Rattle.first_pass_lines.specs.Lines.{line_len}
+use Rattle.first_pass_lines.proofs.LineFacts.{line_len-within}
 use Rattle.first_pass_lines.specs.Places.{Place, place_at, offset, line_end, IsPlaceOf}
 use Rattle.first_pass_lines.proofs.PlaceFacts.{place_length, columns_keep, columns_shorter}
 use Rattle.first_pass_grammar.specs.declared.kind.Container.TheVariants.{BlockQuote}
@@ -21,7 +23,8 @@ use Rattle.first_pass_grammar.specs.OpenOrder.{IsOrderedTo}
 use Rattle.first_pass_open.specs.OpenBlock.{with_child}
 use Rattle.first_pass_lists.specs.Closing.{remembered, top_body, is_list, is_item, item_finished_by, item_finished, list_finished, begun, list_continued}
 use Rattle.first_pass_lists.specs.declared.reading.Reading.{Reading}
-use Rattle.first_pass.specs.Opening.{task_text, line_or, OrderedIn}
+use Rattle.first_pass.specs.Opening.{task_text, line_or, OrderedBehind, OrderedIn}
+use Rattle.first_pass.specs.declared.containers.Behind.{Behind}
 use Rattle.first_pass.specs.Ordered.{reached, IsOrderedAt}
 use Rattle.first_pass_text.specs.Between.{AddsBetween, StandsBefore}
 use Rattle.first_pass_open.proofs.PathLemmas.{get_front}
@@ -51,6 +54,21 @@ pub ordered_at_place : (text : List ℕ) (f : Forest Item) (start : ℕ) (p : Pl
 ordered_at_place text f start p line boundary i o =
     let within = i.within in
     (subst (IsCharBoundary text) (sym line) boundary, ordered_in_line text f p.line (offset p) (omega arith) within (subst (IsOrderedTo text f) (sym line) o))
+
+-- what is behind the containers is in order, where what is remembered at the line's beginning is
+pub ordered_entered : (text : List ℕ) (f : Forest Item) (r : Reading) (start : ℕ) (p q : Place) (b here : Behind) → p.line ≡ start → IsCharBoundary text start → IsPlaceOf text p
+    → (IsCharBoundary text p.line → IsOrderedTo text f (line_or f p.line (offset p)) → OrderedBehind text r q.line (offset q) b) → b ≡ here → IsOrderedTo text f start → OrderedBehind text r q.line (offset q) here
+ordered_entered text f r start p q b here line boundary i opens is o =
+    let a = ordered_at_place text f start p line boundary i o in
+    subst (OrderedBehind text r q.line (offset q)) is (opens a.0 a.1)
+
+-- an offset behind a line that begins before the text's end
+pub line_later : (text : List ℕ) (start far next : ℕ) → start < length text → far ≡ start + line_len (drop start text) → far ≤ next → IsCharBoundary text next → (start < next) × (next ≤ length text)
+line_later text start far next within ends later boundary =
+    let line = line_len-within text start within in
+    let some = line.0 in
+    let high = boundary.0 in
+    (omega arith, omega arith)
 
 or_below : (t : Bool) (line at : ℕ) → line ≤ at → (if t then line else at) ≤ at
 or_below true line at h = h

@@ -5,7 +5,7 @@ use Rattle.first_pass_items.specs.declared.item.ItemBody.TheVariants.{BlockQuote
 use Rattle.first_pass_tree.specs.Forest.{Forest}
 use Rattle.first_pass_lines.specs.Lines.{blank_len}
 use Rattle.first_pass_lines.specs.Rest.{Rest, after_columns}
-use Rattle.first_pass_lines.specs.Places.{Place, place_at, offset, line_end, start_of, IsPlaceOf}
+use Rattle.first_pass_lines.specs.Places.{Place, place_at, offset, line_end, start_of}
 use Rattle.first_pass_lines.proofs.PlaceFacts.{start_of-lines}
 use Rattle.first_pass_grammar.specs.declared.kind.Container.TheVariants.{BlockQuote}
 use Rattle.first_pass_grammar.specs.Containers.{prefix}
@@ -23,7 +23,7 @@ use Rattle.first_pass_grammar.specs.OpenOrder.{item_on_top, is_in_item, IsOrdere
 use Rattle.first_pass_open.specs.OpenBlock.{with_child}
 use Rattle.first_pass.specs.State.{Ready, ReadyAt}
 use Rattle.first_pass_open.proofs.PlaceLemmas.{item_keeps, item_shorter, behind_keeps, markers_keep, mark_is_no_text, quote_taken, prefix_keeps, quote_prefix_shorter, place_end, read_end}
-use Rattle.first_pass.proofs.LineLemmas.{list_finished_none, list_continued_none}
+use Rattle.first_pass.proofs.LineLemmas.{same_place, list_finished_none, list_continued_none}
 use Rattle.first_pass.proofs.OrderLemmas.{ordered_later}
 use Rattle.first_pass.proofs.CountLemmas.{count, item_count, quote_count, child_count, left_before, offset_before, mark_shorter, container_count}
 use Rattle.first_pass.proofs.OrderSteps.{offset_later, ordered_on, top_begun, ordered_item, ordered_quote, mark_stands, ordered_container, ordered_empty_item, quote_stands, place_before_end}
@@ -33,7 +33,7 @@ use Rattle.first_pass.proofs.containers.open_container.Goals as goal
 pub scan_task-marker-requires-clause-place : goal.scan_task-marker-requires-clause-place
 scan_task-marker-requires-clause-place c =
     let is = item_found _ c.scan_item.result c.in-Some.item c.place.inside.rest c.scan_item.new.line_start c.in-Some.is c.scan_item.ensures in
-    (item_keeps c.args.source.text.now c.place.inside.line c.place.inside.rest _ c.requires.utf8 is (subst (IsPlaceOf c.args.source.text.now) (sym c.place.view_is) c.requires.place)).0
+    (item_keeps c.args.source.text.now c.place.inside.line c.place.inside.rest _ c.requires.utf8 is (same_place _ _ _ c.place.view_is c.requires.place)).0
 
 -- the item that is taken
 taken : (c : goal.After-behind_marker) → item_at c.place.inside.rest ≡ Some ((c.in-Some.item.byte, c.in-Some.item.number, c.in-Some.item.indent), c.scan_item.new.line_start)
@@ -48,17 +48,17 @@ task c =
     both c.scan_task-marker.result (task_behind c.args.source.options c.place.inside.line c.scan_item.new.line_start).1 (task_behind c.args.source.options c.place.inside.line c.scan_item.new.line_start) c.scan_task-marker.ensures.marker refl
 
 pub returns-then-is_none-clause-place : goal.returns-then-is_none-clause-place
-returns-then-is_none-clause-place c = rw c.scan_task-marker.ensures.place ((markers_keep c.args.source.text.now _ c.place.inside.line c.place.inside.rest _ (task_behind c.args.source.options c.place.inside.line c.scan_item.new.line_start).1 c.requires.utf8 (taken c) refl (subst (IsPlaceOf c.args.source.text.now) (sym c.place.view_is) c.requires.place)).0)
+returns-then-is_none-clause-place c = rw c.scan_task-marker.ensures.place ((markers_keep c.args.source.text.now _ c.place.inside.line c.place.inside.rest _ _ c.requires.utf8 (taken c) refl (same_place _ _ _ c.place.view_is c.requires.place)).0)
 
 pub returns-then-is_none-clause-same_end : goal.returns-then-is_none-clause-same_end
-returns-then-is_none-clause-same_end c = rw (← c.place.view_is, c.scan_task-marker.ensures.place) ((markers_keep c.args.source.text.now _ c.place.inside.line c.place.inside.rest _ (task_behind c.args.source.options c.place.inside.line c.scan_item.new.line_start).1 c.requires.utf8 (taken c) refl (subst (IsPlaceOf c.args.source.text.now) (sym c.place.view_is) c.requires.place)).1)
+returns-then-is_none-clause-same_end c = rw (← c.place.view_is, c.scan_task-marker.ensures.place) ((markers_keep c.args.source.text.now _ c.place.inside.line c.place.inside.rest _ _ c.requires.utf8 (taken c) refl (same_place _ _ _ c.place.view_is c.requires.place)).1)
 
 pub returns-then-is_none-clause-opened : goal.returns-then-is_none-clause-opened
 returns-then-is_none-clause-opened c = rw (← c.place.view_is, c.scan_task-marker.ensures.place) (
     subst (λ o. IsOpenedAt o c.open_item.new.self c.place.inside.rest (task_behind c.args.source.options c.place.inside.line c.scan_item.new.line_start).1 (line_end (place_at c.place.inside.line c.place.inside.rest))) (sym c.behind_marker.ensures)
     (opened_behind c.scan_task-marker.result c.open_item.new.self c.place.inside.rest (task_behind c.args.source.options c.place.inside.line c.scan_item.new.line_start).1 (line_end (place_at c.place.inside.line c.place.inside.rest))
     (λ x is. mark_is_no_text c.args.source.options c.place.inside.line c.scan_item.new.line_start x (sym c.scan_task-marker.ensures.marker ∙ is))
-    (markers_keep c.args.source.text.now _ c.place.inside.line c.place.inside.rest _ (task_behind c.args.source.options c.place.inside.line c.scan_item.new.line_start).1 c.requires.utf8 (taken c) refl (subst (IsPlaceOf c.args.source.text.now) (sym c.place.view_is) c.requires.place)).2
+    (markers_keep c.args.source.text.now _ c.place.inside.line c.place.inside.rest _ _ c.requires.utf8 (taken c) refl (same_place _ _ _ c.place.view_is c.requires.place)).2
     (ap (λ (q : Reading). q.empty_item) c.in_ok-open_item.ensures
     ∙ list_continued_none c.offset-before.result c.in-Some.item.byte c.in-Some.item.number c.args.reading.now)
     (ap (λ (q : Reading). is_in_item q.tree) c.in_ok-open_item.ensures
@@ -92,14 +92,14 @@ taken_whole c = item_found _ c.scan_item.result c.in-Some.item c.place.inside.re
 
 pub offset-requires : goal.offset-requires
 offset-requires c =
-    let i = (markers_keep c.args.source.text.now _ c.place.inside.line c.place.inside.rest _ (task_behind c.args.source.options c.place.inside.line c.scan_item.new.line_start).1 c.requires.utf8 (taken_whole c) refl (subst (IsPlaceOf c.args.source.text.now) (sym c.place.view_is) c.requires.place)).0 in
+    let i = (markers_keep c.args.source.text.now _ c.place.inside.line c.place.inside.rest _ (task_behind c.args.source.options c.place.inside.line c.scan_item.new.line_start).1 c.requires.utf8 (taken_whole c) refl (same_place _ _ _ c.place.view_is c.requires.place)).0 in
     let same = ap offset c.scan_task-marker.ensures.place in
     let short = c.is_short.ensures in
     omega (arith, i.within, same)
 
 pub next_line-next-requires : goal.next_line-next-requires
 next_line-next-requires c =
-    let i = (markers_keep c.args.source.text.now _ c.place.inside.line c.place.inside.rest _ (task_behind c.args.source.options c.place.inside.line c.scan_item.new.line_start).1 c.requires.utf8 (taken_whole c.before) refl (subst (IsPlaceOf c.args.source.text.now) (sym c.place.view_is) c.requires.place)).0 in
+    let i = (markers_keep c.args.source.text.now _ c.place.inside.line c.place.inside.rest _ (task_behind c.args.source.options c.place.inside.line c.scan_item.new.line_start).1 c.requires.utf8 (taken_whole c.before) refl (same_place _ _ _ c.place.view_is c.requires.place)).0 in
     let n = c.offset.ensures ∙ ap offset c.scan_task-marker.ensures.place in
     let l = ap length (c.as_bytes.ensures.value) in
     omega (arith, i.within)
@@ -108,17 +108,17 @@ taken_empty : (c : goal.After-reading-1) → item_at c.place.inside.rest ≡ Som
 taken_empty c = item_found _ c.scan_item.result c.in-Some.item c.place.inside.rest c.scan_item.new.line_start c.in-Some.is c.scan_item.ensures
 
 pub returns-in-Some-clause-place : goal.returns-in-Some-clause-place
-returns-in-Some-clause-place c = rw c.scan_task-marker.ensures.place ((markers_keep c.args.source.text.now _ c.place.inside.line c.place.inside.rest _ (task_behind c.args.source.options c.place.inside.line c.scan_item.new.line_start).1 c.requires.utf8 (taken_empty c) refl (subst (IsPlaceOf c.args.source.text.now) (sym c.place.view_is) c.requires.place)).0)
+returns-in-Some-clause-place c = rw c.scan_task-marker.ensures.place ((markers_keep c.args.source.text.now _ c.place.inside.line c.place.inside.rest _ _ c.requires.utf8 (taken_empty c) refl (same_place _ _ _ c.place.view_is c.requires.place)).0)
 
 pub returns-in-Some-clause-same_end : goal.returns-in-Some-clause-same_end
-returns-in-Some-clause-same_end c = rw (← c.place.view_is, c.scan_task-marker.ensures.place) ((markers_keep c.args.source.text.now _ c.place.inside.line c.place.inside.rest _ (task_behind c.args.source.options c.place.inside.line c.scan_item.new.line_start).1 c.requires.utf8 (taken_empty c) refl (subst (IsPlaceOf c.args.source.text.now) (sym c.place.view_is) c.requires.place)).1)
+returns-in-Some-clause-same_end c = rw (← c.place.view_is, c.scan_task-marker.ensures.place) ((markers_keep c.args.source.text.now _ c.place.inside.line c.place.inside.rest _ _ c.requires.utf8 (taken_empty c) refl (same_place _ _ _ c.place.view_is c.requires.place)).1)
 
 -- the item's line ends there
 next_is : (c : goal.After-reading-1) → c.next_line-next.result ≡ line_end (place_at c.place.inside.line c.place.inside.rest)
 next_is c =
     let text = c.args.source.text.now in
     let rest : Rest = (task_behind c.args.source.options c.place.inside.line c.scan_item.new.line_start).1 in
-    let k = markers_keep text _ c.place.inside.line c.place.inside.rest _ rest c.requires.utf8 (taken_empty c) refl (subst (IsPlaceOf c.args.source.text.now) (sym c.place.view_is) c.requires.place) in
+    let k = markers_keep text _ c.place.inside.line c.place.inside.rest _ rest c.requires.utf8 (taken_empty c) refl (same_place _ _ _ c.place.view_is c.requires.place) in
     c.next_line-next.ensures.value ∙ ap (λ bs. line_end_at bs c.offset.result) c.as_bytes.ensures.value
     ∙ ap (line_end_at text) (c.offset.ensures ∙ ap offset c.scan_task-marker.ensures.place) ∙ read_end text c.place.inside.line rest k.0 ∙ k.1
 
@@ -139,7 +139,7 @@ returns-in-Some-clause-ready c = rw (← c.place.view_is) (λ names.
     let yes = c.if-is_none.false in
     let blank : is_blank_rest rest ≡ true = ap (λ bs. is_some (blank_len bs)) (sym (c.left.ensures ∙ ap (λ (p : Place). p.rest.left) c.scan_task-marker.ensures.place)) ∙ ap is_some (sym c.scan_blank_line.ensures.value) ∙ none ∙ ap not yes in
     let next = next_is c in
-    let at_end = place_end text p c.requires.utf8 (subst (IsPlaceOf c.args.source.text.now) (sym c.place.view_is) c.requires.place) in
+    let at_end = place_end text p c.requires.utf8 (same_place _ _ _ c.place.view_is c.requires.place) in
     let first : start_of (length text) (lines_from text (line_end p)) ≡ c.next_line-next.result = start_of-lines text (line_end p) at_end.0 ∙ sym next in
     let task = both marker rest (task_behind c.args.source.options c.place.inside.line c.scan_item.new.line_start) c.scan_task-marker.ensures.marker refl in
     let now : c.open_item.new.self ≡ item_opened (offset p) c.in-Some.item.byte c.in-Some.item.number c.in-Some.item.indent old =
@@ -162,10 +162,10 @@ quote_is : (c : goal.Then-is_none-2) → (item_at c.place.inside.rest ≡ None) 
 quote_is c = quote_here c.place.inside.rest c.scan_item.new.line_start c.scan_quote.new.line_start c.scan_item.result c.scan_quote.result c.in-Some-scan_quote.quote c.in_default.is c.scan_item.ensures c.in-Some-scan_quote.is c.scan_quote.ensures
 
 pub returns-then-is_none-2-clause-place : goal.returns-then-is_none-2-clause-place
-returns-then-is_none-2-clause-place c = (prefix_keeps c.args.source.text.now c.place.inside.line (BlockQuote None) c.place.inside.rest c.scan_quote.new.line_start c.requires.utf8 (quote_is c).1 (subst (IsPlaceOf c.args.source.text.now) (sym c.place.view_is) c.requires.place)).0
+returns-then-is_none-2-clause-place c = (prefix_keeps c.args.source.text.now c.place.inside.line (BlockQuote None) c.place.inside.rest c.scan_quote.new.line_start c.requires.utf8 (quote_is c).1 (same_place _ _ _ c.place.view_is c.requires.place)).0
 
 pub returns-then-is_none-2-clause-same_end : goal.returns-then-is_none-2-clause-same_end
-returns-then-is_none-2-clause-same_end c = rw (← c.place.view_is) ((prefix_keeps c.args.source.text.now c.place.inside.line (BlockQuote None) c.place.inside.rest c.scan_quote.new.line_start c.requires.utf8 (quote_is c).1 (subst (IsPlaceOf c.args.source.text.now) (sym c.place.view_is) c.requires.place)).1)
+returns-then-is_none-2-clause-same_end c = rw (← c.place.view_is) ((prefix_keeps c.args.source.text.now c.place.inside.line (BlockQuote None) c.place.inside.rest c.scan_quote.new.line_start c.requires.utf8 (quote_is c).1 (same_place _ _ _ c.place.view_is c.requires.place)).1)
 
 pub returns-then-is_none-2-clause-opened : goal.returns-then-is_none-2-clause-opened
 returns-then-is_none-2-clause-opened c = rw (← c.place.view_is) ((
@@ -197,12 +197,12 @@ tagged_at c = (quote_here c.place.inside.rest c.scan_item.new.line_start c.scan_
 
 pub offset-requires-in-Some-scan_quote : goal.offset-requires-in-Some-scan_quote
 offset-requires-in-Some-scan_quote c =
-    let i = (prefix_keeps c.args.source.text.now c.place.inside.line (BlockQuote None) c.place.inside.rest c.scan_quote.new.line_start c.requires.utf8 (tagged_at c) (subst (IsPlaceOf c.args.source.text.now) (sym c.place.view_is) c.requires.place)).0 in
+    let i = (prefix_keeps c.args.source.text.now c.place.inside.line (BlockQuote None) c.place.inside.rest c.scan_quote.new.line_start c.requires.utf8 (tagged_at c) (same_place _ _ _ c.place.view_is c.requires.place)).0 in
     omega (arith, i.within)
 
 pub next_line-next-requires-in-Some-scan_quote : goal.next_line-next-requires-in-Some-scan_quote
 next_line-next-requires-in-Some-scan_quote c =
-    let i = (prefix_keeps c.args.source.text.now c.place.inside.line (BlockQuote None) c.place.inside.rest c.scan_quote.new.line_start c.requires.utf8 (tagged_at c.before) (subst (IsPlaceOf c.args.source.text.now) (sym c.place.view_is) c.requires.place)).0 in
+    let i = (prefix_keeps c.args.source.text.now c.place.inside.line (BlockQuote None) c.place.inside.rest c.scan_quote.new.line_start c.requires.utf8 (tagged_at c.before) (same_place _ _ _ c.place.view_is c.requires.place)).0 in
     let n = c.offset-in-Some-scan_quote.ensures in
     let l = ap length (c.as_bytes-in-Some-scan_quote.ensures.value) in
     omega (arith, i.within)
@@ -211,17 +211,17 @@ tagged_is : (c : goal.After-next_line-next-in-Some-scan_quote) → (item_at c.pl
 tagged_is c = quote_here c.place.inside.rest c.scan_item.new.line_start c.scan_quote.new.line_start c.scan_item.result c.scan_quote.result c.in-Some-scan_quote.quote c.in_default.is c.scan_item.ensures c.in-Some-scan_quote.is c.scan_quote.ensures
 
 pub returns-in-Some-scan_quote-clause-place : goal.returns-in-Some-scan_quote-clause-place
-returns-in-Some-scan_quote-clause-place c = (prefix_keeps c.args.source.text.now c.place.inside.line (BlockQuote None) c.place.inside.rest c.scan_quote.new.line_start c.requires.utf8 (tagged_is c).1 (subst (IsPlaceOf c.args.source.text.now) (sym c.place.view_is) c.requires.place)).0
+returns-in-Some-scan_quote-clause-place c = (prefix_keeps c.args.source.text.now c.place.inside.line (BlockQuote None) c.place.inside.rest c.scan_quote.new.line_start c.requires.utf8 (tagged_is c).1 (same_place _ _ _ c.place.view_is c.requires.place)).0
 
 pub returns-in-Some-scan_quote-clause-same_end : goal.returns-in-Some-scan_quote-clause-same_end
-returns-in-Some-scan_quote-clause-same_end c = rw (← c.place.view_is) ((prefix_keeps c.args.source.text.now c.place.inside.line (BlockQuote None) c.place.inside.rest c.scan_quote.new.line_start c.requires.utf8 (tagged_is c).1 (subst (IsPlaceOf c.args.source.text.now) (sym c.place.view_is) c.requires.place)).1)
+returns-in-Some-scan_quote-clause-same_end c = rw (← c.place.view_is) ((prefix_keeps c.args.source.text.now c.place.inside.line (BlockQuote None) c.place.inside.rest c.scan_quote.new.line_start c.requires.utf8 (tagged_is c).1 (same_place _ _ _ c.place.view_is c.requires.place)).1)
 
 -- the tag's line ends there
 tag_line_end : (c : goal.After-next_line-next-in-Some-scan_quote) → c.next_line-next-in-Some-scan_quote.result ≡ line_end (place_at c.place.inside.line c.place.inside.rest)
 tag_line_end c =
     let text = c.args.source.text.now in
     let rest : Rest = c.scan_quote.new.line_start in
-    let k = prefix_keeps text c.place.inside.line (BlockQuote None) c.place.inside.rest rest c.requires.utf8 (tagged_is c).1 (subst (IsPlaceOf c.args.source.text.now) (sym c.place.view_is) c.requires.place) in
+    let k = prefix_keeps text c.place.inside.line (BlockQuote None) c.place.inside.rest rest c.requires.utf8 (tagged_is c).1 (same_place _ _ _ c.place.view_is c.requires.place) in
     c.next_line-next-in-Some-scan_quote.ensures.value
     ∙ ap (λ bs. line_end_at bs c.offset-in-Some-scan_quote.result) c.as_bytes-in-Some-scan_quote.ensures.value
     ∙ ap (line_end_at text) c.offset-in-Some-scan_quote.ensures ∙ read_end text c.place.inside.line rest k.0 ∙ k.1
@@ -260,7 +260,7 @@ returns-then-is_none-clause-order c = rw (← c.place.view_is, c.scan_task-marke
     let rest : Rest = (task_behind c.args.source.options c.place.inside.line c.scan_item.new.line_start).1 in
     let start : ℕ = offset (place_at line r) in
     let old : Reading = c.args.reading.now in
-    let i = (subst (IsPlaceOf c.args.source.text.now) (sym c.place.view_is) c.requires.place) in
+    let i = same_place _ _ _ c.place.view_is c.requires.place in
     let j = markers_keep text _ line r _ rest c.requires.utf8 (taken c) refl i in
     let k = item_keeps text line r _ c.requires.utf8 (taken c) i in
     let less = j.2 in
@@ -285,7 +285,7 @@ returns-in-Some-clause-order c = rw (← c.place.view_is) (
     let next = c.next_line-next.result in
     let marker : Option Item = c.scan_task-marker.result in
     let old : Reading = c.args.reading.now in
-    let i = (subst (IsPlaceOf c.args.source.text.now) (sym c.place.view_is) c.requires.place) in
+    let i = same_place _ _ _ c.place.view_is c.requires.place in
     let j = markers_keep text _ line r _ rest c.requires.utf8 (taken_empty c) refl i in
     let k = item_keeps text line r _ c.requires.utf8 (taken_empty c) i in
     let shorter = item_shorter r _ (taken_empty c) in
@@ -310,7 +310,7 @@ returns-then-is_none-2-clause-order c = rw (← c.place.view_is) (
     let r : Rest = c.place.inside.rest in
     let inside : Rest = c.scan_quote.new.line_start in
     let old : Reading = c.args.reading.now in
-    let i = (subst (IsPlaceOf c.args.source.text.now) (sym c.place.view_is) c.requires.place) in
+    let i = same_place _ _ _ c.place.view_is c.requires.place in
     let j = (prefix_keeps text line (BlockQuote None) r inside c.requires.utf8 (quote_is c).1 i).0 in
     let at = c.in-Some-scan_quote.quote in
     let s = quote_stands text line at r inside c.requires.utf8 (quote_is c).1 i j (quote_is c).2 in
@@ -328,7 +328,7 @@ returns-in-Some-scan_quote-clause-order c = rw (← c.place.view_is) (
     let inside : Rest = c.scan_quote.new.line_start in
     let next = c.next_line-next-in-Some-scan_quote.result in
     let old : Reading = c.args.reading.now in
-    let i = (subst (IsPlaceOf c.args.source.text.now) (sym c.place.view_is) c.requires.place) in
+    let i = same_place _ _ _ c.place.view_is c.requires.place in
     let k = prefix_keeps text line (BlockQuote None) r inside c.requires.utf8 (tagged_is c).1 i in
     let at = c.in-Some-scan_quote.quote in
     let s = quote_stands text line at r inside c.requires.utf8 (tagged_is c).1 i k.0 (tagged_is c).2 in
@@ -355,7 +355,7 @@ returns-then-is_none-clause-few c = rw (← c.place.view_is, c.scan_task-marker.
     let at : ℕ = offset (place_at line rest) in
     let marker : Option Item = c.scan_task-marker.result in
     let old : Reading = c.args.reading.now in
-    let i = (subst (IsPlaceOf c.args.source.text.now) (sym c.place.view_is) c.requires.place) in
+    let i = same_place _ _ _ c.place.view_is c.requires.place in
     let j = markers_keep text _ line r _ rest c.requires.utf8 (taken c) refl i in
     let k = item_keeps text line r _ c.requires.utf8 (taken c) i in
     let first_marker = offset_before text line r behind i k.0 (item_shorter r _ (taken c)) in
@@ -396,7 +396,7 @@ returns-then-is_none-2-clause-few c = rw (← c.place.view_is) (
     let r : Rest = c.place.inside.rest in
     let inside : Rest = c.scan_quote.new.line_start in
     let old : Reading = c.args.reading.now in
-    let i = (subst (IsPlaceOf c.args.source.text.now) (sym c.place.view_is) c.requires.place) in
+    let i = same_place _ _ _ c.place.view_is c.requires.place in
     let j = (prefix_keeps text line (BlockQuote None) r inside c.requires.utf8 (quote_is c).1 i).0 in
     let later = offset_before text line r inside i j (quote_prefix_shorter r inside (quote_is c).1) in
     let one = ap count c.in_ok-open_quote.ensures ∙ quote_count line (line + c.in-Some-scan_quote.quote) (BlockQuoteBody c.scan_tag-tag.result) old in

@@ -1,5 +1,5 @@
 use Rattle.std.proofs.Common.{◌≡◌, ◌≤◌, inl, inr, ℕ, length, drop, IsCharBoundary, None, false, refl, sym, ap, subst, ◌∙◌, arith}
-use Rattle.first_pass_lines.specs.Places.{offset, line_end}
+use Rattle.first_pass_lines.specs.Places.{offset, line_end, Place}
 use Rattle.first_pass_grammar.specs.Leaves.{document}
 use Rattle.first_pass_grammar.specs.Completion.{lines_from}
 use Rattle.first_pass_text.specs.Appends.{line_end_at, AddsParagraph}
@@ -18,21 +18,18 @@ use Rattle.first_pass.proofs.OrderLemmas.{ordered_none, ordered_blank_read}
 use Rattle.first_pass.proofs.OrderSteps.{line_or-below, ordered_leaf, unindented_later, place_before_end}
 use Rattle.first_pass.proofs.LeafLemmas.{ready_blank_leaf, ready_paragraph, line_end_of}
 use Rattle.first_pass_text.proofs.KindLemmas.{Says, kind_says}
-use Rattle.first_pass.proofs.KindBlocks.{marked_some, paragraph_named, columns_are, html_blank_added, AddsHtml, ready_kind}
+use Rattle.first_pass.proofs.KindBlocks.{marked_some, marked_other, paragraph_named, columns_are, html_blank_added, AddsHtml, ready_kind}
 use Rattle.first_pass.proofs.BlankBehind.{list_finished_blank, path_added, ready_behind, behind_on, ordered_behind}
-use Rattle.first_pass.specs.Adding.{behind_blank}
+use Rattle.first_pass.specs.Adding.{behind_blank, AddsLeaf}
 use Rattle.first_pass_open.specs.Path.{path_of}
-use Rattle.first_pass_names.specs.TableEntries.{names_of, no_names}
+use Rattle.first_pass_names.specs.TableEntries.{names_of, no_names, tables}
 use Rattle.first_pass_raw.specs.RawBlocks.{IsPlaceAt, behind_line_at, html_to_blank}
 use Rattle.first_pass_grammar.specs.Kinds.{HtmlToBlank, Paragraph, unindented, IsKind}
 use Rattle.first_pass_lines.specs.Rest.{indent}
 use Rattle.first_pass_lines.proofs.PlaceFacts.{columns_line_end}
 use Rattle.first_pass.proofs.CountLemmas.{count, list_finished_count, blank_count, behind_count, block_count, leaf_left, left_before, blank_later}
-use Rattle.first_pass_lines.specs.Places.{Place}
 use Rattle.first_pass_tree.specs.Forest.{IsForest}
-use Rattle.first_pass_names.specs.TableEntries.{tables}
 use Rattle.first_pass_names.proofs.NameLemmas.{extends_none, extends_equal}
-use Rattle.first_pass.specs.Adding.{AddsLeaf}
 use Rattle.first_pass.proofs.LeafAdded.{found_boundary}
 use Rattle.first_pass.proofs.LeafRead.{leaf_read}
 use Rattle.first_pass.proofs.state.FirstPass.parse_kind.Goals as goal
@@ -100,7 +97,7 @@ returns-in_ok-next-in-Paragraph c =
     let none = ap (λ (r : Reading). r.empty_item) e.reading ∙ ap (λ (r : Reading). r.empty_item) rem ∙ list_finished_none at old in
     let blank = ap (λ (r : Reading). r.blank) e.reading ∙ ap (λ (r : Reading). r.blank) rem ∙ list_finished_blank at old in
     let fits : (from : ℕ) → from ≤ at → AddsBetween text from next (list_finished at old).tree new.reading.tree =
-    λ from before. subst (λ (r : Reading). AddsBetween text from next r.tree new.reading.tree) rem (e.fits from before) in
+    λ from before. subst (λ (r : Reading). AddsBetween text from next r.tree new.reading.tree) rem (e.fits tt from before) in
     let ends = ap (line_end_at text) there ∙ line_end_of text p i in
     let later = block.later in
     let some = left_before p (leaf_left options p.rest Paragraph kind (λ b. cc)) in
@@ -180,7 +177,7 @@ returns-in_ok-lines-in-HtmlToBlank c =
         later = omega arith;
         boundary = subst (IsCharBoundary text) (sym result_is) on.2;
         ready = λ names more ready.
-            let done = ready_kind text options (names_of h.allocs) names old h.reading.tree p HtmlToBlank false lines.next c.is_forest.ensures kind more block c.requires.no_empty ready h.reading.empty_item h.reading.blank none blank in
+            let done = ready_kind text options (names_of h.allocs) names old h.reading.tree p HtmlToBlank false lines.next c.is_forest.ensures kind refl more block c.requires.no_empty ready h.reading.empty_item h.reading.blank none blank in
             subst (λ n. Ready (document text options names) z (lines_from text n)) (sym result_is)
             (subst (λ r. Ready (document text options names) r (lines_from text (behind_blank text lines.«end» lines.next))) (sym c.read_blank_behind.ensures.reading)
             (ready_behind text options names read (path_of q.tree) u lines.«end» lines.next c.requires.utf8 e.boundary.1 e.within.0 none path (html.left_is, ends) done));
@@ -230,6 +227,6 @@ returns-in_ok-next-in-Marked c =
       boundary = e.boundary;
       fits = e.fits;
     } in
-    let w = leaf_read self new p (marked_kind leaf) next c.requires.place c.requires.no_empty c.is_forest.ensures (subst (IsKind options p.rest) (ap kind_of c.in-Marked.is) c.requires.found.kind) (marked_some leaf)
+    let w = leaf_read self new p (marked_kind leaf) next c.requires.place c.requires.no_empty c.is_forest.ensures (subst (IsKind options p.rest) (ap kind_of c.in-Marked.is) c.requires.found.kind) (marked_some leaf) (marked_other leaf)
     (subst (λ (r : Reading). AddsLeaf (record self { reading = r }) new p (marked_kind leaf) next) rem adds) in
     record { read = w.read; few = w.few }

@@ -27,7 +27,10 @@ pub returns-in-None : goal.returns-in-None
 returns-in-None c =
     let self = c.args.self.now in
     let at = c.args.start in
-    let any = any_by _ _ (sym c.in-None.is ∙ c.in_ok-lazy_leaf.ensures.value) in
+    let text = self.source.text.now in
+    let path = path_of self.reading.tree in
+    let p : Place = unindented (place_at at (front path (line_rest (drop at text)))) in
+    let any = any_by (ends_tag path (line_rest (drop at text))) p (sym c.in-None.is ∙ c.in_ok-lazy_leaf.ensures.value) in
     record {
       read = record {
         source = refl;
@@ -35,8 +38,8 @@ returns-in-None c =
         tables = refl;
         later = omega arith;
         boundary = c.requires.boundary;
-        ready = λ names more tagged. ready_any_line (document self.source.text.now self.source.options names) self.reading at any c.requires.no_empty tagged;
-        order = λ ordered. ordered_none self.source.text.now self.reading at c.requires.no_empty c.requires.boundary.0 ordered;
+        ready = λ names more tagged. ready_any_line (document text self.source.options names) self.reading at any c.requires.no_empty tagged;
+        order = λ ordered. ordered_none text self.reading at c.requires.no_empty c.requires.boundary.0 ordered;
       };
       few = omega arith;
     }

@@ -50,7 +50,7 @@ returns c =
     let none = ap (λ (r : Reading). r.empty_item) e.reading in
     let fits : (from : ℕ) → StandsBefore text from (offset p) (Some c.args.marker) → AddsBetween text from next self.reading.tree new.reading.tree =
     λ from stands. let b = stands.1 in let before = b.before in
-    e.fits from (stands.0, record { behind = b.behind; order = b.order; before = omega arith; starts = b.starts; ends = b.ends }) in
+    e.fits c.requires.item from (stands.0, record { behind = b.behind; order = b.order; before = omega arith; starts = b.starts; ends = b.ends }) in
     record {
       read = record {
         source = e.source;
