@@ -7,7 +7,7 @@ use Rattle.first_pass_grammar.specs.Kinds.{Kind, unindented}
 use Rattle.first_pass_names.specs.TableEntries.{tables, names_of}
 use Rattle.first_pass_names.proofs.NameLemmas.{extends_equal}
 use Rattle.first_pass_raw.specs.RawBlocks.{behind_line_at}
-use Rattle.first_pass_lists.specs.Closing.{with_tree}
+use Rattle.first_pass_lists.specs.Closing.{with_block}
 use Rattle.first_pass_lists.specs.declared.reading.Reading.{Reading}
 use Rattle.first_pass_text.specs.Between.{AddsBetween}
 use Rattle.first_pass_text.specs.Found.{IsFoundAt, marked_kind}
@@ -39,7 +39,7 @@ module _ (old new : FirstPass) (p : Place) (at next : ℕ) (u : IsUtf8 (source_t
   line_read ends = let same = here in (omega arith, subst (IsCharBoundary (source_text old)) (sym ends) (place_end (source_text old) p u i))
 
   pub leaf_added : (k kind : Kind) → kind ≡ k → (reading_of old).blank ≡ false → source_of new ≡ source_of old → Extends (names_of (allocs_of new)) (names_of (allocs_of old)) → tables (allocs_of new) ≡ tables (allocs_of old)
-      → reading_of new ≡ with_tree (reading_of old) (tree_of new) → (behind_line_at (source_text old) at ≤ next) × IsCharBoundary (source_text old) next
+      → reading_of new ≡ with_block (reading_of old) (tree_of new) → (behind_line_at (source_text old) at ≤ next) × IsCharBoundary (source_text old) next
       → ((from : ℕ) → from ≤ at → AddsBetween (source_text old) from next (tree_of old) (tree_of new))
       → AddsKind (source_text old) (source_options old) (names_of (allocs_of new)) p k false (tree_of old) (tree_of new) next → AddsLeaf old new p kind next
   leaf_added k kind is blank source names tables reading behind fits block =
@@ -58,7 +58,7 @@ module _ (old new : FirstPass) (p : Place) (at next : ℕ) (u : IsUtf8 (source_t
       }
 
   -- one that names nothing
-  pub text_added : (k kind : Kind) → kind ≡ k → (reading_of old).blank ≡ false → source_of new ≡ source_of old → allocs_of new ≡ allocs_of old → reading_of new ≡ with_tree (reading_of old) (tree_of new) → next ≡ line_end p
+  pub text_added : (k kind : Kind) → kind ≡ k → (reading_of old).blank ≡ false → source_of new ≡ source_of old → allocs_of new ≡ allocs_of old → reading_of new ≡ with_block (reading_of old) (tree_of new) → next ≡ line_end p
       → ((from : ℕ) → from ≤ at → AddsBetween (source_text old) from next (tree_of old) (tree_of new))
       → AddsKind (source_text old) (source_options old) (names_of (allocs_of new)) p k false (tree_of old) (tree_of new) next → AddsLeaf old new p kind next
   text_added k kind is blank source same reading ends fits block =

@@ -28,7 +28,7 @@ pub leaf_read : (old new : FirstPass) (p : Place) (kind : Kind) (next : ℕ) →
 leaf_read old new p kind next i empty forest is some other e =
     let text = source_text old in
     let r : Reading = reading_of old in
-    let none = e.empty_item ∙ list_finished_none p.line r in
+    let none = e.empty_item in
     let later = e.later in
     let before = left_before p (leaf_left (source_options old) p.rest kind is some) in
     let fits = e.fits (offset p) (omega arith) in

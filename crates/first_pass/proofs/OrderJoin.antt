@@ -19,7 +19,9 @@ use Rattle.std.proofs.lemmas.List.{length-take-le}
 use Rattle.first_pass_grammar.specs.Order.{Extent, extent_of, extents, is_task_marker, Row, Empty, Node, laid, IsBetween, Within, Elsewhere, InItem, InText, in_item, below, beyond, IsLead, Fits}
 use Rattle.first_pass_grammar.specs.OpenOrder.{laid_open, open_item, FitsOpen, IsOrderedTo}
 use Rattle.first_pass_grammar.proofs.Orders.{beside, ended_at, laid_open-beside, length-places, fits-order, fits-later, extents-ended}
-use Rattle.first_pass.proofs.OrderLemmas.{ordered_later, ordered_appended}
+use Rattle.first_pass_lists.specs.declared.reading.Reading.{Reading}
+use Rattle.first_pass.specs.Ordered.{reached, IsOrderedAt}
+use Rattle.first_pass.proofs.OrderLemmas.{ordered_later, ordered_appended, ordered_none}
 
 -- a row's last node, with what is below it, and those before it
 abbrev HasLast : Row → Type 0
@@ -253,3 +255,13 @@ ordered_line d start (Some e) old new next line_break from u ends boundary fores
     let l = line_in_order (front_utf8 d.text e u ends.1) first first.0 h.line in
     let tokens : AreInOrder d.text start next h.tokens = order_in_text d.text e u ends.1 start next h.tokens (order_to (take e d.text) start _ next h.tokens l.tokens_fit l.before) in
     subst (λ f. IsOrderedTo d.text f next) (sym h.tree_is) (ordered_tokens d.text old from next h.tokens forest (order_from d.text from start next h.tokens tokens low) (place_in_text d.text e u ends.1 next l.ends).0 o)
+
+-- tokens added where something is in order: an item that they are added to is empty no more
+pub tokens_ordered : (text : List ℕ) (old new : Reading) (at start to : ℕ) (tokens : List Item) → IsForest old.tree → IsOrderedAt text old at → at ≤ start → AreInOrder text start to tokens → to ≤ length text → new.tree ≡ with_tokens old.tree tokens
+    → new.empty_item ≡ None → IsOrderedAt text new to
+tokens_ordered text old new at start to tokens forest o low order within is none =
+    let before = o.later in
+    let e : ℕ = reached old.empty_item at in
+    let low' : e ≤ at = before in
+    ordered_none text new to none within
+    (subst (λ f. IsOrderedTo text f to) (sym is) (ordered_tokens text old.tree e to tokens forest (order_from text e start to tokens order (omega arith)) within o.ordered))

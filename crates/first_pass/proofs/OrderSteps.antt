@@ -184,6 +184,26 @@ pub ordered_block : (text : List ℕ) (old : Forest Item) (r : Reading) (from ne
 ordered_block text old r from next a high none o =
     ordered_none text r next none high (subst (λ f. IsOrderedTo text f next) (sym a.tree_is) (ordered_added text old from next a.items a.fits high o))
 
+-- a block added where something is in order: an item that it is added to is empty no more
+pub block_ordered : (text : List ℕ) (old new : Reading) (at start next : ℕ) → IsOrderedAt text old at → at ≤ start → ((from : ℕ) → from ≤ start → AddsBetween text from next old.tree new.tree) → next ≤ length text → new.empty_item ≡ None → IsOrderedAt text new next
+block_ordered text old new at start next o low fits within none =
+    let before = o.later in
+    let e : ℕ = reached old.empty_item at in
+    let low' : e ≤ at = before in
+    ordered_block text old.tree new e next (fits e (omega arith)) within none o.ordered
+
+-- a marker that may stand from an offset on may stand from an earlier one on
+stands_earlier : (text : List ℕ) (a b to : ℕ) (marker : Option Item) → a ≤ b → StandsBefore text b to marker → StandsBefore text a to marker
+stands_earlier text a b to None low h = (let t : b ≤ to = h in omega arith)
+stands_earlier text a b to (Some x) low h = (let m : b ≤ x.start = h.1.behind in (h.0, record { behind = omega arith; order = h.1.order; before = h.1.before; starts = h.1.starts; ends = h.1.ends }))
+
+-- the same for a paragraph, behind a task list item marker or not
+pub text_ordered : (text : List ℕ) (old new : Reading) (at start next : ℕ) (marker : Option Item) → IsOrderedAt text old at → StandsBefore text at start marker
+    → ((from : ℕ) → StandsBefore text from start marker → AddsBetween text from next old.tree new.tree) → next ≤ length text → new.empty_item ≡ None → IsOrderedAt text new next
+text_ordered text old new at start next marker o stands fits within none =
+    let e : ℕ = reached old.empty_item at in
+    ordered_block text old.tree new e next (fits e (stands_earlier text e at start marker o.later stands)) within none o.ordered
+
 quote_start_before : (r s : Rest) → prefix (BlockQuote None) r ≡ Some s → length s.left < length (after_columns 3 r).left
 unfolding prefix
 quote_start_before r s is = quote_less (after_columns 3 r) s (past_quote (after_columns 3 r)) refl is

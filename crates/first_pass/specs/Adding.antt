@@ -1,5 +1,5 @@
 -- What is said of a leaf block that is added at a place (private functions alone cite this).
-use Rattle.std.specs.Prelude.{◌≡◌, ℕ, ◌≤◌, Bool, List, if◌then◌else◌, nat_lt, IsCharBoundary}
+use Rattle.std.specs.Prelude.{◌≡◌, ℕ, ◌≤◌, Bool, List, None, if◌then◌else◌, nat_lt, IsCharBoundary}
 use Rattle.first_pass_items.specs.declared.option_set.Options.{Options}
 use Rattle.first_pass_items.specs.declared.item.Item.{Item}
 use Rattle.first_pass_tree.specs.Forest.{Forest, added}
@@ -25,13 +25,13 @@ pub record AddsKind (text : List ℕ) (options : Options) (names : Names) (p : P
   pub tree_is : new ≡ added old items
   pub opens : (more : Names) → Extends more names → OpensAs (document text options more) (path_of old) p (lines_from text (line_end p)) kind (OpensLeaf (leaf_block kind p items gap) Line (lines_from text next))
 
--- A pass added such a block: it reads the same text, what was named keeps its name, no table changed, nor an empty item. The nodes of the block lie behind
+-- A pass added such a block: it reads the same text, what was named keeps its name, no table changed, and no item is empty. The nodes of the block lie behind
 -- any offset before the place, and reading goes on at an offset behind the line of the place, between characters.
 pub record AddsLeaf (old new : FirstPass) (p : Place) (kind : Kind) (next : ℕ) : Type 0 where
   pub source : source_of new ≡ source_of old
   pub names : Extends (names_of (allocs_of new)) (names_of (allocs_of old))
   pub tables : tables (allocs_of new) ≡ tables (allocs_of old)
-  pub empty_item : (reading_of new).empty_item ≡ (reading_of old).empty_item
+  pub empty_item : (reading_of new).empty_item ≡ None
   pub block : AddsKind (source_text old) (source_options old) (names_of (allocs_of new)) p kind (reading_of new).blank (tree_of old) (tree_of new) next
   pub later : line_end p ≤ next
   pub boundary : IsCharBoundary (source_text old) next

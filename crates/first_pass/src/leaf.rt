@@ -5,9 +5,10 @@ ghost use Rattle.first_pass_lines.specs.Lines.{atx_level as atx_level_of};
 ghost use Rattle.first_pass_tree.specs.Forest.{added, is_text};
 ghost use Rattle.first_pass_names.specs.TableEntries.{no_names};
 ghost use Rattle.first_pass_grammar.specs.Leaves.{document, rule_block};
-ghost use Rattle.first_pass_lists.specs.Closing.{with_tree};
+ghost use Rattle.first_pass_lists.specs.Closing.{with_block};
 ghost use Rattle.first_pass_text.specs.Appends.{AddsParagraph, AddsHeading};
 ghost use Rattle.first_pass_text.specs.Between.{AddsBetween, IsInItem, StandsBefore};
+ghost use Rattle.first_pass.specs.Ordered.{IsOrderedAt};
 ghost use Rattle.first_pass.specs.Views.{allocs_of, reading_of, source_of, source_options, source_text, tree_of};
 
 use crate::state::FirstPass;
@@ -28,22 +29,28 @@ impl<'a> FirstPass<'a> {
         requires marker { IfSome tasklist_marker (λ x. is_text x.body ≡ false) }
         ensures source { OnOk result (source_of self.new ≡ source_of self.old) }
         ensures allocs { OnOk result (allocs_of self.new ≡ allocs_of self.old) }
-        ensures reading { OnOk result (reading_of self.new ≡ with_tree (reading_of self.old) (tree_of self.new)) }
+        ensures reading { OnOk result (reading_of self.new ≡ with_block (reading_of self.old) (tree_of self.new)) }
         ensures block { IfOk result (λ next.
             AddsParagraph (document (source_text self.old) (source_options self.old) no_names) start_ix tasklist_marker
             (tree_of self.old) (tree_of self.new) next) }
         ensures fits { IfOk result (λ next. IsInItem (tree_of self.old) tasklist_marker → (from : ℕ)
             → StandsBefore (source_text self.old) from start_ix tasklist_marker
             → AddsBetween (source_text self.old) from next (tree_of self.old) (tree_of self.new)) }
+        ensures order { IfOk result (λ next. IsInItem (tree_of self.old) tasklist_marker → (at : ℕ)
+            → StandsBefore (source_text self.old) at start_ix tasklist_marker
+            → IsOrderedAt (source_text self.old) (reading_of self.old) at
+            → IsOrderedAt (source_text self.old) (reading_of self.new) next) }
     {
-        paragraph::parse_paragraph(
+        let next = paragraph::parse_paragraph(
             self.alloc,
             self.source,
             &self.lookup_table,
             &mut self.reading.tree,
             start_ix,
             tasklist_marker,
-        )
+        )?;
+        self.reading.empty_item = None;
+        Ok(next)
     }
 
     /// Appends the ATX heading of this level that begins at the offset `start` into the text, and
@@ -57,20 +64,25 @@ impl<'a> FirstPass<'a> {
         requires heading { atx_level_of (drop start (source_text self.old)) ≡ Some atx_level }
         ensures source { OnOk result (source_of self.new ≡ source_of self.old) }
         ensures allocs { OnOk result (allocs_of self.new ≡ allocs_of self.old) }
-        ensures reading { OnOk result (reading_of self.new ≡ with_tree (reading_of self.old) (tree_of self.new)) }
+        ensures reading { OnOk result (reading_of self.new ≡ with_block (reading_of self.old) (tree_of self.new)) }
         ensures block { IfOk result (λ next.
             AddsHeading (document (source_text self.old) (source_options self.old) no_names) start atx_level
             (tree_of self.old) (tree_of self.new) next) }
         ensures fits { IfOk result (λ next. (from : ℕ) → from ≤ start → IsCharBoundary (source_text self.old) start
             → AddsBetween (source_text self.old) from next (tree_of self.old) (tree_of self.new)) }
+        ensures order { IfOk result (λ next. (at : ℕ) → at ≤ start → IsCharBoundary (source_text self.old) start
+            → IsOrderedAt (source_text self.old) (reading_of self.old) at
+            → IsOrderedAt (source_text self.old) (reading_of self.new) next) }
     {
-        heading::parse_atx_heading(
+        let next = heading::parse_atx_heading(
             self.source,
             &self.lookup_table,
             &mut self.reading.tree,
             start,
             atx_level,
-        )
+        )?;
+        self.reading.empty_item = None;
+        Ok(next)
     }
 
     /// Appends the thematic break of `hrule_size` bytes, its line end too, that begins at the offset `ix`
@@ -79,14 +91,20 @@ impl<'a> FirstPass<'a> {
         requires { ix + hrule_size ≤ length (source_text self.old) }
         ensures source { OnOk result (source_of self.new ≡ source_of self.old) }
         ensures allocs { OnOk result (allocs_of self.new ≡ allocs_of self.old) }
-        ensures reading { OnOk result (reading_of self.new ≡ with_tree (reading_of self.old) (tree_of self.new)) }
+        ensures reading { OnOk result (reading_of self.new ≡ with_block (reading_of self.old) (tree_of self.new)) }
         ensures block { OnOk result (tree_of self.new ≡ added (tree_of self.old) (rule_block ix hrule_size)) }
         ensures fits { OnOk result ((from : ℕ) → from ≤ ix → IsCharBoundary (source_text self.old) ix
             → IsCharBoundary (source_text self.old) (ix + hrule_size)
             → AddsBetween (source_text self.old) from (ix + hrule_size) (tree_of self.old) (tree_of self.new)) }
+        ensures order { IfOk result (λ next. (at : ℕ) → at ≤ ix → IsCharBoundary (source_text self.old) ix
+            → IsCharBoundary (source_text self.old) (ix + hrule_size)
+            → IsOrderedAt (source_text self.old) (reading_of self.old) at
+            → IsOrderedAt (source_text self.old) (reading_of self.new) next) }
         ensures behind { IfOk result (λ next. next ≡ ix + hrule_size) }
     {
         self.source.is_short();
-        rule::parse_hrule(&mut self.reading.tree, hrule_size, ix)
+        let next = rule::parse_hrule(&mut self.reading.tree, hrule_size, ix)?;
+        self.reading.empty_item = None;
+        Ok(next)
     }
 }

@@ -19,7 +19,7 @@ ghost use Rattle.first_pass_grammar.specs.Kinds.{item_at};
 ghost use Rattle.first_pass_text.specs.declared.kinds.Found.TheVariants.{Marked};
 ghost use Rattle.first_pass.specs.Adding.{AddsLeaf};
 ghost use Rattle.first_pass.specs.Opening.{ReadyText, ReadyTagged, OrderedText};
-ghost use Rattle.first_pass_lists.specs.Closing.{with_tree};
+ghost use Rattle.first_pass_lists.specs.Closing.{with_block};
 ghost use Rattle.first_pass.specs.Ordered.{IsOrderedAt};
 ghost use Rattle.first_pass.specs.Progress.{ReadsLeaf, WentOn};
 ghost use Rattle.first_pass_text.specs.Found.{IsFoundAt, marked_kind};
@@ -303,7 +303,7 @@ impl<'a> FirstPass<'a> {
         requires end { IfSome end (λ e. (start ≤ e) × (e ≤ length (source_text self.old))) }
         ensures source { OnOk result (source_of self.new ≡ source_of self.old) }
         ensures allocs { OnOk result (allocs_of self.new ≡ allocs_of self.old) }
-        ensures reading { OnOk result (reading_of self.new ≡ with_tree (reading_of self.old) (tree_of self.new)) }
+        ensures reading { OnOk result (reading_of self.new ≡ with_block (reading_of self.old) (tree_of self.new)) }
         ensures line { IfOk result (λ answer. AppendsLine
             (record { options = (source_options self.old); text = text_upto (source_text self.old) end; start = start })
             (tree_of self.old) (tree_of self.new) answer) }
@@ -313,9 +313,9 @@ impl<'a> FirstPass<'a> {
         ensures boundary { IfOk result (λ answer. end ≡ None → IsCharBoundary (source_text self.old) start
             → IsCharBoundary (source_text self.old) answer.0) }
         ensures order { IfOk result (λ answer. IfSome end (λ e. IsCharBoundary (source_text self.old) e)
-            → IsCharBoundary (source_text self.old) start → (from : ℕ) → from ≤ start
-            → IsOrderedTo (source_text self.old) (tree_of self.old) from
-            → IsOrderedTo (source_text self.old) (tree_of self.new) answer.0) }
+            → IsCharBoundary (source_text self.old) start → (at : ℕ) → at ≤ start
+            → IsOrderedAt (source_text self.old) (reading_of self.old) at
+            → IsOrderedAt (source_text self.old) (reading_of self.new) answer.0) }
         ensures few { IfOk result (λ answer.
             length (tree_of self.new).nodes ≤ length (tree_of self.old).nodes + (answer.0 - start)) }
     {
@@ -328,6 +328,7 @@ impl<'a> FirstPass<'a> {
             &self.lookup_table,
             &mut self.reading.tree,
         )?;
+        self.reading.empty_item = None;
         Ok(answer)
     }
 }

@@ -1,6 +1,6 @@
 //! Leaf blocks whose lines are raw: code, metadata and HTML.
 
-ghost use Rattle.std.specs.Prelude.{◌≡◌, ◌≤◌, ◌<◌, ℕ, Some, true, false, nat_lt, max, List, length, drop, IfOk, OnOk, IsUtf8, IsCharBoundary};
+ghost use Rattle.std.specs.Prelude.{◌≡◌, ◌≤◌, ◌<◌, ℕ, Some, None, true, false, nat_lt, max, List, length, drop, IfOk, OnOk, IsUtf8, IsCharBoundary};
 ghost use Rattle.first_pass_lines.specs.Lines.{is_blank_line, is_content};
 ghost use Rattle.first_pass_scan.specs.LeafLines.{code_fence};
 ghost use Rattle.first_pass_lines.specs.Rest.{indent};
@@ -14,8 +14,9 @@ ghost use Rattle.first_pass_open.specs.Path.{path_of};
 ghost use Rattle.first_pass_names.specs.TableEntries.{tables, names_of};
 ghost use Rattle.first_pass_raw.specs.RawBlocks.{AppendsRaw, IsPlaceAt, AddsIndented, AddsRaw, behind_line_at, fenced_behind, metadata_behind, html_to_end, html_to_blank};
 ghost use Rattle.first_pass.specs.Adding.{AddsLeaf, behind_blank, with_blank};
-ghost use Rattle.first_pass_lists.specs.Closing.{with_tree};
+ghost use Rattle.first_pass_lists.specs.Closing.{with_block};
 ghost use Rattle.first_pass_text.specs.Between.{AddsBetween};
+ghost use Rattle.first_pass.specs.Ordered.{IsOrderedAt};
 ghost use Rattle.first_pass.specs.Views.{allocs_of, reading_of, source_of, source_options, source_text, tree_of};
 
 use crate::state::FirstPass;
@@ -45,10 +46,15 @@ impl<'a> FirstPass<'a> {
         ensures source { OnOk result (source_of self.new ≡ source_of self.old) }
         ensures names { OnOk result (Extends (names_of (allocs_of self.new)) (names_of (allocs_of self.old))) }
         ensures tables { OnOk result (tables (allocs_of self.new) ≡ tables (allocs_of self.old)) }
-        ensures reading { OnOk result (reading_of self.new ≡ with_tree (reading_of self.old) (tree_of self.new)) }
+        ensures reading { OnOk result (reading_of self.new ≡ with_block (reading_of self.old) (tree_of self.new)) }
         ensures line { OnOk result (AppendsRaw range_text (source_text self.old) (names_of (allocs_of self.new))
             remaining_space start end (tree_of self.old) (tree_of self.new)) }
+        ensures order { OnOk result ((at : ℕ) → at ≤ start → IsCharBoundary (source_text self.old) start
+            → IsCharBoundary (source_text self.old) end → IsOrderedAt (source_text self.old) (reading_of self.old) at
+            → IsOrderedAt (source_text self.old) (reading_of self.new) end) }
     {
+        self.reading.tree.is_forest();
+        self.source.is_short();
         append_raw_line(
             &mut self.reading.tree,
             &mut self.allocs,
@@ -57,7 +63,9 @@ impl<'a> FirstPass<'a> {
             remaining_space,
             start,
             end,
-        )
+        )?;
+        self.reading.empty_item = None;
+        Ok(())
     }
 
     /// Appends a raw line of HTML to the innermost open node: the columns that are owed before it, at most 3, and its
@@ -74,10 +82,15 @@ impl<'a> FirstPass<'a> {
         ensures source { OnOk result (source_of self.new ≡ source_of self.old) }
         ensures names { OnOk result (Extends (names_of (allocs_of self.new)) (names_of (allocs_of self.old))) }
         ensures tables { OnOk result (tables (allocs_of self.new) ≡ tables (allocs_of self.old)) }
-        ensures reading { OnOk result (reading_of self.new ≡ with_tree (reading_of self.old) (tree_of self.new)) }
+        ensures reading { OnOk result (reading_of self.new ≡ with_block (reading_of self.old) (tree_of self.new)) }
         ensures line { OnOk result (AppendsRaw range_html (source_text self.old) (names_of (allocs_of self.new))
             remaining_space start end (tree_of self.old) (tree_of self.new)) }
+        ensures order { OnOk result ((at : ℕ) → at ≤ start → IsCharBoundary (source_text self.old) start
+            → IsCharBoundary (source_text self.old) end → IsOrderedAt (source_text self.old) (reading_of self.old) at
+            → IsOrderedAt (source_text self.old) (reading_of self.new) end) }
     {
+        self.reading.tree.is_forest();
+        self.source.is_short();
         append_raw_line(
             &mut self.reading.tree,
             &mut self.allocs,
@@ -86,7 +99,9 @@ impl<'a> FirstPass<'a> {
             remaining_space,
             start,
             end,
-        )
+        )?;
+        self.reading.empty_item = None;
+        Ok(())
     }
 
     /// Appends the indented code whose first line's text begins at the offset `start_ix`, behind its four columns,
@@ -101,7 +116,7 @@ impl<'a> FirstPass<'a> {
         requires owed { remaining_space ≤ 3 }
         requires code { is_blank_line (drop start_ix (source_text self.old)) ≡ false }
         ensures source { OnOk result (source_of self.new ≡ source_of self.old) }
-        ensures empty_item { OnOk result ((reading_of self.new).empty_item ≡ (reading_of self.old).empty_item) }
+        ensures empty_item { OnOk result ((reading_of self.new).empty_item ≡ None) }
         ensures names { OnOk result (Extends (names_of (allocs_of self.new)) (names_of (allocs_of self.old))) }
         ensures tables { OnOk result (tables (allocs_of self.new) ≡ tables (allocs_of self.old)) }
         ensures block { IfOk result (λ next. (p : Place) → IsPlaceAt (source_text self.old) start_ix p
@@ -112,6 +127,9 @@ impl<'a> FirstPass<'a> {
             × IsCharBoundary (source_text self.old) next) }
         ensures fits { IfOk result (λ next. (from : ℕ) → from ≤ start_ix
             → AddsBetween (source_text self.old) from next (tree_of self.old) (tree_of self.new)) }
+        ensures order { IfOk result (λ next. (at : ℕ) → at ≤ start_ix
+            → IsOrderedAt (source_text self.old) (reading_of self.old) at
+            → IsOrderedAt (source_text self.old) (reading_of self.new) next) }
     {
         let (next, blank) = indented_code::parse_indented_code_block(
             &mut self.reading.tree,
@@ -121,6 +139,7 @@ impl<'a> FirstPass<'a> {
             start_ix,
             remaining_space,
         )?;
+        self.reading.empty_item = None;
         self.reading.blank = blank;
         Ok(next)
     }
@@ -155,7 +174,7 @@ impl<'a> FirstPass<'a> {
         ensures source { OnOk result (source_of self.new ≡ source_of self.old) }
         ensures names { OnOk result (Extends (names_of (allocs_of self.new)) (names_of (allocs_of self.old))) }
         ensures tables { OnOk result (tables (allocs_of self.new) ≡ tables (allocs_of self.old)) }
-        ensures reading { OnOk result (reading_of self.new ≡ with_tree (reading_of self.old) (tree_of self.new)) }
+        ensures reading { OnOk result (reading_of self.new ≡ with_block (reading_of self.old) (tree_of self.new)) }
         ensures block { IfOk result (λ next. let e = fenced_behind (source_text self.old)
             (path_of (tree_of self.old)) indent fence_ch n_fence_char start_ix in
             AddsRaw (source_text self.old) (source_options self.old) (names_of (allocs_of self.new)) (λ d.
@@ -165,6 +184,9 @@ impl<'a> FirstPass<'a> {
             × IsCharBoundary (source_text self.old) next) }
         ensures fits { IfOk result (λ next. (from : ℕ) → from ≤ start_ix
             → AddsBetween (source_text self.old) from next (tree_of self.old) (tree_of self.new)) }
+        ensures order { IfOk result (λ next. (at : ℕ) → at ≤ start_ix
+            → IsOrderedAt (source_text self.old) (reading_of self.old) at
+            → IsOrderedAt (source_text self.old) (reading_of self.new) next) }
     {
         let fence = Fence {
             indent,
@@ -180,6 +202,7 @@ impl<'a> FirstPass<'a> {
             start_ix,
             fence,
         )?;
+        self.reading.empty_item = None;
         Ok(next)
     }
 
@@ -195,7 +218,7 @@ impl<'a> FirstPass<'a> {
         ensures source { OnOk result (source_of self.new ≡ source_of self.old) }
         ensures names { OnOk result (Extends (names_of (allocs_of self.new)) (names_of (allocs_of self.old))) }
         ensures tables { OnOk result (tables (allocs_of self.new) ≡ tables (allocs_of self.old)) }
-        ensures reading { OnOk result (reading_of self.new ≡ with_tree (reading_of self.old) (tree_of self.new)) }
+        ensures reading { OnOk result (reading_of self.new ≡ with_block (reading_of self.old) (tree_of self.new)) }
         ensures block { IfOk result (λ next. let e = metadata_behind (source_text self.old)
             (path_of (tree_of self.old)) metadata_block_ch start_ix in
             AddsRaw (source_text self.old) (source_options self.old) (names_of (allocs_of self.new)) (λ d.
@@ -205,6 +228,9 @@ impl<'a> FirstPass<'a> {
             × IsCharBoundary (source_text self.old) next) }
         ensures fits { IfOk result (λ next. (from : ℕ) → from ≤ start_ix
             → AddsBetween (source_text self.old) from next (tree_of self.old) (tree_of self.new)) }
+        ensures order { IfOk result (λ next. (at : ℕ) → at ≤ start_ix
+            → IsOrderedAt (source_text self.old) (reading_of self.old) at
+            → IsOrderedAt (source_text self.old) (reading_of self.new) next) }
     {
         let next = metadata_block::parse_metadata_block(
             &mut self.reading.tree,
@@ -214,6 +240,7 @@ impl<'a> FirstPass<'a> {
             start_ix,
             metadata_block_ch,
         )?;
+        self.reading.empty_item = None;
         Ok(next)
     }
 
@@ -233,7 +260,7 @@ impl<'a> FirstPass<'a> {
         ensures source { OnOk result (source_of self.new ≡ source_of self.old) }
         ensures names { OnOk result (Extends (names_of (allocs_of self.new)) (names_of (allocs_of self.old))) }
         ensures tables { OnOk result (tables (allocs_of self.new) ≡ tables (allocs_of self.old)) }
-        ensures reading { OnOk result (reading_of self.new ≡ with_tree (reading_of self.old) (tree_of self.new)) }
+        ensures reading { OnOk result (reading_of self.new ≡ with_block (reading_of self.old) (tree_of self.new)) }
         ensures block { IfOk result (λ next. (p : Place) → IsPlaceAt (source_text self.old) start_ix p
             → let e = html_to_end (source_text self.old) (path_of (tree_of self.old)) html_end_tag.now p in
             AddsRaw (source_text self.old) (source_options self.old) (names_of (allocs_of self.new)) (λ d.
@@ -243,6 +270,9 @@ impl<'a> FirstPass<'a> {
             × IsCharBoundary (source_text self.old) next) }
         ensures fits { IfOk result (λ next. (from : ℕ) → from ≤ start_ix
             → AddsBetween (source_text self.old) from next (tree_of self.old) (tree_of self.new)) }
+        ensures order { IfOk result (λ next. (at : ℕ) → at ≤ start_ix
+            → IsOrderedAt (source_text self.old) (reading_of self.old) at
+            → IsOrderedAt (source_text self.old) (reading_of self.new) next) }
     {
         let next = html_block::parse_html_block_type_1_to_5(
             &mut self.reading.tree,
@@ -253,6 +283,7 @@ impl<'a> FirstPass<'a> {
             html_end_tag,
             max(remaining_space, indent),
         )?;
+        self.reading.empty_item = None;
         Ok(next)
     }
 
@@ -271,7 +302,7 @@ impl<'a> FirstPass<'a> {
         ensures source { OnOk result (source_of self.new ≡ source_of self.old) }
         ensures names { OnOk result (Extends (names_of (allocs_of self.new)) (names_of (allocs_of self.old))) }
         ensures tables { OnOk result (tables (allocs_of self.new) ≡ tables (allocs_of self.old)) }
-        ensures reading { OnOk result (reading_of self.new ≡ with_tree (reading_of self.old) (tree_of self.new)) }
+        ensures reading { OnOk result (reading_of self.new ≡ with_block (reading_of self.old) (tree_of self.new)) }
         ensures block { IfOk result (λ next. (p : Place) → IsPlaceAt (source_text self.old) start_ix p
             → let e = html_to_blank (source_text self.old) (path_of (tree_of self.old)) p in
             AddsRaw (source_text self.old) (source_options self.old) (names_of (allocs_of self.new)) (λ d.
@@ -282,6 +313,10 @@ impl<'a> FirstPass<'a> {
         ensures fits { IfOk result (λ next. (p : Place) → IsPlaceAt (source_text self.old) start_ix p → (from : ℕ)
             → from ≤ start_ix → AddsBetween (source_text self.old) from (html_to_blank (source_text self.old)
             (path_of (tree_of self.old)) p).«end» (tree_of self.old) (tree_of self.new)) }
+        ensures order { IfOk result (λ next. (p : Place) → IsPlaceAt (source_text self.old) start_ix p → (at : ℕ)
+            → at ≤ start_ix → IsOrderedAt (source_text self.old) (reading_of self.old) at
+            → IsOrderedAt (source_text self.old) (reading_of self.new) (html_to_blank (source_text self.old)
+            (path_of (tree_of self.old)) p).«end») }
     {
         let lines = self.parse_html_to_blank(start_ix, max(remaining_space, indent))?;
         Ok(lines.next)
@@ -298,7 +333,7 @@ impl<'a> FirstPass<'a> {
         ensures source { OnOk result (source_of self.new ≡ source_of self.old) }
         ensures names { OnOk result (Extends (names_of (allocs_of self.new)) (names_of (allocs_of self.old))) }
         ensures tables { OnOk result (tables (allocs_of self.new) ≡ tables (allocs_of self.old)) }
-        ensures reading { OnOk result (reading_of self.new ≡ with_tree (reading_of self.old) (tree_of self.new)) }
+        ensures reading { OnOk result (reading_of self.new ≡ with_block (reading_of self.old) (tree_of self.new)) }
         ensures block { IfOk result (λ lines. (p : Place) → IsPlaceAt (source_text self.old) start_ix p
             → let e = html_to_blank (source_text self.old) (path_of (tree_of self.old)) p in
             AddsRaw (source_text self.old) (source_options self.old) (names_of (allocs_of self.new)) (λ d.
@@ -311,6 +346,9 @@ impl<'a> FirstPass<'a> {
             → AddsBetween (source_text self.old) from lines.«end» (tree_of self.old) (tree_of self.new)) }
         ensures within { IfOk result (λ lines. (lines.«end» ≤ length (source_text self.old))
             × IsCharBoundary (source_text self.old) lines.«end») }
+        ensures order { IfOk result (λ lines. (at : ℕ) → at ≤ start_ix
+            → IsOrderedAt (source_text self.old) (reading_of self.old) at
+            → IsOrderedAt (source_text self.old) (reading_of self.new) lines.«end») }
     {
         let lines = html_block::parse_html_block_type_6_or_7(
             &mut self.reading.tree,
@@ -320,6 +358,7 @@ impl<'a> FirstPass<'a> {
             start_ix,
             columns,
         )?;
+        self.reading.empty_item = None;
         Ok(lines)
     }
 }

@@ -19,6 +19,10 @@ remembered tree empty_item blank = record { tree = tree; empty_item = empty_item
 abbrev pub with_tree : Reading → Forest Item → Reading
 with_tree r tree = record r { tree = tree }
 
+-- the same where something is added to the innermost open node: an item is empty no more
+abbrev pub with_block : Reading → Forest Item → Reading
+with_block r tree = record r { tree = tree; empty_item = None }
+
 -- the nodes below one of this depth, up to the first that isn't: paragraphs two deeper are tight
 unfoldable pub tight_run : ℕ → List (ℕ × Item) → List (ℕ × Item)
 tight_run depth [] = []

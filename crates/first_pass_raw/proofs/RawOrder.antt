@@ -158,11 +158,13 @@ module _ (range : Ranges) (r : IsRange range) where
       cond_both (ends_with_both text from to) (range from (to - 2) ++ range (to - 1) to) (range from to) (λ (xs : List Item). length xs ≤ 2) (λ both. omega arith) (λ none. omega arith)
 
   module _ (d : Document) where
+    bytes_in_order : (owed from to : ℕ) (items : List Item) → from ≤ to → IsCharBoundary d.text from → IsCharBoundary d.text to → IsRawLine range d owed from to items → AreInOrder d.text from to items
+    bytes_in_order owed from to items order b c (columns, are, is) =
+        subst (AreInOrder d.text from to) (sym is)
+        (order_append d.text from from to columns (raw_items range d.text from to) (columns_in_order d.text d.names owed from columns b are) (raw_in_order d.text from to order b c))
+
     line_in_order : (p : Place) (owed : ℕ) (items : List Item) → IsUtf8 d.text → IsPlaceOf d.text p → IsRawLine range d owed (offset p) (line_end p) items → AreInOrder d.text (offset p) (line_end p) items
-    line_in_order p owed items u i (columns, are, is) =
-        subst (AreInOrder d.text (offset p) (line_end p)) (sym is)
-        (order_append d.text (offset p) (offset p) (line_end p) columns (raw_items range d.text (offset p) (line_end p)) (columns_in_order d.text d.names owed (offset p) columns i.boundary are)
-        (raw_in_order d.text (offset p) (line_end p) (omega arith) i.boundary (place_end d.text p u i)))
+    line_in_order p owed items u i line = bytes_in_order owed (offset p) (line_end p) items (omega arith) i.boundary (place_end d.text p u i) line
 
     lines_in_order : (ps : List Place) (from at to : ℕ) (chain whole : List Item) → IsUtf8 d.text → ArePlaced d.text at ps to → AreInOrder d.text from at chain → AreRawLines range d chain ps whole → AreInOrder d.text from to whole
     unfolding ArePlaced AreRawLines
@@ -200,6 +202,13 @@ bytes_few text from to (p ∷ ps) some placed =
 few_by : (text : List ℕ) (from to start stop n : ℕ) (ps : List Place) → n ≤ 0 + 3 * length ps → AreFew start ps → ArePlaced text start ps stop → from ≤ start → stop ≤ to → from < to → suc n ≤ 4 * (to - from)
 few_by text from to start stop n ps least (inl one) placed behind before apart = omega arith
 few_by text from to start stop n ps least (inr some) placed behind before apart = (let k = bytes_few text start stop ps some placed in omega arith)
+
+-- A raw line is in order, in code and metadata or in HTML.
+pub text_line_in_order : (d : Document) (owed from to : ℕ) (items : List Item) → from ≤ to → IsCharBoundary d.text from → IsCharBoundary d.text to → IsRawLine range_text d owed from to items → AreInOrder d.text from to items
+text_line_in_order d owed from to items order b c line = bytes_in_order range_text text_range d owed from to items order b c line
+
+pub html_line_in_order : (d : Document) (owed from to : ℕ) (items : List Item) → from ≤ to → IsCharBoundary d.text from → IsCharBoundary d.text to → IsRawLine range_html d owed from to items → AreInOrder d.text from to items
+html_line_in_order d owed from to items order b c line = bytes_in_order range_html html_range d owed from to items order b c line
 
 -- A block of raw lines fits where it begins and ends.
 raw_fits : (range : Ranges) → IsRange range → (d : Document) (from to start stop : ℕ) (body : ItemBody) (ps : List Place) (chain : List Item) (items : List (ℕ × Item)) → IsUtf8 d.text → items ≡ block_with start stop body chain

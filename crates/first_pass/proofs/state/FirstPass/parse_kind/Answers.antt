@@ -94,7 +94,7 @@ returns-in_ok-next-in-Paragraph c =
     let begins = found_boundary text p at c.requires.utf8 c.requires.place there in
     let block : AddsParagraph (document text options no_names) at None (list_finished at old).tree new.reading.tree next =
     subst (λ (r : Reading). AddsParagraph (document text options no_names) at None r.tree new.reading.tree next) rem e.block in
-    let none = ap (λ (r : Reading). r.empty_item) e.reading ∙ ap (λ (r : Reading). r.empty_item) rem ∙ list_finished_none at old in
+    let none = ap (λ (r : Reading). r.empty_item) e.reading in
     let blank = ap (λ (r : Reading). r.blank) e.reading ∙ ap (λ (r : Reading). r.blank) rem ∙ list_finished_blank at old in
     let fits : (from : ℕ) → from ≤ at → AddsBetween text from next (list_finished at old).tree new.reading.tree =
     λ from before. subst (λ (r : Reading). AddsBetween text from next r.tree new.reading.tree) rem (e.fits tt from before) in
@@ -154,7 +154,7 @@ returns-in_ok-lines-in-HtmlToBlank c =
     let end_later = on.1 in
     let result_is : c.read_blank_behind.result ≡ behind_blank text lines.«end» lines.next =
     c.read_blank_behind.ensures.next ∙ ap (λ (s : Source). behind_blank s.text.now lines.«end» lines.next) e.source in
-    let none = ap (λ (r : Reading). r.empty_item) e.reading ∙ ap (λ (r : Reading). r.empty_item) rem ∙ list_finished_none p.line old in
+    let none = ap (λ (r : Reading). r.empty_item) e.reading in
     let blank = ap (λ (r : Reading). r.blank) e.reading ∙ ap (λ (r : Reading). r.blank) rem ∙ list_finished_blank p.line old in
     let html : AddsHtml text options (names_of h.allocs) at c.args.columns u q.tree h.reading.tree lines.next =
     subst (λ (r : Reading). AddsHtml text options (names_of h.allocs) at c.args.columns u r.tree h.reading.tree lines.next) rem (e.block u place) in
