@@ -6,72 +6,119 @@ use first_pass::pass::{FirstPass, run_first_pass, scan_paragraph_interrupt_no_ta
 use first_pass_items::option_set::Options;
 use first_pass_lines::lines::scan_atx_heading;
 use first_pass_scan::leaf_scan::scan_code_fence;
+use std::alloc::{AllocError, Global};
 use std::test::Fail;
 
 const TEXT: &str = "# a\nb\\\nc";
 
+// How many nodes a text has.
+fn count_nodes(alloc: Global, text: &str) -> Result<usize, AllocError> {
+    let (tree, _allocs) = run_first_pass(alloc, text, Options::empty())?;
+    Ok(tree.node_count())
+}
+
+// Whether a line interrupts a paragraph behind the blocks of a text.
+fn interrupts(alloc: Global, text: &str, line: &str) -> Result<bool, AllocError> {
+    let (tree, _allocs) = run_first_pass(alloc, text, Options::empty())?;
+    scan_paragraph_interrupt_no_table(alloc, line, true, false, false, &tree, 0)
+}
+
+// Where the first block ends.
+fn block_end(alloc: Global) -> Result<usize, AllocError> {
+    let mut pass = FirstPass::new(alloc, TEXT, Options::empty())?;
+    pass.parse_block(0)
+}
+
 #[test]
 fn blocks_of_a_text(rt: HostRuntime) -> Result<(), Fail> {
-    let (tree, _allocs) = run_first_pass(rt.alloc(), TEXT, Options::empty())?;
-    assert_eq!(rt; tree.node_count(), 7);
-    assert_eq!(rt;
-        scan_paragraph_interrupt_no_table(rt.alloc(), "## b", true, false, false, &tree, 0)?,
-        true
-    );
-    let mut pass = FirstPass::new(rt.alloc(), TEXT, Options::empty())?;
-    let next = pass.parse_block(0)?;
-    assert_eq!(rt; next, 4);
-    assert_eq!(rt; pass.parse_block(next)?, 8);
+    assert_eq!(rt; count_nodes(rt.alloc(), TEXT)?, 7);
+    assert_eq!(rt; count_nodes(rt.alloc(), "~~~ r&amp;b\nx\n~~~")?, 3);
+    assert!(rt; interrupts(rt.alloc(), TEXT, "## b")?);
+    assert_eq!(rt; block_end(rt.alloc())?, 4);
     Ok(())
 }
 
-#[test]
-fn parts_of_a_block(rt: HostRuntime) -> Result<(), Fail> {
-    let mut pass = FirstPass::new(rt.alloc(), TEXT, Options::empty())?;
-    let level = scan_atx_heading(TEXT.as_bytes()).ok_or("a heading")?;
-    assert_eq!(rt; pass.parse_atx_heading(0, level)?, 4);
-    assert_eq!(rt; pass.parse_paragraph(4, None)?, 8);
+fn heading_end(alloc: Global) -> Result<Option<usize>, AllocError> {
+    let mut pass = FirstPass::new(alloc, TEXT, Options::empty())?;
+    match scan_atx_heading(TEXT.as_bytes()) {
+        Some(level) => Ok(Some(pass.parse_atx_heading(0, level)?)),
+        None => Ok(None),
+    }
+}
+
+fn paragraph_end(alloc: Global) -> Result<usize, AllocError> {
+    let mut pass = FirstPass::new(alloc, TEXT, Options::empty())?;
+    pass.parse_paragraph(4, None)
+}
+
+// Where a line of a paragraph ends, and whether a break stands there.
+fn line_end(alloc: Global) -> Result<(usize, bool), AllocError> {
+    let mut pass = FirstPass::new(alloc, TEXT, Options::empty())?;
     let (next, line_break) = pass.parse_line(4, Some(8), TableParseMode::Disabled)?;
-    assert_eq!(rt; next, 7);
-    assert!(rt; line_break.is_some());
-    Ok(())
+    Ok((next, line_break.is_some()))
+}
+
+fn rule_end(alloc: Global) -> Result<usize, AllocError> {
+    let mut pass = FirstPass::new(alloc, "***\n", Options::empty())?;
+    pass.parse_hrule(4, 0)
 }
 
 #[test]
-fn a_thematic_break(rt: HostRuntime) -> Result<(), Fail> {
-    let mut pass = FirstPass::new(rt.alloc(), "***\n", Options::empty())?;
-    assert_eq!(rt; pass.parse_hrule(4, 0)?, 4);
+fn parts_of_a_text(rt: HostRuntime) -> Result<(), Fail> {
+    assert_eq!(rt; heading_end(rt.alloc())?, Some(4));
+    assert_eq!(rt; paragraph_end(rt.alloc())?, 8);
+    assert!(rt; line_end(rt.alloc())? == (7, true));
+    assert_eq!(rt; rule_end(rt.alloc())?, 4);
     Ok(())
 }
 
-#[test]
-fn code_and_metadata(rt: HostRuntime) -> Result<(), Fail> {
+fn fenced_end(alloc: Global) -> Result<Option<usize>, AllocError> {
     let fence = "```x\na\n```\n";
-    let mut pass = FirstPass::new(rt.alloc(), fence, Options::empty())?;
-    let (count, byte) = scan_code_fence(fence.as_bytes()).ok_or("a fence")?;
-    assert_eq!(rt; pass.parse_fenced_code_block(0, 0, byte, count)?, 11);
-    let mut pass = FirstPass::new(rt.alloc(), "    a\n\n", Options::empty())?;
-    assert_eq!(rt; pass.parse_indented_code_block(4, 0)?, 7);
-    let mut pass = FirstPass::new(rt.alloc(), "+++\na\n+++\n", Options::empty())?;
-    assert_eq!(rt; pass.parse_metadata_block(0, b'+')?, 10);
-    Ok(())
+    let mut pass = FirstPass::new(alloc, fence, Options::empty())?;
+    match scan_code_fence(fence.as_bytes()) {
+        Some((count, byte)) => Ok(Some(pass.parse_fenced_code_block(0, 0, byte, count)?)),
+        None => Ok(None),
+    }
+}
+
+fn indented_end(alloc: Global) -> Result<usize, AllocError> {
+    let mut pass = FirstPass::new(alloc, "    a\n\n", Options::empty())?;
+    pass.parse_indented_code_block(4, 0)
+}
+
+fn metadata_end(alloc: Global) -> Result<usize, AllocError> {
+    let mut pass = FirstPass::new(alloc, "+++\na\n+++\n", Options::empty())?;
+    pass.parse_metadata_block(0, b'+')
+}
+
+fn comment_end(alloc: Global) -> Result<usize, AllocError> {
+    let mut pass = FirstPass::new(alloc, "<!-- a\n-->\nb", Options::empty())?;
+    pass.parse_html_block_type_1_to_5(0, "-->", 0, 0)
+}
+
+fn division_end(alloc: Global) -> Result<usize, AllocError> {
+    let mut pass = FirstPass::new(alloc, "<div>\n\na", Options::empty())?;
+    pass.parse_html_block_type_6_or_7(0, 0, 0)
+}
+
+fn append_code(alloc: Global) -> Result<(), AllocError> {
+    let mut pass = FirstPass::new(alloc, "a\r\n", Options::empty())?;
+    pass.append_code_text(2, 0, 3)
+}
+
+fn append_html(alloc: Global) -> Result<(), AllocError> {
+    let mut pass = FirstPass::new(alloc, "a\r\n", Options::empty())?;
+    pass.append_html_line(0, 0, 3)
 }
 
 #[test]
-fn html_blocks(rt: HostRuntime) -> Result<(), Fail> {
-    let mut pass = FirstPass::new(rt.alloc(), "<!-- a\n-->\nb", Options::empty())?;
-    assert_eq!(rt; pass.parse_html_block_type_1_to_5(0, "-->", 0, 0)?, 11);
-    let mut pass = FirstPass::new(rt.alloc(), "<div>\n\na", Options::empty())?;
-    assert_eq!(rt; pass.parse_html_block_type_6_or_7(0, 0, 0)?, 6);
-    Ok(())
-}
-
-#[test]
-fn raw_lines(rt: HostRuntime) -> Result<(), Fail> {
-    let mut pass = FirstPass::new(rt.alloc(), "a\r\n", Options::empty())?;
-    pass.append_code_text(2, 0, 3)?;
-    pass.append_html_line(0, 0, 3)?;
-    let (tree, _allocs) = run_first_pass(rt.alloc(), "~~~ r&amp;b\nx\n~~~", Options::empty())?;
-    assert_eq!(rt; tree.node_count(), 3);
+fn raw_blocks(rt: HostRuntime) -> Result<(), Fail> {
+    assert_eq!(rt; fenced_end(rt.alloc())?, Some(11));
+    assert_eq!(rt; indented_end(rt.alloc())?, 7);
+    assert_eq!(rt; metadata_end(rt.alloc())?, 10);
+    assert_eq!(rt; comment_end(rt.alloc())?, 11);
+    assert_eq!(rt; division_end(rt.alloc())?, 6);
+    append_code(rt.alloc())?;
+    append_html(rt.alloc())?;
     Ok(())
 }

@@ -7,8 +7,6 @@ use first_pass_timing::clock::TimeSource;
 use std::alloc::{AllocError, Global};
 use std::io;
 use std::io::{ErrorKind, Read, Write};
-use std::process::Abort;
-use std::test::Fail;
 
 /// A clock that says what it is told to, and fails behind that.
 #[derive(Drop)]
@@ -133,40 +131,4 @@ pub fn time(
 ) -> Result<Result<(), BlocksFault>, AllocError> {
     let list = words_of(alloc, words)?;
     Ok(bench_run(clock, alloc, list.as_slice(), source, sink))
-}
-
-/// What a run without a fault writes for a text, under the option bits (none where they are empty).
-pub fn print(alloc: Global, bits: &str, text: &str) -> Result<String, Fail> {
-    let mut source = Source::new(text.as_bytes(), usize::MAX, 0);
-    let mut sink = Sink::new(alloc, usize::MAX, 0);
-    let words = [bits];
-    let given = usize::from(!bits.is_empty());
-    let answer = run(alloc, &words[..given], &mut source, &mut sink)?;
-    answer.ok().ok_or("no fault")?;
-    Ok(String::from_utf8_lossy(alloc, sink.bytes.as_slice())?)
-}
-
-/// A text or a tree as a table has it, which begins on the line below its opening quote.
-fn from_next_line(literal: &str) -> Result<&str, Fail> {
-    Ok(literal.strip_prefix("\n").ok_or("a line of its own")?)
-}
-
-/// Asserts what is printed for each text: its option bits (none where they are empty), the text, what is wanted.
-/// Text and tree stand in the table as they are, from the line below the opening quote on.
-pub fn assert_printed(
-    rt: &impl Abort,
-    alloc: Global,
-    texts: &[(&str, &str, &str)],
-) -> Result<(), Fail> {
-    for (bits, text_below, tree_below) in texts {
-        let text = from_next_line(text_below)?;
-        let want = from_next_line(tree_below)?;
-        let printed = print(alloc, bits, text)?;
-        let got = printed.as_str();
-        assert!(rt;
-            got == want,
-            "options {bits:?}, text {text:?}\n{text}\nwanted:\n{want}\ngot:\n{got}"
-        );
-    }
-    Ok(())
 }

@@ -1,4 +1,4 @@
-//! Texts and the trees that are printed for them, and each fault of a run.
+//! Each call of the pass, deep texts, the work of both programs and each fault of a run.
 #![tactic(auto)]
 
 #[cfg(test)]
@@ -11,13 +11,3 @@ mod deep;
 mod fakes;
 #[cfg(test)]
 mod faults;
-#[cfg(test)]
-mod lists;
-#[cfg(test)]
-mod raw;
-#[cfg(test)]
-mod tags;
-#[cfg(test)]
-mod tasks;
-#[cfg(test)]
-mod texts;

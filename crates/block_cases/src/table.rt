@@ -1,0 +1,53 @@
+//! The table: its groups of lines, one after the other.
+
+use crate::case::{append_difference, printed, read_case};
+use first_pass_cases::fault::CasesFault;
+use first_pass_cases::tally::{Tally, append_place};
+use std::alloc::Global;
+
+/// Runs each case of the table, and appends to the report each that differs.
+pub fn compare(alloc: Global, table: &str, report: &mut String) -> Result<Tally, CasesFault> {
+    let mut tally = Tally::new();
+    let mut line: usize = 1;
+    for group in table.trim_end_matches('\n').split("\n\n") {
+        if !is_heading(group) {
+            let differs = compare_case(alloc, group, line, report)?;
+            tally.count(differs);
+        }
+        line = line.saturating_add(group.lines().count()).saturating_add(1);
+    }
+    Ok(tally)
+}
+
+/// Whether all lines of a group begin with a number sign.
+fn is_heading(group: &str) -> bool {
+    for line in group.lines() {
+        if !line.starts_with('#') {
+            return false;
+        }
+    }
+    true
+}
+
+/// Runs the case whose first line has this number, and tells whether it differs.
+fn compare_case(
+    alloc: Global,
+    group: &str,
+    line: usize,
+    report: &mut String,
+) -> Result<bool, CasesFault> {
+    let case = match read_case(alloc, group)? {
+        Ok(case) => case,
+        Err(what) => return Err(CasesFault::Malformed(line, what)),
+    };
+    let came = match printed(alloc, &case)? {
+        Some(came) => came,
+        None => return Err(CasesFault::Malformed(line, "these are no options")),
+    };
+    let differs = came.as_str() != case.tree.as_str();
+    if differs {
+        append_place(report, line)?;
+        append_difference(report, group, came.as_str())?;
+    }
+    Ok(differs)
+}

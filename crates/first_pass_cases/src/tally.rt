@@ -1,0 +1,61 @@
+//! How many cases a table has, and how many of them differ.
+
+use crate::fault::CasesFault;
+use std::alloc::{AllocError, Global};
+use std::process::ExitCode;
+
+/// How many cases there were, and how many of them differed.
+#[derive(Clone, Copy, Debug, PartialEq, Eq)]
+pub struct Tally {
+    pub cases: usize,
+    pub differ: usize,
+}
+
+impl Tally {
+    pub fn new() -> Tally {
+        Tally {
+            cases: 0,
+            differ: 0,
+        }
+    }
+
+    /// Counts one more case.
+    pub fn count(&mut self, differs: bool) {
+        self.cases = self.cases.saturating_add(1);
+        self.differ = self.differ.saturating_add(usize::from(differs));
+    }
+
+    /// The line that ends a report.
+    pub fn line(self, alloc: Global) -> Result<String, AllocError> {
+        let (cases, differ) = (self.cases, self.differ);
+        format!(in alloc; "{cases} cases, {differ} differ\n")
+    }
+
+    /// The status that a program ends with: 0 where no case differs, else 1.
+    pub fn status(self) -> u8 {
+        u8::from(self.differ != 0)
+    }
+}
+
+/// Appends where a case that differs stands.
+pub fn append_place(report: &mut String, line: usize) -> Result<(), AllocError> {
+    write!(report, "line {line} differs:\n")
+}
+
+/// Says what a run came to: the fault on standard error, with status 2, or the status of the tally.
+pub fn end_with(rt: &HostRuntime, answer: Result<Tally, CasesFault>) -> ExitCode {
+    match answer {
+        Ok(tally) => ExitCode::from(tally.status()),
+        Err(fault) => {
+            match fault.message(rt.alloc()) {
+                Ok(message) => {
+                    let _ = eprintln!(rt; "{message}");
+                }
+                Err(_) => {
+                    let _ = eprintln!(rt; "out of memory");
+                }
+            }
+            ExitCode::from(2)
+        }
+    }
+}
