@@ -1,8 +1,8 @@
 //! Control characters as they stand in a table: each as its picture.
 //!
 //! The characters U+0000 to U+0020 have the pictures U+2400 to U+2420, so `␉` is a tab, `␊` a line end, `␍` a carriage
-//! return, `␋` a vertical tab, `␌` a form feed, and `␠` a space, which is written so at the end of a line alone. No
-//! text of a table has a picture that stands for itself.
+//! return, `␋` a vertical tab, `␌` a form feed, and `␠` a space, which is written so only where a line or a text ends.
+//! No text of a table has a picture that stands for itself.
 
 use std::alloc::{AllocError, Global};
 

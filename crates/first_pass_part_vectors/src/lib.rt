@@ -1,17 +1,16 @@
-//! What each part below the pass answers: texts of a cow, the tree, scanners, HTML starts, links, walks and tokens.
+//! What the parts below the pass answer to calls one after the other: texts of a cow, the tree, columns, labels that
+//! cross line ends, walks, tokens. Tables of texts with one answer each stand in the crate `scan_cases`.
 #![tactic(auto)]
 
 #[cfg(test)]
-mod below;
+mod columns;
 #[cfg(test)]
-mod html;
-#[cfg(test)]
-mod links;
-#[cfg(test)]
-mod scanners;
+mod labels;
 #[cfg(test)]
 mod texts;
 #[cfg(test)]
 mod tokens;
 #[cfg(test)]
 mod tree;
+#[cfg(test)]
+mod walks;

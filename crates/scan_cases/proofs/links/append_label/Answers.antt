@@ -1,6 +1,6 @@
 use Rattle.std.proofs.Common.{rules}
 use Rattle.first_pass_links.proofs.Labels.{no_prefix}
-use Rattle.first_pass_part_vectors.proofs.links.has_label.Goals as goal
+use Rattle.scan_cases.proofs.links.append_label.Goals as goal
 
 pub scan_link_label_rest-requires-clause-places : goal.scan_link_label_rest-requires-clause-places
 scan_link_label_rest-requires-clause-places c = λ behind n p u. no_prefix behind.now n u (search rules)

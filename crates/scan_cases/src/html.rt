@@ -1,0 +1,23 @@
+//! Calls of `first_pass_html`.
+
+use crate::answer::Answer;
+use first_pass_html::names::is_block_name;
+use first_pass_html::starts::{get_html_end_tag, is_raw_name, starts_html_block_type_6};
+use first_pass_html::tags::scan_html_type_7;
+use std::alloc::AllocError;
+
+/// Answers a call for the start of an HTML block, or tells that it is another one.
+pub fn answer_html(call: &str, bytes: &[u8], answer: &mut Answer) -> Result<bool, AllocError> {
+    match call {
+        "get_html_end_tag" => match get_html_end_tag(bytes) {
+            Some(end) => answer.text(end)?,
+            None => answer.none()?,
+        },
+        "starts_html_block_type_6" => answer.flag(starts_html_block_type_6(bytes))?,
+        "is_block_name" => answer.flag(is_block_name(bytes))?,
+        "is_raw_name" => answer.flag(is_raw_name(bytes))?,
+        "scan_html_type_7" => answer.length(scan_html_type_7(bytes))?,
+        _ => return Ok(false),
+    }
+    Ok(true)
+}

@@ -1,0 +1,94 @@
+//! Calls of `first_pass_scan` for the lines that open or close a leaf block.
+
+use crate::answer::Answer;
+use crate::given::Given;
+use first_pass_items::item::HeadingLevel;
+use first_pass_lines::lines::level_number;
+use first_pass_lines::places::rest_of;
+use first_pass_scan::leaf_scan::{
+    calc_indent, scan_closing_code_fence, scan_closing_metadata_block, scan_code_fence, scan_hrule,
+    scan_metadata_block, scan_setext_heading,
+};
+use first_pass_scan::metadata_search::{MetadataEnds, metadata_at};
+use std::alloc::AllocError;
+
+/// Answers a call for a thematic break, an underline, a fence or an indent, or tells that it is another one.
+pub fn answer_leaves(
+    call: &str,
+    given: &Given,
+    bytes: &[u8],
+    answer: &mut Answer,
+) -> Result<bool, AllocError> {
+    match call {
+        "scan_hrule" => answer.length(scan_hrule(bytes))?,
+        "scan_setext_heading" => append_underline(scan_setext_heading(bytes), answer)?,
+        "scan_code_fence" => append_fence(scan_code_fence(bytes), answer)?,
+        "scan_closing_code_fence" => {
+            answer.length(scan_closing_code_fence(bytes, given.byte(0), given.number(1)))?
+        }
+        "calc_indent" => append_indent(calc_indent(bytes, given.number(0)), answer)?,
+        _ => return Ok(false),
+    }
+    Ok(true)
+}
+
+fn append_underline(
+    found: Option<(usize, HeadingLevel)>,
+    answer: &mut Answer,
+) -> Result<(), AllocError> {
+    match found {
+        Some((len, level)) => {
+            answer.number(len)?;
+            answer.number(level_number(level))
+        }
+        None => answer.none(),
+    }
+}
+
+fn append_fence(found: Option<(usize, u8)>, answer: &mut Answer) -> Result<(), AllocError> {
+    match found {
+        Some((count, byte)) => {
+            answer.number(count)?;
+            answer.byte(byte)
+        }
+        None => answer.none(),
+    }
+}
+
+fn append_indent(found: (usize, usize), answer: &mut Answer) -> Result<(), AllocError> {
+    answer.number(found.0)?;
+    answer.number(found.1)
+}
+
+/// Answers a call for a metadata block, or tells that it is another one. The flags that are given turn on `---` and
+/// `+++`; then places may follow.
+pub fn answer_metadata(
+    call: &str,
+    given: &Given,
+    bytes: &[u8],
+    answer: &mut Answer,
+) -> Result<bool, AllocError> {
+    match call {
+        "scan_metadata_block" => {
+            let rest = rest_of(bytes, given.number(2).min(bytes.len()));
+            answer.maybe_byte(scan_metadata_block(rest, given.flag(0), given.flag(1)))?
+        }
+        "scan_closing_metadata_block" => {
+            answer.length(scan_closing_metadata_block(bytes, given.byte(0)))?
+        }
+        "metadata_at" => append_metadata(given, bytes, answer)?,
+        _ => return Ok(false),
+    }
+    Ok(true)
+}
+
+/// What `metadata_at` finds at each of the places that are given, one after the other.
+fn append_metadata(given: &Given, bytes: &[u8], answer: &mut Answer) -> Result<(), AllocError> {
+    let mut ends = MetadataEnds::new();
+    for place in 2..given.count() {
+        let start = given.number(place).min(bytes.len());
+        let found = metadata_at(bytes, start, given.flag(0), given.flag(1), &mut ends);
+        answer.maybe_byte(found)?;
+    }
+    Ok(())
+}

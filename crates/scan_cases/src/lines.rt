@@ -1,0 +1,51 @@
+//! Calls of `first_pass_lines`.
+
+use crate::answer::Answer;
+use crate::given::Given;
+use first_pass_lines::lines::{
+    begins, is_ascii_white, is_blank, is_line_end, is_white, level_number, scan_atx_heading,
+    scan_blank_line, scan_blanks, scan_eol, scan_nextline, scan_whitespace_no_nl,
+};
+use first_pass_lines::places::{next_line, rest_of};
+use std::alloc::AllocError;
+
+/// Answers a call of a line's scanners, or tells that it is another one.
+pub fn answer_lines(
+    call: &str,
+    given: &Given,
+    bytes: &[u8],
+    answer: &mut Answer,
+) -> Result<bool, AllocError> {
+    let start = given.number(0).min(bytes.len());
+    match call {
+        "scan_eol" => answer.length(scan_eol(bytes))?,
+        "scan_blank_line" => answer.length(scan_blank_line(bytes))?,
+        "scan_nextline" => answer.number(scan_nextline(bytes))?,
+        "scan_whitespace_no_nl" => answer.number(scan_whitespace_no_nl(bytes))?,
+        "scan_blanks" => answer.number(scan_blanks(bytes))?,
+        "scan_atx_heading" => answer.length(scan_atx_heading(bytes).map(level_number))?,
+        "next_line" => answer.number(next_line(bytes, start))?,
+        "rest_of" => answer.number(rest_of(bytes, start).len())?,
+        _ => return Ok(false),
+    }
+    Ok(true)
+}
+
+/// Answers a test of the first byte, or tells that it is another call.
+pub fn answer_bytes(
+    call: &str,
+    given: &Given,
+    bytes: &[u8],
+    answer: &mut Answer,
+) -> Result<bool, AllocError> {
+    let byte = bytes.first().copied().unwrap_or(0);
+    match call {
+        "begins" => answer.flag(begins(given.byte(0), bytes))?,
+        "is_line_end" => answer.flag(is_line_end(byte))?,
+        "is_white" => answer.flag(is_white(byte))?,
+        "is_blank" => answer.flag(is_blank(byte))?,
+        "is_ascii_white" => answer.flag(is_ascii_white(byte))?,
+        _ => return Ok(false),
+    }
+    Ok(true)
+}

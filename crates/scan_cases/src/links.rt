@@ -1,0 +1,87 @@
+//! Calls of `first_pass_links`.
+
+use crate::answer::Answer;
+use crate::given::Given;
+use first_pass_items::cow_str::CowStr;
+use first_pass_links::destination::scan_link_dest;
+use first_pass_links::entity::scan_entity;
+use first_pass_links::escape::unescape;
+use first_pass_links::label::scan_link_label_rest;
+use std::alloc::{AllocError, Global};
+use std::ops::DerefStr;
+
+/// Answers a call for a reference, an escape, a destination or a label, or tells that it is another one.
+pub fn answer_links(
+    alloc: Global,
+    call: &str,
+    given: &Given,
+    text: &str,
+    answer: &mut Answer,
+) -> Result<bool, AllocError> {
+    match call {
+        "scan_entity" => append_reference(text.as_bytes(), answer)?,
+        "unescape" => append_cow(&unescape(alloc, text, given.flag(0))?, answer)?,
+        "scan_link_dest" => append_destination(text, given, answer)?,
+        "scan_link_label_rest" => append_label(alloc, text, given.flag(0), answer)?,
+        _ => return Ok(false),
+    }
+    Ok(true)
+}
+
+/// How many bytes a reference has, and the characters that it stands for.
+fn append_reference(bytes: &[u8], answer: &mut Answer) -> Result<(), AllocError> {
+    let (len, found) = scan_entity(bytes);
+    answer.number(len)?;
+    match found {
+        Some(stands_for) => append_characters(stands_for.deref(), answer),
+        None => answer.none(),
+    }
+}
+
+/// Each character by its number.
+fn append_characters(text: &str, answer: &mut Answer) -> Result<(), AllocError> {
+    for character in text.chars() {
+        answer.number(character as usize)?;
+    }
+    Ok(())
+}
+
+/// A text, and whether it is borrowed.
+fn append_cow(cow: &CowStr<'_>, answer: &mut Answer) -> Result<(), AllocError> {
+    answer.word(match cow {
+        CowStr::Borrowed(_) => "borrowed",
+        _ => "owned",
+    })?;
+    answer.text(cow.deref())
+}
+
+/// How many bytes a destination has at the place that is given, parentheses nested as deep at most, and its text.
+fn append_destination(text: &str, given: &Given, answer: &mut Answer) -> Result<(), AllocError> {
+    let start = given.number(0);
+    if !text.is_char_boundary(start) {
+        return answer.none();
+    }
+    match scan_link_dest(text, start, given.number(1)) {
+        Some((len, destination)) => {
+            answer.number(len)?;
+            answer.text(destination)
+        }
+        None => answer.none(),
+    }
+}
+
+/// How many bytes a label has behind its bracket, and its text. Each line end may be crossed, and no line has a prefix.
+fn append_label(
+    alloc: Global,
+    text: &str,
+    in_table: bool,
+    answer: &mut Answer,
+) -> Result<(), AllocError> {
+    match scan_link_label_rest(alloc, text, |_line: &[u8]| Ok(Some(0)), in_table)? {
+        Some((len, label)) => {
+            answer.number(len)?;
+            append_cow(&label, answer)
+        }
+        None => answer.none(),
+    }
+}

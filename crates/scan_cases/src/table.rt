@@ -1,0 +1,97 @@
+//! The table: its lines, one after the other.
+
+use crate::answer::Answer;
+use crate::given::{Given, read_given};
+use crate::html::answer_html;
+use crate::leaves::{answer_leaves, answer_metadata};
+use crate::lines::{answer_bytes, answer_lines};
+use crate::links::answer_links;
+use crate::markers::answer_markers;
+use crate::walks::{answer_flanks, answer_walks};
+use first_pass_cases::fault::CasesFault;
+use first_pass_cases::pictures::read_shown;
+use first_pass_cases::tally::{Tally, append_place};
+use std::alloc::{AllocError, Global};
+
+/// A line of the table: a call with what it is given, its text, and the answer that is wanted.
+#[derive(Drop)]
+struct Case<'t> {
+    call: &'t str,
+    given: Given,
+    shown: &'t str,
+    want: &'t str,
+}
+
+/// Asks for the answer of each line, and appends to the report each that differs.
+pub fn compare(alloc: Global, table: &str, report: &mut String) -> Result<Tally, CasesFault> {
+    let mut tally = Tally::new();
+    let mut number: usize = 0;
+    for line in table.lines() {
+        number = number.saturating_add(1);
+        if !line.is_empty() && !line.starts_with('#') {
+            let differs = compare_line(alloc, line, number, report)?;
+            tally.count(differs);
+        }
+    }
+    Ok(tally)
+}
+
+/// Asks for the answer of the line of this number, and tells whether it differs.
+fn compare_line(
+    alloc: Global,
+    line: &str,
+    number: usize,
+    report: &mut String,
+) -> Result<bool, CasesFault> {
+    let Some(case) = read_case(line) else {
+        return Err(CasesFault::Malformed(number, "no text between ‹ and ›"));
+    };
+    let mut answer = Answer::new(alloc);
+    if !ask(alloc, &case, &mut answer)? {
+        return Err(CasesFault::Malformed(number, "no such call"));
+    }
+    let differs = answer.as_str() != case.want;
+    if differs {
+        append_place(report, number)?;
+        append_difference(report, line, answer.as_str())?;
+    }
+    Ok(differs)
+}
+
+/// Reads a line.
+fn read_case(line: &str) -> Option<Case<'_>> {
+    let (front, behind) = line.split_once(" ‹")?;
+    let (shown, want) = behind.split_once("› ")?;
+    let (call, words) = front.split_once(' ').unwrap_or((front, ""));
+    Some(Case {
+        call,
+        given: read_given(words),
+        shown,
+        want,
+    })
+}
+
+/// Appends a line that differs and the answer that came.
+fn append_difference(report: &mut String, line: &str, came: &str) -> Result<(), AllocError> {
+    report.push_str(line)?;
+    report.push_str("\nbut this came: ")?;
+    report.push_str(came)?;
+    report.push('\n')
+}
+
+/// Appends the answer of a call, or tells that there is none of this name.
+fn ask(alloc: Global, case: &Case<'_>, answer: &mut Answer) -> Result<bool, AllocError> {
+    let read = read_shown(alloc, case.shown)?;
+    let (call, given, text) = (case.call, &case.given, read.as_str());
+    Ok(
+        answer_lines(call, given, text.as_bytes(), answer)?
+            || answer_bytes(call, given, text.as_bytes(), answer)?
+            || answer_leaves(call, given, text.as_bytes(), answer)?
+            || answer_metadata(call, given, text.as_bytes(), answer)?
+            || answer_markers(alloc, call, given, text.as_bytes(), answer)?
+            || answer_html(call, text.as_bytes(), answer)?
+            || answer_links(alloc, call, given, text, answer)?
+            || answer_walks(alloc, call, given, text, answer)?
+            || answer_flanks(call, given, text, answer)?,
+    )
+}

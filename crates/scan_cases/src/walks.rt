@@ -1,0 +1,77 @@
+//! Calls of the options, of `first_pass_walk`, and for delimiter runs.
+
+use crate::answer::Answer;
+use crate::given::Given;
+use bitflags::Flags;
+use first_pass_below::flank::{TableParseMode, delim_run_can_close, delim_run_can_open};
+use first_pass_items::option_set::Options;
+use first_pass_walk::walk::{next_special, special_bytes};
+use std::alloc::{AllocError, Global};
+
+/// Answers a call of the options or of the bytes that these make special, or tells that it is another one.
+pub fn answer_walks(
+    alloc: Global,
+    call: &str,
+    given: &Given,
+    text: &str,
+    answer: &mut Answer,
+) -> Result<bool, AllocError> {
+    match call {
+        "Options::from_name" => append_bits(Options::from_name(text), answer)?,
+        "special_bytes" => append_special(alloc, given.number(0), answer)?,
+        "next_special" => {
+            let lut = special_bytes(&Options::empty());
+            answer.length(next_special(&lut, text.as_bytes(), given.number(0)))?
+        }
+        _ => return Ok(false),
+    }
+    Ok(true)
+}
+
+fn append_bits(found: Option<Options>, answer: &mut Answer) -> Result<(), AllocError> {
+    match found {
+        Some(options) => answer.number(options.bits() as usize),
+        None => answer.none(),
+    }
+}
+
+/// The bytes that the options of these bits make special, in their order.
+fn append_special(alloc: Global, bits: usize, answer: &mut Answer) -> Result<(), AllocError> {
+    let lut = special_bytes(&Options::from_bits_truncate(u32::try_from(bits).unwrap_or(0)));
+    let mut special = String::new(alloc);
+    for byte in 0..=255 {
+        if lut[byte as usize] {
+            special.push(char::from(byte))?;
+        }
+    }
+    answer.text(special.as_str())
+}
+
+/// Answers whether a run can open or close, or tells that it is another call. Given are the mode (0 for no table, 1
+/// for a line that may be a row, 2 for a cell), the run's place, and how many bytes it has.
+pub fn answer_flanks(
+    call: &str,
+    given: &Given,
+    text: &str,
+    answer: &mut Answer,
+) -> Result<bool, AllocError> {
+    let (at, len) = (given.number(1), given.number(2));
+    let mode = match given.number(0) {
+        0 => TableParseMode::Disabled,
+        1 => TableParseMode::Scan,
+        _ => TableParseMode::Active,
+    };
+    if !text.is_char_boundary(at) {
+        return Ok(false);
+    }
+    let suffix = &text[at..];
+    if len == 0 || !suffix.is_char_boundary(len) {
+        return Ok(false);
+    }
+    match call {
+        "delim_run_can_open" => answer.flag(delim_run_can_open(text, suffix, len, at, mode))?,
+        "delim_run_can_close" => answer.flag(delim_run_can_close(text, suffix, len, at, mode))?,
+        _ => return Ok(false),
+    }
+    Ok(true)
+}
