@@ -6,6 +6,7 @@ use Rattle.std.specs.Char.{is_whitespace}
 use Rattle.unicode.specs.GeneralCategory.{general_category}
 use Rattle.unicode.specs.GeneralCategoryGroup.{in_group}
 use Rattle.ucd_category.specs.declared.GeneralCategoryGroup.TheVariants.{Punctuation, Symbol}
+use Rattle.first_pass_items.specs.Bytes.{apostrophe, right_parenthesis, asterisk, backslash, right_bracket, pipe, tilde}
 use Rattle.first_pass_below.specs.declared.flank.TableParseMode.{TableParseMode}
 use Rattle.first_pass_below.specs.declared.flank.TableParseMode.TheVariants.{Scan, Active, Disabled}
 use Rattle.first_pass_below.specs.declared.flank.DelimiterRun.{DelimiterRun}
@@ -31,7 +32,7 @@ last_char text = slice_get (chars text) (length (chars text) - 1)
 -- the text ends with a pipe that no backslash escapes (GFM 4.10)
 unfoldable pub ends_with_pipe : List ℕ → Bool
 ends_with_pipe text =
-    slice_index text (length text - 1) == 124 && not (nat_le 2 (length text) && slice_index text (length text - 2) == 92)
+    slice_index text (length text - 1) == pipe && not (nat_le 2 (length text) && slice_index text (length text - 2) == backslash)
 
 -- the run of so many bytes that the text begins with, which stands in the content at a place; one of no bytes has no delimiter, and so none of the cases of one (CommonMark 6.2, delimiter run)
 unfoldable pub run_beside : List ℕ → List ℕ → ℕ → ℕ → TableParseMode → DelimiterRun
@@ -46,24 +47,24 @@ run_beside content text size at mode = record {
 
 -- a run of `*`, or of two tildes and more: such a run may open and close inside a word, where a run of `_` may not (CommonMark 6.2; GFM 6.5)
 abbrev pub is_intraword : DelimiterRun → Bool
-is_intraword r = r.delimiter == 42 || (r.delimiter == 126 && nat_lt 1 r.size)
+is_intraword r = r.delimiter == asterisk || (r.delimiter == tilde && nat_lt 1 r.size)
 
 -- a run of tildes behind a tilde (this project; GFM 6.5)
 abbrev pub follows_tilde : DelimiterRun → ℕ → Bool
-follows_tilde r before = r.delimiter == 126 && before == 126
+follows_tilde r before = r.delimiter == tilde && before == tilde
 
 -- an apostrophe behind a bracket that closes (this project)
 abbrev pub follows_bracket : DelimiterRun → ℕ → Bool
-follows_bracket r before = r.delimiter == 39 && (before == 93 || before == 41)
+follows_bracket r before = r.delimiter == apostrophe && (before == right_bracket || before == right_parenthesis)
 
 -- a run between two characters can open: the first case that fits (CommonMark 6.2, left-flanking; the rest: GFM 4.10, 6.5, this project)
 unfoldable pub opens_between : DelimiterRun → ℕ → ℕ → Bool
 opens_between r before after =
     if is_whitespace after then false
     else (if r.in_row && r.behind_pipe then true
-    else (if r.in_row && after == 124 then false
-    else (if r.delimiter == 42 && not (is_punctuation after) then true
-    else (if r.delimiter == 126 && nat_lt 1 r.size then true
+    else (if r.in_row && after == pipe then false
+    else (if r.delimiter == asterisk && not (is_punctuation after) then true
+    else (if r.delimiter == tilde && nat_lt 1 r.size then true
     else (if follows_tilde r before && not (is_punctuation after) then true
     else (if is_whitespace before then true
     else is_punctuation before && not (follows_bracket r before)))))))
@@ -73,7 +74,7 @@ unfoldable pub closes_between : DelimiterRun → ℕ → ℕ → Bool
 closes_between r before after =
     if is_whitespace before then false
     else (if r.in_row && r.behind_pipe then false
-    else (if r.in_row && after == 124 then true
+    else (if r.in_row && after == pipe then true
     else (if is_intraword r && not (is_punctuation before) then true
     else (if follows_tilde r before then true
     else is_whitespace after || is_punctuation after))))

@@ -1,6 +1,7 @@
 //! Delimiter runs beside characters: whether they can open or close.
 
 ghost use Rattle.std.specs.Prelude.{◌≡◌, ◌≤◌, length, drop, take, slice_index, IsCharBoundary};
+ghost use Rattle.first_pass_items.specs.Bytes.{asterisk, underscore};
 ghost use Rattle.first_pass_below.specs.Flank as flanks;
 ghost use Rattle.first_pass_below.specs.Flanking.{is_left_flanking, is_right_flanking, underscore_opens, underscore_closes, GoesBy};
 
@@ -103,10 +104,10 @@ pub fn delim_run_can_close(
 /// Runs of `*` and `_` outside the rows of a table open and close emphasis just as the first four rules
 /// of CommonMark 6.2 say, by left-flanking and right-flanking runs.
 pub fn law_of_emphasis(run: &DelimiterRun)
-    ensures star_opens { GoesBy 42 flanks.can_open is_left_flanking run.now }
-    ensures star_closes { GoesBy 42 flanks.can_close is_right_flanking run.now }
-    ensures underscore_opens { GoesBy 95 flanks.can_open underscore_opens run.now }
-    ensures underscore_closes { GoesBy 95 flanks.can_close underscore_closes run.now }
+    ensures star_opens { GoesBy asterisk flanks.can_open is_left_flanking run.now }
+    ensures star_closes { GoesBy asterisk flanks.can_close is_right_flanking run.now }
+    ensures underscore_opens { GoesBy underscore flanks.can_open underscore_opens run.now }
+    ensures underscore_closes { GoesBy underscore flanks.can_close underscore_closes run.now }
 {}
 
 // The run that `suffix` begins with, and what stands beside it.

@@ -1,6 +1,7 @@
 //! The word that names the options.
 
 ghost use Rattle.std.specs.Prelude.{◌≡◌, ◌==◌, ℕ, IfSome, IsNone, slice_index};
+ghost use Rattle.first_pass_items.specs.Bytes.{plus_sign};
 ghost use Rattle.first_pass_host.specs.OptionWord.{StandFor, StandsFor};
 
 use bitflags::Flags;
@@ -36,7 +37,7 @@ fn options_of(word: &str) -> Option<Options>
 
 /// Whether a word begins with the plus sign that `parse` allows before digits.
 pub fn begins_with_plus(word: &str) -> bool
-    ensures { result ≡ (slice_index word.now 0 == 43) }
+    ensures { result ≡ (slice_index word.now 0 == plus_sign) }
 {
     word.as_bytes().first().copied().unwrap_or(0) == b'+'
 }

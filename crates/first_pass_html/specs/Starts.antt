@@ -4,6 +4,7 @@ use Rattle.std.specs.Borrow.{Bor}
 use Rattle.std.specs.List.{prefix_len}
 use Rattle.std.specs.Option.{is_some}
 use Rattle.std.specs.Char.{is_ascii_alphabetic, is_ascii_alphanumeric}
+use Rattle.first_pass_items.specs.Bytes.{solidus, greater_than}
 use Rattle.first_pass_lines.specs.Lines.{is_ascii_white, begins}
 use Rattle.first_pass_html.specs.Names.{in_lower_case, begins_with_name, IsBlockName, is_block_name}
 
@@ -19,12 +20,12 @@ begins_letter (b ∷ bs) = is_ascii_alphabetic b
 -- behind the name of raw text: white space, `>` or the end of the line or the text (CommonMark 4.6, start condition 1)
 abbrev pub ends_raw_name : List ℕ → Bool
 ends_raw_name [] = true
-ends_raw_name (b ∷ bs) = is_ascii_white b || b == 62
+ends_raw_name (b ∷ bs) = is_ascii_white b || b == greater_than
 
 -- behind the name of a block: what ends a name of raw text, or `/>` (CommonMark 4.6, start condition 6)
 abbrev pub ends_block_name : List ℕ → Bool
 ends_block_name [] = true
-ends_block_name (b ∷ bs) = ends_raw_name (b ∷ bs) || (b == 47 && begins 62 bs)
+ends_block_name (b ∷ bs) = ends_raw_name (b ∷ bs) || (b == solidus && begins greater_than bs)
 
 -- the closing tag of a raw text, by its name in lower case (CommonMark 4.6, end condition 1, but for the opener's own name alone: this project)
 unfoldable pub raw_end_of : List ℕ → Option (List ℕ)
@@ -67,7 +68,7 @@ html_end bs =
 -- the bytes behind the slash of a closing tag, if there is one (CommonMark 4.6, start condition 6)
 abbrev pub past_slash : List ℕ → List ℕ
 past_slash [] = []
-past_slash (b ∷ bs) = if b == 47 then bs else b ∷ bs
+past_slash (b ∷ bs) = if b == solidus then bs else b ∷ bs
 
 -- the name of a block in any case, and behind it what ends the name (CommonMark 4.6, start condition 6)
 pub record HasBlockName (bs : List ℕ) : Type 0 where

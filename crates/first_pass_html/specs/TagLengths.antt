@@ -3,6 +3,7 @@ use Rattle.std.specs.Prelude.{ℕ, ◌+◌, Bool, ◌==◌, ◌&&◌, ◌||◌, 
 use Rattle.std.specs.List.{prefix_len}
 use Rattle.std.specs.Option.{option_map}
 use Rattle.std.specs.Char.{is_ascii_alphabetic}
+use Rattle.first_pass_items.specs.Bytes.{quotation_mark, apostrophe, solidus, equals_sign, greater_than}
 use Rattle.first_pass_lines.specs.Lines.{begins, is_blank}
 use Rattle.first_pass_html.specs.Tags.{is_tag_byte, starts_attribute, is_attribute_byte, is_unquoted, is_quoted}
 
@@ -30,7 +31,7 @@ quoted_len quote bs = let n = prefix_len (is_quoted quote) bs in if begins quote
 -- how many bytes the attribute value has (CommonMark 6.6)
 unfoldable pub value_len : List ℕ → Option ℕ
 value_len [] = None
-value_len (b ∷ bs) = if b == 34 || b == 39 then quoted_len b bs else unquoted_len (b ∷ bs)
+value_len (b ∷ bs) = if b == quotation_mark || b == apostrophe then quoted_len b bs else unquoted_len (b ∷ bs)
 
 -- how many bytes blanks and the value behind them have (CommonMark 6.6, attribute value specification)
 unfoldable pub blanks_value_len : List ℕ → Option ℕ
@@ -40,7 +41,7 @@ blanks_value_len bs = let n = prefix_len is_blank bs in option_map (λ k. n + k)
 unfoldable pub specification_len : List ℕ → ℕ
 specification_len bs =
     let n = prefix_len is_blank bs in
-    if begins 61 (drop n bs) then unwrap_or (option_map (λ k. n + 1 + k) (blanks_value_len (drop (n + 1) bs))) 0 else 0
+    if begins equals_sign (drop n bs) then unwrap_or (option_map (λ k. n + 1 + k) (blanks_value_len (drop (n + 1) bs))) 0 else 0
 
 -- how many bytes the name of an attribute and its value specification have (CommonMark 6.6)
 unfoldable pub named_len : List ℕ → Option ℕ
@@ -53,7 +54,7 @@ attribute_len bs = let n = prefix_len is_blank bs in if n == 0 then None else op
 -- how many bytes `>` or `/>` has (CommonMark 6.6, open tag)
 abbrev pub close_len : List ℕ → Option ℕ
 close_len [] = None
-close_len (b ∷ bs) = if b == 62 then Some 1 else (if b == 47 && begins 62 bs then Some 2 else None)
+close_len (b ∷ bs) = if b == greater_than then Some 1 else (if b == solidus && begins greater_than bs then Some 2 else None)
 
 -- how many bytes the end of an open tag has: blanks, `/` or not, and `>` (CommonMark 6.6)
 unfoldable pub open_end_len : List ℕ → Option ℕ
@@ -61,4 +62,4 @@ open_end_len bs = let n = prefix_len is_blank bs in option_map (λ k. n + k) (cl
 
 -- how many bytes the end of a closing tag has: blanks, and `>` (CommonMark 6.6)
 unfoldable pub closing_end_len : List ℕ → Option ℕ
-closing_end_len bs = let n = prefix_len is_blank bs in if begins 62 (drop n bs) then Some (n + 1) else None
+closing_end_len bs = let n = prefix_len is_blank bs in if begins greater_than (drop n bs) then Some (n + 1) else None

@@ -2,24 +2,27 @@
 use Rattle.std.specs.Prelude.{◌≡◌, ◌≤◌, ℕ, ◌⊎◌, Bool, true, false, ◌==◌, ◌&&◌, ◌||◌, not, List, [], ◌∷◌, ◌++◌, length, drop, take}
 use Rattle.std.specs.List.{list_all, concat}
 use Rattle.std.specs.Char.{is_ascii_alphabetic, is_ascii_alphanumeric}
+use Rattle.first_pass_items.specs.Bytes.{quotation_mark, apostrophe, hyphen, full_stop, solidus, colon, less_than, equals_sign, greater_than, underscore, backquote}
 use Rattle.first_pass_lines.specs.Lines.{is_line_end, is_blank, is_blank_line}
 use Rattle.first_pass_html.specs.Starts.{is_raw_name}
 
 -- a byte of a tag name behind its first letter: a letter, a digit or a hyphen (CommonMark 6.6, tag name)
 abbrev pub is_tag_byte : ℕ → Bool
-is_tag_byte b = is_ascii_alphanumeric b || b == 45
+is_tag_byte b = is_ascii_alphanumeric b || b == hyphen
 
 -- the first byte of an attribute name: a letter, `_` or `:` (CommonMark 6.6, attribute name)
 abbrev pub starts_attribute : ℕ → Bool
-starts_attribute b = is_ascii_alphabetic b || (b == 95 || b == 58)
+starts_attribute b = is_ascii_alphabetic b || (b == underscore || b == colon)
 
 -- a byte of an attribute name behind the first: a letter, a digit, `_`, `.`, `:` or `-` (CommonMark 6.6, attribute name)
 abbrev pub is_attribute_byte : ℕ → Bool
-is_attribute_byte b = is_ascii_alphanumeric b || (b == 95 || (b == 46 || (b == 58 || b == 45)))
+is_attribute_byte b = is_ascii_alphanumeric b || (b == underscore || (b == full_stop || (b == colon || b == hyphen)))
 
 -- a byte of an unquoted value: no blank, no line end, none of `"`, `'`, `=`, `<`, `>` and the backquote (CommonMark 6.6, unquoted attribute value)
 abbrev pub is_unquoted : ℕ → Bool
-is_unquoted b = not (is_blank b || (is_line_end b || (b == 34 || (b == 39 || (b == 61 || (b == 60 || (b == 62 || b == 96)))))))
+is_unquoted b =
+    not (is_blank b
+    || (is_line_end b || (b == quotation_mark || (b == apostrophe || (b == equals_sign || (b == less_than || (b == greater_than || b == backquote)))))))
 
 -- a byte inside quotes, on the line (CommonMark 6.6, quoted attribute value)
 abbrev pub is_quoted : ℕ → ℕ → Bool
@@ -44,14 +47,14 @@ IsQuotedValue quote bs = (inside : List ℕ) × (bs ≡ quote ∷ (inside ++ quo
 
 -- an attribute value (CommonMark 6.6)
 abbrev pub IsValue : List ℕ → Type 0
-IsValue bs = (is_word is_unquoted is_unquoted bs ≡ true) ⊎ IsQuotedValue 39 bs ⊎ IsQuotedValue 34 bs
+IsValue bs = (is_word is_unquoted is_unquoted bs ≡ true) ⊎ IsQuotedValue apostrophe bs ⊎ IsQuotedValue quotation_mark bs
 
 -- an attribute value specification: `=` with blanks around it, and a value (CommonMark 6.6)
 pub record IsValueSpecification (bs : List ℕ) : Type 0 where
   pub before : List ℕ
   pub behind : List ℕ
   pub value : List ℕ
-  pub parts : bs ≡ before ++ 61 ∷ (behind ++ value)
+  pub parts : bs ≡ before ++ equals_sign ∷ (behind ++ value)
   pub before_blank : list_all is_blank before ≡ true
   pub behind_blank : list_all is_blank behind ≡ true
   pub is_value : IsValue value
@@ -75,16 +78,16 @@ AreAttributes (bs ∷ others) = IsAttribute bs × AreAttributes others
 pub record IsOpenTagEnd (bs : List ℕ) : Type 0 where
   pub blanks : List ℕ
   pub slash : List ℕ
-  pub parts : bs ≡ blanks ++ (slash ++ 62 ∷ [])
+  pub parts : bs ≡ blanks ++ (slash ++ greater_than ∷ [])
   pub is_blanks : list_all is_blank blanks ≡ true
-  pub is_slash : (slash ≡ []) ⊎ (slash ≡ 47 ∷ [])
+  pub is_slash : (slash ≡ []) ⊎ (slash ≡ solidus ∷ [])
 
 -- an open tag: `<`, a tag name, attributes, and its end (CommonMark 6.6)
 pub record IsOpenTag (bs : List ℕ) : Type 0 where
   pub name : List ℕ
   pub attributes : List (List ℕ)
   pub ending : List ℕ
-  pub parts : bs ≡ 60 ∷ (name ++ (concat attributes ++ ending))
+  pub parts : bs ≡ less_than ∷ (name ++ (concat attributes ++ ending))
   pub is_name : is_tag_name name ≡ true
   pub are_attributes : AreAttributes attributes
   pub ends : IsOpenTagEnd ending
@@ -93,7 +96,7 @@ pub record IsOpenTag (bs : List ℕ) : Type 0 where
 pub record IsClosingTag (bs : List ℕ) : Type 0 where
   pub name : List ℕ
   pub blanks : List ℕ
-  pub parts : bs ≡ 60 ∷ (47 ∷ (name ++ (blanks ++ 62 ∷ [])))
+  pub parts : bs ≡ less_than ∷ (solidus ∷ (name ++ (blanks ++ greater_than ∷ [])))
   pub is_name : is_tag_name name ≡ true
   pub is_blanks : list_all is_blank blanks ≡ true
 
@@ -103,11 +106,11 @@ IsBlockOpenTag bs = (tag : IsOpenTag bs) × (is_raw_name tag.name ≡ false)
 
 -- such an open tag without its `<` (this project)
 abbrev pub IsBehindOpening : List ℕ → Type 0
-IsBehindOpening bs = IsBlockOpenTag (60 ∷ bs)
+IsBehindOpening bs = IsBlockOpenTag (less_than ∷ bs)
 
 -- a closing tag without its `</` (this project)
 abbrev pub IsBehindClosing : List ℕ → Type 0
-IsBehindClosing bs = IsClosingTag (60 ∷ (47 ∷ bs))
+IsBehindClosing bs = IsClosingTag (less_than ∷ (solidus ∷ bs))
 
 -- a tag that begins an HTML block: such an open tag, or a closing tag (CommonMark 4.6, start condition 7)
 abbrev pub IsBlockTag : List ℕ → Type 0

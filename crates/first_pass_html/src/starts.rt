@@ -1,6 +1,7 @@
 //! Where HTML blocks of the kinds 1 to 6 begin.
 
 ghost use Rattle.std.specs.Prelude.{◌≡◌, ◌↔◌, IsTrue, ◌∷◌, MatchOption, None, Some, bytes_eq};
+ghost use Rattle.first_pass_items.specs.Bytes.{exclamation_mark};
 ghost use Rattle.first_pass_html.specs.Names.{in_lower_case};
 ghost use Rattle.first_pass_html.specs.Starts as starts;
 
@@ -58,7 +59,7 @@ pub fn is_raw_name(name: &[u8]) -> bool
 // What ends the comment, the CDATA section or the declaration whose `<!` stands before the bytes.
 #[tactic(auto, unfolding(crate::specs::Starts::html_end, crate::specs::Starts::raw_end))]
 fn declaration_end(bytes: &[u8]) -> Option<&'static str>
-    ensures { starts.IsText (starts.html_end (33 ∷ bytes.now)) result }
+    ensures { starts.IsText (starts.html_end (exclamation_mark ∷ bytes.now)) result }
 {
     if bytes.starts_with(b"--") {
         Some("-->")

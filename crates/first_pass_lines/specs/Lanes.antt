@@ -1,6 +1,7 @@
 -- What is found by a look at 16 bytes at once.
 use Rattle.std.specs.Prelude.{◌≡◌, ℕ, ◌+◌, ◌<◌, ◌≤◌, ◌==◌, Bool, true, false, List, slice_index, if◌then◌else◌}
 use Rattle.std.specs.Int.{w64, trailing_zeros}
+use Rattle.first_pass_items.specs.Bytes.{space}
 
 -- the place of the lowest bit that is set, or n (this project)
 abbrev pub first_set : ℕ → ℕ → ℕ
@@ -12,4 +13,4 @@ IsRunIn test bytes at n r = (r ≤ n) × ((k : ℕ) → at ≤ k → k < at + r 
 
 -- a space (this project)
 abbrev pub is_space : ℕ → Bool
-is_space b = b == 32
+is_space b = b == space

@@ -2,12 +2,13 @@
 use Rattle.std.specs.Prelude.{◌≡◌, ◌⊎◌, ℕ, ◌+◌, ◌==◌, ◌&&◌, ◌||◌, not, Bool, true, false, List, [], ◌∷◌, ◌++◌, drop, Option, Some, None, is_some, unwrap_or, if◌then◌else◌}
 use Rattle.std.specs.Option.{option_map}
 use Rattle.std.specs.List.{prefix_len, list_all}
+use Rattle.first_pass_items.specs.Bytes.{tab, line_feed, line_tabulation, form_feed, carriage_return, space, number_sign}
 use Rattle.first_pass_items.specs.declared.item.HeadingLevel.{HeadingLevel}
 use Rattle.first_pass_items.specs.declared.item.HeadingLevel.TheVariants.{H1, H2, H3, H4, H5, H6}
 
 -- `\n` or `\r` (CommonMark 2.1, line ending)
 abbrev pub is_line_end : ℕ → Bool
-is_line_end b = (b == 10) || (b == 13)
+is_line_end b = (b == line_feed) || (b == carriage_return)
 
 -- a byte of a line that is no part of its end (CommonMark 2.1)
 abbrev pub is_content : ℕ → Bool
@@ -15,11 +16,11 @@ is_content b = not (is_line_end b)
 
 -- white space without line ends: tab, 0x0B, 0x0C and space (this project; CommonMark 2.1 and 2.2 have tab and space alone)
 abbrev pub is_white : ℕ → Bool
-is_white b = (b == 9) || (b == 11) || (b == 12) || (b == 32)
+is_white b = (b == tab) || (b == line_tabulation) || (b == form_feed) || (b == space)
 
 -- a space or a tab (CommonMark 2.1)
 abbrev pub is_blank : ℕ → Bool
-is_blank b = (b == 9) || (b == 32)
+is_blank b = (b == tab) || (b == space)
 
 -- ASCII white space: with the line ends (this project)
 abbrev pub is_ascii_white : ℕ → Bool
@@ -32,12 +33,12 @@ begins c (b ∷ bs) = b == c
 
 -- a line ends behind `\n`, and behind `\r` unless `\n` follows (CommonMark 2.1, line ending)
 abbrev pub ends_line : ℕ → List ℕ → Bool
-ends_line b bs = (b == 10) || ((b == 13) && not (begins 10 bs))
+ends_line b bs = (b == line_feed) || ((b == carriage_return) && not (begins line_feed bs))
 
 -- how many bytes the line end here has: `\n`, `\r\n` or `\r`, and none at the end of the text (CommonMark 2.1, line ending)
 abbrev pub eol_len : List ℕ → Option ℕ
 eol_len [] = Some 0
-eol_len (b ∷ bs) = if b == 10 then Some 1 else (if b == 13 then Some (if begins 10 bs then 2 else 1) else None)
+eol_len (b ∷ bs) = if b == line_feed then Some 1 else (if b == carriage_return then Some (if begins line_feed bs then 2 else 1) else None)
 
 -- how many bytes a blank line has, its end too: white space alone (CommonMark 2.1, blank line)
 abbrev pub blank_len : List ℕ → Option ℕ
@@ -57,7 +58,9 @@ at_line_end bs = is_some (eol_len bs)
 
 -- the end of a line before the bytes behind it: `\n`, `\r\n`, `\r` where no `\n` is behind it, or nothing at the end of the text (CommonMark 2.1)
 abbrev pub IsLineEnd : List ℕ → List ℕ → Type 0
-IsLineEnd bs behind = (bs ≡ 10 ∷ []) ⊎ (bs ≡ 13 ∷ 10 ∷ []) ⊎ ((bs ≡ 13 ∷ []) × (begins 10 behind ≡ false)) ⊎ ((bs ≡ []) × (behind ≡ []))
+IsLineEnd bs behind =
+    (bs ≡ line_feed ∷ []) ⊎ (bs ≡ carriage_return ∷ line_feed ∷ [])
+    ⊎ ((bs ≡ carriage_return ∷ []) × (begins line_feed behind ≡ false)) ⊎ ((bs ≡ []) × (behind ≡ []))
 
 -- a line before the bytes behind it: bytes without `\n` and `\r`, and then its end (CommonMark 2.1, line)
 pub record IsLine (line : List ℕ) (behind : List ℕ) : Type 0 where
@@ -70,7 +73,7 @@ pub record IsLine (line : List ℕ) (behind : List ℕ) : Type 0 where
 
 -- a number sign (CommonMark 4.2)
 abbrev pub is_number_sign : ℕ → Bool
-is_number_sign b = b == 35
+is_number_sign b = b == number_sign
 
 -- the level of a heading is the number of its opening number signs (CommonMark 4.2)
 abbrev pub level_number : HeadingLevel → ℕ
@@ -94,7 +97,7 @@ level_of n =
 
 -- the opening sequence of an ATX heading ends here: at a space, a tab or the end of the line (CommonMark 4.2)
 abbrev pub ends_signs : List ℕ → Bool
-ends_signs bs = at_line_end bs || begins 32 bs || begins 9 bs
+ends_signs bs = at_line_end bs || begins space bs || begins tab bs
 
 -- the level of the ATX heading that begins here: 1 to 6 number signs, then a space, a tab or the end of the line (CommonMark 4.2)
 unfoldable pub atx_level : List ℕ → Option HeadingLevel

@@ -1,6 +1,7 @@
 -- What is left of a line, by columns: CommonMark 2.2, where tabs behave as if they were replaced by spaces with a tab stop of 4.
 use Rattle.std.specs.Prelude.{ℕ, ◌+◌, ◌-◌, ◌%◌, ◌==◌, zero, suc, List, [], ◌∷◌, drop, Option, Some, None, if◌then◌else◌}
 use Rattle.std.specs.Option.{option_map_or}
+use Rattle.first_pass_items.specs.Bytes.{tab, space, greater_than}
 
 -- the bytes that are left, how many were taken, the columns that a tab taken in part owes, and how many bytes stand behind the last tab (this project)
 pub record Rest : Type 0 where
@@ -17,9 +18,9 @@ past_byte r bs = record { left = bs; taken = r.taken + 1; owed = 0; column = r.c
 abbrev pub column_of_byte : Rest → List ℕ → Option Rest
 column_of_byte r [] = None
 column_of_byte r (b ∷ bs) =
-    if b == 32
+    if b == space
     then Some (past_byte r bs)
-    else (if b == 9 then Some (record { left = bs; taken = r.taken + 1; owed = 3 - r.column % 4; column = 0 }) else None)
+    else (if b == tab then Some (record { left = bs; taken = r.taken + 1; owed = 3 - r.column % 4; column = 0 }) else None)
 
 -- one column taken, an owed one first (CommonMark 2.2)
 abbrev pub column_of : ℕ → Rest → Option Rest
@@ -39,7 +40,7 @@ after_columns (suc k) r = option_map_or (after_columns k) (next_column r) r
 abbrev pub columns_of : List ℕ → ℕ → ℕ
 columns_of [] column = 0
 columns_of (b ∷ bs) column =
-    if b == 32 then 1 + columns_of bs (column + 1) else (if b == 9 then 4 - column % 4 + columns_of bs 0 else 0)
+    if b == space then 1 + columns_of bs (column + 1) else (if b == tab then 4 - column % 4 + columns_of bs 0 else 0)
 
 -- the columns of indentation: all that can be taken (CommonMark 2.2)
 abbrev pub indent : Rest → ℕ
@@ -52,7 +53,7 @@ past_bytes n r = record { left = drop n r.left; taken = r.taken + n; owed = 0; c
 -- without the `>` that these bytes begin with (CommonMark 5.1, block quote marker)
 abbrev pub past_quote_byte : Rest → List ℕ → Option Rest
 past_quote_byte r [] = None
-past_quote_byte r (b ∷ bs) = if b == 62 then Some (past_byte r bs) else None
+past_quote_byte r (b ∷ bs) = if b == greater_than then Some (past_byte r bs) else None
 
 -- without the block quote marker here, where no column is owed before it (CommonMark 5.1)
 abbrev pub past_quote : Rest → Option Rest

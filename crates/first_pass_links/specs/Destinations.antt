@@ -2,6 +2,7 @@
 use Rattle.std.specs.Prelude.{ℕ, zero, suc, ◌+◌, ◌-◌, ◌==◌, ◌&&◌, ◌||◌, Bool, List, [], ◌∷◌, take, drop, Option, Some, None, nat_lt, if◌then◌else◌}
 use Rattle.std.specs.Option.{option_map, option_and_then}
 use Rattle.std.specs.Char.{is_ascii_control}
+use Rattle.first_pass_items.specs.Bytes.{space, left_parenthesis, right_parenthesis, less_than, greater_than}
 use Rattle.first_pass_lines.specs.Lines.{begins, is_line_end}
 use Rattle.first_pass_links.specs.Escapes.{begins_escape}
 
@@ -16,17 +17,17 @@ unescaped_upto stops zero (b ∷ bs) =
 
 -- what cannot stand in a destination in pointy brackets unless it is escaped: a line end, `<` and `>` (CommonMark 6.3)
 abbrev pub ends_brackets : ℕ → Bool
-ends_brackets b = is_line_end b || b == 60 || b == 62
+ends_brackets b = is_line_end b || b == less_than || b == greater_than
 
 -- a destination in pointy brackets, behind its `<`: its bytes with both brackets, and the text between (CommonMark 6.3)
 unfoldable pub bracketed_at : List ℕ → Option (ℕ × List ℕ)
 bracketed_at bs =
     let n = unescaped_upto ends_brackets 0 bs in
-    if begins 62 (drop n bs) then Some (n + 2, take n bs) else None
+    if begins greater_than (drop n bs) then Some (n + 2, take n bs) else None
 
 -- what cannot stand in a destination without brackets: an ASCII control character or a space (CommonMark 6.3)
 abbrev pub ends_run : ℕ → Bool
-ends_run b = is_ascii_control b || b == 32
+ends_run b = is_ascii_control b || b == space
 
 -- so many bytes more, where there is a length (this project)
 abbrev pub longer : ℕ → Option ℕ → Option ℕ
@@ -38,11 +39,11 @@ if_closed nesting = if nesting == 0 then Some 0 else None
 
 -- a `)` that closes none of the parentheses (CommonMark 6.3)
 abbrev pub closes_none : ℕ → ℕ → Bool
-closes_none b nesting = b == 41 && nesting == 0
+closes_none b nesting = b == right_parenthesis && nesting == 0
 
 -- how many parentheses are open behind a byte (CommonMark 6.3)
 abbrev pub nesting_behind : ℕ → ℕ → ℕ
-nesting_behind b nesting = if b == 40 then nesting + 1 else (if b == 41 then nesting - 1 else nesting)
+nesting_behind b nesting = if b == left_parenthesis then nesting + 1 else (if b == right_parenthesis then nesting - 1 else nesting)
 
 -- the length of a run in so many open parentheses, the first n of its bytes aside: it ends before a control character or space, or an unescaped `)` that closes none;
 -- unescaped parentheses are balanced, and nested at most so deep (CommonMark 6.3)
@@ -63,4 +64,4 @@ unbracketed bs n = if n == 0 then None else Some (n, take n bs)
 -- the destination here: how many bytes it has, and its text (CommonMark 6.3)
 unfoldable pub destination_at : ℕ → List ℕ → Option (ℕ × List ℕ)
 destination_at deepest bs =
-    if begins 60 bs then bracketed_at (drop 1 bs) else option_and_then (unbracketed bs) (run_len deepest 0 0 bs)
+    if begins less_than bs then bracketed_at (drop 1 bs) else option_and_then (unbracketed bs) (run_len deepest 0 0 bs)

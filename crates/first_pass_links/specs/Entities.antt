@@ -5,6 +5,7 @@ use Rattle.std.specs.List.{prefix_len}
 use Rattle.std.specs.Char.{is_ascii_digit, is_ascii_hexdigit, is_ascii_alphabetic}
 use Rattle.std.specs.Str.{bytes_eq}
 use Rattle.std.specs.Str.Parse.{digits_value}
+use Rattle.first_pass_items.specs.Bytes.{number_sign, ampersand, semicolon, capital_x, small_x}
 use Rattle.first_pass_lines.specs.Lines.{begins}
 
 -- the number of a character: a Unicode scalar value other than 0 (CommonMark 2.5)
@@ -23,12 +24,12 @@ behind n found = option_map (λ e. (n + e.0, e.1)) found
 unfoldable pub number_at : (ℕ → Bool) → ℕ → ℕ → List ℕ → Option (ℕ × ℕ)
 number_at is_digit radix most bs =
     let n = prefix_len is_digit bs in
-    if nat_le 1 n && nat_le n most && begins 59 (drop n bs) then Some (n + 1, referred (digits_value radix (take n bs))) else None
+    if nat_le 1 n && nat_le n most && begins semicolon (drop n bs) then Some (n + 1, referred (digits_value radix (take n bs))) else None
 
 -- a numeric reference behind `&#`: `x` or `X` and 1 to 6 hexadecimal digits, or 1 to 7 decimal digits, and `;` (CommonMark 2.5)
 unfoldable pub numeric_at : List ℕ → Option (ℕ × ℕ)
 numeric_at bs =
-    if begins 120 bs || begins 88 bs then behind 1 (number_at is_ascii_hexdigit 16 6 (drop 1 bs)) else number_at is_ascii_digit 10 7 bs
+    if begins small_x bs || begins capital_x bs then behind 1 (number_at is_ascii_hexdigit 16 6 (drop 1 bs)) else number_at is_ascii_digit 10 7 bs
 
 -- the names of XML's entities (CommonMark 2.5 has those of HTML, of which this project keeps twelve)
 unfoldable pub named_in_xml : List ℕ → Option ℕ
@@ -65,11 +66,11 @@ named name = option_or (named_in_xml name) (option_or (named_sign name) (named_p
 unfoldable pub name_at : List ℕ → Option (ℕ × ℕ)
 name_at bs =
     let n = prefix_len is_ascii_alphabetic bs in
-    if begins 59 (drop n bs) then option_map (λ c. (n + 1, c)) (named (take n bs)) else None
+    if begins semicolon (drop n bs) then option_map (λ c. (n + 1, c)) (named (take n bs)) else None
 
 -- the reference that these bytes begin with: how many bytes it has, and its character (CommonMark 2.5)
 unfoldable pub entity_at : List ℕ → Option (ℕ × ℕ)
 entity_at bs =
-    if begins 38 bs
-    then behind 1 (if begins 35 (drop 1 bs) then behind 1 (numeric_at (drop 1 (drop 1 bs))) else name_at (drop 1 bs))
+    if begins ampersand bs
+    then behind 1 (if begins number_sign (drop 1 bs) then behind 1 (numeric_at (drop 1 (drop 1 bs))) else name_at (drop 1 bs))
     else None

@@ -2,12 +2,13 @@
 use Rattle.std.specs.Prelude.{ℕ, zero, suc, ◌-◌, ◌==◌, ◌&&◌, Bool, List, [], ◌∷◌, ◌++◌, slice_index, encode_utf8, Option, Some, if◌then◌else◌}
 use Rattle.std.specs.Option.{option_map_or}
 use Rattle.std.specs.Char.{is_ascii_punctuation}
+use Rattle.first_pass_items.specs.Bytes.{backslash, pipe}
 use Rattle.first_pass_lines.specs.Lines.{begins}
 use Rattle.first_pass_links.specs.Entities.{entity_at}
 
 -- the bytes begin with a backslash escape: a backslash, and then ASCII punctuation (CommonMark 2.4)
 abbrev pub begins_escape : List ℕ → Bool
-begins_escape bs = begins 92 bs && is_ascii_punctuation (slice_index bs 1)
+begins_escape bs = begins backslash bs && is_ascii_punctuation (slice_index bs 1)
 
 -- the backslash escape or the reference that the bytes begin with: how many bytes it has, and the character that it stands for (CommonMark 2.4, 2.5)
 unfoldable pub replaced_at : List ℕ → Option (ℕ × ℕ)
@@ -23,7 +24,7 @@ unescaped_behind zero (b ∷ bs) =
 -- the text of a cell: a backslash directly before a pipe is dropped (GFM 4.10)
 unfoldable pub without_pipe_escapes : List ℕ → List ℕ
 without_pipe_escapes [] = []
-without_pipe_escapes (b ∷ bs) = if b == 92 && begins 124 bs then without_pipe_escapes bs else b ∷ without_pipe_escapes bs
+without_pipe_escapes (b ∷ bs) = if b == backslash && begins pipe bs then without_pipe_escapes bs else b ∷ without_pipe_escapes bs
 
 -- the text as it is read, in a table that of a cell (GFM 4.10)
 abbrev pub read_in : Bool → List ℕ → List ℕ

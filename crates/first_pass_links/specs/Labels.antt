@@ -5,6 +5,7 @@ use Rattle.std.specs.List.{list_any, count_by}
 use Rattle.std.specs.Borrow.{Bor}
 use Rattle.std.specs.Str.{IsCharBoundary}
 use Rattle.std.specs.declared.alloc.AllocError.{AllocError}
+use Rattle.first_pass_items.specs.Bytes.{space, left_bracket, right_bracket, ascii_end, least_lead}
 use Rattle.first_pass_lines.specs.Lines.{begins, is_ascii_white, ends_line}
 use Rattle.first_pass_links.specs.Escapes.{read_in}
 use Rattle.first_pass_links.specs.Destinations.{unescaped_upto}
@@ -19,11 +20,11 @@ AnswersPlaces post = (behind : Bor (List ℕ)) (n : ℕ) → post behind (Ok (So
 
 -- an opening or closing square bracket (CommonMark 4.7)
 abbrev pub is_bracket : ℕ → Bool
-is_bracket b = b == 91 || b == 93
+is_bracket b = b == left_bracket || b == right_bracket
 
 -- the first byte of a character in UTF-8 (this project)
 abbrev pub begins_character : ℕ → Bool
-begins_character b = nat_lt b 128 || nat_le 192 b
+begins_character b = nat_lt b ascii_end || nat_le least_lead b
 
 -- the text from an offset on, its first n bytes aside, with its lines joined: each byte behind its offset, without the prefixes of lines;
 -- it ends at a line end behind which the label may not go on (CommonMark 4.7)
@@ -51,7 +52,7 @@ label_len bs = unescaped_upto is_bracket 0 bs
 unfoldable pub single_spaced : List ℕ → List ℕ
 single_spaced [] = []
 single_spaced (b ∷ bs) =
-    if is_ascii_white b then (if is_ascii_white (slice_index bs 0) then single_spaced bs else 32 ∷ single_spaced bs) else b ∷ single_spaced bs
+    if is_ascii_white b then (if is_ascii_white (slice_index bs 0) then single_spaced bs else space ∷ single_spaced bs) else b ∷ single_spaced bs
 
 -- a label as it is read: runs of white space are single spaces, and in a table backslashes before pipes are dropped (CommonMark 4.7, GFM 4.10)
 abbrev pub shown : Bool → List ℕ → List ℕ
@@ -68,6 +69,6 @@ label_at prefix in_table text =
     let whole = joined prefix 0 0 text in
     let n = label_len (bytes_of whole) in
     let label = take n (bytes_of whole) in
-    if begins 93 (drop n (bytes_of whole)) && is_label label
+    if begins right_bracket (drop n (bytes_of whole)) && is_label label
     then Some (slice_index (offsets_of whole) n + 1, shown in_table label)
     else None

@@ -1,12 +1,13 @@
 -- Destinations without brackets as runs (CommonMark 6.3).
 use Rattle.std.specs.Prelude.{◌≡◌, ℕ, suc, ◌==◌, ◌≤◌, ◌||◌, not, Bool, true, false, List, [], ◌∷◌, ◌++◌, length, take, drop}
 use Rattle.std.specs.Char.{is_ascii_punctuation}
+use Rattle.first_pass_items.specs.Bytes.{left_parenthesis, right_parenthesis, backslash}
 use Rattle.first_pass_links.specs.Escapes.{begins_escape}
 use Rattle.first_pass_links.specs.Destinations.{ends_run}
 
 -- a byte that may stand in a run by itself: no ASCII control character, no space and no parenthesis (CommonMark 6.3)
 abbrev pub is_plain : ℕ → Bool
-is_plain b = not (ends_run b || b == 40 || b == 41)
+is_plain b = not (ends_run b || b == left_parenthesis || b == right_parenthesis)
 
 -- A run before the bytes behind it, its parentheses nested at most so deep: it has no control character and no space, and parentheses only
 -- where they are escaped or balanced (CommonMark 6.3).
@@ -14,16 +15,16 @@ pub data IsRun : ℕ → List ℕ → List ℕ → Type 0 where
   -- nothing
   nothing : (deepest : ℕ) (behind : List ℕ) → IsRun deepest [] behind
   -- a backslash with the ASCII punctuation that it escapes, and then a run
-  escape : (deepest b : ℕ) (more behind : List ℕ) → is_ascii_punctuation b ≡ true → IsRun deepest more behind → IsRun deepest (92 ∷ b ∷ more) behind
+  escape : (deepest b : ℕ) (more behind : List ℕ) → is_ascii_punctuation b ≡ true → IsRun deepest more behind → IsRun deepest (backslash ∷ b ∷ more) behind
   -- a byte that stands by itself, also a backslash that escapes nothing, and then a run
   plain : (deepest b : ℕ) (more behind : List ℕ) → is_plain b ≡ true → begins_escape (b ∷ (more ++ behind)) ≡ false → IsRun deepest more behind → IsRun deepest (b ∷ more) behind
   -- a run in parentheses, nested one less deep, and then a run
-  nested : (deepest : ℕ) (inside more behind : List ℕ) → IsRun deepest inside (41 ∷ (more ++ behind)) → IsRun (suc deepest) more behind → IsRun (suc deepest) (40 ∷ (inside ++ 41 ∷ more)) behind
+  nested : (deepest : ℕ) (inside more behind : List ℕ) → IsRun deepest inside (right_parenthesis ∷ (more ++ behind)) → IsRun (suc deepest) more behind → IsRun (suc deepest) (left_parenthesis ∷ (inside ++ right_parenthesis ∷ more)) behind
 
 -- a run ends before these bytes: nothing, an ASCII control character, a space, or a `)`, which closes none as the run is balanced (CommonMark 6.3)
 abbrev pub ends_before : List ℕ → Bool
 ends_before [] = true
-ends_before (b ∷ bs) = ends_run b || b == 41
+ends_before (b ∷ bs) = ends_run b || b == right_parenthesis
 
 -- the first n bytes are a run, and it ends there (CommonMark 6.3)
 pub record BeginsRun (deepest : ℕ) (bs : List ℕ) (n : ℕ) : Type 0 where

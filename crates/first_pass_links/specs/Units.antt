@@ -2,6 +2,7 @@
 use Rattle.std.specs.Prelude.{◌≡◌, ◌⊎◌, ℕ, ◌+◌, ◌-◌, ◌==◌, ◌<◌, ◌≤◌, ◌&&◌, not, Bool, true, false, List, [], ◌∷◌, ◌++◌, length, take, drop, slice_index, Option, if◌then◌else◌}
 use Rattle.std.specs.List.{list_any, list_all, count_by}
 use Rattle.std.specs.Str.{IsCharBoundary}
+use Rattle.first_pass_items.specs.Bytes.{space, pipe, ascii_end}
 use Rattle.first_pass_lines.specs.Lines.{begins, is_ascii_white}
 use Rattle.first_pass_links.specs.Escapes.{begins_escape}
 use Rattle.first_pass_links.specs.Changes.{begins_pipe_escape}
@@ -19,7 +20,7 @@ kept_unit next characters solid = record { next = next; characters = characters;
 -- a run of white space: it stands for a space, unless it is one (CommonMark 4.7)
 abbrev pub space_unit : List ℕ → ℕ → ℕ → ℕ → Unit
 space_unit text at next characters =
-    if next == at + 1 && slice_index text at == 32
+    if next == at + 1 && slice_index text at == space
     then kept_unit next characters false
     else record { next = next; characters = characters; solid = false; kept = at; resumed = next; space = true }
 
@@ -31,12 +32,12 @@ dropped_unit next characters place = record { next = next; characters = characte
 abbrev pub backslash_unit : Bool → ℕ → List ℕ → Unit
 backslash_unit in_table at bs =
     if in_table && begins_pipe_escape bs then dropped_unit (at + 3) 3 (at + 1)
-    else (if in_table && begins 124 (drop 1 bs) then dropped_unit (at + 2) 2 at
+    else (if in_table && begins pipe (drop 1 bs) then dropped_unit (at + 2) 2 at
     else (if begins_escape bs then kept_unit (at + 2) 2 true else kept_unit (at + 1) 1 true))
 
 -- what is read of a unit: its bytes, but for those that are left out or stand for a space (CommonMark 4.7)
 abbrev pub read_of : List ℕ → ℕ → Unit → List ℕ
-read_of text at unit = part text at unit.kept ++ ((if unit.space then 32 ∷ [] else []) ++ part text unit.resumed unit.next)
+read_of text at unit = part text at unit.kept ++ ((if unit.space then space ∷ [] else []) ++ part text unit.resumed unit.next)
 
 -- the bytes that are left of a label from an offset on, each behind its offset (this project)
 abbrev pub left_at : (List ℕ → Option ℕ) → List ℕ → ℕ → List (ℕ × ℕ)
@@ -45,7 +46,7 @@ left_at prefix text at = joined prefix at 0 (drop at text)
 -- each byte counts one, and white space other than a space two: less is read of a text that changes (this project)
 unfoldable pub weight : List ℕ → ℕ
 weight [] = 0
-weight (b ∷ bs) = (if is_ascii_white b && not (b == 32) then 2 else 1) + weight bs
+weight (b ∷ bs) = (if is_ascii_white b && not (b == space) then 2 else 1) + weight bs
 
 -- a unit at an offset, and what it leaves out, if anything (this project)
 pub record IsUnit (text : List ℕ) (at : ℕ) (unit : Unit) : Type 0 where
@@ -55,7 +56,7 @@ pub record IsUnit (text : List ℕ) (at : ℕ) (unit : Unit) : Type 0 where
   pub later : at < unit.next
   pub within : unit.next ≤ length text
   pub few : unit.characters ≤ unit.next - at
-  pub change : (unit.kept ≡ unit.resumed) ⊎ ((slice_index text unit.kept < 128) × IsCharBoundary text unit.resumed × (weight (if unit.space then 32 ∷ [] else []) < weight (part text unit.kept unit.resumed)))
+  pub change : (unit.kept ≡ unit.resumed) ⊎ ((slice_index text unit.kept < ascii_end) × IsCharBoundary text unit.resumed × (weight (if unit.space then space ∷ [] else []) < weight (part text unit.kept unit.resumed)))
   pub same : unit.kept ≡ unit.resumed → unit.space ≡ false
 
 -- a unit is read: its bytes are the next of the label, and have so many characters; no bracket ends the label among them,

@@ -2,6 +2,7 @@
 
 ghost use Rattle.std.specs.Prelude.{◌≡◌, ◌+◌, ◌<◌, ◌≤◌, ◌^◌, length, drop, slice_index, None, IfSome, IsSomeAnd, MatchOption, true, if◌then◌else◌};
 ghost use Rattle.std.specs.Str.{IsCharBoundary};
+ghost use Rattle.first_pass_items.specs.Bytes.{ascii_end};
 ghost use Rattle.first_pass_links.specs.Escapes.{begins_escape};
 ghost use Rattle.first_pass_links.specs.Destinations.{unescaped_upto, ends_brackets, ends_run, closes_none, nesting_behind, run_len, destination_at};
 
@@ -51,7 +52,7 @@ fn scan_brackets(bytes: &[u8]) -> usize
 fn scan_run(bytes: &[u8], deepest: usize) -> Option<usize>
     ensures value { result ≡ run_len deepest 0 0 bytes.now }
     ensures within { IfSome result (λ len. len ≤ length bytes.now) }
-    ensures ends { IfSome result (λ len. len < length bytes.now → slice_index bytes.now len < 128) }
+    ensures ends { IfSome result (λ len. len < length bytes.now → slice_index bytes.now len < ascii_end) }
 {
     let mut at = 0;
     let mut nesting = 0;

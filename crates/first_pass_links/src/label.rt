@@ -3,6 +3,7 @@
 ghost use Rattle.std.specs.Prelude.{◌≡◌, ◌+◌, ◌-◌, ◌<◌, ◌≤◌, ◌++◌, ◌∷◌, [], ℕ, List, Option, true, false, None, Some, length, take, drop, slice_index, nat_lt, IfOk, IfSome, IsUtf8, OnOk, IsSomeAnd, MatchOption, if◌then◌else◌};
 ghost use Rattle.std.specs.String.{string_bytes};
 ghost use Rattle.std.specs.Str.{IsCharBoundary};
+ghost use Rattle.first_pass_items.specs.Bytes.{backslash, space};
 ghost use Rattle.first_pass_items.specs.CowText.{text_of};
 ghost use Rattle.first_pass_lines.specs.Lines.{ends_line, is_ascii_white};
 ghost use Rattle.first_pass_links.specs.Texts.{Borrows};
@@ -202,7 +203,7 @@ fn space_unit(bytes: &[u8], at: usize, next: usize, characters: usize) -> Unit
 // A backslash, and what it escapes.
 fn backslash_unit(bytes: &[u8], at: usize, in_table: bool) -> Unit
     requires within { at < length bytes.now }
-    requires here { slice_index bytes.now at ≡ 92 }
+    requires here { slice_index bytes.now at ≡ backslash }
     ensures { result ≡ backslash_unit in_table at (drop at bytes.now) }
 {
     match rest_of(bytes, at) {
@@ -265,10 +266,10 @@ fn write_unit(
 }
 
 // What stands for the bytes that are left out.
-fn replacement(space: bool) -> &'static str
-    ensures { result.now ≡ (if space then 32 ∷ [] else []) }
+fn replacement(by_space: bool) -> &'static str
+    ensures { result.now ≡ (if by_space then space ∷ [] else []) }
 {
-    if space { " " } else { "" }
+    if by_space { " " } else { "" }
 }
 
 // The label that is read up to an offset.

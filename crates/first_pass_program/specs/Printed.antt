@@ -1,6 +1,7 @@
 -- How the nodes of a tree are printed (this project).
 use Rattle.std.specs.Prelude.{ℕ, zero, suc, ◌==◌, Bool, true, false, Some, List, [], ◌∷◌, ◌++◌, codes, decimal, encode_utf8, bit_and, if◌then◌else◌}
 use Rattle.std.specs.List.{flat_map}
+use Rattle.first_pass_items.specs.Bytes.{line_feed, carriage_return, backslash, small_n, small_r}
 use Rattle.first_pass_items.specs.declared.item.Item.{Item}
 use Rattle.first_pass_grammar.specs.Names.{Names, text_named}
 use Rattle.first_pass_items.specs.declared.item.ListFlags.{ListFlags}
@@ -108,7 +109,10 @@ indentation (suc depth) = indentation depth ++ codes "  "
 
 -- a byte of a text, where a backslash, a newline and a carriage return stand as a backslash and another byte
 abbrev pub visible_byte : ℕ → List ℕ
-visible_byte b = if b == 92 then 92 ∷ 92 ∷ [] else (if b == 10 then 92 ∷ 110 ∷ [] else (if b == 13 then 92 ∷ 114 ∷ [] else b ∷ []))
+visible_byte b =
+    if b == backslash then backslash ∷ backslash ∷ []
+    else (if b == line_feed then backslash ∷ small_n ∷ []
+    else (if b == carriage_return then backslash ∷ small_r ∷ [] else b ∷ []))
 
 -- a text so
 unfoldable pub visible : List ℕ → List ℕ

@@ -2,6 +2,7 @@
 use Rattle.std.specs.Prelude.{◌≡◌, ◌<◌, ◌≤◌, ℕ, ◌+◌, ◌-◌, ◌%◌, ◌==◌, ◌&&◌, ◌||◌, not, nat_eq, Bool, true, nat_le, List, [], ◌∷◌, length, take, drop, Option, Some, None, is_some, count_by, if◌then◌else◌}
 use Rattle.std.specs.Option.{option_map}
 use Rattle.std.specs.List.{prefix_len, take_while, list_any, list_all, starts_with}
+use Rattle.first_pass_items.specs.Bytes.{tab, space, asterisk, plus_sign, hyphen, full_stop, equals_sign, underscore, backquote, tilde}
 use Rattle.first_pass_items.specs.declared.item.HeadingLevel.{HeadingLevel}
 use Rattle.first_pass_items.specs.declared.item.HeadingLevel.TheVariants.{H1, H2}
 use Rattle.first_pass_lines.specs.Lines.{is_content, is_blank, begins, eol_len, blank_len, is_blank_line, line_len, at_line_end}
@@ -14,7 +15,7 @@ run_len c bs = prefix_len (λ b. b == c) bs
 
 -- the bytes of which thematic breaks are made: `-`, `_` and `*` (CommonMark 4.1)
 abbrev pub is_rule_byte : ℕ → Bool
-is_rule_byte b = (b == 45) || (b == 95) || (b == 42)
+is_rule_byte b = (b == hyphen) || (b == underscore) || (b == asterisk)
 
 -- what a thematic break of the byte c has: that byte, spaces and tabs (CommonMark 4.1)
 abbrev pub in_rule : ℕ → ℕ → Bool
@@ -42,20 +43,20 @@ underline_len c bs = let n = run_len c bs in option_map (λ k. n + k) (blank_len
 -- the setext heading underline that begins here: how many bytes it has, its end too, and the level: 1 for `=`, 2 for `-` (CommonMark 4.3)
 unfoldable pub setext_underline : List ℕ → Option (ℕ × HeadingLevel)
 setext_underline bs =
-    if begins 61 bs
-    then option_map (λ n. (n, H1)) (underline_len 61 bs)
-    else (if begins 45 bs then option_map (λ n. (n, H2)) (underline_len 45 bs) else None)
+    if begins equals_sign bs
+    then option_map (λ n. (n, H1)) (underline_len equals_sign bs)
+    else (if begins hyphen bs then option_map (λ n. (n, H2)) (underline_len hyphen bs) else None)
 
 -- the line goes on with a backquote somewhere (CommonMark 4.5)
 abbrev pub has_backquote : List ℕ → Bool
-has_backquote bs = list_any (λ b. b == 96) (take_while is_content bs)
+has_backquote bs = list_any (λ b. b == backquote) (take_while is_content bs)
 
 -- the code fence that begins here, its length and its byte: three or more backquotes with none in the info string, or three or more tildes (CommonMark 4.5)
 unfoldable pub code_fence : List ℕ → Option (ℕ × ℕ)
 code_fence bs =
-    if begins 96 bs
-    then (let n = run_len 96 bs in if nat_le 3 n && not (has_backquote (drop n bs)) then Some (n, 96) else None)
-    else (if begins 126 bs then (let n = run_len 126 bs in if nat_le 3 n then Some (n, 126) else None) else None)
+    if begins backquote bs
+    then (let n = run_len backquote bs in if nat_le 3 n && not (has_backquote (drop n bs)) then Some (n, backquote) else None)
+    else (if begins tilde bs then (let n = run_len tilde bs in if nat_le 3 n then Some (n, tilde) else None) else None)
 
 -- how many bytes the closing fence of a block has, trailing spaces and tabs too and its line end not, where the block was opened by so many of the byte c: at least as many; the end of the text closes too (CommonMark 4.5)
 unfoldable pub closing_fence_len : ℕ → ℕ → List ℕ → Option ℕ
@@ -73,12 +74,12 @@ three_of c bs = starts_with nat_eq bs (c ∷ c ∷ c ∷ [])
 
 -- the marks that close metadata of the byte c stand first: three of it, or `...` for `---` (this project)
 unfoldable pub closing_marks : ℕ → List ℕ → Bool
-closing_marks c bs = ((c == 45) && three_of 46 bs) || three_of c bs
+closing_marks c bs = ((c == hyphen) && three_of full_stop bs) || three_of c bs
 
 -- how many bytes a closing line of metadata has, trailing spaces too and its line end not, where the block was opened by three of the byte c: its marks, then spaces alone (this project)
 unfoldable pub closing_metadata_len : ℕ → List ℕ → Option ℕ
 closing_metadata_len c bs =
-    let n = 3 + run_len 32 (drop 3 bs) in
+    let n = 3 + run_len space (drop 3 bs) in
     if closing_marks c bs && at_line_end (drop n bs) then Some n else None
 
 -- the line that begins here closes metadata of the byte c (this project)
@@ -106,13 +107,13 @@ opens_metadata c bs = begins_metadata c bs && any_line_closes c 0 (behind_line (
 -- the byte of the metadata block that opens here, `-` where its YAML form is on and `+` where the other is (this project)
 unfoldable pub metadata_byte : Bool → Bool → List ℕ → Option ℕ
 metadata_byte yaml pluses bs =
-    if yaml && begins 45 bs
-    then (if opens_metadata 45 bs then Some 45 else None)
-    else (if pluses && begins 43 bs then (if opens_metadata 43 bs then Some 43 else None) else None)
+    if yaml && begins hyphen bs
+    then (if opens_metadata hyphen bs then Some hyphen else None)
+    else (if pluses && begins plus_sign bs then (if opens_metadata plus_sign bs then Some plus_sign else None) else None)
 
 -- how many columns a space or a tab has, so many bytes behind the last tab (CommonMark 2.2)
 abbrev pub blank_columns : ℕ → ℕ → ℕ
-blank_columns b column = if b == 32 then 1 else (if b == 9 then 4 - column % 4 else 0)
+blank_columns b column = if b == space then 1 else (if b == tab then 4 - column % 4 else 0)
 
 -- the first n bytes are spaces and tabs, which have so many columns and no more than max (CommonMark 2.2)
 pub record IsIndent (bs : List ℕ) (max : ℕ) (n : ℕ) (columns : ℕ) : Type 0 where

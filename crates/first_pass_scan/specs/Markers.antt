@@ -4,6 +4,7 @@ use Rattle.std.specs.Option.{option_map}
 use Rattle.std.specs.List.{prefix_len}
 use Rattle.std.specs.Char.{is_ascii_digit}
 use Rattle.std.specs.Str.{str_eq_ignore_ascii_case}
+use Rattle.first_pass_items.specs.Bytes.{right_parenthesis, asterisk, plus_sign, hyphen, full_stop, digit_zero, colon, capital_x, left_bracket, right_bracket, small_x}
 use Rattle.first_pass_items.specs.declared.item.BlockQuoteKind.{BlockQuoteKind}
 use Rattle.first_pass_items.specs.declared.item.BlockQuoteKind.TheVariants.{Note, Tip, Important, Warning, Caution}
 use Rattle.first_pass_lines.specs.Lines.{begins, blank_len, is_blank_line, at_line_end, is_white, is_ascii_white}
@@ -14,11 +15,11 @@ use Rattle.first_pass_lines.specs.Rest.{Rest, after_columns, indent, past_bytes}
 -- the number that digits write behind those of the number n (CommonMark 5.2)
 abbrev pub number_from : ℕ → List ℕ → ℕ
 number_from n [] = n
-number_from n (b ∷ bs) = number_from (10 * n + (b - 48)) bs
+number_from n (b ∷ bs) = number_from (10 * n + (b - digit_zero)) bs
 
 -- the bullets `-`, `+` and `*` (CommonMark 5.2)
 abbrev pub is_bullet : ℕ → Bool
-is_bullet b = (b == 45) || (b == 43) || (b == 42)
+is_bullet b = (b == hyphen) || (b == plus_sign) || (b == asterisk)
 
 -- the marker of a bullet list here, its width, its byte and 0 for its number (CommonMark 5.2)
 abbrev pub bullet_marker : List ℕ → Option (ℕ × ℕ × ℕ)
@@ -28,7 +29,7 @@ bullet_marker (b ∷ bs) = if is_bullet b then Some (1, b, 0) else None
 -- the marker of n digits that write a number, where a `.` or `)` is behind them (CommonMark 5.2)
 abbrev pub delimited : ℕ → ℕ → List ℕ → Option (ℕ × ℕ × ℕ)
 delimited n number [] = None
-delimited n number (b ∷ bs) = if (b == 46) || (b == 41) then Some (n + 1, b, number) else None
+delimited n number (b ∷ bs) = if (b == full_stop) || (b == right_parenthesis) then Some (n + 1, b, number) else None
 
 -- the marker of an ordered list here, its width, its last byte and its number: 1 to 9 digits, then a `.` or `)` (CommonMark 5.2)
 abbrev pub ordered_marker : List ℕ → Option (ℕ × ℕ × ℕ)
@@ -75,17 +76,17 @@ behind_colon n r = if nat_le 1 (indent r) then content_indent (n + 1) (after_col
 
 -- the definition that so many columns stand before and whose `:` is here, where no column is owed: its indent, and what is left of its line (this project)
 unfoldable pub definition_of : ℕ → Rest → Option (ℕ × Rest)
-definition_of outer r = if (r.owed == 0) && begins 58 r.left then Some (behind_colon (outer + 1) (past_bytes 1 r)) else None
+definition_of outer r = if (r.owed == 0) && begins colon r.left then Some (behind_colon (outer + 1) (past_bytes 1 r)) else None
 
 -- the mark of a checked task, `x` or `X` (GFM 5.3)
 abbrev pub is_checked : ℕ → Bool
-is_checked b = (b == 120) || (b == 88)
+is_checked b = (b == small_x) || (b == capital_x)
 
 -- the task list item marker here, whether it is checked: `[`, white space or `x`, `]`, and white space behind it (GFM 5.3)
 unfoldable pub task_box : List ℕ → Option Bool
 task_box bs =
     let mark = slice_index bs 1 in
-    if (slice_index bs 0 == 91) && (is_white mark || is_checked mark) && (slice_index bs 2 == 93) && is_ascii_white (slice_index bs 3)
+    if (slice_index bs 0 == left_bracket) && (is_white mark || is_checked mark) && (slice_index bs 2 == right_bracket) && is_ascii_white (slice_index bs 3)
     then Some (is_checked mark)
     else None
 

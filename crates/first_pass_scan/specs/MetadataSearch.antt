@@ -1,5 +1,6 @@
 -- Where metadata closes, from an offset on, and what is remembered of it.
 use Rattle.std.specs.Prelude.{◌≡◌, ◌≤◌, ℕ, List, [], ◌∷◌, length, drop, IfSome, if◌then◌else◌}
+use Rattle.first_pass_items.specs.Bytes.{plus_sign, hyphen}
 use Rattle.first_pass_lines.specs.Places.{Place, lines_at}
 use Rattle.first_pass_scan.specs.LeafLines.{closes_metadata}
 use Rattle.first_pass_scan.specs.declared.metadata_search.ClosingLine.{ClosingLine}
@@ -21,5 +22,5 @@ pub record IsClosingLine (c : ℕ) (text : List ℕ) (found : ClosingLine) : Typ
 
 -- what is remembered is right of the text, for `-` and for `+` (this project)
 pub record IsKnownOf (text : List ℕ) (ends : MetadataEnds) : Type 0 where
-  pub for_dashes : IfSome ends.dashes (IsClosingLine 45 text)
-  pub for_pluses : IfSome ends.pluses (IsClosingLine 43 text)
+  pub for_dashes : IfSome ends.dashes (IsClosingLine hyphen text)
+  pub for_pluses : IfSome ends.pluses (IsClosingLine plus_sign text)

@@ -4,6 +4,7 @@ ghost use Rattle.std.specs.List.{prefix_len};
 ghost use Rattle.std.specs.Prelude.{◌≡◌, ◌≤◌, length, slice_index, EachIndex, IfSome, true};
 ghost use Rattle.std.specs.Char.{is_ascii_digit};
 ghost use Rattle.std.specs.Str.{str_eq_ignore_ascii_case};
+ghost use Rattle.first_pass_items.specs.Bytes.{digit_zero, digit_nine};
 ghost use Rattle.first_pass_scan.specs.Markers.{number_from, bullet_marker, ordered_marker, list_marker, task_box, tag_of as tag_bytes, has_tag as tag_stands, tag_kind, tag_line};
 
 use first_pass_items::item::BlockQuoteKind;
@@ -21,7 +22,8 @@ fn scan_digits(bytes: &[u8]) -> usize
 // The number that at most nine digits write.
 fn number(digits: &[u8]) -> u64
     requires few { length digits.now ≤ 9 }
-    requires digits { EachIndex digits.now (λ k. (48 ≤ slice_index digits.now k) × (slice_index digits.now k ≤ 57)) }
+    requires digits { EachIndex digits.now (λ k. (digit_zero ≤ slice_index digits.now k)
+        × (slice_index digits.now k ≤ digit_nine)) }
     ensures { result ≡ number_from 0 digits.now }
 {
     let mut value = 0;

@@ -2,6 +2,7 @@
 use Rattle.std.specs.Prelude.{ℕ, ◌+◌, ◌-◌, ◌==◌, ◌&&◌, not, Bool, true, false, nat_le, List, [], ◌∷◌, length, map, take, drop, Option, Some, None, slice_index, if◌then◌else◌}
 use Rattle.std.specs.Option.{option_map, option_map_or}
 use Rattle.std.specs.List.{prefix_len, suffix_len, take_while, list_any, slice_split}
+use Rattle.first_pass_items.specs.Bytes.{hyphen, colon, backslash, pipe}
 use Rattle.first_pass_items.specs.declared.item.Alignment.{Alignment}
 use Rattle.first_pass_items.specs.declared.item.Alignment.TheVariants.{None as Unaligned, Left, Center, Right}
 use Rattle.first_pass_lines.specs.Lines.{is_content, is_white, is_blank, begins, is_blank_line, line_len}
@@ -10,7 +11,7 @@ use Rattle.first_pass_lines.specs.Rest.{columns_of}
 
 -- a pipe (GFM 4.10)
 abbrev pub is_pipe : ℕ → Bool
-is_pipe b = b == 124
+is_pipe b = b == pipe
 
 -- the last of the bytes is c, which isn't 0 (this project)
 abbrev pub ends : ℕ → List ℕ → Bool
@@ -37,14 +38,14 @@ alignment_by false true = Right
 
 -- one hyphen or more, and nothing else (GFM 4.10)
 abbrev pub is_hyphens : List ℕ → Bool
-is_hyphens bs = nat_le 1 (length bs) && (run_len 45 bs == length bs)
+is_hyphens bs = nat_le 1 (length bs) && (run_len hyphen bs == length bs)
 
 -- the alignment that a cell of a delimiter row gives: hyphens, with or without a colon at each end, and spaces and tabs around them (GFM 4.10)
 unfoldable pub delimiter_cell : List ℕ → Option Alignment
 delimiter_cell bs =
     let cell = stripped bs in
-    let tail = without_first 58 cell in
-    if is_hyphens (without_last 58 tail) then Some (alignment_by (begins 58 cell) (ends 58 tail)) else None
+    let tail = without_first colon cell in
+    if is_hyphens (without_last colon tail) then Some (alignment_by (begins colon cell) (ends colon tail)) else None
 
 -- the values, if there is one each (this project)
 abbrev pub each_of : List (Option Alignment) → Option (List Alignment)
@@ -60,7 +61,7 @@ delimiter_cells bs = each_of (map delimiter_cell (slice_split is_pipe bs))
 unfoldable pub delimiter_row : List ℕ → Option (List Alignment)
 delimiter_row bs =
     let row = stripped (take_while is_content bs) in
-    if nat_le (columns_of bs 0) 3 && list_any is_pipe row then delimiter_cells (without_last 124 (without_first 124 row)) else None
+    if nat_le (columns_of bs 0) 3 && list_any is_pipe row then delimiter_cells (without_last pipe (without_first pipe row)) else None
 
 -- how many bytes the delimiter row that begins here has, its end too, and its alignments; 0 and none where there is no such row (GFM 4.10)
 unfoldable pub table_head : List ℕ → ℕ × List Alignment
@@ -69,7 +70,7 @@ table_head bs = option_map_or (λ columns. (line_len bs, columns)) (delimiter_ro
 -- how many pipes stand in bytes behind the byte b and not directly behind a backslash (GFM 4.10)
 abbrev pub pipes_behind : ℕ → List ℕ → ℕ
 pipes_behind b [] = 0
-pipes_behind b (c ∷ cs) = (if is_pipe c && not (b == 92) then 1 else 0) + pipes_behind c cs
+pipes_behind b (c ∷ cs) = (if is_pipe c && not (b == backslash) then 1 else 0) + pipes_behind c cs
 
 -- how many pipes not directly behind a backslash these bytes have (GFM 4.10)
 abbrev pub pipes_of : List ℕ → ℕ
@@ -78,4 +79,4 @@ pipes_of bs = pipes_behind 0 bs
 -- how many columns a header row has whose last pipe stands at a place: its pipes, without one that begins it behind white space, and one more where that last one isn't the end of its line but for white space (GFM 4.10)
 abbrev pub header_columns : List ℕ → ℕ → ℕ
 header_columns bs last =
-    pipes_of (take (last + 1) bs) - (if begins 124 (drop (prefix_len is_white bs) bs) then 1 else 0) + (if is_blank_line (drop (last + 1) bs) then 0 else 1)
+    pipes_of (take (last + 1) bs) - (if begins pipe (drop (prefix_len is_white bs) bs) then 1 else 0) + (if is_blank_line (drop (last + 1) bs) then 0 else 1)

@@ -3,6 +3,7 @@
 ghost use Rattle.std.specs.List.{prefix_len, suffix_len, position_or_len};
 ghost use Rattle.std.specs.Prelude.{◌≡◌, ◌≤◌, ◌<◌, ◌+◌, ◌-◌, ◌==◌, true, slice_index, length, take, drop, IfOk, if◌then◌else◌};
 ghost use Rattle.std.specs.Option.{option_map};
+ghost use Rattle.first_pass_items.specs.Bytes.{pipe};
 ghost use Rattle.first_pass_lines.specs.Lines.{begins, is_blank, is_white};
 ghost use Rattle.first_pass_table_scan.specs.TableHead.{is_pipe, ends as ends_with, stripped as stripped_bytes, without_first as past_first, without_last as before_last, is_hyphens as hyphens_alone, alignment_by, delimiter_cell, delimiter_cells, delimiter_row, table_head, pipes_of, header_columns};
 
@@ -166,7 +167,7 @@ pub fn scan_table_head(alloc: Global, bytes: &[u8]) -> Result<(usize, Vec<Alignm
 // How many pipes are left of those of a header row without one that begins it behind white space.
 fn without_first_pipe(row: &[u8], pipes: usize) -> usize
     requires { 1 ≤ pipes }
-    ensures { result ≡ pipes - (if begins 124 (drop (prefix_len is_white row.now) row.now) then 1 else 0) }
+    ensures { result ≡ pipes - (if begins pipe (drop (prefix_len is_white row.now) row.now) then 1 else 0) }
 {
     if begins(b'|', rest_of(row, scan_whitespace_no_nl(row))) {
         pipes - 1

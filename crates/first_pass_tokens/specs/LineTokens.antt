@@ -1,6 +1,7 @@
 -- The tokens of a line: its content divided into pieces, the texts that they give, and the break behind them.
 use Rattle.std.specs.Prelude.{◌≡◌, ℕ, ◌+◌, ◌-◌, ◌%◌, ◌==◌, ◌<◌, ◌≤◌, ◌&&◌, ◌||◌, Bool, true, false, List, [], ◌∷◌, length, drop, slice_index, Option, Some, None, IfSome, nat_lt, nat_le, min, if◌then◌else◌}
 use Rattle.std.specs.List.{slice_range, suffix_len}
+use Rattle.first_pass_items.specs.Bytes.{line_feed, carriage_return, backslash}
 use Rattle.first_pass_items.specs.declared.item.Item.{Item}
 use Rattle.first_pass_items.specs.declared.item.ItemBody.{ItemBody}
 use Rattle.first_pass_items.specs.declared.item.ItemBody.TheVariants.{SoftBreak, HardBreak}
@@ -38,7 +39,7 @@ add_pieces stop at (p ∷ ps) chain = add_pieces stop (at + size p) ps (add_piec
 unfoldable pub line_end_len : Source → ℕ → ℕ
 line_end_len s end =
     if nat_le (length s.text) end then 0
-    else (if slice_index s.text end == 13 && slice_index s.text (end + 1) == 10 then 2 else 1)
+    else (if slice_index s.text end == carriage_return && slice_index s.text (end + 1) == line_feed then 2 else 1)
 
 -- how many bytes at the content's end are white space (CommonMark 6.7, 6.8)
 unfoldable pub blanks_at_end : Source → ℕ → ℕ
@@ -46,7 +47,7 @@ blanks_at_end s end = suffix_len is_white (slice_range s.text s.start end)
 
 -- how many bytes at the content's end are backslashes (CommonMark 2.4)
 unfoldable pub backslashes_at_end : Source → ℕ → ℕ
-backslashes_at_end s end = suffix_len (λ b. b == 92) (slice_range s.text s.start end)
+backslashes_at_end s end = suffix_len (λ b. b == backslash) (slice_range s.text s.start end)
 
 -- a backslash that none before it escapes stands before the line end, and bytes behind the line end (CommonMark 6.7)
 unfoldable pub breaks_by_backslash : Source → ℕ → Bool

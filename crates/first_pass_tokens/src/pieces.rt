@@ -1,6 +1,7 @@
 //! The pieces that the content of a line is divided into: which one begins at a place.
 
 ghost use Rattle.std.specs.Prelude.{◌≡◌, ◌+◌, ◌<◌, ◌≤◌, ◌^◌, length, slice_index};
+ghost use Rattle.first_pass_items.specs.Bytes.{backslash};
 ghost use Rattle.first_pass_tokens.specs.Pieces.{special_piece, backslash_piece, size, EndsSolid};
 
 /// A part of a line's content, as the tokens are read off it.
@@ -41,7 +42,7 @@ pub fn piece_len(piece: Piece) -> usize
 #[tactic(auto, unfolding(crate::specs::Pieces::backslash_piece))]
 fn backslash_piece(text: &[u8], at: usize) -> Piece
     requires within { at < length text.now }
-    requires here { slice_index text.now at ≡ 92 }
+    requires here { slice_index text.now at ≡ backslash }
     ensures value { result ≡ backslash_piece text.now at }
     ensures fits { at + size result ≤ length text.now }
     ensures ends { EndsSolid text.now at result }

@@ -2,8 +2,9 @@
 use Rattle.std.specs.Prelude.{◌≡◌, ℕ, ◌+◌, ◌<◌, ◌≤◌, ◌==◌, ◌&&◌, ◌||◌, ◌⊎◌, Bool, true, false, List, [], ◌∷◌, length, slice_index, Option, None}
 use Rattle.std.specs.List.{slice_index_or, list_any}
 use Rattle.std.specs.Char.{is_ascii_alphabetic}
+use Rattle.first_pass_items.specs.Bytes.{line_feed, carriage_return, space, exclamation_mark, quotation_mark, dollar_sign, ampersand, apostrophe, asterisk, hyphen, full_stop, less_than, left_bracket, backslash, right_bracket, circumflex, underscore, backquote, left_brace, pipe, right_brace, tilde}
 use Rattle.first_pass_items.specs.declared.option_set.Options.{Options}
-use Rattle.first_pass_items.specs.OptionWords.{has}
+use Rattle.first_pass_items.specs.OptionWords.{has, tables, strikethrough, smart_punctuation, math, superscript, subscript}
 use Rattle.first_pass_walk.specs.declared.walk.LoopInstruction.{LoopInstruction}
 use Rattle.first_pass_walk.specs.declared.walk.LoopInstruction.TheVariants.{ContinueAndSkip, BreakAtWith}
 
@@ -13,23 +14,25 @@ is_one_of bytes b = list_any (λ c. b == c) bytes
 
 -- line ends, and ! & * < [ \ ] _ and the backquote (CommonMark 6)
 abbrev pub begins_token : ℕ → Bool
-begins_token = is_one_of (10 ∷ 13 ∷ 33 ∷ 38 ∷ 42 ∷ 60 ∷ 91 ∷ 92 ∷ 93 ∷ 95 ∷ 96 ∷ [])
+begins_token =
+    is_one_of (line_feed ∷ carriage_return ∷ exclamation_mark ∷ ampersand ∷ asterisk ∷ less_than
+    ∷ left_bracket ∷ backslash ∷ right_bracket ∷ underscore ∷ backquote ∷ [])
 
 -- the pipe, with tables (GFM 4.10)
 abbrev pub begins_cell : Options → ℕ → Bool
-begins_cell options b = has options 2 && b == 124
+begins_cell options b = has options tables && b == pipe
 
 -- ~ with strikethrough (GFM 6.5) or subscript, and ^ with superscript (this project)
 abbrev pub begins_script : Options → ℕ → Bool
-begins_script options b = ((has options 8 || has options 16384) && b == 126) || (has options 8192 && b == 94)
+begins_script options b = ((has options strikethrough || has options subscript) && b == tilde) || (has options superscript && b == circumflex)
 
 -- $ and braces with math (this project)
 abbrev pub begins_math : Options → ℕ → Bool
-begins_math options b = has options 1024 && is_one_of (36 ∷ 123 ∷ 125 ∷ []) b
+begins_math options b = has options math && is_one_of (dollar_sign ∷ left_brace ∷ right_brace ∷ []) b
 
 -- dots, dashes and quotes with smart punctuation (this project)
 abbrev pub begins_smart : Options → ℕ → Bool
-begins_smart options b = has options 32 && is_one_of (34 ∷ 39 ∷ 45 ∷ 46 ∷ []) b
+begins_smart options b = has options smart_punctuation && is_one_of (quotation_mark ∷ apostrophe ∷ hyphen ∷ full_stop ∷ []) b
 
 -- the bytes at which a token may begin (CommonMark 6; the extensions: this project)
 unfoldable pub is_special : Options → ℕ → Bool
@@ -57,7 +60,7 @@ NoneMarkedFrom lut bytes ix = (k : ℕ) → ix ≤ k → k < length bytes → is
 
 -- a letter or a space (this project)
 abbrev pub is_word_byte : ℕ → Bool
-is_word_byte b = is_ascii_alphabetic b || b == 32
+is_word_byte b = is_ascii_alphabetic b || b == space
 
 -- the table marks no letter and no space (this project)
 abbrev pub SparesWords : List Bool → Type 0
