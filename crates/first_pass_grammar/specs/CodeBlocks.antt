@@ -2,6 +2,7 @@
 use Rattle.std.specs.Prelude.{◌≡◌, ℕ, ◌+◌, ◌-◌, Bool, false, nat_lt, List, [], ◌∷◌, length, take, drop, slice_get, Option, Some, None, if◌then◌else◌}
 use Rattle.std.specs.List.{prefix_len, suffix_len}
 use Rattle.std.specs.Option.{option_map, option_and_then}
+use Rattle.first_pass_items.specs.Bytes.{hyphen}
 use Rattle.first_pass_items.specs.declared.cow_str.CowStr.{CowStr}
 use Rattle.first_pass_items.specs.CowText.{text_of}
 use Rattle.first_pass_items.specs.declared.item.CowIndex.{CowIndex}
@@ -120,7 +121,7 @@ metadata_lines n path byte lines = extent (in_containers path (metadata_judge by
 
 -- the marks `---` or `+++`, by their byte
 abbrev pub metadata_kind : ℕ → MetadataBlockKind
-metadata_kind byte = if nat_lt byte 45 then PlusesStyle else YamlStyle
+metadata_kind byte = if nat_lt byte hyphen then PlusesStyle else YamlStyle
 
 -- The metadata block of this byte that begins at an offset, with these raw lines and this end.
 pub record IsMetadata (d : Document) (start byte : ℕ) (places : List Place) («end» : ℕ) (items : List (ℕ × Item)) : Type 0 where

@@ -2,10 +2,11 @@
 use Rattle.std.specs.Prelude.{◌≡◌, ◌⊎◌, ℕ, ◌==◌, ◌&&◌, ◌||◌, not, Bool, false, List, drop, Option, Some, None, nat_lt, is_some, if◌then◌else◌}
 use Rattle.first_pass_items.specs.declared.item.HeadingLevel.{HeadingLevel}
 use Rattle.first_pass_items.specs.declared.option_set.Options.{Options}
-use Rattle.first_pass_items.specs.OptionWords.{has}
+use Rattle.first_pass_items.specs.OptionWords.{has, yaml_style_metadata_blocks, pluses_delimited_metadata_blocks}
 use Rattle.first_pass_html.specs.Starts.{html_end, begins_block_tag}
 use Rattle.first_pass_html.specs.Tags.{BeginsTagLine}
 use Rattle.std.specs.Option.{option_map}
+use Rattle.first_pass_items.specs.Bytes.{less_than, greater_than}
 use Rattle.first_pass_lines.specs.Lines.{at_line_end, begins, blank_len, atx_level}
 use Rattle.first_pass_scan.specs.LeafLines.{hrule_len, code_fence, metadata_byte}
 use Rattle.first_pass_lines.specs.Rest.{Rest, indent, after_columns}
@@ -66,17 +67,18 @@ metadata_or None other = other
 
 -- an HTML block of the kinds 1 to 5 begins here, or one of the sixth kind (CommonMark 4.6)
 abbrev pub begins_html_to_end : List ℕ → Bool
-begins_html_to_end bs = begins 60 bs && is_some (html_end (drop 1 bs))
+begins_html_to_end bs = begins less_than bs && is_some (html_end (drop 1 bs))
 
 abbrev pub begins_html_to_blank : List ℕ → Bool
-begins_html_to_blank bs = begins 60 bs && begins_block_tag (drop 1 bs)
+begins_html_to_blank bs = begins less_than bs && begins_block_tag (drop 1 bs)
 
 abbrev pub html_kind : List ℕ → Option Kind
 html_kind bs = if begins_html_to_end bs then Some HtmlToEnd else (if begins_html_to_blank bs then Some HtmlToBlank else None)
 
 -- the byte of the metadata block that begins here behind so many columns, which have to be none (this project)
 abbrev pub metadata_at : ℕ → Options → List ℕ → Option ℕ
-metadata_at columns options bs = if columns == 0 then metadata_byte (has options 128) (has options 256) bs else None
+metadata_at columns options bs =
+    if columns == 0 then metadata_byte (has options yaml_style_metadata_blocks) (has options pluses_delimited_metadata_blocks) bs else None
 
 -- The first of these that fits: a blank line (CommonMark 4.9); indented code, at four columns (4.4); metadata, at no columns (this project); an HTML block of
 -- the kinds 1 to 6 (4.6).
@@ -124,7 +126,8 @@ item_interrupts whole bs (Some m) = not whole || ((is_bullet m.1 || (m.2 == 1)) 
 -- break, an ATX heading, a code fence, a block quote, a list item or an HTML block of the kinds 1 to 6 (CommonMark 4.8, 4.1, 4.2, 4.5, 5.1, 5.2, 4.6).
 abbrev pub interrupts_with : Bool → List ℕ → Bool
 interrupts_with whole bs =
-    at_line_end bs || is_some (hrule_len bs) || is_some (atx_level bs) || is_some (code_fence bs) || begins 62 bs || item_interrupts whole bs (listitem bs)
+    at_line_end bs || is_some (hrule_len bs) || is_some (atx_level bs) || is_some (code_fence bs)
+    || begins greater_than bs || item_interrupts whole bs (listitem bs)
     || begins_html_to_end bs || begins_html_to_blank bs
 
 -- A line ends a paragraph before it where its text interrupts the paragraph; at four columns or more only where nothing but spaces and tabs is left.

@@ -1,6 +1,7 @@
 -- The leaf blocks (CommonMark 4): which lines they take, and which items stand for them.
 use Rattle.std.specs.Prelude.{◌≡◌, ◌⊎◌, ℕ, ◌+◌, ◌-◌, ◌==◌, ◌||◌, Bool, true, false, nat_lt, Option, Some, None, List, [], ◌∷◌, ◌++◌, length, take, drop, if◌then◌else◌}
 use Rattle.std.specs.List.{prefix_len, suffix_len}
+use Rattle.first_pass_items.specs.Bytes.{line_feed, carriage_return, space, number_sign}
 use Rattle.first_pass_items.specs.declared.option_set.Options.{Options}
 use Rattle.first_pass_items.specs.declared.item.Item.{Item}
 use Rattle.first_pass_items.specs.declared.item.ItemBody.{ItemBody}
@@ -55,15 +56,15 @@ IsParagraph d path start chain (line ∷ lines) whole left =
 
 -- spaces and line ends
 abbrev pub is_put_aside : ℕ → Bool
-is_put_aside b = (b == 32) || ((b == 10) || (b == 13))
+is_put_aside b = (b == space) || ((b == line_feed) || (b == carriage_return))
 
 -- How many bytes of an ATX heading's text are left without its closing sequence: spaces and line ends at the end are put aside; then number
 -- signs at the end are taken off where a space stands before them, with all spaces there, or where they are the whole (CommonMark 4.2).
 unfoldable pub kept_len : List ℕ → ℕ
 kept_len text =
     let trimmed = length text - suffix_len is_put_aside text in
-    let opening = trimmed - suffix_len (λ b. b == 35) (take trimmed text) in
-    let spaces = suffix_len (λ b. b == 32) (take opening text) in
+    let opening = trimmed - suffix_len (λ b. b == number_sign) (take trimmed text) in
+    let spaces = suffix_len (λ b. b == space) (take opening text) in
     if (opening == 0) || nat_lt 0 spaces then opening - spaces else trimmed
 
 -- a heading's chain, of whose text so many bytes are kept: none where nothing is kept

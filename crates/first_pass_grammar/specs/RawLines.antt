@@ -1,5 +1,6 @@
 -- Raw lines: the lines of code, metadata and HTML, of which no markup is read (CommonMark 4.4, 4.5, 4.6).
 use Rattle.std.specs.Prelude.{◌≡◌, ℕ, zero, suc, ◌+◌, ◌-◌, ◌==◌, ◌&&◌, Bool, false, nat_lt, List, [], ◌∷◌, ◌++◌, slice_index, if◌then◌else◌}
+use Rattle.first_pass_items.specs.Bytes.{line_feed, carriage_return, space}
 use Rattle.first_pass_items.specs.declared.item.CowIndex.{CowIndex}
 use Rattle.first_pass_items.specs.declared.item.Item.{Item}
 use Rattle.first_pass_items.specs.declared.item.ItemBody.TheVariants.{SynthesizeText, Html}
@@ -11,7 +12,7 @@ use Rattle.first_pass_grammar.specs.Leaves.{Document}
 -- so many spaces
 abbrev pub spaces : ℕ → List ℕ
 spaces zero = []
-spaces (suc n) = 32 ∷ spaces n
+spaces (suc n) = space ∷ spaces n
 
 -- Columns at an offset for which no bytes of the text are left, since a tab or an indentation owes them: a text of that many spaces with an empty
 -- range, and none for no columns (CommonMark 2.2).
@@ -21,7 +22,7 @@ AreColumns names (suc n) at items = (ix : CowIndex) × NamesText names ix (space
 
 -- the bytes from an offset up to another end with `\r\n`
 abbrev pub ends_with_both : List ℕ → ℕ → ℕ → Bool
-ends_with_both text from to = nat_lt (from + 1) to && (slice_index text (to - 2) == 13) && (slice_index text (to - 1) == 10)
+ends_with_both text from to = nat_lt (from + 1) to && (slice_index text (to - 2) == carriage_return) && (slice_index text (to - 1) == line_feed)
 
 -- as which items a range of a raw line's bytes stands: `range_text` in code and metadata, `range_html` in HTML
 abbrev pub Ranges : Type 0

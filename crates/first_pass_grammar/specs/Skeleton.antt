@@ -4,7 +4,7 @@ use Rattle.first_pass_items.specs.declared.item.Item.{Item}
 use Rattle.first_pass_items.specs.declared.item.BlockQuoteKind.{BlockQuoteKind}
 use Rattle.first_pass_items.specs.declared.item.ItemBody.TheVariants.{TaskListMarker}
 use Rattle.first_pass_items.specs.declared.option_set.Options.{Options}
-use Rattle.first_pass_items.specs.OptionWords.{has}
+use Rattle.first_pass_items.specs.OptionWords.{has, tasklists, gfm}
 use Rattle.first_pass_lines.specs.Lines.{level_number}
 use Rattle.first_pass_scan.specs.Markers.{task_of, past_tag}
 use Rattle.first_pass_lines.specs.Rest.{Rest, indent}
@@ -144,7 +144,7 @@ task_by line r (Some task) = (Some (record { start = offset (place_at line r); �
 -- the task list item marker that stands here behind an item's own, in the line that begins at an offset, where one does and the option is on; and
 -- what is left of the line (GFM 5.3)
 abbrev pub task_behind : Options → ℕ → Rest → Option Item × Rest
-task_behind options line r = task_by line r (if has options 16 then task_of r else None)
+task_behind options line r = task_by line r (if has options tasklists then task_of r else None)
 
 -- where blocks go on behind the markers of an item
 abbrev pub behind_task : Option Item → Place → From
@@ -172,7 +172,7 @@ quote_head p kind = record { opener = QuoteMarker kind; line = p.line; start = q
 
 -- the kind that a tag which stands here gives a block quote, where one does and the option is on (GitHub's alerts)
 abbrev pub tag_behind : Options → Rest → Option BlockQuoteKind
-tag_behind options r = option_map (λ tag. tag.0) (if has options 2048 then past_tag r else None)
+tag_behind options r = option_map (λ tag. tag.0) (if has options gfm then past_tag r else None)
 
 -- Where blocks go on behind the line of a block quote's tag, of which this is the path, and the lines then: the next line is read as any other, or
 -- belongs to the quote, and a leaf begins behind its columns (this project).
