@@ -65,7 +65,7 @@ pub fn answer_flanks(
         return Ok(false);
     }
     let suffix = &text[at..];
-    if len == 0 || !suffix.is_char_boundary(len) {
+    if !suffix.is_char_boundary(len) {
         return Ok(false);
     }
     match call {
