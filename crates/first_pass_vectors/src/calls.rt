@@ -58,6 +58,19 @@ fn line_end(alloc: Global) -> Result<(usize, bool), AllocError> {
     Ok((next, line_break.is_some()))
 }
 
+// Where reading goes on behind a paragraph that is added to an empty item by a call of its own, and behind the
+// blank line there: the item is empty no more.
+fn ends_in_an_empty_item(alloc: Global) -> Result<(usize, usize), AllocError> {
+    let text = "-\n  a\n\n\nb";
+    let mut pass = FirstPass::new(alloc, text, Options::empty())?;
+    pass.parse_block(0)?;
+    let behind = pass.parse_paragraph(4, None)?;
+    if behind >= text.len() {
+        return Ok((behind, behind));
+    }
+    Ok((behind, pass.parse_block(behind)?))
+}
+
 fn rule_end(alloc: Global) -> Result<usize, AllocError> {
     let mut pass = FirstPass::new(alloc, "***\n", Options::empty())?;
     pass.parse_hrule(4, 0)
@@ -68,6 +81,7 @@ fn parts_of_a_text(rt: HostRuntime) -> Result<(), Fail> {
     assert_eq!(rt; heading_end(rt.alloc())?, Some(4));
     assert_eq!(rt; paragraph_end(rt.alloc())?, 8);
     assert!(rt; line_end(rt.alloc())? == (7, true));
+    assert!(rt; ends_in_an_empty_item(rt.alloc())? == (6, 7));
     assert_eq!(rt; rule_end(rt.alloc())?, 4);
     Ok(())
 }
