@@ -197,7 +197,9 @@ is_escaped _ = false
 abbrev pub cut_item : ℕ → Item → Item
 cut_item e x = if nat_lt e x.«end» then record x { «end» = e } else x
 
--- nodes behind one of the next smaller depth, its children at the depth, cut at an offset: a child that starts before it stays, at most up to it, with all below; the first that doesn't goes, with all that follows, but where that is a text which starts there behind a backslash, the backslash becomes a text
+-- The nodes below one, cut at an offset; its children, the tokens, have this depth. A token that starts before the offset stays, with all below it, and
+-- ends there at the latest. The first that doesn't goes, with all that follows; but where that is a text which starts there behind a backslash, the
+-- backslash stays as a text.
 abbrev pub cut_tokens : ℕ → ℕ → List (ℕ × Item) → List (ℕ × Item)
 cut_tokens e d [] = []
 cut_tokens e d (n ∷ ns) =
