@@ -1,5 +1,5 @@
 -- A pass read a leaf block, once it was added where a new block had ended what it ends.
-use Rattle.std.proofs.Common.{◌≡◌, inl, ℕ, false, None, refl, ◌∙◌, arith}
+use Rattle.std.proofs.Common.{◌≡◌, inl, ℕ, false, None, refl, arith}
 use Rattle.first_pass_tree.specs.Forest.{IsForest}
 use Rattle.first_pass_lines.specs.Places.{Place, offset, IsPlaceOf}
 use Rattle.first_pass_grammar.specs.Kinds.{Kind, Blank, IsKind}
@@ -12,7 +12,6 @@ use Rattle.first_pass.specs.declared.state.FirstPass.{FirstPass}
 use Rattle.first_pass.specs.Views.{allocs_of, reading_of, source_options, source_text, tree_of}
 use Rattle.first_pass.specs.Adding.{AddsLeaf}
 use Rattle.first_pass.specs.Progress.{ReadsLeaf}
-use Rattle.first_pass.proofs.LineLemmas.{list_finished_none}
 use Rattle.first_pass.proofs.OrderSteps.{ordered_leaf}
 use Rattle.first_pass.proofs.KindBlocks.{ready_kind}
 use Rattle.first_pass.proofs.CountLemmas.{list_finished_count, block_count, leaf_left, left_before}

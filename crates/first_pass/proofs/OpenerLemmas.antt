@@ -16,7 +16,7 @@ use Rattle.first_pass_lines.specs.Places.{Place, offset, start_of}
 use Rattle.first_pass_grammar.specs.declared.kind.Container.{Container}
 use Rattle.first_pass_grammar.specs.declared.kind.Container.TheVariants.{BlockQuote, ListItem}
 use Rattle.first_pass_grammar.specs.Containers.{at_rest, prefix}
-use Rattle.first_pass_grammar.specs.Kinds.{is_blank_rest, quote_inside, quote_start, item_at}
+use Rattle.first_pass_grammar.specs.Kinds.{is_blank_rest, quote_start, item_at}
 use Rattle.first_pass_grammar.specs.Leaves.{Document}
 use Rattle.first_pass_grammar.specs.OpenOrder.{is_in_item}
 use Rattle.first_pass_grammar.specs.Skeleton.{From, Line, Inside, Blanks, Opening, OpensNode, next_is_blank, item_head, task_behind, behind_task, behind_marker, task_alone, item_opening, quote_head, tag_behind, behind_tag, quote_opening, OpensQuote, OpensFrom, Opens}

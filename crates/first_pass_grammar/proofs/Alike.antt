@@ -14,7 +14,7 @@ use Rattle.first_pass_tokens.specs.Chains.{text_token, touches, add_token, add_t
 use Rattle.first_pass_grammar.specs.Names.{Names, NamesText, index_of, kind_alone, read, read_nodes}
 use Rattle.first_pass_grammar.specs.Leaves.{Document, document, block_with}
 use Rattle.first_pass_grammar.specs.RawLines.{AreColumns, ends_with_both, Ranges, range_text, range_html, raw_items, AreRawLines, spaces}
-use Rattle.first_pass_grammar.specs.Skeleton.{LeafBlock, Leaf, BlankLine, Block, Head, Opener, QuoteMarker, ItemMarker, From, Line, Blanks, At, May, Anything, ALeafAlone, TextOf, MarkAlone, Opening, OpensLeaf, OpensNode, Skeleton, Nil, Then, Node}
+use Rattle.first_pass_grammar.specs.Skeleton.{LeafBlock, Leaf, BlankLine, Block, Head, Opener, QuoteMarker, ItemMarker, From, Line, Blanks, At, Anything, ALeafAlone, TextOf, MarkAlone, Opening, OpensLeaf, OpensNode, Skeleton, Nil, Then, Node}
 use Rattle.first_pass_grammar.specs.Kinds.{Kind}
 use Rattle.first_pass_grammar.specs.Rows.{is_paragraph, is_quote_marker}
 use Rattle.first_pass_grammar.specs.OnePass.{list_byte, joins, counts_with, run_behind, has_gap, list_end, is_loosened, head_closes, leaf_items, tight_of, list_item, container_items, forest_of}

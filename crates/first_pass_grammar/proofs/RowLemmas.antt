@@ -1,11 +1,11 @@
 -- The rows of a sequence are what one pass over it finds.
-use Rattle.std.proofs.Common.{◌≡◌, ℕ, suc, Bool, true, false, not, ◌||◌, ◌&&◌, ◌==◌, List, [], ◌∷◌, ◌++◌, length, Option, Some, None, refl, sym, ap, ◌∙◌, append_assoc, if◌then◌else◌}
+use Rattle.std.proofs.Common.{◌≡◌, ℕ, suc, Bool, true, false, not, ◌||◌, ◌&&◌, ◌==◌, List, ◌∷◌, ◌++◌, length, Option, Some, None, refl, sym, ap, ◌∙◌, append_assoc, if◌then◌else◌}
 use Rattle.std.proofs.lemmas.Bool.{eqb-true}
 use Rattle.first_pass_items.specs.declared.item.Item.{Item}
 use Rattle.first_pass_items.specs.declared.item.ItemBody.TheVariants.{BlockQuote as BlockQuoteBody, List as ListBody, ListItem as ListItemBody}
-use Rattle.first_pass_grammar.specs.Skeleton.{BlankLine, Block, Opener, QuoteMarker, ItemMarker, Head, Skeleton, Nil, Then, Node}
-use Rattle.first_pass_grammar.specs.Rows.{What, AQuote, AList, AnItem, Row, Rows, End, OneOf, behind, ends_in_gap, any_gap, is_loose, items_behind, list_behind, list_until, what_of, row_of, container_row, is_quote_marker, begins_blank, counts_behind, rows_of, closing_place}
-use Rattle.first_pass_grammar.specs.OnePass.{list_byte, joins, counts_with, head_closes, run_behind, has_gap, list_end, is_loosened, tight_of, list_item, container_items, forest_of}
+use Rattle.first_pass_grammar.specs.Skeleton.{BlankLine, Block, Opener, QuoteMarker, ItemMarker, Skeleton, Nil, Then, Node}
+use Rattle.first_pass_grammar.specs.Rows.{AList, AnItem, Row, Rows, End, OneOf, behind, ends_in_gap, any_gap, is_loose, items_behind, list_behind, list_until, what_of, row_of, container_row, is_quote_marker, begins_blank, counts_behind, rows_of, closing_place}
+use Rattle.first_pass_grammar.specs.OnePass.{list_byte, joins, counts_with, run_behind, has_gap, list_end, is_loosened, list_item, container_items, forest_of}
 use Rattle.first_pass_grammar.specs.Derivation.{node_of, list_flags, block_items, items_of, root_of}
 
 or-none : (a : Bool) → (a || false) ≡ a

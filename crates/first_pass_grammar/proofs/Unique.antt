@@ -22,7 +22,7 @@ use Rattle.first_pass_grammar.specs.Leaves.{Document, document, add_break, IsPar
 use Rattle.first_pass_grammar.specs.CodeBlocks.{code_lines, without_blanks, last_end, IsIndentedCode, metadata_lines, metadata_kind, IsMetadata, fenced_lines, info_string, IsFencedCode}
 use Rattle.first_pass_grammar.specs.HtmlBlocks.{until_end, until_blank, first_owing, IsHtml}
 use Rattle.first_pass_grammar.specs.Extents.{Extent}
-use Rattle.first_pass_grammar.specs.Skeleton.{Leaf, leaf_block, Head, opened, From, Line, Inside, Blanks, At, May, Anything, ALeafAlone, TextOf, MarkAlone, behind_marker, Opening, OpensLeaf, OpensNode, OpensParagraph, OpensExtent, OpensAs, OpensBlockAt, is_blank_behind, next_is_blank, item_head, task_by, task_behind, behind_task, task_alone, item_opening, tag_behind, behind_tag, quote_opening, OpensQuote, OpensFrom, Opens, OpensAt, Skeleton, Nil, Then, Node, Begins, Ends, behind_first, end_before, IsFirst, IsSequence}
+use Rattle.first_pass_grammar.specs.Skeleton.{leaf_block, Head, opened, From, Line, Blanks, At, Anything, ALeafAlone, TextOf, MarkAlone, behind_marker, Opening, OpensLeaf, OpensNode, OpensParagraph, OpensExtent, OpensAs, OpensBlockAt, is_blank_behind, next_is_blank, item_head, task_by, task_behind, behind_task, task_alone, item_opening, tag_behind, behind_tag, quote_opening, OpensQuote, OpensFrom, Opens, OpensAt, Skeleton, Nil, Then, Node, Begins, Ends, behind_first, end_before, IsFirst, IsSequence}
 use Rattle.first_pass_grammar.specs.Derivation.{Tables, node_of, Derives}
 use Rattle.first_pass_grammar.proofs.NoIndex.{HasNoIndex, read_alone, paragraph_free, heading_free, marked_free}
 use Rattle.first_pass_grammar.specs.RawLines.{range_text, range_html}

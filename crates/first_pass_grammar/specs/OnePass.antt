@@ -1,11 +1,10 @@
 -- The same as the rows say, in one pass over a sequence behind what stood before: by these words it is told what nodes can still become (Completion).
-use Rattle.std.specs.Prelude.{ℕ, suc, ◌==◌, ◌&&◌, ◌||◌, not, Bool, true, false, Option, Some, None, List, [], ◌∷◌, ◌++◌, map, if◌then◌else◌}
+use Rattle.std.specs.Prelude.{ℕ, suc, ◌==◌, ◌&&◌, ◌||◌, not, Bool, true, false, Option, Some, None, List, [], ◌∷◌, ◌++◌, if◌then◌else◌}
 use Rattle.first_pass_items.specs.declared.item.Item.{Item}
 use Rattle.first_pass_items.specs.declared.item.ItemBody.TheVariants.{BlockQuote as BlockQuoteBody, List as ListBody, ListItem as ListItemBody}
-use Rattle.first_pass_tree.specs.Forest.{at_depth}
 use Rattle.first_pass_grammar.specs.Skeleton.{BlankLine, Block, LeafBlock, Leaf, Opener, QuoteMarker, ItemMarker, Head, Skeleton, Nil, Then, Node}
 use Rattle.first_pass_grammar.specs.Rows.{ALeaf, closing_place, what_of, is_quote_marker}
-use Rattle.first_pass_grammar.specs.Derivation.{node_of, list_flags, tightened, block_items}
+use Rattle.first_pass_grammar.specs.Derivation.{node_of, list_flags, block_items}
 
 -- the byte of the list that an item begins or goes on with (CommonMark 5.3)
 abbrev pub list_byte : Opener → Option ℕ

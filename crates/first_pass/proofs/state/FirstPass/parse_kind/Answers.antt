@@ -13,7 +13,6 @@ use Rattle.first_pass_text.specs.declared.kinds.MarkedLeaf.{MarkedLeaf}
 use Rattle.first_pass_text.specs.Between.{AddsBetween}
 use Rattle.first_pass.specs.State.{Ready}
 use Rattle.first_pass_open.proofs.PlaceLemmas.{all_keep, place_end}
-use Rattle.first_pass.proofs.LineLemmas.{list_finished_none}
 use Rattle.first_pass.proofs.OrderLemmas.{ordered_none, ordered_blank_read}
 use Rattle.first_pass.proofs.OrderSteps.{line_or-below, ordered_leaf, unindented_later, place_before_end}
 use Rattle.first_pass.proofs.LeafLemmas.{ready_blank_leaf, ready_paragraph, line_end_of}
