@@ -1,5 +1,5 @@
 -- How many nodes there are: what closes nodes and notes blank lines adds none, what opens a container adds one or two, and each is paid for by a byte.
-use Rattle.std.proofs.Common.{◌≡◌, ℕ, ◌+◌, ◌<◌, ◌≤◌, ◌==◌, ◌&&◌, Bool, true, false, if◌then◌else◌, List, [], ◌∷◌, length, nat_lt, slice_index, Option, Some, None, is_some, IsUtf8, refl, sym, ap, subst, ◌∙◌, inl, inr, arith}
+use Rattle.std.proofs.Common.{◌≡◌, ℕ, ◌+◌, ◌<◌, ◌≤◌, ◌==◌, ◌&&◌, Bool, true, false, if◌then◌else◌, List, [], ◌∷◌, length, slice_index, Option, Some, None, is_some, refl, sym, ap, subst, ◌∙◌, inl, inr, arith}
 use Rattle.std.specs.Int.RustNames.{bit_and}
 use Rattle.std.proofs.lemmas.Bool.{cond_both, cases_Bool}
 use Rattle.std.proofs.lemmas.List.{length-append}
@@ -16,24 +16,17 @@ use Rattle.first_pass_lines.specs.Rest.{Rest}
 use Rattle.first_pass_lines.specs.Places.{Place, place_at, offset, line_end, IsPlaceOf}
 use Rattle.first_pass_lines.proofs.LineFacts.{line_len-some}
 use Rattle.first_pass_lines.proofs.PlaceFacts.{place_length}
-use Rattle.first_pass_grammar.specs.declared.kind.Container.{Container}
 use Rattle.first_pass_grammar.specs.Derivation.{list_flags}
 use Rattle.first_pass_grammar.specs.Kinds.{Kind, Blank, is_blank_rest, first_kind, IsKindBy, IsKind}
-use Rattle.first_pass_grammar.specs.Extents.{Extent, extent, in_containers}
-use Rattle.first_pass_grammar.specs.HtmlBlocks.{blank_judge}
 use Rattle.first_pass_grammar.specs.Skeleton.{task_by, task_behind}
-use Rattle.first_pass_grammar.specs.Completion.{lines_from}
 use Rattle.first_pass_grammar.specs.Order.{GrowsBy}
 use Rattle.first_pass_grammar.proofs.Orders.{length-extents, length-at_depth}
 use Rattle.first_pass_grammar.proofs.Tightening.{length-modify}
-use Rattle.first_pass_raw.specs.RawBlocks.{behind_line_at, html_to_blank}
-use Rattle.first_pass_raw.proofs.RawOrder.{ArePlaced, placed_bound, to_blank_placed}
 use Rattle.first_pass_open.specs.OpenBlock.{closed_by, with_child}
 use Rattle.first_pass_open.proofs.PlaceLemmas.{option_on, task_shorter}
 use Rattle.first_pass_lists.specs.Closing.{tight_items, loosened_by, top_body, is_list, is_list_of, is_item, popped_by, popped_at, popped, item_finished_by, item_finished, list_left, gap_tree, gap_noted, list_finished, loosened_top, list_kept, begun, list_continued, emptied, blank_read_by, blank_read}
 use Rattle.first_pass_lists.specs.declared.reading.Reading.{Reading}
 use Rattle.first_pass_text.specs.Between.{AddsBetween, StandsBefore}
-use Rattle.first_pass.specs.Adding.{with_blank}
 use Rattle.first_pass.specs.Opening.{task_text, GrowsIn}
 use Rattle.first_pass.proofs.OrderLemmas.{extents-tight}
 use Rattle.first_pass.proofs.OpenerLemmas.{item_opened}
@@ -117,9 +110,6 @@ pub blank_count : (r : Reading) → count (blank_read r) ≡ count r
 unfolding blank_read
 blank_count r = blank_by_count r (top_body r.tree)
 
-pub behind_count : («end» next : ℕ) (r : Reading) → count (with_blank «end» next r) ≡ count r
-behind_count «end» next r = cond_both (nat_lt next «end») (blank_read r) r (λ (q : Reading). count q ≡ count r) (λ b. blank_count r) (λ b. refl)
-
 -- what opens a container adds one node, and with a new list two
 pub begun_count : (start : ℕ) (body : ItemBody) (r : Reading) → count (begun start body r) ≡ count r + 1
 begun_count start body r = length-append r.tree.nodes ((length r.tree.spine + 1, record { start = start; «end» = 0; body = body }) ∷ [])
@@ -180,14 +170,6 @@ offset_before text line r s i j less =
     let a = place_length text (place_at line r) i in
     let b = place_length text (place_at line s) j in
     omega arith
-
--- an HTML block ends behind its first line
-pub blank_later : (text : List ℕ) (path : List Container) (p : Place) → IsUtf8 text → IsPlaceOf text p → line_end p ≤ (html_to_blank text path p).«end»
-unfolding ArePlaced
-blank_later text path p u i =
-    let further : Extent = extent (in_containers path blank_judge) (length text) (lines_from text (behind_line_at text (offset p))) in
-    let placed : ArePlaced text (offset p) (p ∷ further.places) further.«end» = (to_blank_placed text u path p i).places in
-    placed_bound text (line_end p) further.«end» further.places placed.2
 
 -- a task list item marker has a byte
 mark_by : (line : ℕ) (r : Rest) (o : Option (Bool × Rest)) (x : Item) → ((task : Bool × Rest) → o ≡ Some task → task_of r ≡ Some task) → (task_by line r o).0 ≡ Some x → length (task_by line r o).1.left < length r.left

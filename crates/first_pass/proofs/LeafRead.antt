@@ -42,7 +42,7 @@ leaf_read old new p kind next i empty forest is some other e =
         boundary = e.boundary;
         ready = λ more extends ready.
             ready_kind text (source_options old) (names_of (allocs_of new)) more r (tree_of new) p kind (reading_of new).blank next forest is other extends e.block empty ready (reading_of new).empty_item (reading_of new).blank none refl;
-        order = λ o. ordered_leaf text r (reading_of new) p.line (offset p) p.line (offset p) next (omega arith) (omega arith) (inl (refl, o.0)) i.within i.boundary empty o.1 fits e.boundary.0 none;
+        order = λ o. inl (ordered_leaf text r (reading_of new) p.line (offset p) p.line (offset p) next (omega arith) (omega arith) (inl (refl, o.0)) i.within i.boundary empty o.1 fits e.boundary.0 none);
       };
       few = omega arith;
     }

@@ -1,7 +1,7 @@
-pub mod BlankBehind
 pub mod CountLemmas
 pub mod EnterLemmas
 pub mod FinishLemmas
+pub mod HandedOn
 pub mod KindBlocks
 pub mod LeafAdded
 pub mod LeafLemmas

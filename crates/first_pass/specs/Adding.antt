@@ -1,5 +1,5 @@
 -- What is said of a leaf block that is added at a place (private functions alone cite this).
-use Rattle.std.specs.Prelude.{◌≡◌, ℕ, ◌≤◌, Bool, List, None, if◌then◌else◌, nat_lt, IsCharBoundary}
+use Rattle.std.specs.Prelude.{◌≡◌, ℕ, ◌≤◌, Bool, List, None, IsCharBoundary}
 use Rattle.first_pass_items.specs.declared.option_set.Options.{Options}
 use Rattle.first_pass_items.specs.declared.item.Item.{Item}
 use Rattle.first_pass_tree.specs.Forest.{Forest, added}
@@ -10,11 +10,8 @@ use Rattle.first_pass_grammar.specs.Leaves.{document}
 use Rattle.first_pass_grammar.specs.Skeleton.{leaf_block, Line, OpensLeaf, OpensAs}
 use Rattle.first_pass_grammar.specs.Completion.{lines_from}
 use Rattle.first_pass_open.specs.Path.{path_of}
-use Rattle.first_pass_text.specs.Appends.{line_end_at}
 use Rattle.first_pass_text.specs.Between.{AddsBetween}
 use Rattle.first_pass_names.specs.TableEntries.{tables, names_of}
-use Rattle.first_pass_lists.specs.Closing.{blank_read}
-use Rattle.first_pass_lists.specs.declared.reading.Reading.{Reading}
 use Rattle.first_pass.specs.declared.state.FirstPass.{FirstPass}
 use Rattle.first_pass.specs.Views.{allocs_of, reading_of, source_of, source_options, source_text, tree_of}
 
@@ -36,10 +33,3 @@ pub record AddsLeaf (old new : FirstPass) (p : Place) (kind : Kind) (next : ℕ)
   pub later : line_end p ≤ next
   pub boundary : IsCharBoundary (source_text old) next
   pub fits : (from : ℕ) → from ≤ offset p → AddsBetween (source_text old) from next (tree_of old) (tree_of new)
-
--- a blank line is read too that begins before an offset, where one does
-abbrev pub behind_blank : List ℕ → ℕ → ℕ → ℕ
-behind_blank text «end» next = if nat_lt next «end» then line_end_at text «end» else next
-
-abbrev pub with_blank : ℕ → ℕ → Reading → Reading
-with_blank «end» next r = if nat_lt next «end» then blank_read r else r

@@ -1,6 +1,11 @@
 -- How far what the pass remembers is in order.
-use Rattle.std.specs.Prelude.{◌≡◌, ℕ, ◌≤◌, true, List, length, Option, Some, None, IsCharBoundary}
+use Rattle.std.specs.Prelude.{◌≡◌, ◌⊎◌, ℕ, ◌≤◌, ◌<◌, true, List, length, drop, Option, Some, None, IsCharBoundary}
+use Rattle.first_pass_lines.specs.Rest.{Rest}
+use Rattle.first_pass_lines.specs.Places.{line_rest, place_at, offset}
+use Rattle.first_pass_grammar.specs.Containers.{after}
+use Rattle.first_pass_grammar.specs.Kinds.{is_blank_rest}
 use Rattle.first_pass_grammar.specs.OpenOrder.{IsOrderedTo}
+use Rattle.first_pass_open.specs.Path.{path_of}
 use Rattle.first_pass_lists.specs.Closing.{top_body, is_item}
 use Rattle.first_pass_lists.specs.declared.reading.Reading.{Reading}
 
@@ -15,3 +20,17 @@ pub record IsOrderedAt (text : List ℕ) (r : Reading) (at : ℕ) : Type 0 where
   pub later : reached r.empty_item at ≤ at
   pub within : at ≤ length text
   pub innermost : (e : ℕ) → r.empty_item ≡ Some e → (is_item (top_body r.tree) ≡ true) × IsCharBoundary text e
+
+-- At an offset at which reading goes on a line begins that is blank behind what the open containers take of it, and the tree is in order up to there: an
+-- HTML block that a blank line stops ends behind their prefixes (CommonMark 4.6, and this project).
+pub record IsHandedOn (text : List ℕ) (r : Reading) (at : ℕ) : Type 0 where
+  pub rest : Rest
+  pub within : at < length text
+  pub taken : after (path_of r.tree) (line_rest (drop at text)) ≡ Some rest
+  pub blank : is_blank_rest rest ≡ true
+  pub none : r.empty_item ≡ None
+  pub ordered : IsOrderedTo text r.tree (offset (place_at at rest))
+
+-- what the pass remembers is in order up to an offset at which reading goes on, or a blank line is handed on there
+abbrev pub IsOrderedFrom : List ℕ → Reading → ℕ → Type 0
+IsOrderedFrom text r at = IsOrderedAt text r at ⊎ IsHandedOn text r at

@@ -9,7 +9,7 @@ use Rattle.first_pass_names.specs.TableEntries.{tables, names_of}
 use Rattle.first_pass.specs.declared.state.FirstPass.{FirstPass}
 use Rattle.first_pass.specs.Views.{allocs_of, reading_of, source_of, source_options, source_text, tree_of}
 use Rattle.first_pass.specs.State.{Ready}
-use Rattle.first_pass.specs.Ordered.{IsOrderedAt}
+use Rattle.first_pass.specs.Ordered.{IsOrderedFrom}
 use Rattle.first_pass.specs.Opening.{ReadyLeaf, line_or}
 
 -- A pass went on, as far as one offset at least, and reading goes on at another, between characters: it reads the same text, what was named keeps its name,
@@ -21,7 +21,7 @@ pub record WentOn (old new : FirstPass) (far : ℕ) (begins : Names → Type 0) 
   pub later : far ≤ next
   pub boundary : IsCharBoundary (source_text old) next
   pub ready : (more : Names) → Extends more (names_of (allocs_of new)) → begins more → Ready (document (source_text old) (source_options old) more) (reading_of new) (lines_from (source_text old) next)
-  pub order : in_order → IsOrderedAt (source_text old) (reading_of new) next
+  pub order : in_order → IsOrderedFrom (source_text old) (reading_of new) next
 
 -- a pass read the leaf block that begins at a place where no container begins, or behind the tag of a block quote
 abbrev pub ReadsLeaf : FirstPass → FirstPass → Place → ℕ → Type 0

@@ -16,7 +16,7 @@ ghost use Rattle.first_pass_grammar.specs.Completion.{lines_from};
 ghost use Rattle.first_pass.specs.State.{NoMore, Ready, ReadyAt};
 ghost use Rattle.first_pass.specs.Opening.{IsOpenedAt, ReadyIn, IsBehind, marker_of, task_text, ReadyBehind, line_or, OrderedIn, OrderedBehind, GrowsIn, GrowsBehind};
 ghost use Rattle.first_pass_grammar.specs.Order.{GrowsBy};
-ghost use Rattle.first_pass.specs.Ordered.{IsOrderedAt};
+ghost use Rattle.first_pass.specs.Ordered.{IsOrderedAt, IsOrderedFrom};
 ghost use Rattle.first_pass_grammar.specs.OpenOrder.{IsOrderedTo};
 
 use bitflags::Flags;
@@ -60,6 +60,7 @@ pub(crate) fn close_containers(reading: &mut Reading, kept: usize, ix: usize)
     ensures order { (text : List ℕ) → ix ≤ length text → IsCharBoundary text ix → IsOrderedAt text reading.old ix
         → IsOrderedAt text reading.new ix }
     ensures none_added { length reading.new.tree.nodes ≡ length reading.old.tree.nodes }
+    ensures all_kept { kept ≡ length reading.old.tree.spine → reading.new ≡ reading.old }
 {
     while kept < reading.tree.spine_len() {
         reading.tree.is_forest();
@@ -90,7 +91,7 @@ pub(crate) fn enter_line<'a>(
         (λ place. ReadyAt (document source.entry.text.now source.entry.options names) reading.new.tree
         reading.new.blank (Inside place)
         (lines_from source.entry.text.now (start_ix + line_len (drop start_ix source.entry.text.now)))) }
-    ensures order { IsOrderedAt source.entry.text.now reading.old start_ix
+    ensures order { IsOrderedFrom source.entry.text.now reading.old start_ix
         → MatchOption result
         (IsOrderedAt source.entry.text.now reading.new (start_ix + line_len (drop start_ix source.entry.text.now)))
         (λ place. IsOrderedTo source.entry.text.now reading.new.tree start_ix) }

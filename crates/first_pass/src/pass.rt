@@ -20,7 +20,7 @@ ghost use Rattle.first_pass_text.specs.declared.kinds.Found.TheVariants.{Marked}
 ghost use Rattle.first_pass.specs.Adding.{AddsLeaf};
 ghost use Rattle.first_pass.specs.Opening.{ReadyText, ReadyTagged, OrderedText};
 ghost use Rattle.first_pass_lists.specs.Closing.{with_block};
-ghost use Rattle.first_pass.specs.Ordered.{IsOrderedAt};
+ghost use Rattle.first_pass.specs.Ordered.{IsOrderedAt, IsOrderedFrom};
 ghost use Rattle.first_pass.specs.Progress.{ReadsLeaf, WentOn};
 ghost use Rattle.first_pass_text.specs.Found.{IsFoundAt, marked_kind};
 ghost use Rattle.first_pass_text.specs.Between.{StandsBefore};
@@ -32,7 +32,6 @@ ghost use Rattle.first_pass_grammar.specs.Names.{Names, Extends};
 ghost use Rattle.first_pass.specs.Views.{allocs_of, reading_of, source_of, source_options, source_text, tree_of};
 
 use crate::containers::{Behind, close_containers, enter_line, open_containers};
-use crate::raw::read_blank_behind;
 pub use crate::state::FirstPass;
 use first_pass_below::flank::TableParseMode;
 use first_pass_items::item::Item;
@@ -116,8 +115,8 @@ impl<'a> FirstPass<'a> {
             (lines_from (source_text self.old) start_ix)
             → Ready (document (source_text self.old) (source_options self.old) names) (reading_of self.new)
             (lines_from (source_text self.old) next)) }
-        ensures order { IfOk result (λ next. IsOrderedAt (source_text self.old) (reading_of self.old) start_ix
-            → IsOrderedAt (source_text self.old) (reading_of self.new) next) }
+        ensures order { IfOk result (λ next. IsOrderedFrom (source_text self.old) (reading_of self.old) start_ix
+            → IsOrderedFrom (source_text self.old) (reading_of self.new) next) }
         ensures few { IfOk result (λ next. GrowsBy start_ix next (tree_of self.old).nodes
             (tree_of self.new).nodes) }
     {
@@ -232,9 +231,8 @@ impl<'a> FirstPass<'a> {
             }
             Found::HtmlToBlank => {
                 self.reading.finish_list(place.line);
-                self.reading.tree.is_forest();
-                let lines = self.parse_html_to_blank(at, columns)?;
-                Ok(read_blank_behind(&mut self.reading, self.source, lines))
+                let next = self.parse_html_block_type_6_or_7(at, 0, columns)?;
+                Ok(next)
             }
             Found::Marked(leaf) => {
                 self.reading.finish_list(place.line);

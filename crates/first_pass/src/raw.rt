@@ -13,18 +13,15 @@ ghost use Rattle.first_pass_grammar.specs.HtmlBlocks.{IsHtml};
 ghost use Rattle.first_pass_open.specs.Path.{path_of};
 ghost use Rattle.first_pass_names.specs.TableEntries.{tables, names_of};
 ghost use Rattle.first_pass_raw.specs.RawBlocks.{AppendsRaw, IsPlaceAt, AddsIndented, AddsRaw, behind_line_at, fenced_behind, metadata_behind, html_to_end, html_to_blank};
-ghost use Rattle.first_pass.specs.Adding.{AddsLeaf, behind_blank, with_blank};
+ghost use Rattle.first_pass.specs.Adding.{AddsLeaf};
+ghost use Rattle.first_pass_grammar.specs.Order.{GrowsBy};
 ghost use Rattle.first_pass_lists.specs.Closing.{with_block};
 ghost use Rattle.first_pass_text.specs.Between.{AddsBetween};
-ghost use Rattle.first_pass.specs.Ordered.{IsOrderedAt};
+ghost use Rattle.first_pass.specs.Ordered.{IsOrderedAt, IsOrderedFrom};
 ghost use Rattle.first_pass.specs.Views.{allocs_of, reading_of, source_of, source_options, source_text, tree_of};
 
 use crate::state::FirstPass;
-use first_pass_lines::places::next_line;
-use first_pass_lists::reading::Reading;
-use first_pass_open::open_block::BlockLines;
 use first_pass_open::place::Place;
-use first_pass_open::source::Source;
 use first_pass_raw::fenced_code::Fence;
 use first_pass_raw::raw_line::{RawKind, append_raw_line};
 use first_pass_raw::{fenced_code, html_block, indented_code, metadata_block};
@@ -313,70 +310,22 @@ impl<'a> FirstPass<'a> {
         ensures fits { IfOk result (λ next. (p : Place) → IsPlaceAt (source_text self.old) start_ix p → (from : ℕ)
             → from ≤ start_ix → AddsBetween (source_text self.old) from (html_to_blank (source_text self.old)
             (path_of (tree_of self.old)) p).«end» (tree_of self.old) (tree_of self.new)) }
-        ensures order { IfOk result (λ next. (p : Place) → IsPlaceAt (source_text self.old) start_ix p → (at : ℕ)
-            → at ≤ start_ix → IsOrderedAt (source_text self.old) (reading_of self.old) at
-            → IsOrderedAt (source_text self.old) (reading_of self.new) (html_to_blank (source_text self.old)
-            (path_of (tree_of self.old)) p).«end») }
-    {
-        let lines = self.parse_html_to_blank(start_ix, max(remaining_space, indent))?;
-        Ok(lines.next)
-    }
-
-    // The same, with where the block ends.
-    pub(crate) fn parse_html_to_blank(
-        &mut self,
-        start_ix: usize,
-        columns: usize,
-    ) -> Result<BlockLines, AllocError>
-        requires boundary { IsCharBoundary (source_text self.old) start_ix }
-        requires columns { columns ≤ 3 }
-        ensures source { OnOk result (source_of self.new ≡ source_of self.old) }
-        ensures names { OnOk result (Extends (names_of (allocs_of self.new)) (names_of (allocs_of self.old))) }
-        ensures tables { OnOk result (tables (allocs_of self.new) ≡ tables (allocs_of self.old)) }
-        ensures reading { OnOk result (reading_of self.new ≡ with_block (reading_of self.old) (tree_of self.new)) }
-        ensures block { IfOk result (λ lines. (p : Place) → IsPlaceAt (source_text self.old) start_ix p
-            → let e = html_to_blank (source_text self.old) (path_of (tree_of self.old)) p in
-            AddsRaw (source_text self.old) (source_options self.old) (names_of (allocs_of self.new)) (λ d.
-            IsHtml d start_ix columns e.places e.«end») e.left (tree_of self.old) (tree_of self.new) lines.next) }
-        ensures end { IfOk result (λ lines. (p : Place) → IsPlaceAt (source_text self.old) start_ix p
-            → lines.«end» ≡ (html_to_blank (source_text self.old) (path_of (tree_of self.old)) p).«end») }
-        ensures boundary { IfOk result (λ lines. (behind_line_at (source_text self.old) start_ix ≤ lines.next)
-            × IsCharBoundary (source_text self.old) lines.next) }
-        ensures fits { IfOk result (λ lines. (from : ℕ) → from ≤ start_ix
-            → AddsBetween (source_text self.old) from lines.«end» (tree_of self.old) (tree_of self.new)) }
-        ensures within { IfOk result (λ lines. (lines.«end» ≤ length (source_text self.old))
-            × IsCharBoundary (source_text self.old) lines.«end») }
-        ensures order { IfOk result (λ lines. (at : ℕ) → at ≤ start_ix
+        ensures order { IfOk result (λ next. (at : ℕ) → at ≤ start_ix
             → IsOrderedAt (source_text self.old) (reading_of self.old) at
-            → IsOrderedAt (source_text self.old) (reading_of self.new) lines.«end») }
+            → IsOrderedFrom (source_text self.old) (reading_of self.new) next) }
+        ensures few { IfOk result (λ next. (from : ℕ) → from ≤ start_ix → from < next
+            → GrowsBy from next (tree_of self.old).nodes (tree_of self.new).nodes) }
     {
-        let lines = html_block::parse_html_block_type_6_or_7(
+        self.reading.tree.is_forest();
+        let next = html_block::parse_html_block_type_6_or_7(
             &mut self.reading.tree,
             &mut self.allocs,
             self.source.text,
             self.source.options,
             start_ix,
-            columns,
+            max(remaining_space, indent),
         )?;
         self.reading.empty_item = None;
-        Ok(lines)
+        Ok(next)
     }
-}
-
-// Reads the blank line too behind whose containers an HTML block ends, if it ends there; answers the offset at which
-// the line begins that is not read, or the text's length.
-pub(crate) fn read_blank_behind(
-    reading: &mut Reading,
-    source: Source<'_>,
-    lines: BlockLines,
-) -> usize
-    requires { lines.«end» ≤ length source.text.now }
-    ensures reading { reading.new ≡ with_blank lines.«end» lines.next reading.old }
-    ensures next { result ≡ behind_blank source.entry.text.now lines.«end» lines.next }
-{
-    if lines.next < lines.end {
-        reading.read_blank_line();
-        return next_line(source.text.as_bytes(), lines.end);
-    }
-    lines.next
 }

@@ -224,10 +224,6 @@ module _ (text : List ℕ) (options : Options) (named : Names) (start columns ne
           let here = subst (λ path. AppendsLines range_html text options names (extent_from text path judge next) one two stop left) path lines in
           whole_added names e further two new stop left e_is (first_then names further two stop left extends here) new_is
 
-      -- where it ends
-      pub html_stop : stop ≡ e.«end»
-      html_stop = lines.end_is ∙ ap (λ path. (extent_from text path judge next).«end») path ∙ sym (ap (λ (x : Extent). x.«end») e_is)
-
   -- it is open still behind its first line, and behind the others
   pub one_open : IsSome (slice_get one.spine 0)
   one_open =

@@ -29,7 +29,7 @@ use Rattle.first_pass_grammar.specs.CodeBlocks.{code_place, code_by, code_lines,
 use Rattle.first_pass_grammar.specs.HtmlBlocks.{holds, is_empty, tag_verdict, tag_judge, blank_judge, first_owing, IsHtml}
 use Rattle.first_pass_grammar.specs.Completion.{lines_from}
 use Rattle.first_pass_grammar.specs.Order.{Elsewhere, FitsBetween}
-use Rattle.first_pass_grammar.proofs.Orders.{block_fits}
+use Rattle.first_pass_grammar.proofs.Orders.{block_fits, length-block}
 use Rattle.first_pass_raw.specs.RawBlocks.{behind_line_at, code_behind, fenced_behind, metadata_behind, html_to_end, html_to_blank}
 use Rattle.first_pass_open.proofs.PlaceLemmas.{all_keep, after_keeps, place_end, line_start_end}
 
@@ -314,6 +314,17 @@ html_fits d start columns e items u is b placed from to behind before =
     raw_fits range_html html_range d from to start e.«end» HtmlBlock (first_owing columns e.places) is.chain items u is.items_are is.lines b placed.boundary
     (owing_placed d.text columns start e.«end» e.places placed.places) (owing_few columns start e.places placed.few) behind before
 
+-- Up to where the lines begin that it leaves, an HTML block has no more items than these.
+pub html_few : (d : Document) (start columns stop : ℕ) (e : Lines) (items : List (ℕ × Item)) → IsHtml d start columns e.places e.«end» items → ArePlaced d.text start e.places stop → AreFew start e.places
+    → (from to : ℕ) → from ≤ start → stop ≤ to → from < to → length items ≤ 4 * (to - from)
+html_few d start columns stop e items is placed few from to behind before apart =
+    let ps : List Place = first_owing columns e.places in
+    let more = few_by d.text from to start stop (length is.chain) ps (lines_few range_html html_range d ps [] is.chain is.lines) (owing_few columns start e.places few)
+    (owing_placed d.text columns start stop e.places placed) behind before apart in
+    let size = length-block (record { start = start; «end» = e.«end»; body = HtmlBlock }) is.chain in
+    let same = ap length is.items_are in
+    omega arith
+
 -- Where lines end between characters: behind some of what is left at a place, where the line ends there.
 eol_small : (b : ℕ) (bs : List ℕ) (t v : Bool) → (b == 10) ≡ t → (b == 13) ≡ v → at_line_end (b ∷ bs) ≡ true → b < 128
 eol_small b bs true v e f h = (let z = eqb-true b 10 e in omega arith)
@@ -482,7 +493,7 @@ metadata_within byte bs n plain h =
     omega (arith, f.1)
 
 -- the first of the lines from an offset on, and the others
-first_line : (text : List ℕ) (at : ℕ) (line : Place) (lines : List Place) → line ∷ lines ≡ lines_from text at → (at < length text) × (line ≡ line_place at (drop at text)) × (lines ≡ lines_from text (behind_line_at text at))
+pub first_line : (text : List ℕ) (at : ℕ) (line : Place) (lines : List Place) → line ∷ lines ≡ lines_from text at → (at < length text) × (line ≡ line_place at (drop at text)) × (lines ≡ lines_from text (behind_line_at text at))
 first_line text at line lines is =
     elim (cases_lt at (length text)) [
       | inl within ↦ (let e : line ∷ lines ≡ line_place at (drop at text) ∷ lines_from text (behind_line_at text at) = is ∙ lines_at-line text at within in (within, cc, cc))
@@ -591,6 +602,30 @@ module _ (text : List ℕ) (u : IsUtf8 text) (path : List Container) where
       verdict_filled at (in_containers path judge line) line lines (extent (in_containers path judge) (length text) lines)
       (judged_within judge stays at line (taken path line) f.1 b (λ q h. taken_in at line q f.0 b f.1 h))
       (extent_filled judge stays lines (behind_line_at text at) f.2 (behind_is_boundary at b))
+
+  -- where the lines begin behind one
+  left_start : (at : ℕ) (lines : List Place) → IsCharBoundary text at → lines ≡ lines_from text (behind_line_at text at) → start_of (length text) lines ≡ behind_line_at text at
+  left_start at lines b is = (let w = (behind_is_boundary at b).0 in ap (start_of (length text)) is ∙ start_of-lines text (behind_line_at text at) w)
+
+  -- They are placed before the lines that the block leaves.
+  verdict_left : (at : ℕ) (v : Verdict) (line : Place) (lines : List Place) (further : Lines) → line ≡ line_place at (drop at text) → start_of (length text) lines ≡ behind_line_at text at → IsWithin at v
+      → ArePlaced text (behind_line_at text at) further.places (start_of (length text) further.left)
+      → (let e = extent_by v line lines further in ArePlaced text at e.places (start_of (length text) e.left))
+  unfolding ArePlaced
+  verdict_left at (GoesOn p) line lines further is left i rest = line_placed at (start_of (length text) further.left) p further.places i rest
+  verdict_left at (IsLast p) line lines further is left i rest = line_placed at (start_of (length text) lines) p [] i (omega arith)
+  verdict_left at (Closes e) line lines further is left i rest = omega arith
+  verdict_left at (Stops e) line lines further is left i rest = (let start = ap (λ (p : Place). p.line) is in omega arith)
+
+  extent_left : (judge : Place → Place → Verdict) → StaysWithin judge → (lines : List Place) (at : ℕ) → lines ≡ lines_from text at → IsCharBoundary text at
+      → (let e = extent (in_containers path judge) (length text) lines in ArePlaced text at e.places (start_of (length text) e.left))
+  unfolding extent ArePlaced
+  extent_left judge stays [] at is b = b.0
+  extent_left judge stays (line ∷ lines) at is b =
+      let f = first_line text at line lines is in
+      verdict_left at (in_containers path judge line) line lines (extent (in_containers path judge) (length text) lines) f.1
+      (left_start at lines b f.2) (judged_within judge stays at line (taken path line) f.1 b (λ q h. taken_in at line q f.0 b f.1 h))
+      (extent_left judge stays lines (behind_line_at text at) f.2 (behind_is_boundary at b))
 
   -- of a fenced code block
   fence_in_by : (t : Bool) (at e : ℕ) (q : Place) (o : Option ℕ) → ((n : ℕ) → o ≡ Some n → (n ≤ length (all_taken q.rest).left) × (at_line_end (drop n (all_taken q.rest).left) ≡ true)) → IsIn at q
@@ -716,9 +751,12 @@ module _ (text : List ℕ) (u : IsUtf8 text) (path : List Container) where
   pub to_blank_placed : (p : Place) → IsPlaceOf text p → IsPlaced text (offset p) (html_to_blank text path p)
   to_blank_placed p i = first_placed blank_judge blank_stays (lines_from text (behind_line_at text (offset p))) p i (ap (lines_from text) (place_line p i))
 
-  -- where the lines begin behind one
-  left_start : (at : ℕ) (lines : List Place) → IsCharBoundary text at → lines ≡ lines_from text (behind_line_at text at) → start_of (length text) lines ≡ behind_line_at text at
-  left_start at lines b is = (let w = (behind_is_boundary at b).0 in ap (start_of (length text)) is ∙ start_of-lines text (behind_line_at text at) w)
+  pub to_blank_left : (p : Place) → IsPlaceOf text p → (let e = html_to_blank text path p in ArePlaced text (offset p) e.places (start_of (length text) e.left))
+  unfolding ArePlaced
+  to_blank_left p i =
+      let lines : List Place = lines_from text (behind_line_at text (offset p)) in
+      let e : Lines = extent (in_containers path blank_judge) (length text) lines in
+      (omega arith, i, extent_left blank_judge blank_stays lines (line_end p) (ap (lines_from text) (place_line p i)) (place_end text p u i))
 
   fence_before_by : (t : Bool) (at e : ℕ) (q : Place) (o : Option ℕ) → ((n : ℕ) → o ≡ Some n → n ≤ line_len (all_taken q.rest).left) → IsIn at q
       → (if t then option_map (λ n. offset (unindented q) + n) o else None) ≡ Some e → e ≤ behind_line_at text at

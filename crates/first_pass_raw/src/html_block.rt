@@ -20,7 +20,7 @@ use first_pass_items::option_set::Options;
 use first_pass_lines::lines::scan_blank_line;
 use first_pass_lines::places::next_line;
 use first_pass_names::items::Allocations;
-use first_pass_open::open_block::{BlockLines, close_block, open_block};
+use first_pass_open::open_block::{close_block, open_block};
 use first_pass_scan::line_start::LineStart;
 use first_pass_tree::forest::Tree;
 use std::alloc::AllocError;
@@ -60,8 +60,9 @@ pub fn parse_html_block_type_1_to_5<'a>(
 }
 
 /// Appends the HTML block of the kinds 6 and 7 that begins at the offset `start_ix` behind so many columns, at most 3,
-/// and goes on to a blank line. Answers where it ends, which is behind what the containers take of that line, and the
-/// offset at which the line begins that is not read, or the text's length (CommonMark 4.6).
+/// and goes on to a blank line. Answers the offset at which the line begins that is not read, or the text's length:
+/// where the block ends behind what the containers take of that blank line, its end is behind the answer (CommonMark
+/// 4.6).
 pub fn parse_html_block_type_6_or_7<'a>(
     tree: &mut Tree<Item>,
     allocs: &mut Allocations<'a>,
@@ -69,17 +70,14 @@ pub fn parse_html_block_type_6_or_7<'a>(
     options: Options,
     start_ix: usize,
     columns: usize,
-) -> Result<BlockLines, AllocError>
+) -> Result<usize, AllocError>
     requires boundary { IsCharBoundary text.now start_ix }
     requires columns { columns ≤ 3 }
-    ensures block { IfOk result (λ lines. (p : Place) → IsPlaceAt text.now start_ix p
+    ensures block { IfOk result (λ next. (p : Place) → IsPlaceAt text.now start_ix p
         → let e = html_to_blank text.now (path_of tree.old) p in
         AddsRaw text.now options (names_of allocs.new) (λ d.
-        IsHtml d start_ix columns e.places e.«end») e.left tree.old tree.new lines.next) }
-    ensures ends { IfOk result (λ lines. (p : Place) → IsPlaceAt text.now start_ix p
-        → lines.«end» ≡ (html_to_blank text.now (path_of tree.old) p).«end») }
-    ensures boundary { IfOk result (λ lines. (behind_line_at text.now start_ix ≤ lines.next)
-        × IsCharBoundary text.now lines.next) }
+        IsHtml d start_ix columns e.places e.«end») e.left tree.old tree.new next) }
+    ensures boundary { IfOk result (λ next. (behind_line_at text.now start_ix ≤ next) × IsCharBoundary text.now next) }
     ensures names { OnOk result (Extends (names_of allocs.new) (names_of allocs.old)) }
     ensures tables { OnOk result (tables allocs.new ≡ tables allocs.old) }
     ensures utf8 { IsUtf8 text.now }
@@ -87,7 +85,7 @@ pub fn parse_html_block_type_6_or_7<'a>(
     let next = open_html_block(tree, allocs, text, start_ix, columns)?;
     let lines = read_lines(&ToBlank, RawKind::Html, tree, allocs, text, options, next)?;
     close_block(tree, lines.end);
-    Ok(lines)
+    Ok(lines.next)
 }
 
 // Opens the HTML block that begins at the offset `start` behind so many columns, and appends its first line. Answers

@@ -1,4 +1,4 @@
-use Rattle.std.proofs.Common.{refl, sym, ap, subst, ◌∙◌, arith}
+use Rattle.std.proofs.Common.{length, refl, sym, ap, subst, ◌∙◌, arith}
 use Rattle.first_pass_lists.specs.declared.reading.Reading.{Reading}
 use Rattle.first_pass.specs.Ordered.{IsOrderedAt}
 use Rattle.first_pass.proofs.CountLemmas.{count, popped_count}
@@ -11,6 +11,7 @@ loop-reading-init c = record {
   closed = closed_none c.args.reading.now c.args.kept c.args.ix c.requires;
   order = λ text within boundary ordered. ordered;
   none_added = refl;
+  all_kept = λ all. refl;
 }
 
 pub loop-reading-preserved : goal.loop-reading-preserved
@@ -24,6 +25,7 @@ loop-reading-preserved c =
       order = λ text within boundary ordered. subst (λ (q : Reading). IsOrderedAt text q c.args.ix) (sym c.pop.ensures)
           (ordered_popped text _ c.args.ix c.args.ix (omega arith) within boundary (i.order text within boundary ordered));
       none_added = ap count c.pop.ensures ∙ popped_count c.args.ix _ ∙ i.none_added;
+      all_kept = λ all. (let none = ap (λ (q : Reading). length q.tree.spine) (i.all_kept all) in absurd (omega arith));
     }
 
 pub loop-reading-smaller : goal.loop-reading-smaller
@@ -37,3 +39,6 @@ returns-clause-order c = c.loop-reading.invariant.order
 
 pub returns-clause-none_added : goal.returns-clause-none_added
 returns-clause-none_added c = c.loop-reading.invariant.none_added
+
+pub returns-clause-all_kept : goal.returns-clause-all_kept
+returns-clause-all_kept c = c.loop-reading.invariant.all_kept

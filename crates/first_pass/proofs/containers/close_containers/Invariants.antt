@@ -9,6 +9,7 @@ invariant-loop-reading l = record {
   closed : ClosedSoFar l.initial.reading l.reading l.kept l.ix;
   order : (text : List ℕ) → l.ix ≤ length text → IsCharBoundary text l.ix → IsOrderedAt text l.initial.reading l.ix → IsOrderedAt text l.reading l.ix;
   none_added : length l.reading.tree.nodes ≡ length l.initial.reading.tree.nodes;
+  all_kept : l.kept ≡ length l.initial.reading.tree.spine → l.reading ≡ l.initial.reading;
 }
 
 abbrev pub decreases-loop-reading : goal.decreases-loop-reading

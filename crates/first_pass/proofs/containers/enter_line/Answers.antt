@@ -1,17 +1,14 @@
-use Rattle.std.proofs.Common.{◌+◌, drop, is_some, sym, ap, subst, ◌∙◌, arith}
+use Rattle.std.proofs.Common.{IsUtf8, ◌+◌, drop, is_some, sym, ap, subst, ◌∙◌, arith}
 use Rattle.first_pass_lines.specs.Lines.{blank_len, line_len}
 use Rattle.first_pass_lines.specs.Places.{line_rest, place_at}
 use Rattle.first_pass_grammar.specs.Leaves.{document}
 use Rattle.first_pass_grammar.specs.Skeleton.{Inside}
 use Rattle.first_pass_grammar.specs.Completion.{lines_from}
-use Rattle.first_pass_lists.specs.Closing.{item_finished}
 use Rattle.first_pass_lists.specs.declared.reading.Reading.{Reading}
 use Rattle.first_pass.specs.Ordered.{IsOrderedAt}
 use Rattle.first_pass_grammar.specs.OpenOrder.{IsOrderedTo}
-use Rattle.first_pass_lines.proofs.LineFacts.{line_len-within}
 use Rattle.first_pass.proofs.CountLemmas.{count, item_finished_count, blank_count}
-use Rattle.first_pass.proofs.OrderLemmas.{ordered_item_finished, ordered_blank_read}
-use Rattle.first_pass.proofs.OrderSteps.{ordered_tree}
+use Rattle.first_pass.proofs.HandedOn.{handed_whole, ordered_blank_line, ordered_other_line}
 use Rattle.first_pass.specs.State.{Ready, ReadyAt}
 use Rattle.first_pass.proofs.LineLemmas.{at_line, blank_line_read, line_entered, finished_none, line_kept}
 use Rattle.first_pass.proofs.containers.enter_line.Goals as goal
@@ -53,22 +50,26 @@ returns-clause-no_empty c =
 
 pub returns-then-is_some-clause-order : goal.returns-then-is_some-clause-order
 returns-then-is_some-clause-order c =
+    let line = c.new-line_start.ensures ∙ ap line_rest (c.rest_of.ensures.value ∙ ap (drop c.args.start_ix) c.as_bytes.ensures.value) in
     let text = c.args.source.text.now in
     let start = c.args.start_ix in
     let closed : Reading = c.close_containers.new.reading in
     let w = c.requires.within in
-    let n = line_len-within text start w in
     λ ordered. subst (λ (q : Reading). IsOrderedAt text q (start + line_len (drop start text))) (sym c.read_blank_line.ensures)
-    (ordered_blank_read text closed start (start + line_len (drop start text)) (omega arith) n.1 (c.close_containers.ensures.order text (omega arith) c.requires.boundary ordered))
+    (ordered_blank_line text c.args.reading.now closed start (subst IsUtf8 c.as_bytes.ensures.value c.as_bytes.ensures.utf8) w c.requires.boundary (c.close_containers.ensures.order text (omega arith) c.requires.boundary)
+    (λ h. c.close_containers.ensures.all_kept (handed_whole text c.args.reading.now start c.scan_containers-kept.result c.new-line_start.result c.scan_containers-kept.new.line_start line c.scan_containers-kept.ensures.within c.scan_containers-kept.ensures.taken c.scan_containers-kept.ensures.stops h).0) ordered)
 
 pub returns-clause-order : goal.returns-clause-order
 returns-clause-order c =
+    let line = c.new-line_start.ensures ∙ ap line_rest (c.rest_of.ensures.value ∙ ap (drop c.args.start_ix) c.as_bytes.ensures.value) in
     let text = c.args.source.text.now in
     let start = c.args.start_ix in
     let closed : Reading = c.close_containers.new.reading in
     let w = c.requires.within in
+    let some = ap (λ bs. is_some (blank_len bs)) (sym c.left.ensures) ∙ ap is_some (sym c.scan_blank_line.ensures.value) ∙ sym c.is_some.ensures ∙ c.if-is_some.false in
     λ ordered. subst (λ (q : Reading). IsOrderedTo text q.tree start) (sym c.finish_empty_list_item.ensures)
-    (ordered_tree text (item_finished closed) start (finished_none closed) (ordered_item_finished text closed start (c.close_containers.ensures.order text (omega arith) c.requires.boundary ordered)))
+    (ordered_other_line text c.args.reading.now closed start (c.close_containers.ensures.order text (omega arith) c.requires.boundary)
+    (λ h. let blank = (handed_whole text c.args.reading.now start c.scan_containers-kept.result c.new-line_start.result c.scan_containers-kept.new.line_start line c.scan_containers-kept.ensures.within c.scan_containers-kept.ensures.taken c.scan_containers-kept.ensures.stops h).1 in cc) ordered)
 
 pub returns-then-is_some-clause-none_added : goal.returns-then-is_some-clause-none_added
 returns-then-is_some-clause-none_added c = ap count c.read_blank_line.ensures ∙ blank_count c.close_containers.new.reading ∙ c.close_containers.ensures.none_added

@@ -1,4 +1,4 @@
-use Rattle.std.proofs.Common.{◌≡◌, ℕ, List, [], length, IsCharBoundary, arith, refl, sym, ap, ◌∙◌, subst}
+use Rattle.std.proofs.Common.{◌≡◌, ◌≤◌, inl, inr, ℕ, List, [], length, IsCharBoundary, arith, refl, sym, ap, ◌∙◌, subst}
 use Rattle.std.proofs.lemmas.Str.{IsCharBoundary-start, IsCharBoundary-end}
 use Rattle.first_pass_lines.proofs.LineFacts.{lines_at-end}
 use Rattle.first_pass_grammar.specs.Leaves.{document}
@@ -7,7 +7,7 @@ use Rattle.first_pass_grammar.specs.Completion.{lines_from}
 use Rattle.first_pass_grammar.specs.Derivation.{Derives}
 use Rattle.first_pass_lists.specs.declared.reading.Reading.{Reading}
 use Rattle.first_pass_open.specs.declared.source.Source.{Source}
-use Rattle.first_pass.specs.Ordered.{reached, IsOrderedAt}
+use Rattle.first_pass.specs.Ordered.{reached, IsOrderedAt, IsOrderedFrom}
 use Rattle.first_pass.specs.State.{Ready}
 use Rattle.first_pass_names.specs.TableEntries.{names_of}
 use Rattle.first_pass.proofs.OrderLemmas.{ordered_whole}
@@ -23,7 +23,7 @@ loop-ix-init c = record {
   none = c.in_ok-pass.ensures.tables;
   boundary = IsCharBoundary-start c.args.text.now c.utf8.text;
   ready = λ names more. c.in_ok-pass.ensures.ready names;
-  order = c.in_ok-pass.ensures.order;
+  order = inl c.in_ok-pass.ensures.order;
   few = (let root = c.in_ok-pass.ensures.root in omega arith);
 }
 
@@ -47,9 +47,14 @@ loop-ix-preserved c =
       ready = λ names more.
           subst (λ (z : List ℕ × Options). Ready (document z.0 z.1 names) before (lines_from z.0 c.loop-ix.ix) → Ready (document z.0 z.1 names) behind (lines_from z.0 next)) (both_same i.same_text i.same_options) (e.ready names more)
           (i.ready names (extends_both names (names_of new.allocs) (names_of pass.allocs) more e.names));
-      order = subst (λ t. IsOrderedAt t before c.loop-ix.ix → IsOrderedAt t behind next) i.same_text e.order i.order;
+      order = subst (λ t. IsOrderedFrom t before c.loop-ix.ix → IsOrderedFrom t behind next) i.same_text e.order i.order;
       few = (let read = i.few in let grows = e.few in let later = e.later.0 in omega arith);
     }
+
+-- At the end of the text no line is handed on.
+at_end : (text : List ℕ) (r : Reading) (at : ℕ) → length text ≤ at → IsOrderedFrom text r at → IsOrderedAt text r at
+at_end text r at past (inl o) = o
+at_end text r at past (inr h) = (let within = h.within in absurd (omega arith))
 
 -- At the end of the text all containers are closed.
 all_closed : (c : goal.After-close_containers) → c.close_containers.new.reading.tree.spine ≡ []
@@ -78,16 +83,17 @@ returns-clause-order c =
     let now : Reading = c.close_containers.new.reading in
     let read : Reading = c.loop-ix.pass.reading in
     let past = c.loop-ix-test.false in
-    let within = i.order.within in
+    let order = at_end text read c.loop-ix.ix (omega arith) i.order in
+    let within = order.within in
     let same : c.loop-ix.ix ≡ n = omega arith in
     let closes = c.close_containers.ensures.order text in
-    let here : IsOrderedAt text now n = closes (omega arith) last (subst (IsOrderedAt text read) same i.order) in
+    let here : IsOrderedAt text now n = closes (omega arith) last (subst (IsOrderedAt text read) same order) in
     ordered_whole text now.tree (reached now.empty_item n) (all_closed c) here.ordered
 
 pub returns-clause-few : goal.returns-clause-few
 returns-clause-few c =
     let i = c.loop-ix.invariant in
     let read = i.few in
-    let within = i.order.within in
+    let within = i.boundary.0 in
     let closed = c.close_containers.ensures.none_added in
     omega arith

@@ -2,7 +2,7 @@ use Rattle.std.proofs.Common.{◌≡◌, ◌+◌, ◌-◌, ◌*◌, ◌≤◌, l
 use Rattle.first_pass_grammar.specs.Names.{Names, Extends}
 use Rattle.first_pass_grammar.specs.Leaves.{document}
 use Rattle.first_pass_grammar.specs.Completion.{lines_from}
-use Rattle.first_pass.specs.Ordered.{IsOrderedAt}
+use Rattle.first_pass.specs.Ordered.{IsOrderedFrom}
 use Rattle.first_pass.specs.State.{Ready}
 use Rattle.first_pass_names.specs.TableEntries.{tables, no_tables, names_of}
 use Rattle.first_pass.proofs.pass.run_first_pass.Given as goal
@@ -15,7 +15,7 @@ invariant-loop-ix l = record {
   none : tables l.pass.allocs ≡ no_tables;
   boundary : IsCharBoundary l.text l.ix;
   ready : (names : Names) → Extends names (names_of l.pass.allocs) → Ready (document l.text l.fn.options names) l.pass.reading (lines_from l.text l.ix);
-  order : IsOrderedAt l.text l.pass.reading l.ix;
+  order : IsOrderedFrom l.text l.pass.reading l.ix;
   few : length l.pass.reading.tree.nodes ≤ 1 + 4 * l.ix;
 }
 

@@ -1,6 +1,6 @@
 use Rattle.first_pass_grammar.specs.HtmlBlocks.{blank_judge}
 use Rattle.first_pass_open.specs.Path.{path_of}
-use Rattle.first_pass_raw.proofs.HtmlLemmas.{more_open, html_more, html_stop, blank_extent}
+use Rattle.first_pass_raw.proofs.HtmlLemmas.{more_open, html_more, blank_extent}
 use Rattle.first_pass_raw.proofs.html_block.parse_html_block_type_6_or_7.Goals as goal
 
 pub close_block-requires : goal.close_block-requires
@@ -14,9 +14,3 @@ returns-clause-block c = λ p i.
     _ blank_judge c.read_lines.new.tree _ c.in_ok-lines.lines.«end» c.in_ok-lines.lines.next c.in_ok-next.ensures.path c.in_ok-lines.ensures.lines
     (blank_extent c.args.text.now c.args.options _ c.args.start_ix c.args.columns c.in_ok-next.next c.args.tree.now c.open_html_block.new.tree c.in_ok-next.ensures.line c.in_ok-next.ensures.next.0 p i (path_of c.args.tree.now))
     c.close_block.new.tree c.in_ok-lines.ensures.names c.close_block.ensures
-
-pub returns-clause-ends : goal.returns-clause-ends
-returns-clause-ends c = λ p i.
-    html_stop c.args.text.now c.args.options _ c.args.start_ix c.args.columns c.in_ok-next.next c.args.tree.now c.open_html_block.new.tree c.in_ok-next.ensures.line c.in_ok-next.ensures.next.0 p i
-    _ blank_judge c.read_lines.new.tree _ c.in_ok-lines.lines.«end» c.in_ok-lines.lines.next c.in_ok-next.ensures.path c.in_ok-lines.ensures.lines
-    (blank_extent c.args.text.now c.args.options _ c.args.start_ix c.args.columns c.in_ok-next.next c.args.tree.now c.open_html_block.new.tree c.in_ok-next.ensures.line c.in_ok-next.ensures.next.0 p i (path_of c.args.tree.now))

@@ -1,4 +1,4 @@
-use Rattle.std.proofs.Common.{◌≡◌, ◌+◌, drop, IsCharBoundary, sym, ap, subst, ◌∙◌, arith}
+use Rattle.std.proofs.Common.{◌≡◌, inl, ◌+◌, drop, IsCharBoundary, sym, ap, subst, ◌∙◌, arith}
 use Rattle.first_pass_lines.specs.Lines.{line_len}
 use Rattle.first_pass_lines.specs.Places.{offset, line_end}
 use Rattle.first_pass_lines.proofs.PlaceFacts.{line_end_boundary}
@@ -71,8 +71,8 @@ returns-in_ok-next-in-TaskText-clause-order c =
 pub returns-in-NextLine-clause-order : goal.returns-in-NextLine-clause-order
 returns-in-NextLine-clause-order c =
     let e = c.in-Some.ensures in
-    λ ordered. ordered_entered c.args.self.now.source.text.now _ c.open_containers.new.reading c.args.start_ix c.in-Some.place c.open_containers.new.place _ _
-    e.same_line c.requires.boundary e.place c.in_ok-open_containers.ensures.order c.in-NextLine.is (e.order ordered)
+    λ ordered. inl (ordered_entered c.args.self.now.source.text.now _ c.open_containers.new.reading c.args.start_ix c.in-Some.place c.open_containers.new.place _ _
+    e.same_line c.requires.boundary e.place c.in_ok-open_containers.ensures.order c.in-NextLine.is (e.order ordered))
 
 pub returns-in_ok-next-in-Tag-clause-order : goal.returns-in_ok-next-in-Tag-clause-order
 returns-in_ok-next-in-Tag-clause-order c =

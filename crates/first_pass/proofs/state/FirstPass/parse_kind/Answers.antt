@@ -1,11 +1,11 @@
 use Rattle.std.proofs.Common.{◌≡◌, ◌≤◌, inl, inr, ℕ, length, drop, IsCharBoundary, None, false, refl, sym, ap, subst, ◌∙◌, arith}
+use Rattle.std.proofs.Math.Nat.{zero-max}
 use Rattle.first_pass_lines.specs.Places.{offset, line_end, Place}
 use Rattle.first_pass_grammar.specs.Leaves.{document}
 use Rattle.first_pass_grammar.specs.Completion.{lines_from}
 use Rattle.first_pass_text.specs.Appends.{line_end_at, AddsParagraph}
 use Rattle.first_pass_lists.specs.Closing.{list_finished, blank_read}
 use Rattle.first_pass_lists.specs.declared.reading.Reading.{Reading}
-use Rattle.first_pass_open.specs.declared.source.Source.{Source}
 use Rattle.first_pass.specs.Opening.{line_or}
 use Rattle.first_pass.specs.Ordered.{IsOrderedAt}
 use Rattle.first_pass_text.specs.Found.{IsFoundAt, kind_of, marked_kind}
@@ -14,20 +14,17 @@ use Rattle.first_pass_text.specs.Between.{AddsBetween}
 use Rattle.first_pass.specs.State.{Ready}
 use Rattle.first_pass_open.proofs.PlaceLemmas.{all_keep, place_end}
 use Rattle.first_pass.proofs.OrderLemmas.{ordered_none, ordered_blank_read}
-use Rattle.first_pass.proofs.OrderSteps.{line_or-below, ordered_leaf, unindented_later, place_before_end}
+use Rattle.first_pass.proofs.LineLemmas.{list_finished_none}
+use Rattle.first_pass.proofs.OrderSteps.{line_or-below, ordered_finished, ordered_leaf, unindented_later, place_before_end}
 use Rattle.first_pass.proofs.LeafLemmas.{ready_blank_leaf, ready_paragraph, line_end_of}
 use Rattle.first_pass_text.proofs.KindLemmas.{Says, kind_says}
 use Rattle.first_pass.proofs.KindBlocks.{marked_some, marked_other, paragraph_named, columns_are, html_blank_added, AddsHtml, ready_kind}
-use Rattle.first_pass.proofs.BlankBehind.{list_finished_blank, path_added, ready_behind, behind_on, ordered_behind}
-use Rattle.first_pass.specs.Adding.{behind_blank, AddsLeaf}
-use Rattle.first_pass_open.specs.Path.{path_of}
+use Rattle.first_pass.proofs.HandedOn.{list_finished_blank}
+use Rattle.first_pass.specs.Adding.{AddsLeaf}
 use Rattle.first_pass_names.specs.TableEntries.{names_of, no_names, tables}
-use Rattle.first_pass_raw.specs.RawBlocks.{IsPlaceAt, behind_line_at, html_to_blank}
+use Rattle.first_pass_raw.specs.RawBlocks.{IsPlaceAt, behind_line_at}
 use Rattle.first_pass_grammar.specs.Kinds.{HtmlToBlank, Paragraph, unindented, IsKind}
-use Rattle.first_pass_lines.specs.Rest.{indent}
-use Rattle.first_pass_lines.proofs.PlaceFacts.{columns_line_end}
-use Rattle.first_pass.proofs.CountLemmas.{count, list_finished_count, blank_count, behind_count, block_count, leaf_left, left_before, blank_later}
-use Rattle.first_pass_tree.specs.Forest.{IsForest}
+use Rattle.first_pass.proofs.CountLemmas.{count, list_finished_count, blank_count, block_count, leaf_left, left_before}
 use Rattle.first_pass_names.proofs.NameLemmas.{extends_none, extends_equal}
 use Rattle.first_pass.proofs.LeafAdded.{found_boundary}
 use Rattle.first_pass.proofs.LeafRead.{leaf_read}
@@ -65,8 +62,8 @@ returns-in-Blank c =
         ready = λ names more ready. let d = document text self.source.options names in
             subst (λ q. Ready d q (lines_from text next)) (sym c.read_blank_line.ensures) (subst (λ n. Ready d (blank_read old) (lines_from text n)) (sym ends)
             (ready_blank_leaf d old p (lines_from text (line_end p)) (subst (IsKind self.source.options p.rest) (ap kind_of c.in-Blank.is) c.requires.found.kind) c.requires.no_empty ready));
-        order = λ o. subst (λ (q : Reading). IsOrderedAt text q next) (sym c.read_blank_line.ensures)
-            (ordered_blank_read text old from next (omega arith) high (ordered_none text old from c.requires.no_empty (omega arith) o.1));
+        order = λ o. inl (subst (λ (q : Reading). IsOrderedAt text q next) (sym c.read_blank_line.ensures)
+            (ordered_blank_read text old from next (omega arith) high (ordered_none text old from c.requires.no_empty (omega arith) o.1)));
       };
       few = omega arith;
     }
@@ -111,19 +108,20 @@ returns-in_ok-next-in-Paragraph c =
         boundary = block.boundary;
         ready = λ names more ready. ready_paragraph (document text options names) old new.reading.tree p at next c.is_forest.ensures kind there i
             (paragraph_named text options no_names names at None (list_finished at old).tree new.reading.tree next block) c.requires.no_empty ready new.reading.empty_item new.reading.blank none blank;
-        order = λ o. ordered_leaf text old new.reading p.line (offset p) at at next (omega arith) (omega arith) (inr refl) begins.0 begins c.requires.no_empty o.1 (fits at (omega arith)) block.boundary.0 none;
+        order = λ o. inl (ordered_leaf text old new.reading p.line (offset p) at at next (omega arith) (omega arith) (inr refl) begins.0 begins c.requires.no_empty o.1 (fits at (omega arith)) block.boundary.0 none);
       };
       few = omega arith;
     }
 
-pub parse_html_to_blank-requires : goal.parse_html_to_blank-requires
-parse_html_to_blank-requires c = record {
+pub parse_html_block_type_6_or_7-requires : goal.parse_html_block_type_6_or_7-requires
+parse_html_block_type_6_or_7-requires c = record {
   boundary = found_boundary _ _ _ c.requires.utf8 c.requires.place c.requires.found.at_is;
-  columns = (columns_are _ _ c.requires.found.columns_are (subst (Says c.args.place.rest) (ap kind_of c.in-HtmlToBlank.is) (kind_says c.args.self.now.source.options c.args.place.rest (kind_of c.args.found) c.requires.found.kind))).1;
+  owed = omega arith;
+  indent = (columns_are _ _ c.requires.found.columns_are (subst (Says c.args.place.rest) (ap kind_of c.in-HtmlToBlank.is) (kind_says c.args.self.now.source.options c.args.place.rest (kind_of c.args.found) c.requires.found.kind))).1;
 }
 
-pub returns-in_ok-lines-in-HtmlToBlank : goal.returns-in_ok-lines-in-HtmlToBlank
-returns-in_ok-lines-in-HtmlToBlank c =
+pub returns-in_ok-next-in-HtmlToBlank : goal.returns-in_ok-next-in-HtmlToBlank
+returns-in_ok-next-in-HtmlToBlank c =
     let self = c.args.self.now in
     let text = self.source.text.now in
     let options = self.source.options in
@@ -134,11 +132,9 @@ returns-in_ok-lines-in-HtmlToBlank c =
     let q : Reading = list_finished p.line old in
     let f = c.finish_list-in-HtmlToBlank.new.self in
     let rem : f ≡ q = c.finish_list-in-HtmlToBlank.ensures ∙ ap (λ (z : Place). list_finished z.line old) c.place-in-HtmlToBlank.view_is in
-    let h = c.parse_html_to_blank.new.self in
-    let read : Reading = h.reading in
-    let e = c.in_ok-lines-in-HtmlToBlank.ensures in
-    let lines = c.in_ok-lines-in-HtmlToBlank.lines in
-    let z = c.read_blank_behind.new.reading in
+    let h = c.parse_html_block_type_6_or_7.new.self in
+    let e = c.in_ok-next-in-HtmlToBlank.ensures in
+    let next = c.in_ok-next-in-HtmlToBlank.next in
     let kind = subst (IsKind options p.rest) (ap kind_of c.in-HtmlToBlank.is) c.requires.found.kind in
     let width = (columns_are _ _ c.requires.found.columns_are (kind_says options p.rest HtmlToBlank kind)).0 in
     let i = all_keep text p.line p.rest c.requires.utf8 c.requires.place in
@@ -147,43 +143,27 @@ returns-in_ok-lines-in-HtmlToBlank c =
     let begins = found_boundary text p at c.requires.utf8 c.requires.place there in
     let place : IsPlaceAt text at u = record { offset_is = sym there; left_is = i.left ∙ ap (λ n. drop n text) (sym there) } in
     let here : behind_line_at text at ≡ line_end p = ap (behind_line_at text) there ∙ line_end_of text p i in
-    let on = behind_on text lines.«end» lines.next c.requires.utf8 e.boundary.1 e.within.1 in
-    let first = e.boundary.0 in
-    let next_later = on.0 in
-    let end_later = on.1 in
-    let result_is : c.read_blank_behind.result ≡ behind_blank text lines.«end» lines.next =
-    c.read_blank_behind.ensures.next ∙ ap (λ (s : Source). behind_blank s.text.now lines.«end» lines.next) e.source in
+    let later = e.boundary.0 in
     let none = ap (λ (r : Reading). r.empty_item) e.reading in
     let blank = ap (λ (r : Reading). r.blank) e.reading ∙ ap (λ (r : Reading). r.blank) rem ∙ list_finished_blank p.line old in
-    let html : AddsHtml text options (names_of h.allocs) at c.args.columns u q.tree h.reading.tree lines.next =
-    subst (λ (r : Reading). AddsHtml text options (names_of h.allocs) at c.args.columns u r.tree h.reading.tree lines.next) rem (e.block u place) in
-    let block = html_blank_added text options (names_of h.allocs) p q.tree h.reading.tree at lines.next there i c.args.columns width html in
-    let ends : lines.«end» ≡ (html_to_blank text (path_of q.tree) u).«end» = e.«end» u place ∙ ap (λ (r : Reading). (html_to_blank text (path_of r.tree) u).«end») rem in
-    let path : path_of h.reading.tree ≡ path_of q.tree = ap path_of html.tree_is ∙ path_added q.tree html.items (subst (λ (r : Reading). IsForest r.tree) rem c.is_forest-in-HtmlToBlank.ensures) in
-    let fits : (from : ℕ) → from ≤ at → AddsBetween text from lines.«end» q.tree h.reading.tree =
-    λ from before. subst (λ (r : Reading). AddsBetween text from lines.«end» r.tree h.reading.tree) rem (e.fits from before) in
-    let line = blank_later text (path_of q.tree) u c.requires.utf8 i in
-    let same_line : line_end u ≡ line_end p = columns_line_end (indent p.rest) p in
+    let html : AddsHtml text options (names_of h.allocs) at c.args.columns u q.tree h.reading.tree next =
+    subst (λ (r : Reading). AddsHtml text options (names_of h.allocs) at c.args.columns u r.tree h.reading.tree next) rem
+    (subst (λ n. AddsHtml text options (names_of h.allocs) at n u f.tree h.reading.tree next) (zero-max c.args.columns) (e.block u place)) in
+    let block = html_blank_added text options (names_of h.allocs) p q.tree h.reading.tree at next there i c.args.columns width html in
     let some = left_before p (leaf_left options p.rest HtmlToBlank kind (λ b. cc)) in
-    let grows = block_count text (offset p) lines.«end» q.tree h.reading.tree (fits (offset p) (omega arith)) (omega arith) in
-    let same = list_finished_count p.line old in
-    let counted = ap count c.read_blank_behind.ensures.reading ∙ behind_count lines.«end» lines.next h.reading in
+    let grows = e.few (offset p) (omega arith) (omega arith) in
+    let same = ap count rem ∙ list_finished_count p.line old in
     record {
       read = record {
         source = e.source;
         names = e.names;
         tables = e.tables;
         later = omega arith;
-        boundary = subst (IsCharBoundary text) (sym result_is) on.2;
-        ready = λ names more ready.
-            let done = ready_kind text options (names_of h.allocs) names old h.reading.tree p HtmlToBlank false lines.next c.is_forest.ensures kind refl more block c.requires.no_empty ready h.reading.empty_item h.reading.blank none blank in
-            subst (λ n. Ready (document text options names) z (lines_from text n)) (sym result_is)
-            (subst (λ r. Ready (document text options names) r (lines_from text (behind_blank text lines.«end» lines.next))) (sym c.read_blank_behind.ensures.reading)
-            (ready_behind text options names read (path_of q.tree) u lines.«end» lines.next c.requires.utf8 e.boundary.1 e.within.0 none path (html.left_is, ends) done));
-        order = λ o. subst (IsOrderedAt text z) (sym result_is)
-            (subst (λ r. IsOrderedAt text r (behind_blank text lines.«end» lines.next)) (sym c.read_blank_behind.ensures.reading)
-            (ordered_behind text read lines.«end» lines.next end_later on.2.0 none
-            (ordered_leaf text old read p.line (offset p) p.line at lines.«end» (omega arith) (omega arith) (inl (refl, o.0)) begins.0 begins c.requires.no_empty o.1 (fits at (omega arith)) e.within.0 none)));
+        boundary = e.boundary.1;
+        ready = λ names more ready. ready_kind text options (names_of h.allocs) names old h.reading.tree p HtmlToBlank false next c.is_forest.ensures kind refl more block c.requires.no_empty ready h.reading.empty_item h.reading.blank none blank;
+        order = λ o. e.order at (omega arith) (subst (λ (r : Reading). IsOrderedAt text r at) (sym rem)
+            (ordered_none text q at (list_finished_none p.line old) begins.0
+            (ordered_finished text old p.line (offset p) p.line at (omega arith) (omega arith) (inl (refl, o.0)) begins.0 begins c.requires.no_empty o.1)));
       };
       few = omega arith;
     }

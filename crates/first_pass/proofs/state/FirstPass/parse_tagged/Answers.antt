@@ -1,4 +1,4 @@
-use Rattle.std.proofs.Common.{◌≡◌, inr, ◌+◌, drop, Bool, true, false, Some, None, refl, sym, subst, ◌∙◌, if◌then◌else◌, ap, arith}
+use Rattle.std.proofs.Common.{◌≡◌, inl, inr, ◌+◌, drop, Bool, true, false, Some, None, refl, sym, subst, ◌∙◌, if◌then◌else◌, ap, arith}
 use Rattle.first_pass_lines.specs.Lines.{line_len}
 use Rattle.first_pass_lines.specs.Places.{Place, line_rest, place_at, line_end, IsPlaceOf}
 use Rattle.first_pass_grammar.specs.Containers.{front}
@@ -39,7 +39,7 @@ returns-in-None c =
         later = omega arith;
         boundary = c.requires.boundary;
         ready = λ names more tagged. ready_any_line (document text self.source.options names) self.reading at any c.requires.no_empty tagged;
-        order = λ ordered. ordered_none text self.reading at c.requires.no_empty c.requires.boundary.0 ordered;
+        order = λ ordered. inl (ordered_none text self.reading at c.requires.no_empty c.requires.boundary.0 ordered);
       };
       few = omega arith;
     }

@@ -1,4 +1,4 @@
-use Rattle.std.proofs.Common.{ℕ, Some, refl, IsCharBoundary, sym, ap, subst, ◌∙◌, arith}
+use Rattle.std.proofs.Common.{inl, ℕ, Some, refl, IsCharBoundary, sym, ap, subst, ◌∙◌, arith}
 use Rattle.first_pass_lists.specs.Closing.{remembered}
 use Rattle.first_pass_grammar.specs.Kinds.{all_taken}
 use Rattle.first_pass_grammar.specs.Leaves.{document}
@@ -62,7 +62,7 @@ returns c =
             subst (λ o. Ready d (remembered new.reading.tree o new.reading.blank) (lines_from text next)) (c.requires.no_empty ∙ sym none)
             (subst (λ b. Ready d (remembered new.reading.tree self.reading.empty_item b) (lines_from text next)) (sym (ap (λ (r : Reading). r.blank) e.reading))
             (ready_text d old new.reading.tree p at next c.args.marker there i (paragraph_named text options no_names names at (Some c.args.marker) self.reading.tree new.reading.tree next e.block) c.requires.no_empty ready));
-        order = λ o. ordered_block text self.reading.tree new.reading o.from next (fits o.from o.stands) e.block.boundary.0 none o.ordered;
+        order = λ o. inl (ordered_block text self.reading.tree new.reading o.from next (fits o.from o.stands) e.block.boundary.0 none o.ordered);
       };
       few = λ from stands apart. block_count text from next self.reading.tree new.reading.tree (fits from stands) apart;
     }
