@@ -14,6 +14,7 @@ use Rattle.first_pass.specs.Adding.{AddsLeaf}
 use Rattle.first_pass.specs.Progress.{ReadsLeaf}
 use Rattle.first_pass.proofs.OrderSteps.{ordered_leaf}
 use Rattle.first_pass.proofs.KindBlocks.{ready_kind}
+use Rattle.first_pass.proofs.NamedLemmas.{block_added, list_finished_named, kind_named}
 use Rattle.first_pass.proofs.CountLemmas.{list_finished_count, block_count, leaf_left, left_before}
 
 -- What is said of a leaf block that was read: reading goes on behind it, and at most four nodes are new for each of its bytes.
@@ -42,6 +43,8 @@ leaf_read old new p kind next i empty forest is some other e =
         boundary = e.boundary;
         ready = λ more extends ready.
             ready_kind text (source_options old) (names_of (allocs_of new)) more r (tree_of new) p kind (reading_of new).blank next forest is other extends e.block empty ready (reading_of new).empty_item (reading_of new).blank none refl;
+        named = λ h. block_added (names_of (allocs_of new)) (names_of (allocs_of old)) (list_finished p.line r).tree (tree_of new) e.block.items e.names e.block.tree_is
+            (kind_named text (source_options old) (names_of (allocs_of new)) p kind (reading_of new).blank (list_finished p.line r).tree (tree_of new) next e.block) (list_finished_named (names_of (allocs_of old)) p.line r h);
         order = λ o. inl (ordered_leaf text r (reading_of new) p.line (offset p) p.line (offset p) next (omega arith) (omega arith) (inl (refl, o.0)) i.within i.boundary empty o.1 fits e.boundary.0 none);
       };
       few = omega arith;

@@ -8,6 +8,7 @@ pub mod LeafLemmas
 pub mod LeafRead
 pub mod LineLemmas
 pub mod ListLemmas
+pub mod NamedLemmas
 pub mod OpenLemmas
 pub mod OpenerLemmas
 pub mod OrderJoin

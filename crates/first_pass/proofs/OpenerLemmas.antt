@@ -10,7 +10,8 @@ use Rattle.first_pass_items.specs.declared.item.ListFlags.{ListFlags}
 use Rattle.first_pass_items.specs.declared.item.BlockQuoteKind.{BlockQuoteKind}
 use Rattle.first_pass_tree.specs.declared.tree_index.TreeIndex.{TreeIndex}
 use Rattle.first_pass_tree.proofs.Blocks.{modify-at}
-use Rattle.first_pass_tree.specs.Forest.{Forest, IsForest, is_text, modify, with_body_at, body_at, appended, pushed}
+use Rattle.first_pass_grammar.specs.Order.{is_task_marker}
+use Rattle.first_pass_tree.specs.Forest.{Forest, IsForest, modify, with_body_at, body_at, appended, pushed}
 use Rattle.first_pass_lines.specs.Rest.{Rest}
 use Rattle.first_pass_lines.specs.Places.{Place, offset, start_of}
 use Rattle.first_pass_grammar.specs.declared.kind.Container.{Container}
@@ -439,7 +440,7 @@ ready_empty_item d r p lines item marker rest e forest is task blank e_is none r
     empty_by d r p lines item marker rest e (next_is_blank (ListItem item.0.2 ∷ path_of r.tree) lines) refl forest is task blank e_is none ready
 
 -- what is opened where more of the line is left
-pub opened_behind : (marker : Option Item) (q : Reading) (old new : Rest) (e : ℕ) → ((x : Item) → marker ≡ Some x → is_text x.body ≡ false) → length new.left < length old.left → q.empty_item ≡ None → is_in_item q.tree ≡ true
+pub opened_behind : (marker : Option Item) (q : Reading) (old new : Rest) (e : ℕ) → ((x : Item) → marker ≡ Some x → is_task_marker x.body ≡ true) → length new.left < length old.left → q.empty_item ≡ None → is_in_item q.tree ≡ true
     → IsOpenedAt (task_text marker) q old new e
 opened_behind None q old new e mark less none inside = (less, none)
 opened_behind (Some x) q old new e mark less none inside = (mark x refl, none, inside)

@@ -1,8 +1,8 @@
 -- What is said of a container that is opened (private functions alone cite this).
 use Rattle.std.specs.Prelude.{◌≡◌, ◌⊎◌, ℕ, ◌<◌, ◌≤◌, true, false, List, length, Option, Some, None, if◌then◌else◌}
 use Rattle.first_pass_items.specs.declared.item.Item.{Item}
-use Rattle.first_pass_tree.specs.Forest.{Forest, is_text}
-use Rattle.first_pass_grammar.specs.Order.{GrowsBy}
+use Rattle.first_pass_tree.specs.Forest.{Forest}
+use Rattle.first_pass_grammar.specs.Order.{GrowsBy, is_task_marker}
 use Rattle.first_pass_grammar.specs.OpenOrder.{IsOrderedTo, is_in_item}
 use Rattle.first_pass.specs.Ordered.{IsOrderedAt}
 use Rattle.first_pass_text.specs.Between.{StandsBefore}
@@ -49,11 +49,11 @@ ReadyLazy d r p lines = ReadyInQuote d r (At p ALeafAlone) lines
 abbrev pub ReadyLeaf : Document → Reading → Place → List Place → Type 0
 ReadyLeaf d r p lines = ((item_at p.rest ≡ None) × (prefix (BlockQuote None) p.rest ≡ None) × ReadyAt d r.tree r.blank (Inside p) lines) ⊎ ReadyLazy d r p lines
 
--- behind the containers no other begins, nor an empty item; a task list item marker is no text, and stands in an item; or the whole line is taken, in an item
+-- behind the containers no other begins, nor an empty item; the marker of a task stands in an item; or the whole line is taken, in an item
 -- or a block quote
 abbrev pub IsBehind : Behind → Reading → Rest → ℕ → Type 0
 IsBehind BehindLeaf q r e = (item_at r ≡ None) × (prefix (BlockQuote None) r ≡ None) × (q.empty_item ≡ None)
-IsBehind (TaskText marker) q r e = (is_text marker.body ≡ false) × (q.empty_item ≡ None) × (is_in_item q.tree ≡ true)
+IsBehind (TaskText marker) q r e = (is_task_marker marker.body ≡ true) × (q.empty_item ≡ None) × (is_in_item q.tree ≡ true)
 IsBehind (NextLine next) q r e = next ≡ e
 IsBehind (Tag next) q r e = (next ≡ e) × (q.empty_item ≡ None)
 

@@ -3,7 +3,7 @@
 ghost use Rattle.std.specs.Prelude.{◌≡◌, ℕ, ◌+◌, ◌<◌, ◌≤◌, List, length, drop, Some, None, true, false, MatchOption, IfOk, IfSome, OnOk, IsUtf8, IsCharBoundary};
 ghost use Rattle.first_pass_lines.specs.Rest.{after_columns};
 ghost use Rattle.first_pass_lines.specs.Places.{Place, offset, line_end, start_of, IsPlaceOf};
-ghost use Rattle.first_pass_grammar.specs.Names.{Names};
+ghost use Rattle.first_pass_grammar.specs.Names.{Names, AreNamed};
 ghost use Rattle.first_pass_grammar.specs.Leaves.{Document, document};
 ghost use Rattle.first_pass_grammar.specs.declared.kind.Container.TheVariants.{BlockQuote, ListItem};
 ghost use Rattle.first_pass_grammar.specs.Containers.{prefix, after, at_rest, front};
@@ -60,6 +60,7 @@ pub(crate) fn close_containers(reading: &mut Reading, kept: usize, ix: usize)
     ensures order { (text : List ℕ) → ix ≤ length text → IsCharBoundary text ix → IsOrderedAt text reading.old ix
         → IsOrderedAt text reading.new ix }
     ensures none_added { length reading.new.tree.nodes ≡ length reading.old.tree.nodes }
+    ensures named { (names : Names) → AreNamed names reading.old.tree.nodes → AreNamed names reading.new.tree.nodes }
     ensures all_kept { kept ≡ length reading.old.tree.spine → reading.new ≡ reading.old }
 {
     while kept < reading.tree.spine_len() {
@@ -96,6 +97,7 @@ pub(crate) fn enter_line<'a>(
         (IsOrderedAt source.entry.text.now reading.new (start_ix + line_len (drop start_ix source.entry.text.now)))
         (λ place. IsOrderedTo source.entry.text.now reading.new.tree start_ix) }
     ensures none_added { length reading.new.tree.nodes ≡ length reading.old.tree.nodes }
+    ensures named { (names : Names) → AreNamed names reading.old.tree.nodes → AreNamed names reading.new.tree.nodes }
 {
     let mut line_start = LineStart::new(rest_of(source.text.as_bytes(), start_ix));
     let kept = scan_containers(&reading.tree, &mut line_start, source.options, false);
@@ -137,6 +139,8 @@ pub(crate) fn open_containers<'a>(
         → OrderedBehind source.entry.text.now reading.new place.new.line (offset place.new) answer) }
     ensures few { IfOk result (λ answer. GrowsBehind source.entry.text.now place.old.line reading.old.tree.nodes
         reading.new.tree.nodes (offset place.new) answer) }
+    ensures named { OnOk result ((names : Names) → AreNamed names reading.old.tree.nodes
+        → AreNamed names reading.new.tree.nodes) }
 {
     loop {
         if let Some(behind) = open_container(reading, source, place)? {
@@ -172,6 +176,8 @@ fn open_container<'a>(
     ensures few { IfOk result (λ answer. (first : List (ℕ × Item))
         → GrowsBy place.old.line (offset place.old) first reading.old.tree.nodes
         → GrowsIn source.entry.text.now place.old.line first reading.new.tree.nodes (offset place.new) answer) }
+    ensures named { OnOk result ((names : Names) → AreNamed names reading.old.tree.nodes
+        → AreNamed names reading.new.tree.nodes) }
 {
     reading.tree.is_forest();
     source.is_short();

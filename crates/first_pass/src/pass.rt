@@ -14,7 +14,6 @@ ghost use Rattle.first_pass_grammar.specs.Completion.{lines_from};
 ghost use Rattle.first_pass_text.specs.Appends.{text_upto};
 ghost use Rattle.first_pass_open.specs.OpenBlock.{closed_by};
 ghost use Rattle.first_pass_grammar.specs.Skeleton.{Inside, Line};
-ghost use Rattle.first_pass_tree.specs.Forest.{is_text};
 ghost use Rattle.first_pass_grammar.specs.Kinds.{item_at};
 ghost use Rattle.first_pass_text.specs.declared.kinds.Found.TheVariants.{Marked};
 ghost use Rattle.first_pass.specs.Adding.{AddsLeaf};
@@ -24,11 +23,11 @@ ghost use Rattle.first_pass.specs.Ordered.{IsOrderedAt, IsOrderedFrom};
 ghost use Rattle.first_pass.specs.Progress.{ReadsLeaf, WentOn};
 ghost use Rattle.first_pass_text.specs.Found.{IsFoundAt, marked_kind};
 ghost use Rattle.first_pass_text.specs.Between.{StandsBefore};
-ghost use Rattle.first_pass_grammar.specs.Order.{IsOrdered, GrowsBy};
+ghost use Rattle.first_pass_grammar.specs.Order.{IsOrdered, GrowsBy, is_task_marker};
 ghost use Rattle.first_pass_grammar.specs.OpenOrder.{IsOrderedTo, is_in_item};
 ghost use Rattle.first_pass.specs.State.{Ready, ReadyAt};
 ghost use Rattle.first_pass_names.specs.TableEntries.{tables, no_tables, names_of};
-ghost use Rattle.first_pass_grammar.specs.Names.{Names, Extends};
+ghost use Rattle.first_pass_grammar.specs.Names.{Names, Extends, AreNamed};
 ghost use Rattle.first_pass.specs.Views.{allocs_of, reading_of, source_of, source_options, source_text, tree_of};
 
 use crate::containers::{Behind, close_containers, enter_line, open_containers};
@@ -76,6 +75,7 @@ impl<'a> FirstPass<'a> {
             → Ready (document text.now options names) (reading_of pass) (lines_from text.now 0)) }
         ensures order { IfOk result (λ pass. IsOrderedAt text.now (reading_of pass) 0) }
         ensures root { IfOk result (λ pass. length (tree_of pass).nodes ≡ 1) }
+        ensures named { IfOk result (λ pass. AreNamed (names_of (allocs_of pass)) (tree_of pass).nodes) }
     {
         // A guess at how many nodes the text will have: pages of it that are never reached cost nothing.
         let capacity = max(128, text.len() / 12);
@@ -119,6 +119,8 @@ impl<'a> FirstPass<'a> {
             → IsOrderedFrom (source_text self.old) (reading_of self.new) next) }
         ensures few { IfOk result (λ next. GrowsBy start_ix next (tree_of self.old).nodes
             (tree_of self.new).nodes) }
+        ensures named { OnOk result (AreNamed (names_of (allocs_of self.old)) (tree_of self.old).nodes
+            → AreNamed (names_of (allocs_of self.new)) (tree_of self.new).nodes) }
     {
         let Some(mut place) = enter_line(&mut self.reading, self.source, start_ix) else {
             return Ok(next_line(self.source.text.as_bytes(), start_ix));
@@ -165,7 +167,7 @@ impl<'a> FirstPass<'a> {
     fn parse_task_text(&mut self, place: Place<'a>, marker: Item) -> Result<usize, AllocError>
         requires utf8 { IsUtf8 (source_text self.old) }
         requires place { IsPlaceOf (source_text self.old) place }
-        requires marker { is_text marker.body ≡ false }
+        requires marker { is_task_marker marker.body ≡ true }
         requires item { is_in_item (tree_of self.old) ≡ true }
         requires no_empty { (reading_of self.old).empty_item ≡ None }
         ensures read { IfOk result (λ next. WentOn self.old self.new (line_end place.entry) (λ names.
@@ -344,6 +346,7 @@ pub fn run_first_pass<'a>(
     ensures finished { IfOk result (λ answer. answer.0.spine ≡ []) }
     ensures order { IfOk result (λ answer. IsOrdered text.now answer.0.nodes) }
     ensures few { IfOk result (λ answer. length answer.0.nodes ≤ 1 + 4 * length text.now) }
+    ensures named { IfOk result (λ answer. AreNamed (names_of answer.1) answer.0.nodes) }
 {
     let mut pass = FirstPass::new(alloc, text, options)?;
     let mut ix = 0;

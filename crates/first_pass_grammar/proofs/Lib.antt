@@ -1,5 +1,6 @@
 pub mod Alike
 pub mod Completions
+pub mod NamedItems
 pub mod NoIndex
 pub mod Orders
 pub mod RowLemmas

@@ -1,5 +1,5 @@
 -- What the indices of items name.
-use Rattle.std.specs.Prelude.{◌≡◌, ℕ, List, [], ◌++◌, map, slice_get, Option, Some, None, unwrap_or}
+use Rattle.std.specs.Prelude.{◌≡◌, ℕ, ◌<◌, List, [], ◌∷◌, ◌++◌, length, map, slice_get, Option, Some, None, unwrap_or}
 use Rattle.std.specs.Option.{option_map, option_and_then}
 use Rattle.first_pass_items.specs.declared.cow_str.CowStr.{CowStr}
 use Rattle.first_pass_items.specs.CowText.{text_of}
@@ -44,3 +44,13 @@ read_nodes names nodes = map (λ n. (n.0, read names n.1)) nodes
 -- the text that an index names, or nothing where it names none (this project)
 abbrev pub text_named : Names → CowIndex → List ℕ
 text_named names ix = unwrap_or (option_map text_of (slice_get names.texts ix.0)) []
+
+-- an index, where there is one, names an entry (this project)
+abbrev pub NamesEntry : Names → Option CowIndex → Type 0
+NamesEntry names None = Unit {0}
+NamesEntry names (Some ix) = ix.0 < length names.texts
+
+-- each index that nodes keep names an entry (this project)
+unfoldable pub AreNamed : Names → List (ℕ × Item) → Type 0
+AreNamed names [] = Unit {0}
+AreNamed names (n ∷ nodes) = NamesEntry names (index_of n.1.body) × AreNamed names nodes

@@ -9,7 +9,7 @@ use Rattle.first_pass_items.specs.declared.item.Item.{Item}
 use Rattle.first_pass_items.specs.declared.item.ItemBody.TheVariants.{TaskListMarker}
 use Rattle.first_pass_items.specs.declared.option_set.Options.{Options}
 use Rattle.first_pass_items.specs.OptionWords.{has}
-use Rattle.first_pass_tree.specs.Forest.{is_text}
+use Rattle.first_pass_grammar.specs.Order.{is_task_marker}
 use Rattle.first_pass_lines.specs.Lines.{is_content, line_len}
 use Rattle.first_pass_scan.specs.Markers.{item_of, task_of}
 use Rattle.first_pass_scan.proofs.MarkerPlaces.{IsMarked, item-marked, task-marked, marked-keeps, marked-line_end}
@@ -228,13 +228,13 @@ markers_keep text options line r item new u is rest i =
     let e = ap (λ (q : Rest). length q.left) rest in
     (subst (λ q. IsPlaceOf text (place_at line q)) (sym rest) b.0, ap (λ q. line_end (place_at line q)) rest ∙ b.1 ∙ k.1, let l = b.2 in omega arith)
 
--- a task list item marker is no text
-mark_by : (line : ℕ) (r : Rest) (o : Option (Bool × Rest)) (x : Item) → (task_by line r o).0 ≡ Some x → is_text x.body ≡ false
+-- what stands behind an item's own marker is the marker of a task
+mark_by : (line : ℕ) (r : Rest) (o : Option (Bool × Rest)) (x : Item) → (task_by line r o).0 ≡ Some x → is_task_marker x.body ≡ true
 mark_by line r None x h = cc
-mark_by line r (Some task) x h = (let e : record { start = offset (place_at line r); «end» = offset (place_at line task.1); body = TaskListMarker task.0 } ≡ x = cc in sym (ap (λ (i : Item). is_text i.body) e))
+mark_by line r (Some task) x h = (let e : record { start = offset (place_at line r); «end» = offset (place_at line task.1); body = TaskListMarker task.0 } ≡ x = cc in sym (ap (λ (i : Item). is_task_marker i.body) e))
 
-pub mark_is_no_text : (options : Options) (line : ℕ) (r : Rest) (x : Item) → (task_behind options line r).0 ≡ Some x → is_text x.body ≡ false
-mark_is_no_text options line r x h = mark_by line r (if has options 16 then task_of r else None) x h
+pub mark_is_task : (options : Options) (line : ℕ) (r : Rest) (x : Item) → (task_behind options line r).0 ≡ Some x → is_task_marker x.body ≡ true
+mark_is_task options line r x h = mark_by line r (if has options 16 then task_of r else None) x h
 
 -- a line ends where the bytes from a place on say
 pub read_end : (text : List ℕ) (start : ℕ) (r : Rest) → IsPlaceOf text (place_at start r) → start + r.taken + line_len (drop (start + r.taken) text) ≡ line_end (place_at start r)

@@ -1,6 +1,7 @@
 use Rattle.std.proofs.Common.{length, refl, sym, ap, subst, ◌∙◌, arith}
 use Rattle.first_pass_lists.specs.declared.reading.Reading.{Reading}
 use Rattle.first_pass.specs.Ordered.{IsOrderedAt}
+use Rattle.first_pass.proofs.NamedLemmas.{AreReadNamed, popped_named}
 use Rattle.first_pass.proofs.CountLemmas.{count, popped_count}
 use Rattle.first_pass.proofs.OrderLemmas.{ordered_popped}
 use Rattle.first_pass.proofs.StateLemmas.{closed_none, closed_one}
@@ -11,6 +12,7 @@ loop-reading-init c = record {
   closed = closed_none c.args.reading.now c.args.kept c.args.ix c.requires;
   order = λ text within boundary ordered. ordered;
   none_added = refl;
+  named = λ names h. h;
   all_kept = λ all. refl;
 }
 
@@ -25,6 +27,7 @@ loop-reading-preserved c =
       order = λ text within boundary ordered. subst (λ (q : Reading). IsOrderedAt text q c.args.ix) (sym c.pop.ensures)
           (ordered_popped text _ c.args.ix c.args.ix (omega arith) within boundary (i.order text within boundary ordered));
       none_added = ap count c.pop.ensures ∙ popped_count c.args.ix _ ∙ i.none_added;
+      named = λ names h. subst (AreReadNamed names) (sym c.pop.ensures) (popped_named names c.args.ix _ (i.named names h));
       all_kept = λ all. (let none = ap (λ (q : Reading). length q.tree.spine) (i.all_kept all) in absurd (omega arith));
     }
 
@@ -42,3 +45,6 @@ returns-clause-none_added c = c.loop-reading.invariant.none_added
 
 pub returns-clause-all_kept : goal.returns-clause-all_kept
 returns-clause-all_kept c = c.loop-reading.invariant.all_kept
+
+pub returns-clause-named : goal.returns-clause-named
+returns-clause-named c = c.loop-reading.invariant.named

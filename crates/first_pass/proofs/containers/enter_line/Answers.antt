@@ -7,6 +7,7 @@ use Rattle.first_pass_grammar.specs.Completion.{lines_from}
 use Rattle.first_pass_lists.specs.declared.reading.Reading.{Reading}
 use Rattle.first_pass.specs.Ordered.{IsOrderedAt}
 use Rattle.first_pass_grammar.specs.OpenOrder.{IsOrderedTo}
+use Rattle.first_pass.proofs.NamedLemmas.{AreReadNamed, blank_named, item_finished_named}
 use Rattle.first_pass.proofs.CountLemmas.{count, item_finished_count, blank_count}
 use Rattle.first_pass.proofs.HandedOn.{handed_whole, ordered_blank_line, ordered_other_line}
 use Rattle.first_pass.specs.State.{Ready, ReadyAt}
@@ -76,3 +77,9 @@ returns-then-is_some-clause-none_added c = ap count c.read_blank_line.ensures �
 
 pub returns-clause-none_added : goal.returns-clause-none_added
 returns-clause-none_added c = ap count c.finish_empty_list_item.ensures ∙ item_finished_count c.close_containers.new.reading ∙ c.close_containers.ensures.none_added
+
+pub returns-then-is_some-clause-named : goal.returns-then-is_some-clause-named
+returns-then-is_some-clause-named c = λ names h. subst (AreReadNamed names) (sym c.read_blank_line.ensures) (blank_named names c.close_containers.new.reading (c.close_containers.ensures.named names h))
+
+pub returns-clause-named : goal.returns-clause-named
+returns-clause-named c = λ names h. subst (AreReadNamed names) (sym c.finish_empty_list_item.ensures) (item_finished_named names c.close_containers.new.reading (c.close_containers.ensures.named names h))

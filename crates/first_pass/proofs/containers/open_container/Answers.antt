@@ -22,9 +22,11 @@ use Rattle.first_pass.specs.Ordered.{IsOrderedAt}
 use Rattle.first_pass_grammar.specs.OpenOrder.{item_on_top, is_in_item, IsOrderedTo}
 use Rattle.first_pass_open.specs.OpenBlock.{with_child}
 use Rattle.first_pass.specs.State.{Ready, ReadyAt}
-use Rattle.first_pass_open.proofs.PlaceLemmas.{item_keeps, item_shorter, behind_keeps, markers_keep, mark_is_no_text, quote_taken, prefix_keeps, quote_prefix_shorter, place_end, read_end}
+use Rattle.first_pass_open.proofs.PlaceLemmas.{item_keeps, item_shorter, behind_keeps, markers_keep, mark_is_task, quote_taken, prefix_keeps, quote_prefix_shorter, place_end, read_end}
 use Rattle.first_pass.proofs.LineLemmas.{same_place, list_finished_none, list_continued_none}
 use Rattle.first_pass.proofs.OrderLemmas.{ordered_later}
+use Rattle.first_pass_grammar.specs.Names.{AreNamed}
+use Rattle.first_pass.proofs.NamedLemmas.{AreReadNamed, item_named, quote_named, child_named}
 use Rattle.first_pass.proofs.CountLemmas.{count, item_count, quote_count, child_count, left_before, offset_before, mark_shorter, container_count}
 use Rattle.first_pass.proofs.OrderSteps.{offset_later, ordered_on, top_begun, ordered_item, ordered_quote, mark_stands, ordered_container, ordered_empty_item, quote_stands, place_before_end}
 use Rattle.first_pass.proofs.OpenerLemmas.{item_found, item_absent, item_opened, ready_item, empty_item_read, ready_empty_item, ready_quote, ready_tagged, opened_behind, ready_behind}
@@ -57,7 +59,7 @@ pub returns-then-is_none-clause-opened : goal.returns-then-is_none-clause-opened
 returns-then-is_none-clause-opened c = rw (← c.place.view_is, c.scan_task-marker.ensures.place) (
     subst (λ o. IsOpenedAt o c.open_item.new.self c.place.inside.rest (task_behind c.args.source.options c.place.inside.line c.scan_item.new.line_start).1 (line_end (place_at c.place.inside.line c.place.inside.rest))) (sym c.behind_marker.ensures)
     (opened_behind c.scan_task-marker.result c.open_item.new.self c.place.inside.rest (task_behind c.args.source.options c.place.inside.line c.scan_item.new.line_start).1 (line_end (place_at c.place.inside.line c.place.inside.rest))
-    (λ x is. mark_is_no_text c.args.source.options c.place.inside.line c.scan_item.new.line_start x (sym c.scan_task-marker.ensures.marker ∙ is))
+    (λ x is. mark_is_task c.args.source.options c.place.inside.line c.scan_item.new.line_start x (sym c.scan_task-marker.ensures.marker ∙ is))
     (markers_keep c.args.source.text.now _ c.place.inside.line c.place.inside.rest _ _ c.requires.utf8 (taken c) refl (same_place _ _ _ c.place.view_is c.requires.place)).2
     (ap (λ (q : Reading). q.empty_item) c.in_ok-open_item.ensures
     ∙ list_continued_none c.offset-before.result c.in-Some.item.byte c.in-Some.item.number c.args.reading.now)
@@ -412,3 +414,24 @@ returns-in-Some-scan_quote-clause-few c = rw (← c.place.view_is) (
     let ends = tag_line_end c in
     let one = ap count c.in_ok-open_quote.ensures ∙ quote_count line (line + c.in-Some-scan_quote.quote) (BlockQuoteBody c.scan_tag-tag.result) old in
     λ first grows. omega arith)
+
+pub returns-then-is_none-clause-named : goal.returns-then-is_none-clause-named
+returns-then-is_none-clause-named c = λ names h.
+    subst (AreReadNamed names) (sym (opened_is c))
+    (item_named names (offset (place_at c.place.inside.line c.place.inside.rest)) c.in-Some.item.byte c.in-Some.item.number c.in-Some.item.indent c.args.reading.now h)
+
+pub returns-in-Some-clause-named : goal.returns-in-Some-clause-named
+returns-in-Some-clause-named c = λ names h.
+    let start : ℕ = c.offset-before.result in
+    let item : Reading = c.open_item.new.self in
+    let opened = subst (AreReadNamed names) (sym c.in_ok-open_item.ensures) (item_named names start c.in-Some.item.byte c.in-Some.item.number c.in-Some.item.indent c.args.reading.now h) in
+    subst (λ (f : Forest Item). AreNamed names f.nodes) (sym c.in_ok-append_item.ensures)
+    (child_named names item.tree c.scan_task-marker.result (λ x is. mark_is_task c.args.source.options c.place.inside.line c.scan_item.new.line_start x (sym c.scan_task-marker.ensures.marker ∙ is)) opened)
+
+pub returns-then-is_none-2-clause-named : goal.returns-then-is_none-2-clause-named
+returns-then-is_none-2-clause-named c = λ names h.
+    subst (AreReadNamed names) (sym c.in_ok-open_quote.ensures) (quote_named names c.place.inside.line (c.place.inside.line + c.in-Some-scan_quote.quote) (BlockQuoteBody c.scan_tag-tag.result) c.args.reading.now tt h)
+
+pub returns-in-Some-scan_quote-clause-named : goal.returns-in-Some-scan_quote-clause-named
+returns-in-Some-scan_quote-clause-named c = λ names h.
+    subst (AreReadNamed names) (sym c.in_ok-open_quote.ensures) (quote_named names c.place.inside.line (c.place.inside.line + c.in-Some-scan_quote.quote) (BlockQuoteBody c.scan_tag-tag.result) c.args.reading.now tt h)

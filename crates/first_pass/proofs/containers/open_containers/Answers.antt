@@ -29,3 +29,6 @@ returns-in-Some-clause-few c =
     c.in_ok-behind.ensures.few first (subst (λ n. GrowsBy n (offset l.place) first l.reading.tree.nodes) (sym l.invariant.same_line) l.invariant.few) in
     subst (λ n. GrowsIn c.args.source.text.now n first c.open_container.new.reading.tree.nodes (offset c.open_container.new.place) (Some c.in-Some.behind)) l.invariant.same_line
     (subst (GrowsIn c.args.source.text.now l.place.line first c.open_container.new.reading.tree.nodes (offset c.open_container.new.place)) is grows)
+
+pub returns-in-Some-clause-named : goal.returns-in-Some-clause-named
+returns-in-Some-clause-named c = λ names h. c.in_ok-behind.ensures.named names (c.loop-behind.invariant.named names h)

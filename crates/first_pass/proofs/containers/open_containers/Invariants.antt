@@ -1,6 +1,6 @@
 use Rattle.std.proofs.Common.{◌≡◌, length, None, IsCharBoundary}
 use Rattle.first_pass_lines.specs.Places.{offset, line_end, IsPlaceOf}
-use Rattle.first_pass_grammar.specs.Names.{Names}
+use Rattle.first_pass_grammar.specs.Names.{Names, AreNamed}
 use Rattle.first_pass_grammar.specs.Leaves.{document}
 use Rattle.first_pass_grammar.specs.Skeleton.{Inside}
 use Rattle.first_pass_grammar.specs.Completion.{lines_from}
@@ -21,6 +21,7 @@ invariant-loop-behind l = record {
       → ReadyAt (document l.source.text.now l.source.options names) l.reading.tree l.reading.blank (Inside l.place) (lines_from l.source.text.now (line_end l.fn.place));
   order : IsCharBoundary l.source.text.now l.fn.place.line → IsOrderedTo l.source.text.now l.initial.reading.tree (line_or l.initial.reading.tree l.fn.place.line (offset l.fn.place))
       → IsOrderedTo l.source.text.now l.reading.tree (line_or l.reading.tree l.place.line (offset l.place));
+  named : (names : Names) → AreNamed names l.initial.reading.tree.nodes → AreNamed names l.reading.tree.nodes;
   few : GrowsBy l.fn.place.line (offset l.place) l.initial.reading.tree.nodes l.reading.tree.nodes;
 }
 

@@ -24,6 +24,7 @@ loop-ix-init c = record {
   boundary = IsCharBoundary-start c.args.text.now c.utf8.text;
   ready = λ names more. c.in_ok-pass.ensures.ready names;
   order = inl c.in_ok-pass.ensures.order;
+  named = c.in_ok-pass.ensures.named;
   few = (let root = c.in_ok-pass.ensures.root in omega arith);
 }
 
@@ -48,6 +49,7 @@ loop-ix-preserved c =
           subst (λ (z : List ℕ × Options). Ready (document z.0 z.1 names) before (lines_from z.0 c.loop-ix.ix) → Ready (document z.0 z.1 names) behind (lines_from z.0 next)) (both_same i.same_text i.same_options) (e.ready names more)
           (i.ready names (extends_both names (names_of new.allocs) (names_of pass.allocs) more e.names));
       order = subst (λ t. IsOrderedFrom t before c.loop-ix.ix → IsOrderedFrom t behind next) i.same_text e.order i.order;
+      named = e.named i.named;
       few = (let read = i.few in let grows = e.few in let later = e.later.0 in omega arith);
     }
 
@@ -97,3 +99,6 @@ returns-clause-few c =
     let within = i.boundary.0 in
     let closed = c.close_containers.ensures.none_added in
     omega arith
+
+pub returns-clause-named : goal.returns-clause-named
+returns-clause-named c = c.close_containers.ensures.named (names_of c.loop-ix.pass.allocs) c.loop-ix.invariant.named

@@ -2,6 +2,7 @@ use Rattle.std.proofs.Common.{◌≡◌, inl, ◌+◌, drop, IsCharBoundary, sym
 use Rattle.first_pass_lines.specs.Lines.{line_len}
 use Rattle.first_pass_lines.specs.Places.{offset, line_end}
 use Rattle.first_pass_lines.proofs.PlaceFacts.{line_end_boundary}
+use Rattle.first_pass_names.specs.TableEntries.{names_of}
 use Rattle.first_pass.specs.Opening.{IsBehind, GrowsText, GrowsBehind}
 use Rattle.first_pass.proofs.OrderSteps.{line_later, ordered_entered, place_before_end}
 use Rattle.first_pass.proofs.state.FirstPass.parse_block.Goals as goal
@@ -98,3 +99,26 @@ returns-in_ok-next-in-TaskText-clause-few c =
     let first = g.grows in
     let more = c.in_ok-next-in-TaskText.ensures.few g.from g.stands (omega arith) in
     omega arith
+
+pub returns-in_default-clause-named : goal.returns-in_default-clause-named
+returns-in_default-clause-named c = c.enter_line.ensures.named (names_of c.args.self.now.allocs)
+
+pub returns-in_ok-next-in-Leaf-clause-named : goal.returns-in_ok-next-in-Leaf-clause-named
+returns-in_ok-next-in-Leaf-clause-named c =
+    let names = names_of c.args.self.now.allocs in
+    λ h. c.in_ok-next-in-Leaf.ensures.read.named (c.in_ok-open_containers.ensures.named names (c.enter_line.ensures.named names h))
+
+pub returns-in_ok-next-in-TaskText-clause-named : goal.returns-in_ok-next-in-TaskText-clause-named
+returns-in_ok-next-in-TaskText-clause-named c =
+    let names = names_of c.args.self.now.allocs in
+    λ h. c.in_ok-next-in-TaskText.ensures.read.named (c.in_ok-open_containers.ensures.named names (c.enter_line.ensures.named names h))
+
+pub returns-in-NextLine-clause-named : goal.returns-in-NextLine-clause-named
+returns-in-NextLine-clause-named c =
+    let names = names_of c.args.self.now.allocs in
+    λ h. c.in_ok-open_containers.ensures.named names (c.enter_line.ensures.named names h)
+
+pub returns-in_ok-next-in-Tag-clause-named : goal.returns-in_ok-next-in-Tag-clause-named
+returns-in_ok-next-in-Tag-clause-named c =
+    let names = names_of c.args.self.now.allocs in
+    λ h. c.in_ok-next-in-Tag.ensures.read.named (c.in_ok-open_containers.ensures.named names (c.enter_line.ensures.named names h))

@@ -1,7 +1,7 @@
-use Rattle.std.proofs.Common.{◌≡◌, ◌≤◌, inl, inr, ℕ, length, drop, IsCharBoundary, None, false, refl, sym, ap, subst, ◌∙◌, arith}
+use Rattle.std.proofs.Common.{◌≡◌, ◌≤◌, inl, inr, ℕ, [], ◌++◌, length, drop, IsCharBoundary, None, false, refl, sym, ap, subst, ◌∙◌, arith}
 use Rattle.std.proofs.Math.Nat.{zero-max}
 use Rattle.first_pass_lines.specs.Places.{offset, line_end, Place}
-use Rattle.first_pass_grammar.specs.Leaves.{document}
+use Rattle.first_pass_grammar.specs.Leaves.{document, paragraph_block, marker_items}
 use Rattle.first_pass_grammar.specs.Completion.{lines_from}
 use Rattle.first_pass_text.specs.Appends.{line_end_at, AddsParagraph}
 use Rattle.first_pass_lists.specs.Closing.{list_finished, blank_read}
@@ -18,6 +18,9 @@ use Rattle.first_pass.proofs.LineLemmas.{list_finished_none}
 use Rattle.first_pass.proofs.OrderSteps.{line_or-below, ordered_finished, ordered_leaf, unindented_later, place_before_end}
 use Rattle.first_pass.proofs.LeafLemmas.{ready_blank_leaf, ready_paragraph, line_end_of}
 use Rattle.first_pass_text.proofs.KindLemmas.{Says, kind_says}
+use Rattle.first_pass_grammar.proofs.NoIndex.{paragraph_free}
+use Rattle.first_pass_grammar.proofs.NamedItems.{paragraph_named as text_named}
+use Rattle.first_pass.proofs.NamedLemmas.{AreReadNamed, blank_named, block_added, list_finished_named, kind_named}
 use Rattle.first_pass.proofs.KindBlocks.{marked_some, marked_other, paragraph_named, columns_are, html_blank_added, AddsHtml, ready_kind}
 use Rattle.first_pass.proofs.HandedOn.{list_finished_blank}
 use Rattle.first_pass.specs.Adding.{AddsLeaf}
@@ -62,6 +65,7 @@ returns-in-Blank c =
         ready = λ names more ready. let d = document text self.source.options names in
             subst (λ q. Ready d q (lines_from text next)) (sym c.read_blank_line.ensures) (subst (λ n. Ready d (blank_read old) (lines_from text n)) (sym ends)
             (ready_blank_leaf d old p (lines_from text (line_end p)) (subst (IsKind self.source.options p.rest) (ap kind_of c.in-Blank.is) c.requires.found.kind) c.requires.no_empty ready));
+        named = λ h. subst (AreReadNamed (names_of self.allocs)) (sym c.read_blank_line.ensures) (blank_named (names_of self.allocs) old h);
         order = λ o. inl (subst (λ (q : Reading). IsOrderedAt text q next) (sym c.read_blank_line.ensures)
             (ordered_blank_read text old from next (omega arith) high (ordered_none text old from c.requires.no_empty (omega arith) o.1)));
       };
@@ -108,6 +112,8 @@ returns-in_ok-next-in-Paragraph c =
         boundary = block.boundary;
         ready = λ names more ready. ready_paragraph (document text options names) old new.reading.tree p at next c.is_forest.ensures kind there i
             (paragraph_named text options no_names names at None (list_finished at old).tree new.reading.tree next block) c.requires.no_empty ready new.reading.empty_item new.reading.blank none blank;
+        named = λ h. block_added (names_of new.allocs) (names_of self.allocs) (list_finished at old).tree new.reading.tree (paragraph_block at next (marker_items None ++ block.chain)) (extends_equal _ _ (ap names_of e.allocs)) block.tree_is
+            (text_named (names_of new.allocs) at next None block.chain tt (paragraph_free (document text options no_names) _ at [] _ block.chain _ tt block.lines)) (list_finished_named (names_of self.allocs) at old h);
         order = λ o. inl (ordered_leaf text old new.reading p.line (offset p) at at next (omega arith) (omega arith) (inr refl) begins.0 begins c.requires.no_empty o.1 (fits at (omega arith)) block.boundary.0 none);
       };
       few = omega arith;
@@ -132,7 +138,7 @@ returns-in_ok-next-in-HtmlToBlank c =
     let q : Reading = list_finished p.line old in
     let f = c.finish_list-in-HtmlToBlank.new.self in
     let rem : f ≡ q = c.finish_list-in-HtmlToBlank.ensures ∙ ap (λ (z : Place). list_finished z.line old) c.place-in-HtmlToBlank.view_is in
-    let h = c.parse_html_block_type_6_or_7.new.self in
+    let after = c.parse_html_block_type_6_or_7.new.self in
     let e = c.in_ok-next-in-HtmlToBlank.ensures in
     let next = c.in_ok-next-in-HtmlToBlank.next in
     let kind = subst (IsKind options p.rest) (ap kind_of c.in-HtmlToBlank.is) c.requires.found.kind in
@@ -146,10 +152,10 @@ returns-in_ok-next-in-HtmlToBlank c =
     let later = e.boundary.0 in
     let none = ap (λ (r : Reading). r.empty_item) e.reading in
     let blank = ap (λ (r : Reading). r.blank) e.reading ∙ ap (λ (r : Reading). r.blank) rem ∙ list_finished_blank p.line old in
-    let html : AddsHtml text options (names_of h.allocs) at c.args.columns u q.tree h.reading.tree next =
-    subst (λ (r : Reading). AddsHtml text options (names_of h.allocs) at c.args.columns u r.tree h.reading.tree next) rem
-    (subst (λ n. AddsHtml text options (names_of h.allocs) at n u f.tree h.reading.tree next) (zero-max c.args.columns) (e.block u place)) in
-    let block = html_blank_added text options (names_of h.allocs) p q.tree h.reading.tree at next there i c.args.columns width html in
+    let html : AddsHtml text options (names_of after.allocs) at c.args.columns u q.tree after.reading.tree next =
+    subst (λ (r : Reading). AddsHtml text options (names_of after.allocs) at c.args.columns u r.tree after.reading.tree next) rem
+    (subst (λ n. AddsHtml text options (names_of after.allocs) at n u f.tree after.reading.tree next) (zero-max c.args.columns) (e.block u place)) in
+    let block = html_blank_added text options (names_of after.allocs) p q.tree after.reading.tree at next there i c.args.columns width html in
     let some = left_before p (leaf_left options p.rest HtmlToBlank kind (λ b. cc)) in
     let grows = e.few (offset p) (omega arith) (omega arith) in
     let same = ap count rem ∙ list_finished_count p.line old in
@@ -160,7 +166,9 @@ returns-in_ok-next-in-HtmlToBlank c =
         tables = e.tables;
         later = omega arith;
         boundary = e.boundary.1;
-        ready = λ names more ready. ready_kind text options (names_of h.allocs) names old h.reading.tree p HtmlToBlank false next c.is_forest.ensures kind refl more block c.requires.no_empty ready h.reading.empty_item h.reading.blank none blank;
+        ready = λ names more ready. ready_kind text options (names_of after.allocs) names old after.reading.tree p HtmlToBlank false next c.is_forest.ensures kind refl more block c.requires.no_empty ready after.reading.empty_item after.reading.blank none blank;
+        named = λ h. block_added (names_of after.allocs) (names_of self.allocs) q.tree after.reading.tree block.items e.names block.tree_is
+            (kind_named text options (names_of after.allocs) p HtmlToBlank false q.tree after.reading.tree next block) (list_finished_named (names_of self.allocs) p.line old h);
         order = λ o. e.order at (omega arith) (subst (λ (r : Reading). IsOrderedAt text r at) (sym rem)
             (ordered_none text q at (list_finished_none p.line old) begins.0
             (ordered_finished text old p.line (offset p) p.line at (omega arith) (omega arith) (inl (refl, o.0)) begins.0 begins c.requires.no_empty o.1)));

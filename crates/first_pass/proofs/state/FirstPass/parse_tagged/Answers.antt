@@ -39,6 +39,7 @@ returns-in-None c =
         later = omega arith;
         boundary = c.requires.boundary;
         ready = λ names more tagged. ready_any_line (document text self.source.options names) self.reading at any c.requires.no_empty tagged;
+        named = λ h. h;
         order = λ ordered. inl (ordered_none text self.reading at c.requires.no_empty c.requires.boundary.0 ordered);
       };
       few = omega arith;
@@ -70,6 +71,7 @@ returns-in_ok-next-in-Some c =
         ready = λ names more tagged. let d = document text self.source.options names in
             e.read.ready names more
             (inr (subst (λ q. ReadyLazy d old q (lines_from text (line_end q))) (sym its.1) (subst (λ n. ReadyLazy d old p (lines_from text n)) (sym ends) (ready_its_line d old at its.0 tagged))));
+        named = e.read.named;
         order = λ ordered. e.read.order (ordered_at_place text self.reading.tree at q line c.requires.boundary (subst (IsPlaceOf text) (sym its.1) c.in_ok-lazy_leaf.ensures.place) ordered);
       };
       few = omega arith;

@@ -1,7 +1,7 @@
-use Rattle.std.proofs.Common.{inl, ℕ, Some, refl, IsCharBoundary, sym, ap, subst, ◌∙◌, arith}
+use Rattle.std.proofs.Common.{inl, ℕ, [], ◌++◌, Some, refl, IsCharBoundary, sym, ap, subst, ◌∙◌, arith}
 use Rattle.first_pass_lists.specs.Closing.{remembered}
 use Rattle.first_pass_grammar.specs.Kinds.{all_taken}
-use Rattle.first_pass_grammar.specs.Leaves.{document}
+use Rattle.first_pass_grammar.specs.Leaves.{document, paragraph_block, marker_items}
 use Rattle.first_pass_grammar.specs.Completion.{lines_from}
 use Rattle.first_pass_text.specs.Appends.{line_end_at}
 use Rattle.first_pass_lists.specs.declared.reading.Reading.{Reading}
@@ -13,6 +13,9 @@ use Rattle.first_pass_lines.specs.Places.{offset}
 use Rattle.first_pass_text.specs.Between.{AddsBetween, StandsBefore}
 use Rattle.first_pass_names.specs.TableEntries.{tables, names_of, no_names}
 use Rattle.first_pass_names.proofs.NameLemmas.{extends_equal}
+use Rattle.first_pass_grammar.proofs.NoIndex.{paragraph_free}
+use Rattle.first_pass_grammar.proofs.NamedItems.{paragraph_named as text_named}
+use Rattle.first_pass.proofs.NamedLemmas.{block_added, task_is_no_text, task_has_none}
 use Rattle.first_pass.proofs.KindBlocks.{paragraph_named}
 use Rattle.first_pass.proofs.LeafLemmas.{line_end_of, ready_text}
 use Rattle.first_pass.proofs.state.FirstPass.parse_task_text.Goals as goal
@@ -30,6 +33,9 @@ parse_paragraph-requires-clause-boundary c =
     let i = all_keep text c.args.place.line c.args.place.rest c.requires.utf8 c.requires.place in
     let e = read_to all_taken _ c.args.place _ _ c.offset.ensures c.scan_indentation.ensures.rest c.place.view_is in
     subst (IsCharBoundary text) (sym e) i.boundary
+
+pub parse_paragraph-requires-clause-marker : goal.parse_paragraph-requires-clause-marker
+parse_paragraph-requires-clause-marker c = task_is_no_text c.args.marker.body c.requires.marker
 
 pub returns : goal.returns
 returns c =
@@ -62,6 +68,8 @@ returns c =
             subst (λ o. Ready d (remembered new.reading.tree o new.reading.blank) (lines_from text next)) (c.requires.no_empty ∙ sym none)
             (subst (λ b. Ready d (remembered new.reading.tree self.reading.empty_item b) (lines_from text next)) (sym (ap (λ (r : Reading). r.blank) e.reading))
             (ready_text d old new.reading.tree p at next c.args.marker there i (paragraph_named text options no_names names at (Some c.args.marker) self.reading.tree new.reading.tree next e.block) c.requires.no_empty ready));
+        named = λ h. block_added (names_of new.allocs) (names_of self.allocs) old.tree new.reading.tree (paragraph_block at next (marker_items (Some c.args.marker) ++ e.block.chain)) (extends_equal _ _ (ap names_of e.allocs)) e.block.tree_is
+            (text_named (names_of new.allocs) at next (Some c.args.marker) e.block.chain (task_has_none c.args.marker.body c.requires.marker) (paragraph_free (document text options no_names) _ at [] _ e.block.chain _ tt e.block.lines)) h;
         order = λ o. inl (ordered_block text self.reading.tree new.reading o.from next (fits o.from o.stands) e.block.boundary.0 none o.ordered);
       };
       few = λ from stands apart. block_count text from next self.reading.tree new.reading.tree (fits from stands) apart;

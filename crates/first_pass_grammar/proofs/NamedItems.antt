@@ -1,0 +1,164 @@
+-- Each index that nodes keep names an entry: what keeps that, and the items of each leaf block.
+use Rattle.std.proofs.Common.{◌≡◌, ℕ, zero, suc, ◌-◌, Bool, true, false, nat_lt, List, [], ◌∷◌, ◌++◌, length, Option, Some, None, IfSome, refl, sym, ap, subst, ◌∙◌, arith, length-append, if◌then◌else◌}
+use Rattle.std.proofs.lemmas.Option.{slice_get_within}
+use Rattle.first_pass_items.specs.declared.item.CowIndex.{CowIndex}
+use Rattle.first_pass_items.specs.declared.item.Item.{Item}
+use Rattle.first_pass_items.specs.declared.item.ItemBody.{ItemBody}
+use Rattle.first_pass_tree.specs.Forest.{modify, at_depth}
+use Rattle.first_pass_lines.specs.Places.{Place, offset, line_end}
+use Rattle.first_pass_tokens.specs.Chains.{text_token, touches, add_token, add_tokens}
+use Rattle.first_pass_tokens.specs.TreeTokens.{leaves}
+use Rattle.first_pass_grammar.specs.declared.kind.Container.{Container}
+use Rattle.first_pass_grammar.specs.Names.{Names, Extends, index_of, NamesEntry, AreNamed}
+use Rattle.first_pass_grammar.specs.Kinds.{Kind, Blank, IndentedCode, Metadata, HtmlToEnd, HtmlToBlank, ThematicBreak, AtxHeading, FencedCode, Paragraph}
+use Rattle.first_pass_grammar.specs.Leaves.{Document, block_with, paragraph_block, marker_items}
+use Rattle.first_pass_grammar.specs.RawLines.{AreColumns, Ranges, range_text, range_html, ends_with_both, raw_items, IsRawLine, AreRawLines}
+use Rattle.first_pass_grammar.specs.Skeleton.{Block, Line, Opening, OpensLeaf, leaf_block, OpensAs, OpensParagraph}
+use Rattle.first_pass_grammar.proofs.NoIndex.{HasNoIndex, HaveNoIndex, paragraph_free, heading_free, marked_free}
+
+-- an item is read in no node whose index names no entry
+abbrev pub IsNamed : Names → Item → Type 0
+IsNamed names x = NamesEntry names (index_of x.body)
+
+-- more entries
+entry_more : (new old : Names) (o : Option CowIndex) → Extends new old → NamesEntry old o → NamesEntry new o
+entry_more new old None e h = tt
+entry_more new old (Some ix) e h = (let size = ap length e.texts ∙ length-append old.texts e.more in omega arith)
+
+pub named_more : (new old : Names) (nodes : List (ℕ × Item)) → Extends new old → AreNamed old nodes → AreNamed new nodes
+unfolding AreNamed
+named_more new old [] e h = tt
+named_more new old (n ∷ nodes) e h = (entry_more new old (index_of n.1.body) e h.0, named_more new old nodes e h.1)
+
+-- more nodes
+pub named_both : (names : Names) (a b : List (ℕ × Item)) → AreNamed names a → AreNamed names b → AreNamed names (a ++ b)
+unfolding AreNamed
+named_both names [] b h k = k
+named_both names (n ∷ a) b h k = (h.0, named_both names a b h.1 k)
+
+-- at another depth
+pub named_deeper : (names : Names) (depth : ℕ) (nodes : List (ℕ × Item)) → AreNamed names nodes → AreNamed names (at_depth depth nodes)
+unfolding AreNamed
+named_deeper names depth [] h = tt
+named_deeper names depth (n ∷ nodes) h = (h.0, named_deeper names depth nodes h.1)
+
+-- a node changed
+pub named_modified : (names : Names) (nodes : List (ℕ × Item)) (i : ℕ) (g : Item → Item) → ((x : Item) → IsNamed names x → IsNamed names (g x)) → AreNamed names nodes → AreNamed names (modify nodes i g)
+unfolding AreNamed
+named_modified names [] i g keeps h = tt
+named_modified names (n ∷ nodes) zero g keeps h = (keeps n.1 h.0, h.1)
+named_modified names (n ∷ nodes) (suc i) g keeps h = (h.0, named_modified names nodes i g keeps h.1)
+
+-- a chain without indices
+free_entry : (names : Names) (o : Option CowIndex) → o ≡ None → NamesEntry names o
+free_entry names None h = tt
+free_entry names (Some ix) h = cc
+
+pub free_named : (names : Names) (chain : List Item) → HaveNoIndex chain → AreNamed names (leaves chain)
+unfolding AreNamed
+free_named names [] h = tt
+free_named names (x ∷ chain) h = (free_entry names (index_of x.body) h.0, free_named names chain h.1)
+
+-- a token joined to a chain
+joined_named : (names : Names) (t : Bool) (x y : Item) → IsNamed names x → IsNamed names y → AreNamed names (leaves (if t then record x { «end» = y.«end» } ∷ [] else x ∷ y ∷ []))
+unfolding AreNamed
+joined_named names true x y h k = (h, tt)
+joined_named names false x y h k = (h, (k, tt))
+
+token_named : (names : Names) (chain : List Item) (y : Item) → AreNamed names (leaves chain) → IsNamed names y → AreNamed names (leaves (add_token chain y))
+unfolding AreNamed
+token_named names [] y h k = (k, tt)
+token_named names (x ∷ []) y h k = joined_named names (touches x y) x y h.0 k
+token_named names (x ∷ z ∷ zs) y h k = (h.0, token_named names (z ∷ zs) y h.1 k)
+
+tokens_named : (names : Names) (chain tokens : List Item) → AreNamed names (leaves chain) → AreNamed names (leaves tokens) → AreNamed names (leaves (add_tokens chain tokens))
+unfolding AreNamed
+tokens_named names chain [] h k = h
+tokens_named names chain (x ∷ xs) h k = tokens_named names (add_token chain x) xs (token_named names chain x h k.0) k.1
+
+chains_named : (names : Names) (a b : List Item) → AreNamed names (leaves a) → AreNamed names (leaves b) → AreNamed names (leaves (a ++ b))
+unfolding AreNamed
+chains_named names [] b h k = k
+chains_named names (x ∷ a) b h k = (h.0, chains_named names a b h.1 k)
+
+-- the text of columns that are owed
+columns_named : (names : Names) (owed at : ℕ) (items : List Item) → AreColumns names owed at items → AreNamed names (leaves items)
+unfolding AreNamed
+columns_named names zero at items is = subst (λ xs. AreNamed names (leaves xs)) (sym is) tt
+columns_named names (suc n) at items (ix, (named, at_ix, text), is) = subst (λ xs. AreNamed names (leaves xs)) (sym is) (slice_get_within names.texts ix.0 named at_ix, tt)
+
+-- the bytes of raw lines have no index
+abbrev IsFree : Ranges → Type 0
+IsFree range = (from to : ℕ) → HaveNoIndex (range from to)
+
+unless_free : (t : Bool) (xs : List Item) → HaveNoIndex xs → HaveNoIndex (if t then xs else [])
+unless_free true xs h = h
+unless_free false xs h = tt
+
+text_is_free : IsFree range_text
+text_is_free from to = unless_free (nat_lt from to) (text_token from to false ∷ []) (refl, tt)
+
+html_is_free : IsFree range_html
+html_is_free from to = (refl, tt)
+
+raw_by : (names : Names) (t : Bool) (a b c : List Item) → HaveNoIndex a → HaveNoIndex b → HaveNoIndex c → AreNamed names (leaves (if t then a ++ b else c))
+raw_by names true a b c h k l = chains_named names a b (free_named names a h) (free_named names b k)
+raw_by names false a b c h k l = free_named names c l
+
+raw_named : (names : Names) (range : Ranges) (text : List ℕ) (from to : ℕ) → IsFree range → AreNamed names (leaves (raw_items range text from to))
+unfolding raw_items
+raw_named names range text from to free = raw_by names (ends_with_both text from to) (range from (to - 2)) (range (to - 1) to) (range from to) (free from (to - 2)) (free (to - 1) to) (free from to)
+
+line_named : (range : Ranges) (d : Document) (owed from to : ℕ) (items : List Item) → IsFree range → IsRawLine range d owed from to items → AreNamed d.names (leaves items)
+unfolding AreNamed
+line_named range d owed from to items free (columns, are, is) =
+    subst (λ xs. AreNamed d.names (leaves xs)) (sym is)
+    (chains_named d.names columns (raw_items range d.text from to) (columns_named d.names owed from columns are) (raw_named d.names range d.text from to free))
+
+lines_named : (range : Ranges) (d : Document) (chain : List Item) (places : List Place) (whole : List Item) → IsFree range → AreNamed d.names (leaves chain) → AreRawLines range d chain places whole → AreNamed d.names (leaves whole)
+unfolding AreRawLines
+lines_named range d chain [] whole free h is = subst (λ xs. AreNamed d.names (leaves xs)) (sym is) h
+lines_named range d chain (p ∷ places) whole free h (line, is, more) =
+    lines_named range d (add_tokens chain line) places whole free
+    (tokens_named d.names chain line h (line_named range d p.rest.owed (offset p) (line_end p) line free is)) more
+
+-- a block with a chain
+block_named : (names : Names) (start stop : ℕ) (body : ItemBody) (chain : List Item) (items : List (ℕ × Item)) → items ≡ block_with start stop body chain → NamesEntry names (index_of body) → AreNamed names (leaves chain) → AreNamed names items
+unfolding AreNamed
+block_named names start stop body chain items is own h = subst (AreNamed names) (sym is) (own, named_deeper names 1 (leaves chain) h)
+
+-- what is opened at a place has the items that are said of it
+items_of_leaf : Opening → List (ℕ × Item)
+items_of_leaf (OpensLeaf (Block b) there left) = b.items
+items_of_leaf o = []
+
+-- Each index that a leaf block's items keep names an entry.
+pub opens_named : (d : Document) (path : List Container) (p : Place) (lines : List Place) (kind : Kind) (items : List (ℕ × Item)) (gap : Bool) (left : List Place) → OpensAs d path p lines kind (OpensLeaf (leaf_block kind p items gap) Line left) → AreNamed d.names items
+unfolding OpensAs OpensParagraph items_of_leaf AreNamed
+opens_named d path p lines Blank items gap left h = cc
+opens_named d path p lines IndentedCode items gap left (own, is, opens) =
+    subst (AreNamed d.names) (sym (ap items_of_leaf opens))
+    (block_named d.names _ _ _ is.chain own is.items_are tt (lines_named range_text d [] _ is.chain text_is_free tt is.lines))
+opens_named d path p lines (Metadata byte) items gap left (own, is, opens) =
+    subst (AreNamed d.names) (sym (ap items_of_leaf opens))
+    (block_named d.names _ _ _ is.chain own is.items_are tt (lines_named range_text d [] _ is.chain text_is_free tt is.lines))
+opens_named d path p lines HtmlToEnd items gap left (text, found, (own, is, opens)) =
+    subst (AreNamed d.names) (sym (ap items_of_leaf opens))
+    (block_named d.names _ _ _ is.chain own is.items_are tt (lines_named range_html d [] _ is.chain html_is_free tt is.lines))
+opens_named d path p lines HtmlToBlank items gap left (own, is, opens) =
+    subst (AreNamed d.names) (sym (ap items_of_leaf opens))
+    (block_named d.names _ _ _ is.chain own is.items_are tt (lines_named range_html d [] _ is.chain html_is_free tt is.lines))
+opens_named d path p lines (ThematicBreak size) items gap left opens =
+    subst (AreNamed d.names) (sym (ap items_of_leaf opens)) (tt, tt)
+opens_named d path p lines (AtxHeading level) items gap left (chain, stop, is, opens) =
+    subst (AreNamed d.names) (sym (ap items_of_leaf opens)) (tt, named_deeper d.names 1 (leaves chain) (free_named d.names chain (heading_free d _ chain stop is)))
+opens_named d path p lines (FencedCode count byte) items gap left (own, is, opens) =
+    subst (AreNamed d.names) (sym (ap items_of_leaf opens))
+    (block_named d.names _ _ _ is.chain own is.items_are (slice_get_within d.names.texts is.info.0 is.names.named is.names.at) (lines_named range_text d [] _ is.chain text_is_free tt is.lines))
+opens_named d path p lines Paragraph items gap left (chain, behind, is, opens) =
+    subst (AreNamed d.names) (sym (ap items_of_leaf opens)) (tt, named_deeper d.names 1 (leaves chain) (free_named d.names chain (paragraph_free d path _ [] lines chain behind tt is)))
+
+-- So do those of a paragraph whose marker has none.
+pub paragraph_named : (names : Names) (start stop : ℕ) (marker : Option Item) (chain : List Item) → IfSome marker HasNoIndex → HaveNoIndex chain → AreNamed names (paragraph_block start stop (marker_items marker ++ chain))
+unfolding AreNamed
+paragraph_named names start stop marker chain h k = (tt, named_deeper names 1 (leaves (marker_items marker ++ chain)) (free_named names (marker_items marker ++ chain) (marked_free marker chain h k)))
