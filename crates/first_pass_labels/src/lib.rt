@@ -1,0 +1,4 @@
+//! Labels that are equal where their case foldings are, and tables of what a text defines by label.
+#![tactic(auto)]
+
+pub mod label_key;
