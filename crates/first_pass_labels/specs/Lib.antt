@@ -1,1 +1,2 @@
 pub mod Foldings
+pub mod LabelTables

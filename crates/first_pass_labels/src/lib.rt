@@ -2,3 +2,4 @@
 #![tactic(auto)]
 
 pub mod label_key;
+pub mod label_table;

@@ -1,0 +1,25 @@
+-- A table of definitions by label, as the list of its labels with what each defines (CommonMark 4.7, on matching labels).
+use Rattle.std.specs.Prelude.{◌≡◌, ◌≢◌, ℕ, List, Option, None, Some, All, Contains, cond, is_some, nat_eq}
+use Rattle.std.specs.Cmp.Lexicographic.{pointwise}
+use Rattle.std.specs.List.Sorted.{IsStrictlySortedBy}
+use Rattle.std.specs.Map.{keys_of, lookup}
+use Rattle.std.specs.BTreeMap.{insert_entry}
+use Rattle.first_pass_items.specs.declared.cow_str.CowStr.{CowStr}
+use Rattle.first_pass_labels.specs.Foldings.{folding_of, label_cmp}
+
+-- what stands under the first label of this folding
+abbrev pub definition_of : {X : Type 0} → List ℕ → List (CowStr × X) → Option X
+definition_of folding entries = lookup (λ label. pointwise nat_eq folding (folding_of label)) entries
+
+-- an answer to what stands under a folding: the definition beside a label of it, or that no label has it
+abbrev pub HoldsUnder : {X : Type 0} → List (CowStr × X) → List ℕ → Option X → Type 0
+HoldsUnder entries folding None = All (λ e. folding_of e.0 ≢ folding) entries
+HoldsUnder entries folding (Some x) = (label : CowStr) × Contains entries (label, x) × (folding_of label ≡ folding)
+
+-- the labels are in the byte order of their foldings, each folding once
+abbrev pub IsInOrder : {X : Type 0} → List (CowStr × X) → Type 0
+IsInOrder entries = IsStrictlySortedBy label_cmp (keys_of entries)
+
+-- with one more definition, where none of its folding stands there: the first one stays
+abbrev pub with_first : {X : Type 0} → List (CowStr × X) → CowStr → X → List (CowStr × X)
+with_first entries label x = cond (is_some (definition_of (folding_of label) entries)) entries (insert_entry label_cmp entries label x)

@@ -1,0 +1,110 @@
+//! What a text defines by label: tables in the order of the labels' foldings.
+
+ghost use Rattle.std.specs.Prelude.{◌≡◌, ◌^◌, ◌<◌, [], length, IfOk, OnOk, OnErr};
+ghost use Rattle.std.specs.Option.{option_copied};
+ghost use Rattle.std.specs.Map.Iter.{ShowsInOrder, deref_pair};
+ghost use Rattle.first_pass_labels.specs.Foldings.{folded};
+ghost use Rattle.first_pass_items.specs.CowText.{text_of};
+ghost use Rattle.first_pass_labels.specs.LabelTables.{definition_of, with_first, IsInOrder, HoldsUnder};
+
+use crate::label_key::LabelKey;
+use first_pass_items::cow_str::{CowStr, InlineStr};
+use std::alloc::{AllocError, Global};
+use std::boxed::BoxedStr;
+use std::collections::BTreeMap;
+use std::collections::btree_map::Iter;
+use std::marker::Model;
+use std::ops::Range;
+
+/// What a link reference definition says: where the link leads, its title, and where in the text the
+/// definition stands (CommonMark 4.7).
+#[derive(Drop)]
+pub struct LinkDef<'a> {
+    pub dest: CowStr<'a>,
+    pub title: Option<CowStr<'a>>,
+    pub span: Range<usize>,
+}
+
+/// What is known of a footnote: how often it is used.
+#[derive(Drop)]
+pub struct FootnoteDef {
+    pub use_count: usize,
+}
+
+/// The link definitions of a text, by label.
+pub type RefDefs<'a> = LabelTable<'a, LinkDef<'a>>;
+
+/// The footnote definitions of a text, by label.
+pub type FootDefs<'a> = LabelTable<'a, FootnoteDef>;
+
+/// A table of definitions by label, in the byte order of the labels' foldings, with one label for each folding.
+#[derive(Drop)]
+pub struct LabelTable<'a, T> {
+    alloc: Global,
+    entries: BTreeMap<LabelKey<'a>, T>,
+}
+
+impl<'a, T> Model for LabelTable<'a, T> {
+    ghost use Rattle.std.specs.Prelude.{List};
+    ghost use Rattle.first_pass_items.specs.declared.cow_str.CowStr.{CowStr};
+
+    ghost Value = { List (CowStr × T) };
+
+    ghost view = { λ t. t.entries.entries };
+}
+
+impl<'a, T> LabelTable<'a, T> {
+    /// A table with no entry, which takes no memory.
+    pub fn new(alloc: Global) -> LabelTable<'a, T>
+        ensures { result ≡ [] }
+    {
+        LabelTable {
+            alloc,
+            entries: BTreeMap::new(alloc),
+        }
+    }
+
+    /// What is defined under the label whose folding is that of `label`, and `None` exactly where there is none.
+    /// The one error is that a request for memory was refused.
+    pub fn get(&self, label: &str) -> Result<Option<&T>, AllocError>
+        ensures value { IfOk result (λ found. option_copied found ≡ definition_of (folded label.now) self.now) }
+        ensures holds { IfOk result (λ found. HoldsUnder self.now (folded label.now) (option_copied found)) }
+    {
+        let key = key_of_copy(self.alloc, label)?;
+        Ok(self.entries.get(&key))
+    }
+
+    /// The labels with what is defined under them, in the byte order of their foldings, each folding once.
+    pub fn iter(&self) -> Iter<'_, LabelKey<'a>, T>
+        ensures entries { result ≡ self.now }
+        ensures order { IsInOrder self.now }
+        ensures fits { length self.now < 2 ^ 63 }
+        ensures runs { ShowsInOrder (deref_pair {K = LabelKey} {X = T}) }
+    {
+        self.entries.iter()
+    }
+
+    /// Puts a definition under a label, unless one stands under a label of the same folding: the first definition
+    /// of a label stays. The one error is that a request for memory was refused; then nothing changes.
+    pub fn insert_first(&mut self, label: LabelKey<'a>, definition: T) -> Result<(), AllocError>
+    where
+        T: Drop,
+        ensures first { OnOk result (self.new ≡ with_first self.old label.entry definition) }
+        ensures refused { OnErr result (self.new ≡ self.old) }
+    {
+        self.entries.entry(label)?.or_insert(definition);
+        Ok(())
+    }
+}
+
+// The key of a copy of this label, which takes memory of its own where it is longer than 22 bytes: keys of one table
+// have one lifetime, and this label may live shorter.
+fn key_of_copy<'a>(alloc: Global, label: &str) -> Result<LabelKey<'a>, AllocError>
+    ensures { IfOk result (λ key. text_of key ≡ label.now) }
+{
+    let copy = match InlineStr::try_from_str(label) {
+        Some(short) => CowStr::Inlined(short),
+        None => CowStr::Boxed(BoxedStr::from_str(alloc, label)?),
+    };
+    LabelKey::new(alloc, copy)
+}
