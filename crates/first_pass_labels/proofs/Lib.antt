@@ -1,1 +1,2 @@
 pub mod TableLemmas
+pub mod TextOrder

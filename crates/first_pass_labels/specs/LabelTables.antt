@@ -1,5 +1,5 @@
 -- A table of definitions by label, as the list of its labels with what each defines (CommonMark 4.7, on matching labels).
-use Rattle.std.specs.Prelude.{◌≡◌, ◌≢◌, ℕ, List, Option, None, Some, All, Contains, cond, is_some, nat_eq}
+use Rattle.std.specs.Prelude.{◌≡◌, ◌≢◌, ℕ, List, Option, None, Some, All, Contains, cond, is_some, nat_eq, [], ◌∷◌}
 use Rattle.std.specs.Cmp.Lexicographic.{pointwise}
 use Rattle.std.specs.List.Sorted.{IsStrictlySortedBy}
 use Rattle.std.specs.Map.{keys_of, lookup}
@@ -23,3 +23,12 @@ IsInOrder entries = IsStrictlySortedBy label_cmp (keys_of entries)
 -- with one more definition, where none of its folding stands there: the first one stays
 abbrev pub with_first : {X : Type 0} → List (CowStr × X) → CowStr → X → List (CowStr × X)
 with_first entries label x = cond (is_some (definition_of (folding_of label) entries)) entries (insert_entry label_cmp entries label x)
+
+-- with these definitions too, one after the other
+unfoldable pub with_all : {X : Type 0} → List (CowStr × X) → List (CowStr × X) → List (CowStr × X)
+with_all entries [] = entries
+with_all entries (d ∷ ds) = with_all (with_first entries d.0 d.1) ds
+
+-- the table of a text's definitions, in the order of the text
+abbrev pub table_of : {X : Type 0} → List (CowStr × X) → List (CowStr × X)
+table_of definitions = with_all [] definitions

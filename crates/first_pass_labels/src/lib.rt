@@ -3,3 +3,4 @@
 
 pub mod label_key;
 pub mod label_table;
+pub mod laws;
