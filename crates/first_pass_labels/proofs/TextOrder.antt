@@ -13,7 +13,7 @@ use Rattle.std.specs.Ordering.{match_ordering, is_eq, ordering_reverse}
 use Rattle.std.specs.BTreeMap.{insert_entry}
 use Rattle.first_pass_items.specs.declared.cow_str.CowStr.{CowStr}
 use Rattle.first_pass_labels.specs.Foldings.{folding_of, is_same_label, label_cmp}
-use Rattle.first_pass_labels.specs.LabelTables.{definition_of, with_first, with_all, table_of, IsInOrder}
+use Rattle.first_pass_labels.specs.LabelTables.{defined_under, with_first, with_all, table_of, IsInOrder}
 
 -- ---- equal and tied keys
 
@@ -39,13 +39,15 @@ folding_tied x y same = equal_by (label_cmp x y) (sym (texts_ties (folding_of x)
 label_total : IsTotalOrder label_cmp
 label_total = on_total folding_of nat_list_cmp_total
 
-below_all : (l k : CowStr) (ks : List CowStr) → label_cmp l k ≡ Less → AllByRecursion (λ y. label_cmp k y ≡ Less) ks → AllByRecursion (λ y. label_cmp l y ≡ Less) ks
+below_all : (l k : CowStr) (ks : List CowStr) → label_cmp l k ≡ Less → AllByRecursion (λ y. label_cmp k y ≡ Less) ks
+    → AllByRecursion (λ y. label_cmp l y ≡ Less) ks
 below_all l k [] less all = tt
 below_all l k (y ∷ ks) less all = (label_total.trans l k y less all.0, below_all l k ks less all.1)
 
 -- where k is below the new label and all others
 module _ {X : Type 0} (l : CowStr) (x : X) where
-  below_cons : (k : CowStr) (e : CowStr × X) (es : List (CowStr × X)) (o : Ordering) → label_cmp k l ≡ Less → AllByRecursion (λ y. label_cmp k y ≡ Less) (keys_of (e ∷ es))
+  below_cons : (k : CowStr) (e : CowStr × X) (es : List (CowStr × X)) (o : Ordering) → label_cmp k l ≡ Less
+      → AllByRecursion (λ y. label_cmp k y ≡ Less) (keys_of (e ∷ es))
       → AllByRecursion (λ y. label_cmp k y ≡ Less) (keys_of (insert_entry label_cmp es l x))
       → AllByRecursion (λ y. label_cmp k y ≡ Less) (keys_of (match_ordering o ((l, x) ∷ e ∷ es) ((e.0, x) ∷ es) (e ∷ insert_entry label_cmp es l x)))
   below_cons k e es Less less all rest = (less, all)
@@ -76,7 +78,7 @@ module _ {X : Type 0} (l : CowStr) (x : X) where
 in_order_all : {X : Type 0} (es ds : List (CowStr × X)) → IsInOrder es → IsInOrder (with_all es ds)
 unfolding with_all
 in_order_all es [] order = order
-in_order_all es (d ∷ ds) order = in_order_all (with_first es d.0 d.1) ds (in_order_by d.0 d.1 es (is_some (definition_of (folding_of d.0) es)) order)
+in_order_all es (d ∷ ds) order = in_order_all (with_first es d.0 d.1) ds (in_order_by d.0 d.1 es (is_some (defined_under (folding_of d.0) es)) order)
 
 pub in_order_table : {X : Type 0} (ds : List (CowStr × X)) → IsInOrder (table_of ds)
 unfolding IsStrictlySortedBy
@@ -115,7 +117,8 @@ one_answer true false x y o h = absurd (true≢false (sym h))
 one_answer false true x y o h = absurd (true≢false h)
 one_answer false false x y o h = refl
 
-either_first : {X : Type 0} (a b : Bool) (x y : X) (o : Option X) → (a ≡ true → b ≡ true → ⊥) → cond b (Some y) (cond a (Some x) o) ≡ cond a (Some x) (cond b (Some y) o)
+either_first : {X : Type 0} (a b : Bool) (x y : X) (o : Option X) → (a ≡ true → b ≡ true → ⊥)
+    → cond b (Some y) (cond a (Some x) o) ≡ cond a (Some x) (cond b (Some y) o)
 either_first true true x y o h = absurd (h refl refl)
 either_first true false x y o h = refl
 either_first false true x y o h = refl
@@ -132,14 +135,14 @@ not_both f k l is a b =
 
 module _ {X : Type 0} (f : List ℕ) (l : CowStr) (x : X) where
   under_cons : (e : CowStr × X) (es : List (CowStr × X)) (o : Ordering) → label_cmp l e.0 ≡ o
-      → definition_of f (insert_entry label_cmp es l x) ≡ cond (has f l) (Some x) (definition_of f es)
-      → definition_of f (match_ordering o ((l, x) ∷ e ∷ es) ((e.0, x) ∷ es) (e ∷ insert_entry label_cmp es l x)) ≡ cond (has f l) (Some x) (definition_of f (e ∷ es))
+      → defined_under f (insert_entry label_cmp es l x) ≡ cond (has f l) (Some x) (defined_under f es)
+      → defined_under f (match_ordering o ((l, x) ∷ e ∷ es) ((e.0, x) ∷ es) (e ∷ insert_entry label_cmp es l x)) ≡ cond (has f l) (Some x) (defined_under f (e ∷ es))
   under_cons e es Less is rest = refl
-  under_cons e es Equal is rest = one_answer (has f l) (has f e.0) x e.1 (definition_of f es) (has_tied f e.0 l is)
+  under_cons e es Equal is rest = one_answer (has f l) (has f e.0) x e.1 (defined_under f es) (has_tied f e.0 l is)
   under_cons e es Greater is rest =
-      ap (λ o. cond (has f e.0) (Some e.1) o) rest ∙ either_first (has f l) (has f e.0) x e.1 (definition_of f es) (not_both f e.0 l is)
+      ap (λ o. cond (has f e.0) (Some e.1) o) rest ∙ either_first (has f l) (has f e.0) x e.1 (defined_under f es) (not_both f e.0 l is)
 
-  under_inserted : (es : List (CowStr × X)) → definition_of f (insert_entry label_cmp es l x) ≡ cond (has f l) (Some x) (definition_of f es)
+  under_inserted : (es : List (CowStr × X)) → defined_under f (insert_entry label_cmp es l x) ≡ cond (has f l) (Some x) (defined_under f es)
   under_inserted [] = refl
   under_inserted (e ∷ es) = under_cons e es (label_cmp l e.0) refl (under_inserted es)
 
@@ -147,30 +150,31 @@ module _ {X : Type 0} (f : List ℕ) (l : CowStr) (x : X) where
   stays_some None p y h = absurd (none-some y h)
   stays_some (Some z) p y h = refl
 
-  under_first_by : (es : List (CowStr × X)) (r : Option X) (a : Bool) → r ≡ definition_of (folding_of l) es → has f l ≡ a
-      → definition_of f (cond (is_some r) es (insert_entry label_cmp es l x)) ≡ first_of (definition_of f es) (cond a (Some x) None)
-  under_first_by es (Some y) true is at = stays_some (definition_of f es) (Some x) y (ap (λ g. definition_of g es) ((bytes_decides f (folding_of l)).0 at) ∙ sym is)
-  under_first_by es (Some y) false is at = sym (first_of_none (definition_of f es))
+  under_first_by : (es : List (CowStr × X)) (r : Option X) (a : Bool) → r ≡ defined_under (folding_of l) es → has f l ≡ a
+      → defined_under f (cond (is_some r) es (insert_entry label_cmp es l x)) ≡ first_of (defined_under f es) (cond a (Some x) None)
+  under_first_by es (Some y) true is at =
+      stays_some (defined_under f es) (Some x) y (ap (λ g. defined_under g es) ((bytes_decides f (folding_of l)).0 at) ∙ sym is)
+  under_first_by es (Some y) false is at = sym (first_of_none (defined_under f es))
   under_first_by es None true is at =
-      under_inserted es ∙ ap (λ b. cond b (Some x) (definition_of f es)) at
-      ∙ ap (λ o. first_of o (Some x)) (is ∙ ap (λ g. definition_of g es) (sym ((bytes_decides f (folding_of l)).0 at)))
+      under_inserted es ∙ ap (λ b. cond b (Some x) (defined_under f es)) at
+      ∙ ap (λ o. first_of o (Some x)) (is ∙ ap (λ g. defined_under g es) (sym ((bytes_decides f (folding_of l)).0 at)))
   under_first_by es None false is at =
-      under_inserted es ∙ ap (λ b. cond b (Some x) (definition_of f es)) at ∙ sym (first_of_none (definition_of f es))
+      under_inserted es ∙ ap (λ b. cond b (Some x) (defined_under f es)) at ∙ sym (first_of_none (defined_under f es))
 
-  under_first : (es : List (CowStr × X)) → definition_of f (with_first es l x) ≡ first_of (definition_of f es) (cond (has f l) (Some x) None)
-  under_first es = under_first_by es (definition_of (folding_of l) es) (has f l) refl refl
+  under_first : (es : List (CowStr × X)) → defined_under f (with_first es l x) ≡ first_of (defined_under f es) (cond (has f l) (Some x) None)
+  under_first es = under_first_by es (defined_under (folding_of l) es) (has f l) refl refl
 
 cond_first : {X : Type 0} (b : Bool) (x : X) (o : Option X) → first_of (cond b (Some x) None) o ≡ cond b (Some x) o
 cond_first true x o = refl
 cond_first false x o = refl
 
-under_all : {X : Type 0} (f : List ℕ) (es ds : List (CowStr × X)) → definition_of f (with_all es ds) ≡ first_of (definition_of f es) (definition_of f ds)
+under_all : {X : Type 0} (f : List ℕ) (es ds : List (CowStr × X)) → defined_under f (with_all es ds) ≡ first_of (defined_under f es) (defined_under f ds)
 unfolding with_all
-under_all f es [] = sym (first_of_none (definition_of f es))
+under_all f es [] = sym (first_of_none (defined_under f es))
 under_all f es (d ∷ ds) =
-    under_all f (with_first es d.0 d.1) ds ∙ ap (λ o. first_of o (definition_of f ds)) (under_first f d.0 d.1 es)
-    ∙ first_of_three (definition_of f es) (cond (has f d.0) (Some d.1) None) (definition_of f ds)
-    ∙ ap (first_of (definition_of f es)) (cond_first (has f d.0) d.1 (definition_of f ds))
+    under_all f (with_first es d.0 d.1) ds ∙ ap (λ o. first_of o (defined_under f ds)) (under_first f d.0 d.1 es)
+    ∙ first_of_three (defined_under f es) (cond (has f d.0) (Some d.1) None) (defined_under f ds)
+    ∙ ap (first_of (defined_under f es)) (cond_first (has f d.0) d.1 (defined_under f ds))
 
-pub under_table : {X : Type 0} (f : List ℕ) (ds : List (CowStr × X)) → definition_of f (table_of ds) ≡ definition_of f ds
+pub under_table : {X : Type 0} (f : List ℕ) (ds : List (CowStr × X)) → defined_under f (table_of ds) ≡ defined_under f ds
 under_table f ds = under_all f [] ds

@@ -7,9 +7,9 @@ use Rattle.std.specs.BTreeMap.{insert_entry}
 use Rattle.first_pass_items.specs.declared.cow_str.CowStr.{CowStr}
 use Rattle.first_pass_labels.specs.Foldings.{folding_of, label_cmp}
 
--- what stands under the first label of this folding
-abbrev pub definition_of : {X : Type 0} → List ℕ → List (CowStr × X) → Option X
-definition_of folding entries = lookup (λ label. pointwise nat_eq folding (folding_of label)) entries
+-- what is defined under the first label of this folding
+abbrev pub defined_under : {X : Type 0} → List ℕ → List (CowStr × X) → Option X
+defined_under folding entries = lookup (λ label. pointwise nat_eq folding (folding_of label)) entries
 
 -- an answer to what stands under a folding: the definition beside a label of it, or that no label has it
 abbrev pub HoldsUnder : {X : Type 0} → List (CowStr × X) → List ℕ → Option X → Type 0
@@ -22,7 +22,7 @@ IsInOrder entries = IsStrictlySortedBy label_cmp (keys_of entries)
 
 -- with one more definition, where none of its folding stands there: the first one stays
 abbrev pub with_first : {X : Type 0} → List (CowStr × X) → CowStr → X → List (CowStr × X)
-with_first entries label x = cond (is_some (definition_of (folding_of label) entries)) entries (insert_entry label_cmp entries label x)
+with_first entries label x = cond (is_some (defined_under (folding_of label) entries)) entries (insert_entry label_cmp entries label x)
 
 -- with these definitions too, one after the other
 unfoldable pub with_all : {X : Type 0} → List (CowStr × X) → List (CowStr × X) → List (CowStr × X)

@@ -5,7 +5,7 @@ ghost use Rattle.std.specs.Option.{option_copied};
 ghost use Rattle.std.specs.Map.Iter.{ShowsInOrder, deref_pair};
 ghost use Rattle.first_pass_labels.specs.Foldings.{folded};
 ghost use Rattle.first_pass_items.specs.CowText.{text_of};
-ghost use Rattle.first_pass_labels.specs.LabelTables.{definition_of, with_first, IsInOrder, HoldsUnder};
+ghost use Rattle.first_pass_labels.specs.LabelTables.{defined_under, with_first, IsInOrder, HoldsUnder};
 
 use crate::label_key::LabelKey;
 use first_pass_items::cow_str::{CowStr, InlineStr};
@@ -67,7 +67,7 @@ impl<'a, T> LabelTable<'a, T> {
     /// What is defined under the label whose folding is that of `label`, and `None` exactly where there is none.
     /// The one error is that a request for memory was refused.
     pub fn get(&self, label: &str) -> Result<Option<&T>, AllocError>
-        ensures value { IfOk result (λ found. option_copied found ≡ definition_of (folded label.now) self.now) }
+        ensures value { IfOk result (λ found. option_copied found ≡ defined_under (folded label.now) self.now) }
         ensures holds { IfOk result (λ found. HoldsUnder self.now (folded label.now) (option_copied found)) }
     {
         let key = key_of_copy(self.alloc, label)?;
@@ -86,6 +86,7 @@ impl<'a, T> LabelTable<'a, T> {
 
     /// Puts a definition under a label, unless one stands under a label of the same folding: the first definition
     /// of a label stays. The one error is that a request for memory was refused; then nothing changes.
+    #[tactic(auto, using(crate::proofs::TableLemmas::first_stays))]
     pub fn insert_first(&mut self, label: LabelKey<'a>, definition: T) -> Result<(), AllocError>
     where
         T: Drop,

@@ -4,7 +4,7 @@ ghost use Rattle.std.specs.Prelude.{◌≡◌, ◌↔◌, ◌∷◌, ◌++◌, [
 ghost use Rattle.std.specs.declared.cmp.Ordering.TheVariants.{Equal};
 ghost use Rattle.first_pass_items.specs.declared.cow_str.CowStr.{CowStr};
 ghost use Rattle.first_pass_labels.specs.Foldings.{folding_of, is_same_label, label_cmp};
-ghost use Rattle.first_pass_labels.specs.LabelTables.{definition_of, table_of, with_first, IsInOrder};
+ghost use Rattle.first_pass_labels.specs.LabelTables.{defined_under, table_of, with_first, IsInOrder};
 
 /// Keys of labels are equal, and neither is before the other, exactly where the labels' foldings are the same
 /// bytes.
@@ -18,7 +18,7 @@ pub fn law_of_keys()
 /// table of all of them. CommonMark 4.7: the first of several matching definitions takes precedence.
 pub fn law_of_tables<T>()
     ensures first { (folding : List ℕ) (definitions : List (CowStr × T))
-        → definition_of folding (table_of definitions) ≡ definition_of folding definitions }
+        → defined_under folding (table_of definitions) ≡ defined_under folding definitions }
     ensures order { (definitions : List (CowStr × T)) → IsInOrder (table_of definitions) }
     ensures more { (definitions : List (CowStr × T)) (label : CowStr) (x : T)
         → table_of (definitions ++ (label, x) ∷ []) ≡ with_first (table_of definitions) label x }
