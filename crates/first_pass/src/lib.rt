@@ -3,6 +3,7 @@
 #![tactic(auto)]
 
 pub mod containers;
+mod interrupt;
 mod leaf;
 pub mod list;
 pub mod pass;
