@@ -1,12 +1,19 @@
 //! Which lines end a paragraph before them, as calls of the pass.
 
-ghost use Rattle.std.specs.Prelude.{◌≡◌, IfOk};
-ghost use Rattle.first_pass_grammar.specs.Kinds.{interrupts_with};
+ghost use Rattle.std.specs.Prelude.{◌≡◌, ◌||◌, Some, None, IfOk, if◌then◌else◌};
+ghost use Rattle.first_pass_lines.specs.Places.{line_rest};
+ghost use Rattle.first_pass_grammar.specs.Containers.{front};
+ghost use Rattle.first_pass_grammar.specs.Kinds.{all_taken, ends_tag, interrupts_with, is_blank_rest};
+ghost use Rattle.first_pass_open.specs.Path.{path_of};
+ghost use Rattle.first_pass_text.specs.Rests.{IsRestOf};
+ghost use Rattle.first_pass.specs.Views.{source_text, tree_of};
 
 use crate::state::FirstPass;
 use bitflags::Flags;
 use first_pass_items::option_set::Options;
-use first_pass_text::interrupt::scan_paragraph_interrupt_no_table;
+use first_pass_lines::lines::scan_blank_line;
+use first_pass_scan::line_start::LineStart;
+use first_pass_text::interrupt::{scan_line_behind_tag, scan_paragraph_interrupt_no_table};
 use std::alloc::AllocError;
 
 impl<'a> FirstPass<'a> {
@@ -32,5 +39,31 @@ impl<'a> FirstPass<'a> {
             &self.reading.tree,
             tree_position,
         )
+    }
+
+    /// Enters the line that `bytes` begin with, all that the text has from the line on: a line that goes on with a
+    /// run of link reference definitions, whatever open containers it goes on with. Answers what is left of it behind
+    /// what it has of their prefixes and behind its columns. `None` where it ends the run: where behind the tag of a
+    /// block quote it would be read as any other, and where what is left is blank, as at the text's end. Nothing is
+    /// read or changed (CommonMark 4.7, 4.8, 5.1).
+    pub fn scan_next_line_or_lazy_continuation<'input>(
+        &mut self,
+        bytes: &'input [u8],
+    ) -> Result<Option<LineStart<'input>>, AllocError>
+        requires { IsRestOf (source_text self.old) bytes.now }
+        ensures unchanged { self.new ≡ self.old }
+        ensures value { IfOk result (λ rest. let line = front (path_of (tree_of self.old)) (line_rest bytes.now) in
+            rest ≡ (if ends_tag (path_of (tree_of self.old)) (line_rest bytes.now) || is_blank_rest (all_taken line)
+            then None
+            else Some (all_taken line))) }
+    {
+        let line = scan_line_behind_tag(self.alloc, self.source, bytes, &self.reading.tree)?;
+        let Some(rest) = line else {
+            return Ok(None);
+        };
+        if scan_blank_line(rest.left()).is_some() {
+            return Ok(None);
+        }
+        Ok(Some(rest))
     }
 }

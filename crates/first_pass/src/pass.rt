@@ -42,7 +42,7 @@ use first_pass_open::indentation::scan_indentation;
 use first_pass_open::place::Place;
 use first_pass_open::source::Source;
 use first_pass_scan::metadata_search::MetadataEnds;
-use first_pass_text::interrupt::lazy_leaf;
+use first_pass_text::interrupt::scan_line_behind_tag;
 pub use first_pass_text::interrupt::scan_paragraph_interrupt_no_table;
 use first_pass_text::kinds::{Found, MarkedLeaf, kind_at};
 use first_pass_tokens::line::append_line;
@@ -154,10 +154,11 @@ impl<'a> FirstPass<'a> {
         ensures few { IfOk result (λ next. GrowsBy start next (tree_of self.old).nodes
             (tree_of self.new).nodes) }
     {
-        match lazy_leaf(self.alloc, self.source, start, &self.reading.tree)? {
+        let bytes = rest_of(self.source.text.as_bytes(), start);
+        match scan_line_behind_tag(self.alloc, self.source, bytes, &self.reading.tree)? {
             None => Ok(start),
-            Some(place) => {
-                let next = self.parse_leaf(place)?;
+            Some(rest) => {
+                let next = self.parse_leaf(Place { line: start, rest })?;
                 Ok(next)
             }
         }

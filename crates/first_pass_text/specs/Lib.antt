@@ -2,3 +2,4 @@ pub mod Appends
 pub mod Between
 pub mod Found
 pub mod Reading
+pub mod Rests

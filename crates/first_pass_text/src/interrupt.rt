@@ -5,8 +5,9 @@ ghost use Rattle.first_pass_lines.specs.Places.{line_rest, place_at, offset, IsP
 ghost use Rattle.first_pass_lines.specs.Rest.{indent};
 ghost use Rattle.first_pass_scan.specs.Markers.{is_bullet, listitem};
 ghost use Rattle.first_pass_grammar.specs.Containers.{after, front};
-ghost use Rattle.first_pass_grammar.specs.Kinds.{interrupts_with, item_interrupts, ends_paragraph, ends_tag, unindented};
+ghost use Rattle.first_pass_grammar.specs.Kinds.{all_taken, interrupts_with, item_interrupts, ends_paragraph, ends_tag, unindented};
 ghost use Rattle.first_pass_open.specs.Path.{path_of};
+ghost use Rattle.first_pass_text.specs.Rests.{IsRestOf};
 
 use crate::kinds::html_kind;
 use first_pass_items::item::Item;
@@ -75,14 +76,18 @@ pub fn scan_paragraph_interrupt_no_table(
     )
 }
 
-// Whether the line that begins at `start` goes on with all open containers; the columns of indentation, but
-// 4 where there are more, behind what it takes for them; and the place behind those columns.
-fn scan_prefixes<'a>(
-    source: Source<'a>,
+// Whether the line that begins at the offset `start`, where the text goes on with `bytes`, goes on with all open
+// containers; the columns of indentation, but 4 where there are more, behind what it takes for them; and the place
+// behind those columns.
+fn scan_prefixes<'b>(
+    source: Source<'_>,
     start: usize,
+    bytes: &'b [u8],
     tree: &Tree<Item>,
-) -> (bool, usize, Place<'a>)
-    requires { IsCharBoundary source.text.now start }
+) -> (bool, usize, Place<'b>)
+    requires utf8 { IsUtf8 source.text.now }
+    requires start { IsCharBoundary source.text.now start }
+    requires bytes { bytes.now ≡ drop start source.text.now }
     ensures whole { result.0 ≡ is_some (after (path_of tree.now) (line_rest (drop start source.entry.text.now))) }
     ensures columns { result.1
         ≡ min 4 (indent (front (path_of tree.now) (line_rest (drop start source.entry.text.now)))) }
@@ -91,7 +96,7 @@ fn scan_prefixes<'a>(
     ensures place { IsPlaceOf source.entry.text.now
         (unindented (place_at start (front (path_of tree.now) (line_rest (drop start source.entry.text.now))))) }
 {
-    let mut line_start = LineStart::new(rest_of(source.text.as_bytes(), start));
+    let mut line_start = LineStart::new(bytes);
     let kept = scan_containers(tree, &mut line_start, source.options, false);
     let columns = scan_indentation(&mut line_start);
     let place = Place {
@@ -122,7 +127,8 @@ pub fn next_paragraph_text(
     ensures utf8 { IsUtf8 source.entry.text.now }
 {
     source.is_short();
-    let (whole, columns, place) = scan_prefixes(source, start, tree);
+    let bytes = rest_of(source.text.as_bytes(), start);
+    let (whole, columns, place) = scan_prefixes(source, start, bytes, tree);
     let at = place.offset();
     let interrupted = if columns < 4 {
         scan_paragraph_interrupt_no_table(alloc, &source.text[at..], whole, false, false, tree, 0)?
@@ -132,33 +138,32 @@ pub fn next_paragraph_text(
     if interrupted { Ok(None) } else { Ok(Some(at)) }
 }
 
-/// The place behind the columns of the line that begins at `start`, where the line belongs to a block quote with a tag
-/// that is innermost, whatever open containers it goes on with; `None` where it is read as any line.
+/// What is left of the line that `bytes` begin with, all that the text has from the line on, behind its columns, where
+/// the line belongs to a block quote with a tag that is innermost, whatever open containers it goes on with; `None`
+/// where it is read as any other.
 #[tactic(auto, unfolding(first_pass_grammar::specs::Kinds::interrupts))]
-pub fn lazy_leaf<'a>(
+pub fn scan_line_behind_tag<'b>(
     alloc: Global,
-    source: Source<'a>,
-    start: usize,
+    source: Source<'_>,
+    bytes: &'b [u8],
     tree: &Tree<Item>,
-) -> Result<Option<Place<'a>>, AllocError>
-    requires { IsCharBoundary source.text.now start }
-    ensures value { IfOk result (λ leaf.
-        leaf ≡ (if ends_tag (path_of tree.now) (line_rest (drop start source.entry.text.now))
+) -> Result<Option<LineStart<'b>>, AllocError>
+    requires { IsRestOf source.text.now bytes.now }
+    ensures value { IfOk result (λ rest.
+        rest ≡ (if ends_tag (path_of tree.now) (line_rest bytes.now)
         then None
-        else Some (unindented (place_at start (front (path_of tree.now)
-        (line_rest (drop start source.entry.text.now))))))) }
-    ensures place { OnOk result (IsPlaceOf source.entry.text.now
-        (unindented (place_at start (front (path_of tree.now) (line_rest (drop start source.entry.text.now)))))) }
+        else Some (all_taken (front (path_of tree.now) (line_rest bytes.now))))) }
     ensures utf8 { IsUtf8 source.entry.text.now }
 {
     source.is_short();
-    let (whole, columns, place) = scan_prefixes(source, start, tree);
+    let start = source.text.as_bytes().len() - bytes.len();
+    let (whole, columns, place) = scan_prefixes(source, start, bytes, tree);
     if columns >= 4 {
-        return Ok(Some(place));
+        return Ok(Some(place.rest));
     }
     let rest = &source.text[place.offset()..];
     if scan_paragraph_interrupt_no_table(alloc, rest, whole, false, false, tree, 0)? {
         return Ok(None);
     }
-    Ok(Some(place))
+    Ok(Some(place.rest))
 }

@@ -1,8 +1,10 @@
-use Rattle.std.proofs.Common.{◌≡◌, inl, inr, ◌+◌, drop, Bool, true, false, Some, None, refl, sym, subst, ◌∙◌, if◌then◌else◌, ap, arith}
+use Rattle.std.proofs.Common.{◌≡◌, inl, inr, ℕ, ◌+◌, List, drop, Bool, Option, true, false, Some, None, refl, sym, subst, ◌∙◌, if◌then◌else◌, ap, arith}
 use Rattle.first_pass_lines.specs.Lines.{line_len}
+use Rattle.first_pass_lines.specs.Rest.{Rest}
 use Rattle.first_pass_lines.specs.Places.{Place, line_rest, place_at, line_end, IsPlaceOf}
 use Rattle.first_pass_grammar.specs.Containers.{front}
-use Rattle.first_pass_grammar.specs.Kinds.{ends_tag, unindented}
+use Rattle.first_pass_grammar.specs.declared.kind.Container.{Container}
+use Rattle.first_pass_grammar.specs.Kinds.{all_taken, ends_tag, unindented}
 use Rattle.first_pass_grammar.specs.Leaves.{document}
 use Rattle.first_pass_grammar.specs.Completion.{lines_from}
 use Rattle.first_pass_lists.specs.declared.reading.Reading.{Reading}
@@ -15,13 +17,20 @@ use Rattle.first_pass_names.proofs.NameLemmas.{extends_none}
 use Rattle.first_pass.proofs.TagLemmas.{ready_any_line, ready_its_line}
 use Rattle.first_pass.proofs.state.FirstPass.parse_tagged.Goals as goal
 
-any_by : (t : Bool) (p : Place) → None ≡ (if t then None else Some p) → t ≡ true
-any_by true p h = refl
-any_by false p h = cc
+-- what was said of the line that bytes begin with, read from the text
+said : (found : Option Rest) (path : List Container) (text all bytes : List ℕ) (at : ℕ) → all ≡ text → bytes ≡ drop at all
+    → found ≡ (if ends_tag path (line_rest bytes) then None else Some (all_taken (front path (line_rest bytes))))
+    → found ≡ (if ends_tag path (line_rest (drop at text)) then None else Some (all_taken (front path (line_rest (drop at text)))))
+said found path text all bytes at a b h =
+    subst (λ bs. found ≡ (if ends_tag path (line_rest bs) then None else Some (all_taken (front path (line_rest bs))))) (b ∙ ap (drop at) a) h
 
-its_by : (t : Bool) (p q : Place) → Some q ≡ (if t then None else Some p) → (t ≡ false) × (q ≡ p)
-its_by true p q h = cc
-its_by false p q h = (refl, cc)
+any_by : (t : Bool) (r : Rest) (found : Option Rest) → found ≡ None → found ≡ (if t then None else Some r) → t ≡ true
+any_by true r found none h = refl
+any_by false r found none h = cc
+
+its_by : (t : Bool) (r s : Rest) (found : Option Rest) → found ≡ Some s → found ≡ (if t then None else Some r) → (t ≡ false) × (s ≡ r)
+its_by true r s found some h = cc
+its_by false r s found some h = (refl, cc)
 
 pub returns-in-None : goal.returns-in-None
 returns-in-None c =
@@ -29,8 +38,8 @@ returns-in-None c =
     let at = c.args.start in
     let text = self.source.text.now in
     let path = path_of self.reading.tree in
-    let p : Place = unindented (place_at at (front path (line_rest (drop at text)))) in
-    let any = any_by (ends_tag path (line_rest (drop at text))) p (sym c.in-None.is ∙ c.in_ok-lazy_leaf.ensures.value) in
+    let h = said _ path text _ _ at c.as_bytes.ensures.value c.rest_of-bytes.ensures.value c.in_ok-scan_line_behind_tag.ensures.value in
+    let any = any_by (ends_tag path (line_rest (drop at text))) _ _ c.in-None.is h in
     record {
       read = record {
         source = refl;
@@ -53,13 +62,15 @@ returns-in_ok-next-in-Some c =
     let old : Reading = self.reading in
     let path = path_of self.reading.tree in
     let p : Place = unindented (place_at at (front path (line_rest (drop at text)))) in
-    let q : Place = c.in-Some.place in
+    let q : Place = place_at at c.in-Some.rest in
     let e = c.in_ok-next-in-Some.ensures in
-    let its = its_by (ends_tag path (line_rest (drop at text))) p q (sym c.in-Some.is ∙ c.in_ok-lazy_leaf.ensures.value) in
-    let line = ap (λ (z : Place). z.line) its.1 in
-    let ends : line_end p ≡ at + line_len (drop at text) = (text_place text at path c.in_ok-lazy_leaf.ensures.utf8 c.requires.boundary).1 in
+    let h = said _ path text _ _ at c.as_bytes.ensures.value c.rest_of-bytes.ensures.value c.in_ok-scan_line_behind_tag.ensures.value in
+    let its = its_by (ends_tag path (line_rest (drop at text))) _ c.in-Some.rest _ c.in-Some.is h in
+    let same : q ≡ p = ap (place_at at) its.1 in
+    let here = text_place text at path c.in_ok-scan_line_behind_tag.ensures.utf8 c.requires.boundary in
+    let ends : line_end p ≡ at + line_len (drop at text) = here.1 in
     let later = e.read.later in
-    let here = place_before_end q in
+    let before = place_before_end q in
     let few = e.few in
     record {
       read = record {
@@ -70,9 +81,18 @@ returns-in_ok-next-in-Some c =
         boundary = e.read.boundary;
         ready = λ names more tagged. let d = document text self.source.options names in
             e.read.ready names more
-            (inr (subst (λ q. ReadyLazy d old q (lines_from text (line_end q))) (sym its.1) (subst (λ n. ReadyLazy d old p (lines_from text n)) (sym ends) (ready_its_line d old at its.0 tagged))));
+            (inr (subst (λ q. ReadyLazy d old q (lines_from text (line_end q))) (sym same) (subst (λ n. ReadyLazy d old p (lines_from text n)) (sym ends) (ready_its_line d old at its.0 tagged))));
         named = e.read.named;
-        order = λ ordered. e.read.order (ordered_at_place text self.reading.tree at q line c.requires.boundary (subst (IsPlaceOf text) (sym its.1) c.in_ok-lazy_leaf.ensures.place) ordered);
+        order = λ ordered. e.read.order (ordered_at_place text self.reading.tree at q refl c.requires.boundary (subst (IsPlaceOf text) (sym same) here.0) ordered);
       };
       few = omega arith;
     }
+
+pub parse_leaf-requires-clause-place : goal.parse_leaf-requires-clause-place
+parse_leaf-requires-clause-place c =
+    let text = c.args.self.now.source.text.now in
+    let at = c.args.start in
+    let path = path_of c.args.self.now.reading.tree in
+    let h = said _ path text _ _ at c.as_bytes.ensures.value c.rest_of-bytes.ensures.value c.in_ok-scan_line_behind_tag.ensures.value in
+    let its = its_by (ends_tag path (line_rest (drop at text))) _ c.in-Some.rest _ c.in-Some.is h in
+    subst (λ r. IsPlaceOf text (place_at at r)) (sym its.1) (text_place text at path c.in_ok-scan_line_behind_tag.ensures.utf8 c.requires.boundary).0
