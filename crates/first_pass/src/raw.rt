@@ -12,7 +12,7 @@ ghost use Rattle.first_pass_grammar.specs.CodeBlocks.{IsFencedCode, IsMetadata};
 ghost use Rattle.first_pass_grammar.specs.HtmlBlocks.{IsHtml};
 ghost use Rattle.first_pass_open.specs.Path.{path_of};
 ghost use Rattle.first_pass_names.specs.TableEntries.{tables, names_of};
-ghost use Rattle.first_pass_raw.specs.RawBlocks.{AppendsRaw, IsPlaceAt, AddsIndented, AddsRaw, behind_line_at, fenced_behind, metadata_behind, html_to_end, html_to_blank};
+ghost use Rattle.first_pass_raw.specs.RawBlocks.{range_of, AppendsRaw, IsPlaceAt, AddsIndented, AddsRaw, behind_line_at, fenced_behind, metadata_behind, html_to_end, html_to_blank};
 ghost use Rattle.first_pass.specs.Adding.{AddsLeaf};
 ghost use Rattle.first_pass_grammar.specs.Order.{GrowsBy};
 ghost use Rattle.first_pass_lists.specs.Closing.{with_block};
@@ -50,19 +50,7 @@ impl<'a> FirstPass<'a> {
             → IsCharBoundary (source_text self.old) end → IsOrderedAt (source_text self.old) (reading_of self.old) at
             → IsOrderedAt (source_text self.old) (reading_of self.new) end) }
     {
-        self.reading.tree.is_forest();
-        self.source.is_short();
-        append_raw_line(
-            &mut self.reading.tree,
-            &mut self.allocs,
-            self.source.text,
-            RawKind::Code,
-            remaining_space,
-            start,
-            end,
-        )?;
-        self.reading.empty_item = None;
-        Ok(())
+        self.append_line_of(RawKind::Code, remaining_space, start, end)
     }
 
     /// Appends a raw line of HTML to the innermost open node: the columns that are owed before it, at most 3, and its
@@ -86,13 +74,37 @@ impl<'a> FirstPass<'a> {
             → IsCharBoundary (source_text self.old) end → IsOrderedAt (source_text self.old) (reading_of self.old) at
             → IsOrderedAt (source_text self.old) (reading_of self.new) end) }
     {
+        self.append_line_of(RawKind::Html, remaining_space, start, end)
+    }
+
+    // Appends a raw line to the innermost open node, as text or as HTML by its kind.
+    fn append_line_of(
+        &mut self,
+        kind: RawKind,
+        remaining_space: usize,
+        start: usize,
+        end: usize,
+    ) -> Result<(), AllocError>
+        requires owed { remaining_space ≤ 3 }
+        requires order { start ≤ end }
+        requires within { end ≤ length (source_text self.old) }
+        ensures source { OnOk result (source_of self.new ≡ source_of self.old) }
+        ensures names { OnOk result (Extends (names_of (allocs_of self.new)) (names_of (allocs_of self.old))) }
+        ensures tables { OnOk result (tables (allocs_of self.new) ≡ tables (allocs_of self.old)) }
+        ensures reading { OnOk result (reading_of self.new ≡ with_block (reading_of self.old) (tree_of self.new)) }
+        ensures line { OnOk result (AppendsRaw (range_of kind) (source_text self.old) (names_of (allocs_of self.new))
+            remaining_space start end (tree_of self.old) (tree_of self.new)) }
+        ensures order { OnOk result ((at : ℕ) → at ≤ start → IsCharBoundary (source_text self.old) start
+            → IsCharBoundary (source_text self.old) end → IsOrderedAt (source_text self.old) (reading_of self.old) at
+            → IsOrderedAt (source_text self.old) (reading_of self.new) end) }
+    {
         self.reading.tree.is_forest();
         self.source.is_short();
         append_raw_line(
             &mut self.reading.tree,
             &mut self.allocs,
             self.source.text,
-            RawKind::Html,
+            kind,
             remaining_space,
             start,
             end,

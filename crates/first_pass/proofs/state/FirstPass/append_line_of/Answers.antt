@@ -1,0 +1,34 @@
+use Rattle.std.proofs.Common.{◌≤◌, ℕ, List, None, IsCharBoundary, refl}
+use Rattle.first_pass_items.specs.declared.item.Item.{Item}
+use Rattle.first_pass_grammar.specs.Leaves.{Document, document}
+use Rattle.first_pass_grammar.specs.RawLines.{IsRawLine}
+use Rattle.first_pass_tokens.specs.Order.{AreInOrder}
+use Rattle.first_pass_raw.specs.RawBlocks.{range_of}
+use Rattle.first_pass_raw.specs.declared.raw_line.RawKind.{RawKind}
+use Rattle.first_pass_raw.specs.declared.raw_line.RawKind.TheVariants.{Code, Html}
+use Rattle.first_pass_raw.proofs.RawOrder.{text_line_in_order, html_line_in_order}
+use Rattle.first_pass_names.proofs.NameLemmas.{extends_none}
+use Rattle.first_pass_names.specs.TableEntries.{names_of}
+use Rattle.first_pass_lists.specs.declared.reading.Reading.{Reading}
+use Rattle.first_pass.proofs.OrderJoin.{tokens_ordered}
+use Rattle.first_pass.proofs.state.FirstPass.append_line_of.Goals as goal
+
+line_in_order : (kind : RawKind) (d : Document) (owed from to : ℕ) (items : List Item) → from ≤ to → IsCharBoundary d.text from → IsCharBoundary d.text to
+    → IsRawLine (range_of kind) d owed from to items → AreInOrder d.text from to items
+line_in_order Code d owed from to items order b c line = text_line_in_order d owed from to items order b c line
+line_in_order Html d owed from to items order b c line = html_line_in_order d owed from to items order b c line
+
+pub returns-clause-order : goal.returns-clause-order
+returns-clause-order c = λ at low begins ends o.
+    let self = c.args.self.now in
+    let text = self.source.text.now in
+    let from = c.args.start in
+    let to = c.args.end in
+    let old : Reading = self.reading in
+    let new : Reading = record old { tree = c.append_raw_line.new.tree; empty_item = None } in
+    let names = names_of c.append_raw_line.new.allocs in
+    let d = document text self.source.options names in
+    let line = c.in_ok-append_raw_line.ensures.line in
+    let are = line.are self.source.options names (extends_none names) in
+    let tokens = line_in_order c.args.kind d c.args.remaining_space from to line.items c.requires.order begins ends are in
+    tokens_ordered text old new at from to line.items c.is_forest.ensures o low tokens ends.0 line.tree_is refl
