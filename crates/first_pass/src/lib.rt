@@ -5,7 +5,7 @@
 pub mod containers;
 mod interrupt;
 mod leaf;
-pub mod list;
+mod list;
 pub mod pass;
 mod raw;
 mod state;

@@ -6,7 +6,6 @@ ghost use Rattle.first_pass.specs.Ordered.{IsOrderedAt};
 ghost use Rattle.first_pass.specs.Views.{allocs_of, reading_of, source_of, source_text, tree_of};
 
 use crate::state::FirstPass;
-pub use first_pass_lists::list::surgerize_tight_list;
 use std::alloc::AllocError;
 
 impl<'a> FirstPass<'a> {

@@ -32,10 +32,12 @@ ghost use Rattle.first_pass.specs.Views.{allocs_of, reading_of, source_of, sourc
 
 use crate::containers::{Behind, close_containers, enter_line, open_containers};
 pub use crate::state::FirstPass;
+pub use first_pass_below::below::{count_header_cols, get_html_end_tag};
 use first_pass_below::flank::TableParseMode;
 use first_pass_items::item::Item;
 use first_pass_items::option_set::Options;
 use first_pass_lines::places::{next_line, rest_of};
+pub use first_pass_lists::list::surgerize_tight_list;
 use first_pass_lists::reading::Reading;
 use first_pass_names::items::Allocations;
 use first_pass_open::indentation::scan_indentation;
