@@ -1,8 +1,12 @@
 //! Each call of the pass that may be refused memory, once with memory.
 
 use bitflags::Flags;
+use first_pass::below::{Item, ItemBody, TreeIndex};
 use first_pass::flank::TableParseMode;
-use first_pass::pass::{FirstPass, run_first_pass, scan_paragraph_interrupt_no_table};
+use first_pass::pass::{
+    FirstPass, count_header_cols, get_html_end_tag, run_first_pass,
+    scan_paragraph_interrupt_no_table, surgerize_tight_list,
+};
 use first_pass_items::option_set::Options;
 use first_pass_lines::lines::scan_atx_heading;
 use first_pass_scan::leaf_scan::scan_code_fence;
@@ -23,6 +27,21 @@ fn interrupts(alloc: Global, text: &str, line: &str) -> Result<bool, AllocError>
     scan_paragraph_interrupt_no_table(alloc, line, true, false, false, &tree, 0)
 }
 
+// The same where the line doesn't go on with all containers, asked of a pass that has read nothing.
+fn interrupts_lazily(alloc: Global, text: &str, line: &str) -> Result<bool, AllocError> {
+    let pass = FirstPass::new(alloc, text, Options::empty())?;
+    pass.scan_paragraph_interrupt(line, false, 0)
+}
+
+// How many bytes of a text that is one line stand before what goes on with a run of link reference definitions.
+fn bytes_before_rest(alloc: Global, text: &str) -> Result<Option<usize>, AllocError> {
+    let mut pass = FirstPass::new(alloc, text, Options::empty())?;
+    match pass.scan_next_line_or_lazy_continuation(text.as_bytes())? {
+        Some(rest) => Ok(Some(rest.bytes_scanned())),
+        None => Ok(None),
+    }
+}
+
 // Where the first block ends.
 fn block_end(alloc: Global) -> Result<usize, AllocError> {
     let mut pass = FirstPass::new(alloc, TEXT, Options::empty())?;
@@ -34,7 +53,29 @@ fn blocks_of_a_text(rt: HostRuntime) -> Result<(), Fail> {
     assert_eq!(rt; count_nodes(rt.alloc(), TEXT)?, 7);
     assert_eq!(rt; count_nodes(rt.alloc(), "~~~ r&amp;b\nx\n~~~")?, 3);
     assert!(rt; interrupts(rt.alloc(), TEXT, "## b")?);
+    assert!(rt; interrupts_lazily(rt.alloc(), TEXT, "2. b")?);
+    assert_eq!(rt; bytes_before_rest(rt.alloc(), " \ta\n")?, Some(2));
+    assert_eq!(rt; bytes_before_rest(rt.alloc(), "     \n")?, None);
     assert_eq!(rt; block_end(rt.alloc())?, 4);
+    Ok(())
+}
+
+// How many paragraphs of a text that is one list are tight once all of them are made so.
+fn count_tightened(alloc: Global, text: &str) -> Result<usize, AllocError> {
+    let (mut tree, _allocs) = run_first_pass(alloc, text, Options::empty())?;
+    let list = TreeIndex(1);
+    if list.0 < tree.node_count() {
+        surgerize_tight_list(&mut tree, list);
+    }
+    let is_tight = |node: &&(usize, Item)| node.1.body == ItemBody::TightParagraph;
+    Ok(tree.nodes().iter().filter(is_tight).count())
+}
+
+#[test]
+fn calls_without_a_pass(rt: HostRuntime) -> Result<(), Fail> {
+    assert!(rt; get_html_end_tag(b"!-- a") == Some("-->"));
+    assert_eq!(rt; count_header_cols(b"a|b", 1, 0, 1), 2);
+    assert_eq!(rt; count_tightened(rt.alloc(), "- a\n\n- b")?, 2);
     Ok(())
 }
 
