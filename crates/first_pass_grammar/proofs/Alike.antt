@@ -17,7 +17,7 @@ use Rattle.first_pass_grammar.specs.RawLines.{AreColumns, ends_with_both, Ranges
 use Rattle.first_pass_grammar.specs.Skeleton.{LeafBlock, Leaf, BlankLine, Block, Head, Opener, QuoteMarker, ItemMarker, From, Line, Blanks, At, Anything, ALeafAlone, TextOf, MarkAlone, Opening, OpensLeaf, OpensNode, Skeleton, Nil, Then, Node}
 use Rattle.first_pass_grammar.specs.Kinds.{Kind}
 use Rattle.first_pass_grammar.specs.Rows.{is_paragraph, is_quote_marker}
-use Rattle.first_pass_grammar.specs.OnePass.{list_byte, joins, counts_with, run_behind, has_gap, list_end, is_loosened, head_closes, leaf_items, tight_of, list_item, container_items, forest_of}
+use Rattle.first_pass_grammar.proofs.OnePass.{list_byte, joins, counts_with, run_behind, has_gap, list_end, is_loosened, head_closes, leaf_items, tight_of, list_item, container_items, forest_of}
 use Rattle.first_pass_grammar.specs.Derivation.{node_of, list_flags, tight_body, tightened}
 use Rattle.first_pass_grammar.proofs.NoIndex.{HasNoIndex, HaveNoIndex, read_alone, both_free, unless_free}
 

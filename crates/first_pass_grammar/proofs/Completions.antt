@@ -17,12 +17,13 @@ use Rattle.first_pass_grammar.specs.Leaves.{Document}
 use Rattle.first_pass_grammar.specs.Skeleton.{Leaf, LeafBlock, BlankLine, Block, block_at, Head, Opener, QuoteMarker, ItemMarker, From, Line, Inside, Blanks, At, TextOf, MarkAlone, behind_marker, Opening, OpensLeaf, OpensNode, OpensParagraph, Opens, Skeleton, Nil, Then, Node, Begins, Ends, behind_first, end_after, end_before, IsFirst, IsSequence}
 use Rattle.first_pass_grammar.specs.Kinds.{Kind, Paragraph}
 use Rattle.first_pass_grammar.specs.Rows.{is_paragraph}
-use Rattle.first_pass_grammar.specs.OnePass.{joins, counts_with, run_behind, has_gap, list_end, is_loosened, leaf_closes, head_closes, leaf_items, container_items, forest_of}
+use Rattle.first_pass_grammar.proofs.OnePass.{joins, counts_with, run_behind, has_gap, list_end, is_loosened, leaf_closes, head_closes, leaf_items, container_items, forest_of}
 use Rattle.first_pass_grammar.specs.Derivation.{Tables, Derives, node_of, tables_of, root_of, list_flags, tight_body, tightened}
-use Rattle.first_pass_grammar.specs.Completion.{ended, flagged, reflagged, list_closed, Pending, NoList, OneList, byte_in, rendered, Frame, InContainer, InList, containers_of, is_quote, loosened, loosened_in, Finish, AreBelow, IsPlain, IsShaped, Completes}
+use Rattle.first_pass_grammar.specs.Completion.{ended, flagged, reflagged, list_closed, Pending, NoList, OneList, Frame, InContainer, InList, containers_of, is_quote, loosened, loosened_in, AreBelow, IsPlain, IsShaped, Completes}
 use Rattle.first_pass_grammar.proofs.Tightening.{eqb-same, modify-append, length-modify, list_closed-append, length-closed, list_closed-mid, closed_item}
 use Rattle.first_pass_grammar.proofs.Alike.{AlikeOpening}
 use Rattle.first_pass_grammar.proofs.RowLemmas.{rows_items}
+use Rattle.first_pass_grammar.proofs.OnePassFinish.{byte_in, one_pass_rendered, OnePassFinish, in_one_pass, by_one_pass}
 use Rattle.first_pass_grammar.proofs.Unique.{one_opening, ends_at_once}
 
 pub ended-append : (nodes more : List (ℕ × Item)) (place e : ℕ) → place < length nodes → ended (nodes ++ more) place e ≡ ended nodes place e ++ more
@@ -77,7 +78,7 @@ in_quote (InList byte loose ∷ frames) = false
 -- What a block adds, or a list's end: the same items come of it, the same run of blank lines, and the same gaps with one that is noted.
 pub record Adds (d : Document) (quoted : Bool) (depth : ℕ) (path : List Container) (list list' : Pending) (run run' gap : Bool) (nodes nodes' : List (ℕ × Item)) (from : From) (lines : List Place) (s t : Skeleton) (mid : List Place) : Type 0 where
   pub seq : IsSequence d t path from lines mid
-  pub items : (last : ℕ) → rendered depth last nodes list run t ≡ rendered depth last nodes' list' run' s
+  pub items : (last : ℕ) → one_pass_rendered depth last nodes list run t ≡ one_pass_rendered depth last nodes' list' run' s
   pub runs : run_behind quoted (byte_in list) run t ≡ run_behind quoted (byte_in list') run' s
   pub gaps : has_gap quoted (byte_in list) run t ≡ (gap || has_gap quoted (byte_in list') run' s)
 
@@ -89,8 +90,8 @@ EndsAlike n from there = (path : List Container) (mid : List Place) → end_befo
 pub extend : (d : Document) (frames : List Frame) (list list' : Pending) (run run' gap : Bool) (nodes nodes' : List (ℕ × Item)) (os : List ℕ) (from there : From) (lines left : List Place) (forest : List (ℕ × Item)) (tables : Tables) (f : Skeleton → Skeleton)
     → IsPlain frames → EndsAlike (length d.text) from there
     → ((s : Skeleton) (mid : List Place) → IsSequence d s (containers_of frames) there left mid → Adds d (in_quote frames) (suc (length os)) (containers_of frames) list list' run run' gap nodes nodes' from lines s (f s) mid)
-    → Finish d list' run' (loosened_in gap frames) nodes' os there left forest tables → Finish d list run frames nodes os from lines forest tables
-unfolding Finish
+    → OnePassFinish d list' run' (loosened_in gap frames) nodes' os there left forest tables → OnePassFinish d list run frames nodes os from lines forest tables
+unfolding OnePassFinish
 extend d [] list list' run run' gap nodes nodes' [] from there lines left forest tables f plain ends adds (s, seq, is, tables_are) =
     let a = adds s [] seq in (f s, a.seq, is ∙ sym (a.items (length d.text)), tables_are)
 extend d [] list list' run run' gap nodes nodes' (o ∷ os) from there lines left forest tables f plain ends adds fin = fin
@@ -108,10 +109,10 @@ extend d (InContainer c ∷ frames) list list' run run' gap nodes nodes' (o ∷ 
       f s,
       mid,
       a.seq,
-      subst (λ z. Finish d NoList (run_behind (is_quote c) (byte_in list) run (f s)) (loosened (has_gap (is_quote c) (byte_in list) run (f s)) frames) (ended z o e) os Line mid forest tables) (sym (a.items e))
-          (subst (λ z. Finish d NoList (run_behind (is_quote c) (byte_in list) run (f s)) z (ended (rendered depth e nodes' list' run' s) o e) os Line mid forest tables) g
-          (subst (λ z. Finish d NoList z (loosened (has_gap (is_quote c) (byte_in list') run' s) (loosened gap frames)) (ended (rendered depth e nodes' list' run' s) o e) os Line mid forest tables) (sym a.runs)
-          (subst (λ z. Finish d NoList (run_behind (is_quote c) (byte_in list') run' s) (loosened (has_gap (is_quote c) (byte_in list') run' s) (loosened gap frames)) (ended (rendered depth z nodes' list' run' s) o z) os Line mid forest tables) same fin))),
+      subst (λ z. OnePassFinish d NoList (run_behind (is_quote c) (byte_in list) run (f s)) (loosened (has_gap (is_quote c) (byte_in list) run (f s)) frames) (ended z o e) os Line mid forest tables) (sym (a.items e))
+          (subst (λ z. OnePassFinish d NoList (run_behind (is_quote c) (byte_in list) run (f s)) z (ended (one_pass_rendered depth e nodes' list' run' s) o e) os Line mid forest tables) g
+          (subst (λ z. OnePassFinish d NoList z (loosened (has_gap (is_quote c) (byte_in list') run' s) (loosened gap frames)) (ended (one_pass_rendered depth e nodes' list' run' s) o e) os Line mid forest tables) (sym a.runs)
+          (subst (λ z. OnePassFinish d NoList (run_behind (is_quote c) (byte_in list') run' s) (loosened (has_gap (is_quote c) (byte_in list') run' s) (loosened gap frames)) (ended (one_pass_rendered depth z nodes' list' run' s) o z) os Line mid forest tables) same fin))),
     )
 
 -- What begins inside a line begins at the line.
@@ -130,8 +131,8 @@ enter_seq d (Node head e kids next) path line q lines left is (inside, behind, m
 
 enter_step : (d : Document) (frames : List Frame) (list : Pending) (run : Bool) (nodes : List (ℕ × Item)) (os : List ℕ) (line q : Place) (lines : List Place) (forest : List (ℕ × Item)) (tables : Tables)
     → taken (containers_of frames) line ≡ Some q
-    → Finish d list run frames nodes os (Inside q) lines forest tables → Finish d list run frames nodes os Line (line ∷ lines) forest tables
-unfolding Finish
+    → OnePassFinish d list run frames nodes os (Inside q) lines forest tables → OnePassFinish d list run frames nodes os Line (line ∷ lines) forest tables
+unfolding OnePassFinish
 enter_step d [] list run nodes [] line q lines forest tables is (s, seq, forest_is, tables_are) = (s, enter_seq d s [] line q lines [] is seq, forest_is, tables_are)
 enter_step d [] list run nodes (o ∷ os) line q lines forest tables is fin = fin
 enter_step d (InContainer c ∷ frames) list run nodes [] line q lines forest tables is fin = fin
@@ -146,8 +147,8 @@ first_here d path p lines opening opens = record { place = p; behind = lines; be
 -- a block with no blocks in it, before which no gap is to be noted
 block_step : (d : Document) (frames : List Frame) (nodes : List (ℕ × Item)) (os : List ℕ) (from : From) (lines left : List Place) (b : LeafBlock) (forest : List (ℕ × Item)) (tables : Tables)
     → IsPlain frames → EndsAlike (length d.text) from (behind_first from Line) → IsFirst d (containers_of frames) from lines (OpensLeaf (Block b) Line left)
-    → Finish d NoList b.gap frames (nodes ++ leaf_items (suc (length os)) false (Block b)) os (behind_first from Line) left forest tables → Finish d NoList false frames nodes os from lines forest tables
-unfolding IsSequence forest_of run_behind has_gap rendered
+    → OnePassFinish d NoList b.gap frames (nodes ++ leaf_items (suc (length os)) false (Block b)) os (behind_first from Line) left forest tables → OnePassFinish d NoList false frames nodes os from lines forest tables
+unfolding IsSequence forest_of run_behind has_gap one_pass_rendered
 block_step d frames nodes os from lines left b forest tables plain alike first fin =
     let added : List (ℕ × Item) = leaf_items (suc (length os)) false (Block b) in
     extend d frames NoList NoList false b.gap false nodes (nodes ++ added) os from (behind_first from Line) lines left forest tables (λ s. Then (Block b) s) plain alike
@@ -157,21 +158,21 @@ block_step d frames nodes os from lines left b forest tables plain alike first f
       runs = refl;
       gaps = refl;
     })
-    (subst (λ z. Finish d NoList b.gap z (nodes ++ added) os (behind_first from Line) left forest tables) (sym (loosened_in-false frames)) fin)
+    (subst (λ z. OnePassFinish d NoList b.gap z (nodes ++ added) os (behind_first from Line) left forest tables) (sym (loosened_in-false frames)) fin)
 
 -- a blank line, where a list may go on
 blank_step : (d : Document) (frames : List Frame) (list : Pending) (run : Bool) (nodes : List (ℕ × Item)) (os : List ℕ) (from : From) (lines left : List Place) (forest : List (ℕ × Item)) (tables : Tables)
     → IsPlain frames → EndsAlike (length d.text) from (behind_first from Line) → IsFirst d (containers_of frames) from lines (OpensLeaf BlankLine Line left)
-    → Finish d list (counts_with (in_quote frames) (byte_in list) run) frames nodes os (behind_first from Line) left forest tables → Finish d list run frames nodes os from lines forest tables
-unfolding IsSequence forest_of run_behind has_gap rendered is_loosened list_end
+    → OnePassFinish d list (counts_with (in_quote frames) (byte_in list) run) frames nodes os (behind_first from Line) left forest tables → OnePassFinish d list run frames nodes os from lines forest tables
+unfolding IsSequence forest_of run_behind has_gap one_pass_rendered is_loosened list_end
 blank_step d frames NoList run nodes os from lines left forest tables plain alike first fin =
     extend d frames NoList NoList run (counts_with (in_quote frames) None run) false nodes nodes os from (behind_first from Line) lines left forest tables (λ s. Then BlankLine s) plain alike
     (λ s mid seq. record { seq = (Line, left, first, seq); items = λ last. refl; runs = refl; gaps = refl })
-    (subst (λ z. Finish d NoList (counts_with (in_quote frames) None run) z nodes os (behind_first from Line) left forest tables) (sym (loosened_in-false frames)) fin)
+    (subst (λ z. OnePassFinish d NoList (counts_with (in_quote frames) None run) z nodes os (behind_first from Line) left forest tables) (sym (loosened_in-false frames)) fin)
 blank_step d frames (OneList o byte loose) run nodes os from lines left forest tables plain alike first fin =
     extend d frames (OneList o byte loose) (OneList o byte loose) run true false nodes nodes os from (behind_first from Line) lines left forest tables (λ s. Then BlankLine s) plain alike
     (λ s mid seq. record { seq = (Line, left, first, seq); items = λ last. refl; runs = refl; gaps = refl })
-    (subst (λ z. Finish d (OneList o byte loose) true z nodes os (behind_first from Line) left forest tables) (sym (loosened_in-false frames)) fin)
+    (subst (λ z. OnePassFinish d (OneList o byte loose) true z nodes os (behind_first from Line) left forest tables) (sym (loosened_in-false frames)) fin)
 
 ended-mid : (nodes more : List (ℕ × Item)) (k e : ℕ) (x : Item) → ended (nodes ++ (k, x) ∷ more) (length nodes) e ≡ nodes ++ (k, record { start = x.start; «end» = e; body = x.body }) ∷ more
 unfolding ended
@@ -186,9 +187,9 @@ quote_items d last e start kind line nodes kids s = sym (append_assoc nodes ((d,
 -- a block quote opened, before which no gap is to be noted
 quote_step : (d : Document) (frames : List Frame) (nodes : List (ℕ × Item)) (os : List ℕ) (p : Place) (lines behind : List Place) (kind : Option BlockQuoteKind) (start line some_end : ℕ) (inside : From) (forest : List (ℕ × Item)) (tables : Tables)
     → IsPlain frames → Opens d (containers_of frames) p lines (OpensNode (record { opener = QuoteMarker kind; start = start; line = line }) inside behind)
-    → Finish d NoList false (InContainer (BlockQuote kind) ∷ frames) (nodes ++ (suc (length os), node_of start some_end (BlockQuoteBody kind)) ∷ []) (length nodes ∷ os) inside behind forest tables
-    → Finish d NoList false frames nodes os (Inside p) lines forest tables
-unfolding Finish IsSequence run_behind has_gap rendered
+    → OnePassFinish d NoList false (InContainer (BlockQuote kind) ∷ frames) (nodes ++ (suc (length os), node_of start some_end (BlockQuoteBody kind)) ∷ []) (length nodes ∷ os) inside behind forest tables
+    → OnePassFinish d NoList false frames nodes os (Inside p) lines forest tables
+unfolding OnePassFinish IsSequence run_behind has_gap one_pass_rendered
 quote_step d frames nodes os p lines behind kind start line some_end inside forest tables plain opens (kids, mid, inner, fin) =
     let n : ℕ = length d.text in
     let path : List Container = containers_of frames in
@@ -208,8 +209,8 @@ quote_step d frames nodes os p lines behind kind start line some_end inside fore
       runs = refl;
       gaps = refl;
     })
-    (subst (λ z. Finish d NoList run z later os Line mid forest tables) (plain_loosened (has_gap true None false kids) frames plain ∙ sym (loosened_in-false frames))
-    (subst (λ z. Finish d NoList run (loosened (has_gap true None false kids) frames) z os Line mid forest tables) same fin))
+    (subst (λ z. OnePassFinish d NoList run z later os Line mid forest tables) (plain_loosened (has_gap true None false kids) frames plain ∙ sym (loosened_in-false frames))
+    (subst (λ z. OnePassFinish d NoList run (loosened (has_gap true None false kids) frames) z os Line mid forest tables) same fin))
 
 ended-second : (nodes more : List (ℕ × Item)) (y : ℕ × Item) (k e : ℕ) (x : Item)
     → ended (nodes ++ y ∷ (k, x) ∷ more) (suc (length nodes)) e ≡ nodes ++ y ∷ (k, record { start = x.start; «end» = e; body = x.body }) ∷ more
@@ -219,10 +220,10 @@ ended-second (z ∷ nodes) more y k e x = ap (λ w. z ∷ w) (ended-second nodes
 
 list_items : (d last e start some_end byte number columns line : ℕ) (flags : ListFlags) (nodes : List (ℕ × Item)) (kids s : Skeleton)
     → (let head : Head = record { opener = ItemMarker byte number columns; start = start; line = line } in
-    rendered d last nodes NoList false (Node head e kids s)
-    ≡ rendered d last (nodes ++ (d, node_of start some_end (ListBody flags byte number)) ∷ (suc d, node_of start e (ListItemBody columns)) ∷ forest_of (suc (suc d)) e false None kids)
+    one_pass_rendered d last nodes NoList false (Node head e kids s)
+    ≡ one_pass_rendered d last (nodes ++ (d, node_of start some_end (ListBody flags byte number)) ∷ (suc d, node_of start e (ListItemBody columns)) ∷ forest_of (suc (suc d)) e false None kids)
     (OneList (length nodes) byte (has_gap false None false kids)) (run_behind false None false kids) s)
-unfolding forest_of rendered
+unfolding forest_of one_pass_rendered
 list_items d last e start some_end byte number columns line flags nodes kids s =
     let loose : Bool = has_gap false None false kids || is_loosened byte (run_behind false None false kids) s in
     let until : ℕ = list_end byte last s in
@@ -237,10 +238,10 @@ list_items d last e start some_end byte number columns line flags nodes kids s =
 -- a list opened with its first item, before which no gap is to be noted
 list_step : (d : Document) (frames : List Frame) (nodes : List (ℕ × Item)) (os : List ℕ) (p : Place) (lines behind : List Place) (byte number columns start line some_end other_end : ℕ) (flags : ListFlags) (inside : From) (forest : List (ℕ × Item)) (tables : Tables)
     → IsPlain frames → Opens d (containers_of frames) p lines (OpensNode (record { opener = ItemMarker byte number columns; start = start; line = line }) inside behind)
-    → Finish d NoList false (InContainer (ListItem columns) ∷ InList byte false ∷ frames)
+    → OnePassFinish d NoList false (InContainer (ListItem columns) ∷ InList byte false ∷ frames)
     (nodes ++ (suc (length os), node_of start some_end (ListBody flags byte number)) ∷ (suc (suc (length os)), node_of start other_end (ListItemBody columns)) ∷ []) (suc (length nodes) ∷ length nodes ∷ os) inside behind forest tables
-    → Finish d NoList false frames nodes os (Inside p) lines forest tables
-unfolding Finish IsSequence run_behind has_gap rendered
+    → OnePassFinish d NoList false frames nodes os (Inside p) lines forest tables
+unfolding OnePassFinish IsSequence run_behind has_gap one_pass_rendered
 list_step d frames nodes os p lines behind byte number columns start line some_end other_end flags inside forest tables plain opens (kids, mid, inner, fin) =
     let n : ℕ = length d.text in
     let path : List Container = containers_of frames in
@@ -262,8 +263,8 @@ list_step d frames nodes os p lines behind byte number columns start line some_e
       runs = refl;
       gaps = refl;
     })
-    (subst (λ z. Finish d (OneList (length nodes) byte gap) run z later os Line mid forest tables) (sym (loosened_in-false frames))
-    (subst (λ z. Finish d (OneList (length nodes) byte gap) run frames z os Line mid forest tables) same fin))
+    (subst (λ z. OnePassFinish d (OneList (length nodes) byte gap) run z later os Line mid forest tables) (sym (loosened_in-false frames))
+    (subst (λ z. OnePassFinish d (OneList (length nodes) byte gap) run frames z os Line mid forest tables) same fin))
 
 or_four : (a b c e : Bool) → (a || (b || (c || e))) ≡ (((a || b) || c) || e)
 or_four true b c e = refl
@@ -297,9 +298,9 @@ unfolding run_behind
 run-item quoted byte number columns start line e run kids s = refl
 
 joined_items : (d last e start byte number columns line o : ℕ) (run loose : Bool) (nodes : List (ℕ × Item)) (kids s : Skeleton) → o < length nodes
-    → rendered d last nodes (OneList o byte loose) run (Node (record { opener = ItemMarker byte number columns; start = start; line = line }) e kids s)
-    ≡ rendered d last (nodes ++ (suc d, node_of start e (ListItemBody columns)) ∷ forest_of (suc (suc d)) e false None kids) (OneList o byte ((loose || run) || has_gap false None false kids)) (run_behind false None false kids) s
-unfolding rendered
+    → one_pass_rendered d last nodes (OneList o byte loose) run (Node (record { opener = ItemMarker byte number columns; start = start; line = line }) e kids s)
+    ≡ one_pass_rendered d last (nodes ++ (suc d, node_of start e (ListItemBody columns)) ∷ forest_of (suc (suc d)) e false None kids) (OneList o byte ((loose || run) || has_gap false None false kids)) (run_behind false None false kids) s
+unfolding one_pass_rendered
 joined_items d last e start byte number columns line o run loose nodes kids s h =
     let head : Head = record { opener = ItemMarker byte number columns; start = start; line = line } in
     let node : Skeleton = Node head e kids s in
@@ -321,10 +322,10 @@ joined_items d last e start byte number columns line o run loose nodes kids s h 
 -- an item opened in a list that goes on
 item_step : (d : Document) (frames : List Frame) (run loose : Bool) (nodes : List (ℕ × Item)) (o : ℕ) (os : List ℕ) (p : Place) (lines behind : List Place) (byte number columns start line some_end : ℕ) (inside : From) (forest : List (ℕ × Item)) (tables : Tables)
     → IsPlain frames → o < length nodes → Opens d (containers_of frames) p lines (OpensNode (record { opener = ItemMarker byte number columns; start = start; line = line }) inside behind)
-    → Finish d NoList false (InContainer (ListItem columns) ∷ InList byte (loose || run) ∷ frames)
+    → OnePassFinish d NoList false (InContainer (ListItem columns) ∷ InList byte (loose || run) ∷ frames)
     (nodes ++ (suc (suc (length os)), node_of start some_end (ListItemBody columns)) ∷ []) (length nodes ∷ o ∷ os) inside behind forest tables
-    → Finish d NoList run (InList byte loose ∷ frames) nodes (o ∷ os) (Inside p) lines forest tables
-unfolding Finish IsSequence rendered
+    → OnePassFinish d NoList run (InList byte loose ∷ frames) nodes (o ∷ os) (Inside p) lines forest tables
+unfolding OnePassFinish IsSequence one_pass_rendered
 item_step d frames run loose nodes o os p lines behind byte number columns start line some_end inside forest tables plain below opens (kids, mid, inner, fin) =
     let n : ℕ = length d.text in
     let path : List Container = containers_of frames in
@@ -345,8 +346,8 @@ item_step d frames run loose nodes o os p lines behind byte number columns start
       runs = run-item (in_quote frames) byte number columns start line e run kids s;
       gaps = gap-item (in_quote frames) byte number columns start line e run kids s;
     })
-    (subst (λ z. Finish d (OneList o byte gap) next z later os Line mid forest tables) (sym (loosened_in-false frames))
-    (subst (λ z. Finish d (OneList o byte gap) next frames z os Line mid forest tables) same fin))
+    (subst (λ z. OnePassFinish d (OneList o byte gap) next z later os Line mid forest tables) (sym (loosened_in-false frames))
+    (subst (λ z. OnePassFinish d (OneList o byte gap) next frames z os Line mid forest tables) same fin))
 
 or-true : (a : Bool) → (a || true) ≡ true
 or-true true = refl
@@ -439,9 +440,9 @@ run-away quoted byte at run (Node head e kids next) u = refl
 -- a list closed before a block that ends it
 close_step : (d : Document) (frames : List Frame) (run loose : Bool) (nodes : List (ℕ × Item)) (o : ℕ) (os : List ℕ) (p : Place) (lines : List Place) (byte at : ℕ) (opening : Opening) (forest : List (ℕ × Item)) (tables : Tables)
     → IsPlain frames → Opens d (containers_of frames) p lines opening → OpensAway byte at opening
-    → Finish d NoList run frames (list_closed nodes o (suc (suc (suc (length os)))) loose at) os (Inside p) lines forest tables
-    → Finish d NoList run (InList byte loose ∷ frames) nodes (o ∷ os) (Inside p) lines forest tables
-unfolding Finish rendered
+    → OnePassFinish d NoList run frames (list_closed nodes o (suc (suc (suc (length os)))) loose at) os (Inside p) lines forest tables
+    → OnePassFinish d NoList run (InList byte loose ∷ frames) nodes (o ∷ os) (Inside p) lines forest tables
+unfolding OnePassFinish one_pass_rendered
 close_step d frames run loose nodes o os p lines byte at opening forest tables plain opens away fin =
     let k : ℕ = suc (length os) in
     let closed : List (ℕ × Item) = list_closed nodes o (suc (suc k)) loose at in
@@ -456,7 +457,7 @@ close_step d frames run loose nodes o os p lines byte at opening forest tables p
       runs = run-away (in_quote frames) byte at run s u;
       gaps = gap-away (in_quote frames) byte at run s u;
     })
-    (subst (λ z. Finish d NoList run z closed os (Inside p) lines forest tables) (sym (loosened_in-false frames)) fin)
+    (subst (λ z. OnePassFinish d NoList run z closed os (Inside p) lines forest tables) (sym (loosened_in-false frames)) fin)
 
 -- what opens is a block, not a blank line
 abbrev pub OpensBlock : Opening → Type 0
@@ -503,8 +504,8 @@ gap_noted d path p lines mid o quoted run (Node head e kids next) opens block se
 -- a gap noted before a block
 note_step : (d : Document) (frames : List Frame) (run : Bool) (nodes : List (ℕ × Item)) (os : List ℕ) (p : Place) (lines : List Place) (opening : Opening) (forest : List (ℕ × Item)) (tables : Tables)
     → IsPlain frames → Opens d (containers_of frames) p lines opening → OpensBlock opening
-    → Finish d NoList false (loosened_in run frames) nodes os (Inside p) lines forest tables → Finish d NoList run frames nodes os (Inside p) lines forest tables
-unfolding rendered
+    → OnePassFinish d NoList false (loosened_in run frames) nodes os (Inside p) lines forest tables → OnePassFinish d NoList run frames nodes os (Inside p) lines forest tables
+unfolding one_pass_rendered
 note_step d frames run nodes os p lines opening forest tables plain opens block fin =
     extend d frames NoList NoList run false run nodes nodes os (Inside p) (Inside p) lines lines forest tables (λ s. s) plain (λ path mid. refl)
     (λ s mid seq. let g = gap_noted d (containers_of frames) p lines mid opening (in_quote frames) run s opens block seq in record { seq = seq; items = λ last. refl; runs = g.0; gaps = g.1 })
@@ -513,21 +514,21 @@ note_step d frames run nodes os p lines opening forest tables plain opens block 
 -- the innermost container closed
 pop_step : (d : Document) (c : Container) (frames : List Frame) (run : Bool) (nodes : List (ℕ × Item)) (o : ℕ) (os : List ℕ) (from : From) (lines : List Place) (forest : List (ℕ × Item)) (tables : Tables)
     → Ends (c ∷ containers_of frames) from lines
-    → (let e : ℕ = end_before (length d.text) (containers_of frames) from lines in Finish d NoList run frames (ended nodes o e) os Line lines forest tables)
-    → Finish d NoList run (InContainer c ∷ frames) nodes (o ∷ os) from lines forest tables
-unfolding Finish IsSequence forest_of run_behind has_gap rendered
+    → (let e : ℕ = end_before (length d.text) (containers_of frames) from lines in OnePassFinish d NoList run frames (ended nodes o e) os Line lines forest tables)
+    → OnePassFinish d NoList run (InContainer c ∷ frames) nodes (o ∷ os) from lines forest tables
+unfolding OnePassFinish IsSequence forest_of run_behind has_gap one_pass_rendered
 pop_step d c frames run nodes o os from lines forest tables ends fin =
     let e : ℕ = end_before (length d.text) (containers_of frames) from lines in (
       Nil,
       lines,
       (ends, refl),
-      subst (λ z. Finish d NoList run z (ended (nodes ++ []) o e) os Line lines forest tables) (sym (loosened-false frames))
-          (subst (λ z. Finish d NoList run frames (ended z o e) os Line lines forest tables) (sym (append-nil nodes)) fin),
+      subst (λ z. OnePassFinish d NoList run z (ended (nodes ++ []) o e) os Line lines forest tables) (sym (loosened-false frames))
+          (subst (λ z. OnePassFinish d NoList run frames (ended z o e) os Line lines forest tables) (sym (append-nil nodes)) fin),
     )
 
 closed_at_end : (depth last : ℕ) (nodes : List (ℕ × Item)) (o byte : ℕ) (loose run : Bool)
-    → rendered depth last (list_closed nodes o (suc (suc depth)) loose last) NoList run Nil ≡ rendered depth last nodes (OneList o byte loose) run Nil
-unfolding rendered is_loosened list_end forest_of
+    → one_pass_rendered depth last (list_closed nodes o (suc (suc depth)) loose last) NoList run Nil ≡ one_pass_rendered depth last nodes (OneList o byte loose) run Nil
+unfolding one_pass_rendered is_loosened list_end forest_of
 closed_at_end depth last nodes o byte loose run = ap (λ z. list_closed nodes o (suc (suc depth)) z last ++ []) (sym (or-false loose))
 
 runs_at_end : (quoted : Bool) (byte : ℕ) (run : Bool) → (run_behind quoted None run Nil ≡ run_behind quoted (Some byte) run Nil) × (has_gap quoted None run Nil ≡ has_gap quoted (Some byte) run Nil)
@@ -537,9 +538,9 @@ runs_at_end quoted byte run = (refl, refl)
 -- a list closed with what is around it
 pop_list_step : (d : Document) (frames : List Frame) (byte : ℕ) (loose run : Bool) (nodes : List (ℕ × Item)) (o : ℕ) (os : List ℕ) (lines : List Place) (forest : List (ℕ × Item)) (tables : Tables)
     → IsPlain frames → Ends (containers_of frames) Line lines
-    → Finish d NoList run frames (list_closed nodes o (suc (suc (suc (length os)))) loose (start_of (length d.text) lines)) os Line lines forest tables
-    → Finish d (OneList o byte loose) run frames nodes os Line lines forest tables
-unfolding Finish
+    → OnePassFinish d NoList run frames (list_closed nodes o (suc (suc (suc (length os)))) loose (start_of (length d.text) lines)) os Line lines forest tables
+    → OnePassFinish d (OneList o byte loose) run frames nodes os Line lines forest tables
+unfolding OnePassFinish
 pop_list_step d [] byte loose run nodes o [] lines forest tables plain ends (s, seq, is, tables_are) =
     let n : ℕ = length d.text in
     let over = ends_at_once d s [] Line lines [] ends seq in
@@ -547,10 +548,10 @@ pop_list_step d [] byte loose run nodes o [] lines forest tables plain ends (s, 
       s,
       seq,
       is
-          ∙ ap (λ z. rendered 1 n (list_closed nodes o 3 loose z) NoList run s) last
-          ∙ ap (λ z. rendered 1 n (list_closed nodes o 3 loose n) NoList run z) over.0
+          ∙ ap (λ z. one_pass_rendered 1 n (list_closed nodes o 3 loose z) NoList run s) last
+          ∙ ap (λ z. one_pass_rendered 1 n (list_closed nodes o 3 loose n) NoList run z) over.0
           ∙ closed_at_end 1 n nodes o byte loose run
-          ∙ ap (λ z. rendered 1 n nodes (OneList o byte loose) run z) (sym over.0),
+          ∙ ap (λ z. one_pass_rendered 1 n nodes (OneList o byte loose) run z) (sym over.0),
       tables_are,
     )
 pop_list_step d [] byte loose run nodes o (x ∷ os) lines forest tables plain ends fin = fin
@@ -563,19 +564,19 @@ pop_list_step d (InContainer c ∷ frames) byte loose run nodes o (x ∷ os) lin
     let e : ℕ = start_of n mid in
     let q : Bool = is_quote c in
     let last : start_of n lines ≡ e = ap (start_of n) (sym over.1) in
-    let items : rendered k e (list_closed nodes o (suc (suc k)) loose (start_of n lines)) NoList run s ≡ rendered k e nodes (OneList o byte loose) run s =
-    ap (λ z. rendered k e (list_closed nodes o (suc (suc k)) loose z) NoList run s) last
-    ∙ ap (λ z. rendered k e (list_closed nodes o (suc (suc k)) loose e) NoList run z) over.0
+    let items : one_pass_rendered k e (list_closed nodes o (suc (suc k)) loose (start_of n lines)) NoList run s ≡ one_pass_rendered k e nodes (OneList o byte loose) run s =
+    ap (λ z. one_pass_rendered k e (list_closed nodes o (suc (suc k)) loose z) NoList run s) last
+    ∙ ap (λ z. one_pass_rendered k e (list_closed nodes o (suc (suc k)) loose e) NoList run z) over.0
     ∙ closed_at_end k e nodes o byte loose run
-    ∙ ap (λ z. rendered k e nodes (OneList o byte loose) run z) (sym over.0) in
+    ∙ ap (λ z. one_pass_rendered k e nodes (OneList o byte loose) run z) (sym over.0) in
     let runs : run_behind q None run s ≡ run_behind q (Some byte) run s = ap (run_behind q None run) over.0 ∙ (runs_at_end q byte run).0 ∙ ap (run_behind q (Some byte) run) (sym over.0) in
     let gaps : has_gap q None run s ≡ has_gap q (Some byte) run s = ap (has_gap q None run) over.0 ∙ (runs_at_end q byte run).1 ∙ ap (has_gap q (Some byte) run) (sym over.0) in (
       s,
       mid,
       seq,
-      subst (λ z. Finish d NoList (run_behind q (Some byte) run s) (loosened (has_gap q (Some byte) run s) frames) (ended z x e) os Line mid forest tables) items
-          (subst (λ z. Finish d NoList (run_behind q (Some byte) run s) (loosened z frames) (ended (rendered k e (list_closed nodes o (suc (suc k)) loose (start_of n lines)) NoList run s) x e) os Line mid forest tables) gaps
-          (subst (λ z. Finish d NoList z (loosened (has_gap q None run s) frames) (ended (rendered k e (list_closed nodes o (suc (suc k)) loose (start_of n lines)) NoList run s) x e) os Line mid forest tables) runs fin)),
+      subst (λ z. OnePassFinish d NoList (run_behind q (Some byte) run s) (loosened (has_gap q (Some byte) run s) frames) (ended z x e) os Line mid forest tables) items
+          (subst (λ z. OnePassFinish d NoList (run_behind q (Some byte) run s) (loosened z frames) (ended (one_pass_rendered k e (list_closed nodes o (suc (suc k)) loose (start_of n lines)) NoList run s) x e) os Line mid forest tables) gaps
+          (subst (λ z. OnePassFinish d NoList z (loosened (has_gap q None run s) frames) (ended (one_pass_rendered k e (list_closed nodes o (suc (suc k)) loose (start_of n lines)) NoList run s) x e) os Line mid forest tables) runs fin)),
     )
 
 -- What a list's flags were doesn't matter once it is closed.
@@ -633,8 +634,8 @@ length-reflagged nodes o l = length-modify nodes o _
 
 -- the flags of a list that may go on
 reflag_list : (d : Document) (frames : List Frame) (byte : ℕ) (loose run l : Bool) (nodes : List (ℕ × Item)) (o : ℕ) (os : List ℕ) (from : From) (lines : List Place) (forest : List (ℕ × Item)) (tables : Tables)
-    → IsPlain frames → Finish d (OneList o byte loose) run frames (reflagged nodes o l) os from lines forest tables → Finish d (OneList o byte loose) run frames nodes os from lines forest tables
-unfolding Finish rendered
+    → IsPlain frames → OnePassFinish d (OneList o byte loose) run frames (reflagged nodes o l) os from lines forest tables → OnePassFinish d (OneList o byte loose) run frames nodes os from lines forest tables
+unfolding OnePassFinish one_pass_rendered
 reflag_list d [] byte loose run l nodes o [] from lines forest tables plain (s, seq, is, tables_are) =
     let n : ℕ = length d.text in
     let now : Bool = loose || is_loosened byte run s in
@@ -648,13 +649,13 @@ reflag_list d (InContainer c ∷ frames) byte loose run l nodes o (x ∷ os) fro
     let now : Bool = loose || is_loosened byte run s in
     let same : list_closed (reflagged nodes o l) o (suc (suc k)) now (list_end byte e s) ++ forest_of k e false (Some (byte, not now)) s ≡ list_closed nodes o (suc (suc k)) now (list_end byte e s) ++ forest_of k e false (Some (byte, not now)) s =
     ap (λ z. z ++ forest_of k e false (Some (byte, not now)) s) (closed-reflagged nodes o (suc (suc k)) l now (list_end byte e s)) in
-    (s, mid, seq, subst (λ z. Finish d NoList (run_behind (is_quote c) (Some byte) run s) (loosened (has_gap (is_quote c) (Some byte) run s) frames) (ended z x e) os Line mid forest tables) same fin)
+    (s, mid, seq, subst (λ z. OnePassFinish d NoList (run_behind (is_quote c) (Some byte) run s) (loosened (has_gap (is_quote c) (Some byte) run s) frames) (ended z x e) os Line mid forest tables) same fin)
 
 -- the flags of the list in whose item blocks go on
 reflag_outer : (d : Document) (c : Container) (frames : List Frame) (byte : ℕ) (loose run l : Bool) (nodes : List (ℕ × Item)) (x o : ℕ) (os : List ℕ) (from : From) (lines : List Place) (forest : List (ℕ × Item)) (tables : Tables)
     → IsPlain frames → o < length nodes
-    → Finish d NoList run (InContainer c ∷ InList byte loose ∷ frames) (reflagged nodes o l) (x ∷ o ∷ os) from lines forest tables → Finish d NoList run (InContainer c ∷ InList byte loose ∷ frames) nodes (x ∷ o ∷ os) from lines forest tables
-unfolding Finish rendered
+    → OnePassFinish d NoList run (InContainer c ∷ InList byte loose ∷ frames) (reflagged nodes o l) (x ∷ o ∷ os) from lines forest tables → OnePassFinish d NoList run (InContainer c ∷ InList byte loose ∷ frames) nodes (x ∷ o ∷ os) from lines forest tables
+unfolding OnePassFinish one_pass_rendered
 reflag_outer d c frames byte loose run l nodes x o os from lines forest tables plain below (s, mid, seq, fin) =
     let k : ℕ = suc (length (x ∷ o ∷ os)) in
     let e : ℕ = end_before (length d.text) (containers_of frames) from mid in
@@ -665,16 +666,16 @@ reflag_outer d c frames byte loose run l nodes x o os from lines forest tables p
       mid,
       seq,
       reflag_list d frames byte loose' run' l (ended (nodes ++ items) x e) o os Line mid forest tables plain
-          (subst (λ z. Finish d (OneList o byte loose') run' frames z os Line mid forest tables) (ended-reflagged nodes items o x e l below) fin),
+          (subst (λ z. OnePassFinish d (OneList o byte loose') run' frames z os Line mid forest tables) (ended-reflagged nodes items o x e l below) fin),
     )
 
 -- before the first line
 pub completes-first : (d : Document) → Completes d false [] (root_of (length d.text) ∷ []) [] Line (lines_at 0 d.text)
-unfolding Finish rendered
+unfolding OnePassFinish one_pass_rendered
 completes-first d = record {
   below = tt;
   shape = tt;
-  whole = λ forest tables fin. record { skeleton = fin.0; sequence = fin.1; forest_is = fin.2 ∙ sym (rows_items d.text fin.0); tables_are = fin.3 };
+  whole = by_one_pass _ _ _ _ _ _ _ (λ forest tables fin. record { skeleton = fin.0; sequence = fin.1; forest_is = fin.2 ∙ sym (rows_items d.text fin.0); tables_are = fin.3 });
 }
 
 -- inside a line that the whole path goes on with
@@ -683,7 +684,7 @@ pub completes-enter : (d : Document) (run : Bool) (frames : List Frame) (nodes :
 completes-enter d run frames nodes os line q lines is c = record {
   below = c.below;
   shape = c.shape;
-  whole = λ forest tables fin. c.whole forest tables (enter_step d frames NoList run nodes os line q lines forest tables is fin);
+  whole = by_one_pass _ _ _ _ _ _ _ (λ forest tables fin. in_one_pass _ _ _ _ _ _ _ c forest tables (enter_step d frames NoList run nodes os line q lines forest tables is fin));
 }
 
 -- behind a block with no blocks in it, wherever it begins
@@ -693,7 +694,7 @@ pub completes-leaf : (d : Document) (frames : List Frame) (nodes : List (ℕ × 
 completes-leaf d frames nodes os from lines left b plain alike first c = record {
   below = AreBelow-more _ _ os (let k = length-append nodes (leaf_items (suc (length os)) false (Block b)) in omega arith) c.below;
   shape = c.shape;
-  whole = λ forest tables fin. c.whole forest tables (block_step d frames nodes os from lines left b forest tables plain alike first fin);
+  whole = by_one_pass _ _ _ _ _ _ _ (λ forest tables fin. in_one_pass _ _ _ _ _ _ _ c forest tables (block_step d frames nodes os from lines left b forest tables plain alike first fin));
 }
 
 -- behind a block with no blocks in it, which begins inside a line
@@ -732,8 +733,8 @@ counts_in (InList byte loose ∷ frames) run = true
 
 blank_any : (d : Document) (frames : List Frame) (run : Bool) (nodes : List (ℕ × Item)) (os : List ℕ) (from : From) (lines left : List Place) (forest : List (ℕ × Item)) (tables : Tables)
     → IsShaped frames → EndsAlike (length d.text) from (behind_first from Line) → IsFirst d (containers_of frames) from lines (OpensLeaf BlankLine Line left)
-    → Finish d NoList (counts_in frames run) frames nodes os (behind_first from Line) left forest tables → Finish d NoList run frames nodes os from lines forest tables
-unfolding Finish
+    → OnePassFinish d NoList (counts_in frames run) frames nodes os (behind_first from Line) left forest tables → OnePassFinish d NoList run frames nodes os from lines forest tables
+unfolding OnePassFinish
 blank_any d [] run nodes os from lines left forest tables shape alike first fin = blank_step d [] NoList run nodes os from lines left forest tables tt alike first fin
 blank_any d (InContainer c ∷ frames) run nodes os from lines left forest tables shape alike first fin = blank_step d (InContainer c ∷ frames) NoList run nodes os from lines left forest tables tt alike first fin
 blank_any d (InList byte loose ∷ frames) run nodes [] from lines left forest tables shape alike first fin = fin
@@ -746,7 +747,7 @@ pub completes-blank : (d : Document) (run : Bool) (frames : List Frame) (nodes :
 completes-blank d run frames nodes os from lines left alike first c = record {
   below = c.below;
   shape = c.shape;
-  whole = λ forest tables fin. c.whole forest tables (blank_any d frames run nodes os from lines left forest tables c.shape alike first fin);
+  whole = by_one_pass _ _ _ _ _ _ _ (λ forest tables fin. in_one_pass _ _ _ _ _ _ _ c forest tables (blank_any d frames run nodes os from lines left forest tables c.shape alike first fin));
 }
 
 -- behind a blank line that begins inside a line
@@ -765,8 +766,8 @@ completes-only_blank d run columns frames nodes os e line p lines begins opens c
 
 -- At the text's end, with nothing open, the nodes are the forest.
 pub completes-end : (d : Document) (run : Bool) (nodes : List (ℕ × Item)) → Completes d run [] nodes [] Line [] → Derives d nodes (tables_of Nil)
-unfolding Finish IsSequence forest_of rendered
-completes-end d run nodes c = c.whole nodes (tables_of Nil) (Nil, (tt, refl), sym (append-nil nodes), refl)
+unfolding OnePassFinish IsSequence forest_of one_pass_rendered
+completes-end d run nodes c = in_one_pass _ _ _ _ _ _ _ c nodes (tables_of Nil) (Nil, (tt, refl), sym (append-nil nodes), refl)
 
 -- the innermost container closed
 pub completes-pop : (d : Document) (run : Bool) (c : Container) (frames : List Frame) (nodes : List (ℕ × Item)) (o : ℕ) (os : List ℕ) (from : From) (lines : List Place)
@@ -775,14 +776,14 @@ pub completes-pop : (d : Document) (run : Bool) (c : Container) (frames : List F
 completes-pop d run c frames nodes o os from lines ends k = record {
   below = AreBelow-more o _ os (let l = length-ended nodes o (end_before (length d.text) (containers_of frames) from lines) in let b : o < length nodes = k.below.0 in omega arith) k.below.1;
   shape = k.shape;
-  whole = λ forest tables fin. k.whole forest tables (pop_step d c frames run nodes o os from lines forest tables ends fin);
+  whole = by_one_pass _ _ _ _ _ _ _ (λ forest tables fin. in_one_pass _ _ _ _ _ _ _ k forest tables (pop_step d c frames run nodes o os from lines forest tables ends fin));
 }
 
 pop_list_whole : (d : Document) (frames : List Frame) (byte : ℕ) (loose run : Bool) (nodes : List (ℕ × Item)) (o : ℕ) (os : List ℕ) (lines : List Place) (forest : List (ℕ × Item)) (tables : Tables)
     → IsPlain frames → Ends (containers_of frames) Line lines
-    → Finish d NoList run frames (list_closed nodes o (suc (suc (suc (length os)))) loose (start_of (length d.text) lines)) os Line lines forest tables
-    → Finish d NoList run (InList byte loose ∷ frames) nodes (o ∷ os) Line lines forest tables
-unfolding Finish
+    → OnePassFinish d NoList run frames (list_closed nodes o (suc (suc (suc (length os)))) loose (start_of (length d.text) lines)) os Line lines forest tables
+    → OnePassFinish d NoList run (InList byte loose ∷ frames) nodes (o ∷ os) Line lines forest tables
+unfolding OnePassFinish
 pop_list_whole d frames byte loose run nodes o os lines forest tables plain ends fin = pop_list_step d frames byte loose run nodes o os lines forest tables plain ends fin
 
 -- a list closed with what is around it
@@ -792,7 +793,7 @@ pub completes-pop_list : (d : Document) (run : Bool) (byte : ℕ) (loose : Bool)
 completes-pop_list d run byte loose frames nodes o os lines ends k = record {
   below = AreBelow-more o _ os (let l = length-closed nodes o (suc (suc (suc (length os)))) loose (start_of (length d.text) lines) in let b : o < length nodes = k.below.0 in omega arith) k.below.1;
   shape = k.shape.1;
-  whole = λ forest tables fin. k.whole forest tables (pop_list_whole d frames byte loose run nodes o os lines forest tables k.shape.0 ends fin);
+  whole = by_one_pass _ _ _ _ _ _ _ (λ forest tables fin. in_one_pass _ _ _ _ _ _ _ k forest tables (pop_list_whole d frames byte loose run nodes o os lines forest tables k.shape.0 ends fin));
 }
 
 -- a list closed before a block that ends it
@@ -803,7 +804,7 @@ pub completes-close : (d : Document) (run : Bool) (byte : ℕ) (loose : Bool) (f
 completes-close d run byte loose frames nodes o os p lines at opening opens away k = record {
   below = AreBelow-more o _ os (let l = length-closed nodes o (suc (suc (suc (length os)))) loose at in let b : o < length nodes = k.below.0 in omega arith) k.below.1;
   shape = k.shape.1;
-  whole = λ forest tables fin. k.whole forest tables (close_step d frames run loose nodes o os p lines byte at opening forest tables k.shape.0 opens away fin);
+  whole = by_one_pass _ _ _ _ _ _ _ (λ forest tables fin. in_one_pass _ _ _ _ _ _ _ k forest tables (close_step d frames run loose nodes o os p lines byte at opening forest tables k.shape.0 opens away fin));
 }
 
 plain-loosened : (gap : Bool) (frames : List Frame) → IsPlain frames → IsPlain (loosened gap frames)
@@ -828,7 +829,7 @@ pub completes-note : (d : Document) (run : Bool) (frames : List Frame) (nodes : 
 completes-note d run frames nodes os p lines opening plain opens block k = record {
   below = k.below;
   shape = shaped-loosened_in run frames k.shape;
-  whole = λ forest tables fin. k.whole forest tables (note_step d frames run nodes os p lines opening forest tables plain opens block fin);
+  whole = by_one_pass _ _ _ _ _ _ _ (λ forest tables fin. in_one_pass _ _ _ _ _ _ _ k forest tables (note_step d frames run nodes os p lines opening forest tables plain opens block fin));
 }
 
 -- the flags of the list in whose item blocks go on
@@ -837,13 +838,13 @@ pub completes-reflag : (d : Document) (run : Bool) (c : Container) (byte : ℕ) 
 completes-reflag d run c byte loose l frames nodes x o os from lines k = record {
   below = AreBelow-more _ _ (x ∷ o ∷ os) (let n = length-reflagged nodes o l in omega arith) k.below;
   shape = k.shape;
-  whole = λ forest tables fin. k.whole forest tables
-      (reflag_outer d c frames byte loose run l nodes x o os from lines forest tables k.shape.0 (let a : x < length nodes = k.below.0 in let b : o < x = k.below.1.0 in omega arith) fin);
+  whole = by_one_pass _ _ _ _ _ _ _ (λ forest tables fin. in_one_pass _ _ _ _ _ _ _ k forest tables
+      (reflag_outer d c frames byte loose run l nodes x o os from lines forest tables k.shape.0 (let a : x < length nodes = k.below.0 in let b : o < x = k.below.1.0 in omega arith) fin));
 }
 
 reflag_whole : (d : Document) (frames : List Frame) (byte : ℕ) (loose run l : Bool) (nodes : List (ℕ × Item)) (o : ℕ) (os : List ℕ) (from : From) (lines : List Place) (forest : List (ℕ × Item)) (tables : Tables)
-    → IsPlain frames → Finish d NoList run (InList byte loose ∷ frames) (reflagged nodes o l) (o ∷ os) from lines forest tables → Finish d NoList run (InList byte loose ∷ frames) nodes (o ∷ os) from lines forest tables
-unfolding Finish
+    → IsPlain frames → OnePassFinish d NoList run (InList byte loose ∷ frames) (reflagged nodes o l) (o ∷ os) from lines forest tables → OnePassFinish d NoList run (InList byte loose ∷ frames) nodes (o ∷ os) from lines forest tables
+unfolding OnePassFinish
 reflag_whole d frames byte loose run l nodes o os from lines forest tables plain fin = reflag_list d frames byte loose run l nodes o os from lines forest tables plain fin
 
 -- the flags of a list that may go on
@@ -852,7 +853,7 @@ pub completes-reflag_list : (d : Document) (run : Bool) (byte : ℕ) (loose l : 
 completes-reflag_list d run byte loose l frames nodes o os from lines k = record {
   below = AreBelow-more _ _ (o ∷ os) (let n = length-reflagged nodes o l in omega arith) k.below;
   shape = k.shape;
-  whole = λ forest tables fin. k.whole forest tables (reflag_whole d frames byte loose run l nodes o os from lines forest tables k.shape.0 fin);
+  whole = by_one_pass _ _ _ _ _ _ _ (λ forest tables fin. in_one_pass _ _ _ _ _ _ _ k forest tables (reflag_whole d frames byte loose run l nodes o os from lines forest tables k.shape.0 fin));
 }
 
 -- a block quote opened
@@ -865,7 +866,7 @@ completes-quote d frames nodes os p lines behind kind start line some_end inside
     record {
       below = (omega arith, k.below);
       shape = k.shape;
-      whole = λ forest tables fin. k.whole forest tables (quote_step d frames nodes os p lines behind kind start line some_end inside forest tables plain opens fin);
+      whole = by_one_pass _ _ _ _ _ _ _ (λ forest tables fin. in_one_pass _ _ _ _ _ _ _ k forest tables (quote_step d frames nodes os p lines behind kind start line some_end inside forest tables plain opens fin));
     }
 
 -- a list opened, with its first item
@@ -880,7 +881,7 @@ completes-list d frames nodes os p lines behind byte number columns start line s
     record {
       below = (omega arith, (omega arith, k.below));
       shape = (plain, k.shape);
-      whole = λ forest tables fin. k.whole forest tables (list_step d frames nodes os p lines behind byte number columns start line some_end other_end flags inside forest tables plain opens fin);
+      whole = by_one_pass _ _ _ _ _ _ _ (λ forest tables fin. in_one_pass _ _ _ _ _ _ _ k forest tables (list_step d frames nodes os p lines behind byte number columns start line some_end other_end flags inside forest tables plain opens fin));
     }
 
 -- an item opened in a list that goes on
@@ -893,5 +894,5 @@ completes-item d run loose frames nodes o os p lines behind byte number columns 
     record {
       below = (omega arith, k.below);
       shape = k.shape;
-      whole = λ forest tables fin. k.whole forest tables (item_step d frames run loose nodes o os p lines behind byte number columns start line some_end inside forest tables k.shape.0 k.below.0 opens fin);
+      whole = by_one_pass _ _ _ _ _ _ _ (λ forest tables fin. in_one_pass _ _ _ _ _ _ _ k forest tables (item_step d frames run loose nodes o os p lines behind byte number columns start line some_end inside forest tables k.shape.0 k.below.0 opens fin));
     }

@@ -2,6 +2,8 @@ pub mod Alike
 pub mod Completions
 pub mod NamedItems
 pub mod NoIndex
+pub mod OnePass
+pub mod OnePassFinish
 pub mod Orders
 pub mod RowLemmas
 pub mod Tightening

@@ -5,7 +5,7 @@ use Rattle.first_pass_items.specs.declared.item.Item.{Item}
 use Rattle.first_pass_items.specs.declared.item.ItemBody.TheVariants.{BlockQuote as BlockQuoteBody, List as ListBody, ListItem as ListItemBody}
 use Rattle.first_pass_grammar.specs.Skeleton.{BlankLine, Block, Opener, QuoteMarker, ItemMarker, Skeleton, Nil, Then, Node}
 use Rattle.first_pass_grammar.specs.Rows.{AList, AnItem, Row, Rows, End, OneOf, behind, ends_in_gap, any_gap, is_loose, items_behind, list_behind, list_until, what_of, row_of, container_row, is_quote_marker, begins_blank, counts_behind, rows_of, closing_place}
-use Rattle.first_pass_grammar.specs.OnePass.{list_byte, joins, counts_with, run_behind, has_gap, list_end, is_loosened, list_item, container_items, forest_of}
+use Rattle.first_pass_grammar.proofs.OnePass.{list_byte, joins, counts_with, run_behind, has_gap, list_end, is_loosened, list_item, container_items, forest_of}
 use Rattle.first_pass_grammar.specs.Derivation.{node_of, list_flags, block_items, items_of, root_of}
 
 or-none : (a : Bool) → (a || false) ≡ a
@@ -37,7 +37,7 @@ behind-none (End gap) = refl
 behind-none (OneOf row inner next) = refl
 
 -- a blank line behind an item, if any, counts
-abbrev behind_item : Option ℕ → Skeleton → Bool
+abbrev pub behind_item : Option ℕ → Skeleton → Bool
 behind_item None s = false
 behind_item (Some byte) s = begins_blank s
 
@@ -46,7 +46,7 @@ item-opened (QuoteMarker kind) s = refl
 item-opened (ItemMarker byte number columns) s = refl
 
 -- the rows behind the list of an item, if any
-abbrev rows_behind : Option ℕ → Rows → Rows
+abbrev pub rows_behind : Option ℕ → Rows → Rows
 rows_behind None r = r
 rows_behind (Some byte) r = list_behind byte r
 
@@ -73,7 +73,7 @@ unfolding ends_in_gap
 ends-container run last (QuoteMarker kind) row inner next = refl
 ends-container run last (ItemMarker byte number columns) row inner next = ends-behind byte next
 
-run_ends : (quoted : Bool) (list : Option ℕ) (run : Bool) (last : ℕ) (s : Skeleton)
+pub run_ends : (quoted : Bool) (list : Option ℕ) (run : Bool) (last : ℕ) (s : Skeleton)
     → run_behind quoted list run s ≡ ends_in_gap (behind (run || behind_item list s) (rows_of quoted last s))
 unfolding run_behind ends_in_gap rows_of
 run_ends quoted None run last Nil = sym (or-none (run || false) ∙ or-none run)
@@ -115,7 +115,7 @@ gaps-container None run g last (ItemMarker byte number columns) line start e inn
 gaps-container (Some l) run g last (QuoteMarker kind) line start e inner next same = ap (λ z. z || g) (and-some run ∙ sym (or-none run)) ∙ ap (λ z. (run || false) || z) same
 gaps-container (Some l) run g last (ItemMarker byte number columns) line start e inner next same = gap_by (l == byte) run g _ _ (list_behind byte next) refl same
 
-gaps : (quoted : Bool) (list : Option ℕ) (run : Bool) (last : ℕ) (s : Skeleton)
+pub gaps : (quoted : Bool) (list : Option ℕ) (run : Bool) (last : ℕ) (s : Skeleton)
     → has_gap quoted list run s ≡ any_gap (rows_behind list (behind (run || behind_item list s) (rows_of quoted last s)))
 unfolding has_gap any_gap rows_of
 gaps quoted None run last Nil = refl
@@ -176,7 +176,7 @@ loosened_next quoted byte last opener e kids next is further =
     ∙ ap (λ z. is_loose (items_behind byte (behind (z || begins_blank next) (rows_of quoted last next)))) (inner-run false e kids ∙ ap (λ z. ends_in_gap (rows_of z e kids)) (sym w.0))
     ∙ ap (λ z. is_loose (items_behind byte (behind (ends_in_gap (rows_of (is_quote_marker opener) e kids) || z) (rows_of quoted last next)))) (sym (w.1 next))
 
-loosened : (quoted : Bool) (byte : ℕ) (run : Bool) (last : ℕ) (s : Skeleton)
+pub loosened : (quoted : Bool) (byte : ℕ) (run : Bool) (last : ℕ) (s : Skeleton)
     → is_loosened byte run s ≡ is_loose (items_behind byte (behind (run || begins_blank s) (rows_of quoted last s)))
 unfolding is_loosened is_loose rows_of
 loosened quoted byte run last Nil = refl
@@ -191,7 +191,7 @@ loosened quoted byte run last (Node head e kids next) =
     ∙ ap (λ z. is_loose (items_behind byte (behind z (rows_of quoted last (Node head e kids next))))) (sym (or-none run))
 
 -- Where lists end.
-until-behind : (byte last : ℕ) (run : Bool) (r : Rows) → list_until byte last (behind run r) ≡ list_until byte last r
+pub until-behind : (byte last : ℕ) (run : Bool) (r : Rows) → list_until byte last (behind run r) ≡ list_until byte last r
 until-behind byte last run (End gap) = refl
 until-behind byte last run (OneOf row inner next) = refl
 
@@ -206,7 +206,7 @@ until-container list last g (QuoteMarker kind) line start e inner next same = re
 until-container list last g (ItemMarker byte number columns) line start e inner next same =
     same_by (list == byte) g (list_until byte last next) start (λ t. let is : list ≡ byte = eqb-true list byte t in same (ap Some (sym is)) ∙ ap (λ z. list_until z last next) is)
 
-until : (quoted : Bool) (byte last : ℕ) (s : Skeleton) → list_end byte last s ≡ list_until byte last (rows_of quoted last s)
+pub until : (quoted : Bool) (byte last : ℕ) (s : Skeleton) → list_end byte last s ≡ list_until byte last (rows_of quoted last s)
 unfolding list_end rows_of
 until quoted byte last Nil = refl
 until quoted byte last (Then BlankLine next) = until quoted byte last next ∙ sym (until-behind byte last (not quoted) (rows_of quoted last next))
@@ -216,11 +216,11 @@ until quoted byte last (Node head e kids next) =
     (λ is. until quoted byte last next ∙ sym (until-behind byte last (ends_in_gap (rows_of (is_quote_marker head.opener) e kids) || counts_behind head.opener next) (rows_of quoted last next)))
 
 -- Their items, behind an item of a list with a byte, tight or not, if any.
-abbrev placed : ℕ → Bool → Option (ℕ × Bool) → Rows → List (ℕ × Item)
+abbrev pub placed : ℕ → Bool → Option (ℕ × Bool) → Rows → List (ℕ × Item)
 placed depth tight None r = items_of depth tight r
 placed depth tight (Some list) r = items_of (suc depth) list.1 (items_behind list.0 r) ++ items_of depth tight (list_behind list.0 r)
 
-items-run : (depth : ℕ) (tight run : Bool) (r : Rows) → items_of depth tight (behind run r) ≡ items_of depth tight r
+pub items-run : (depth : ℕ) (tight run : Bool) (r : Rows) → items_of depth tight (behind run r) ≡ items_of depth tight r
 unfolding items_of
 items-run depth tight run (End gap) = refl
 items-run depth tight run (OneOf row inner next) = refl
@@ -234,7 +234,7 @@ past_by : (t : Bool) (depth : ℕ) (tight run : Bool) (row : Row) (inner next : 
 past_by true depth tight run row inner next = refl
 past_by false depth tight run row inner next = items-run depth tight run (OneOf row inner next)
 
-placed-run : (depth : ℕ) (tight : Bool) (list : Option (ℕ × Bool)) (run : Bool) (r : Rows) → placed depth tight list (behind run r) ≡ placed depth tight list r
+pub placed-run : (depth : ℕ) (tight : Bool) (list : Option (ℕ × Bool)) (run : Bool) (r : Rows) → placed depth tight list (behind run r) ≡ placed depth tight list r
 placed-run depth tight None run r = items-run depth tight run r
 placed-run depth tight (Some list) run (End gap) = ap (λ z. items_of (suc depth) list.1 (End false) ++ z) (items-run depth tight run (End gap))
 placed-run depth tight (Some list) run (OneOf row inner next) =
@@ -298,7 +298,7 @@ items-container depth last tight None (ItemMarker byte number columns) line star
 items-container depth last tight (Some l) (ItemMarker byte number columns) line start e inner next kids further until loose k f ends same =
     item_by (l.0 == byte) depth last tight l.1 (loose byte) start e byte number columns line (until byte) inner next kids further k f (ends byte) (same byte refl)
 
-rows_placed : (quoted : Bool) (depth last : ℕ) (tight : Bool) (list : Option (ℕ × Bool)) (s : Skeleton) → forest_of depth last tight list s ≡ placed depth tight list (rows_of quoted last s)
+pub rows_placed : (quoted : Bool) (depth last : ℕ) (tight : Bool) (list : Option (ℕ × Bool)) (s : Skeleton) → forest_of depth last tight list s ≡ placed depth tight list (rows_of quoted last s)
 unfolding forest_of items_of rows_of
 rows_placed quoted depth last tight None Nil = refl
 rows_placed quoted depth last tight (Some l) Nil = refl

@@ -8,7 +8,7 @@ use Rattle.first_pass_items.specs.declared.item.BlockQuoteKind.{BlockQuoteKind}
 use Rattle.first_pass_items.specs.declared.item.ItemBody.TheVariants.{BlockQuote as BlockQuoteBody, List as ListBody, ListItem as ListItemBody}
 use Rattle.first_pass_tree.specs.Forest.{modify, map_from, at_depth}
 use Rattle.first_pass_grammar.specs.Skeleton.{Leaf, BlankLine, Block, Opener, QuoteMarker, ItemMarker, Skeleton, Nil, Then, Node}
-use Rattle.first_pass_grammar.specs.OnePass.{list_end, is_loosened, has_gap, run_behind, leaf_items, tight_of, list_item, container_items, forest_of}
+use Rattle.first_pass_grammar.proofs.OnePass.{list_end, is_loosened, has_gap, run_behind, leaf_items, tight_of, list_item, container_items, forest_of}
 use Rattle.first_pass_grammar.specs.Derivation.{node_of, list_flags, tightened}
 use Rattle.first_pass_grammar.specs.Completion.{flagged, list_closed}
 

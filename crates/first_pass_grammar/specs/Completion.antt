@@ -1,5 +1,5 @@
 -- What nodes that are not yet a whole tree can still become.
-use Rattle.std.specs.Prelude.{◌≡◌, ℕ, suc, ◌<◌, ◌||◌, not, Bool, true, false, List, [], ◌∷◌, ◌++◌, length, drop, Option, Some, None, if◌then◌else◌}
+use Rattle.std.specs.Prelude.{◌≡◌, ℕ, suc, ◌<◌, ◌||◌, not, Bool, true, false, List, [], ◌∷◌, ◌++◌, length, drop, if◌then◌else◌}
 use Rattle.first_pass_items.specs.declared.item.Item.{Item}
 use Rattle.first_pass_items.specs.declared.item.ItemBody.{ItemBody}
 use Rattle.first_pass_items.specs.declared.item.ItemBody.TheVariants.{List as ListBody}
@@ -9,8 +9,8 @@ use Rattle.first_pass_grammar.specs.declared.kind.Container.{Container}
 use Rattle.first_pass_grammar.specs.declared.kind.Container.TheVariants.{BlockQuote, ListItem}
 use Rattle.first_pass_grammar.specs.Leaves.{Document}
 use Rattle.first_pass_grammar.specs.Skeleton.{From, Line, end_before, Skeleton, IsSequence}
-use Rattle.first_pass_grammar.specs.OnePass.{has_gap, run_behind, is_loosened, list_end, forest_of}
-use Rattle.first_pass_grammar.specs.Derivation.{Tables, Derives, tables_of, list_flags, tightened}
+use Rattle.first_pass_grammar.specs.Rows.{Rows, behind, ends_in_gap, any_gap, is_loose, list_until, items_behind, list_behind, begins_blank, rows_of}
+use Rattle.first_pass_grammar.specs.Derivation.{Tables, Derives, tables_of, list_flags, tightened, items_of}
 
 -- the lines of a text from an offset on, which is a line's start
 abbrev pub lines_from : List ℕ → ℕ → List Place
@@ -40,16 +40,28 @@ pub data Pending : Type 0 where
   NoList : Pending
   OneList : ℕ → ℕ → Bool → Pending
 
-abbrev pub byte_in : Pending → Option ℕ
-byte_in NoList = None
-byte_in (OneList place byte loose) = Some byte
+-- a blank line is first, and counts there: behind an item its list is innermost (this project)
+abbrev pub counts_first : Pending → Skeleton → Bool
+counts_first NoList s = false
+counts_first (OneList place byte loose) s = begins_blank s
 
--- the nodes, and behind them the items of a sequence, whose blocks have this depth, in a container that ends at an offset
-unfoldable pub rendered : ℕ → ℕ → List (ℕ × Item) → Pending → Bool → Skeleton → List (ℕ × Item)
-rendered depth last nodes NoList run s = nodes ++ forest_of depth last false None s
-rendered depth last nodes (OneList place byte loose) run s =
-    list_closed nodes place (suc (suc depth)) (loose || is_loosened byte run s) (list_end byte last s)
-    ++ forest_of depth last false (Some (byte, not (loose || is_loosened byte run s))) s
+-- The rows of what goes on in a container, a block quote or not, that ends at an offset, behind a run of blank lines of which one counts or none.
+abbrev pub rows_on : Bool → ℕ → Pending → Bool → Skeleton → Rows
+rows_on quoted last list run s = behind (run || counts_first list s) (rows_of quoted last s)
+
+-- of such rows those that are not the list's that may go on
+abbrev pub rows_beyond : Pending → Rows → Rows
+rows_beyond NoList rows = rows
+rows_beyond (OneList place byte loose) rows = list_behind byte rows
+
+-- The nodes, and behind them these rows, whose blocks have this depth, in a container that ends at an offset. A list that may go on takes the items among
+-- them that go on with it, and is loose where it was or where they make it so; what is behind it stands beside it (CommonMark 5.3).
+unfoldable pub rendered : ℕ → ℕ → List (ℕ × Item) → Pending → Rows → List (ℕ × Item)
+rendered depth last nodes NoList rows = nodes ++ items_of depth false rows
+rendered depth last nodes (OneList place byte loose) rows =
+    let now : Bool = loose || is_loose (items_behind byte rows) in
+    list_closed nodes place (suc (suc depth)) now (list_until byte last rows)
+    ++ (items_of (suc depth) (not now) (items_behind byte rows) ++ items_of depth false (list_behind byte rows))
 
 -- an open node: a container, or a list with its byte and whether it is loose so far
 pub data Frame : Type 0 where
@@ -78,19 +90,22 @@ loosened_in gap [] = []
 loosened_in gap (frame ∷ frames) = frame ∷ loosened gap frames
 
 -- From these nodes, of which those at these places are not closed and are what the frames say, both listed from the innermost on, and from here on the
--- forest and the tables come about: the innermost container takes some sequence of the grammar and ends behind it, and so on outwards; a list ends with
--- what goes on with it.
+-- forest and the tables come about: the innermost container takes some sequence of the grammar, whose rows stand in it then, and ends behind it, and so on
+-- outwards; a list ends with what goes on with it.
 unfoldable pub Finish : Document → Pending → Bool → List Frame → List (ℕ × Item) → List ℕ → From → List Place → List (ℕ × Item) → Tables → Type 0
 Finish d list run [] nodes [] from lines forest tables =
-    (s : Skeleton) × IsSequence d s [] from lines [] × (forest ≡ rendered 1 (length d.text) nodes list run s) × (tables ≡ tables_of s)
+    (s : Skeleton) × IsSequence d s [] from lines [] × (forest ≡ rendered 1 (length d.text) nodes list (rows_on false (length d.text) list run s))
+    × (tables ≡ tables_of s)
 Finish d list run [] nodes (place ∷ places) from lines forest tables = ⊥
 Finish d list run (frame ∷ frames) nodes [] from lines forest tables = ⊥
-Finish d list run (InList byte loose ∷ frames) nodes (place ∷ places) from lines forest tables = Finish d (OneList place byte loose) run frames nodes places from lines forest tables
+Finish d list run (InList byte loose ∷ frames) nodes (place ∷ places) from lines forest tables =
+    Finish d (OneList place byte loose) run frames nodes places from lines forest tables
 Finish d list run (InContainer c ∷ frames) nodes (place ∷ places) from lines forest tables =
     (s : Skeleton) × (mid : List Place) × IsSequence d s (c ∷ containers_of frames) from lines mid
-    × Finish d NoList (run_behind (is_quote c) (byte_in list) run s) (loosened (has_gap (is_quote c) (byte_in list) run s) frames)
-    (ended (rendered (suc (length (place ∷ places))) (end_before (length d.text) (containers_of frames) from mid) nodes list run s) place (end_before (length d.text) (containers_of frames) from mid))
-    places Line mid forest tables
+    × (let last : ℕ = end_before (length d.text) (containers_of frames) from mid in
+    let rows : Rows = rows_on (is_quote c) last list run s in
+    Finish d NoList (ends_in_gap rows) (loosened (any_gap (rows_beyond list rows)) frames) (ended (rendered (suc (length (place ∷ places))) last nodes list rows) place last)
+    places Line mid forest tables)
 
 -- each place is before the one inside it, and the innermost before an end
 abbrev pub AreBelow : ℕ → List ℕ → Type 0

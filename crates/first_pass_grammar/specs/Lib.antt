@@ -7,7 +7,6 @@ pub mod HtmlBlocks
 pub mod Kinds
 pub mod Leaves
 pub mod Names
-pub mod OnePass
 pub mod OpenOrder
 pub mod Order
 pub mod RawLines

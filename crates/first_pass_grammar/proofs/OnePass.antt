@@ -1,4 +1,4 @@
--- The same as the rows say, in one pass over a sequence behind what stood before: by these words it is told what nodes can still become (Completion).
+-- The same as the rows say, in one pass over a sequence behind what stood before: a device of proofs by recursion over a sequence.
 use Rattle.std.specs.Prelude.{ℕ, suc, ◌==◌, ◌&&◌, ◌||◌, not, Bool, true, false, Option, Some, None, List, [], ◌∷◌, ◌++◌, if◌then◌else◌}
 use Rattle.first_pass_items.specs.declared.item.Item.{Item}
 use Rattle.first_pass_items.specs.declared.item.ItemBody.TheVariants.{BlockQuote as BlockQuoteBody, List as ListBody, ListItem as ListItemBody}

@@ -1,0 +1,119 @@
+-- What nodes can still become, told in one pass over a sequence, is what the rows say.
+use Rattle.std.proofs.Common.{◌≡◌, ℕ, suc, Bool, false, not, ◌||◌, List, [], ◌∷◌, ◌++◌, length, Option, Some, None, sym, ap, ◌∙◌, subst}
+use Rattle.first_pass_items.specs.declared.item.Item.{Item}
+use Rattle.first_pass_lines.specs.Places.{Place}
+use Rattle.first_pass_grammar.specs.Leaves.{Document}
+use Rattle.first_pass_grammar.specs.Skeleton.{From, Line, end_before, Skeleton, IsSequence}
+use Rattle.first_pass_grammar.specs.Rows.{Rows, ends_in_gap, any_gap, is_loose, list_until, items_behind, begins_blank, rows_of}
+use Rattle.first_pass_grammar.specs.Derivation.{Tables, Derives, tables_of}
+use Rattle.first_pass_grammar.specs.Completion.{ended, list_closed, Pending, NoList, OneList, rows_on, rows_beyond, rendered, Frame, InContainer, InList, containers_of, is_quote, loosened, Finish, Completes}
+use Rattle.first_pass_grammar.proofs.OnePass.{has_gap, run_behind, is_loosened, list_end, forest_of}
+use Rattle.first_pass_grammar.proofs.RowLemmas.{run_ends, gaps, loosened as loosened_rows, until, until-behind, items-run, placed-run, rows_placed}
+
+abbrev pub byte_in : Pending → Option ℕ
+byte_in NoList = None
+byte_in (OneList place byte loose) = Some byte
+
+-- the nodes, and behind them the items of a sequence, whose blocks have this depth, in a container that ends at an offset
+unfoldable pub one_pass_rendered : ℕ → ℕ → List (ℕ × Item) → Pending → Bool → Skeleton → List (ℕ × Item)
+one_pass_rendered depth last nodes NoList run s = nodes ++ forest_of depth last false None s
+one_pass_rendered depth last nodes (OneList place byte loose) run s =
+    list_closed nodes place (suc (suc depth)) (loose || is_loosened byte run s) (list_end byte last s)
+    ++ forest_of depth last false (Some (byte, not (loose || is_loosened byte run s))) s
+
+unfoldable pub OnePassFinish : Document → Pending → Bool → List Frame → List (ℕ × Item) → List ℕ → From → List Place → List (ℕ × Item) → Tables → Type 0
+OnePassFinish d list run [] nodes [] from lines forest tables =
+    (s : Skeleton) × IsSequence d s [] from lines [] × (forest ≡ one_pass_rendered 1 (length d.text) nodes list run s) × (tables ≡ tables_of s)
+OnePassFinish d list run [] nodes (place ∷ places) from lines forest tables = ⊥
+OnePassFinish d list run (frame ∷ frames) nodes [] from lines forest tables = ⊥
+OnePassFinish d list run (InList byte loose ∷ frames) nodes (place ∷ places) from lines forest tables =
+    OnePassFinish d (OneList place byte loose) run frames nodes places from lines forest tables
+OnePassFinish d list run (InContainer c ∷ frames) nodes (place ∷ places) from lines forest tables =
+    (s : Skeleton) × (mid : List Place) × IsSequence d s (c ∷ containers_of frames) from lines mid
+    × OnePassFinish d NoList (run_behind (is_quote c) (byte_in list) run s) (loosened (has_gap (is_quote c) (byte_in list) run s) frames)
+    (ended (one_pass_rendered (suc (length (place ∷ places))) (end_before (length d.text) (containers_of frames) from mid) nodes list run s) place
+    (end_before (length d.text) (containers_of frames) from mid))
+    places Line mid forest tables
+
+rendered_rows : (quoted : Bool) (depth last : ℕ) (nodes : List (ℕ × Item)) (list : Pending) (run : Bool) (s : Skeleton)
+    → one_pass_rendered depth last nodes list run s ≡ rendered depth last nodes list (rows_on quoted last list run s)
+unfolding one_pass_rendered rendered
+rendered_rows quoted depth last nodes NoList run s =
+    ap (λ z. nodes ++ z) (rows_placed quoted depth last false None s ∙ sym (items-run depth false (run || false) (rows_of quoted last s)))
+rendered_rows quoted depth last nodes (OneList place byte loose) run s =
+    let r : Rows = rows_of quoted last s in
+    let rows : Rows = rows_on quoted last (OneList place byte loose) run s in
+    let now : Bool = loose || is_loose (items_behind byte rows) in
+    ap (λ z. list_closed nodes place (suc (suc depth)) (loose || z) (list_end byte last s) ++ forest_of depth last false (Some (byte, not (loose || z))) s)
+    (loosened_rows quoted byte run last s)
+    ∙ ap (λ z. list_closed nodes place (suc (suc depth)) now z ++ forest_of depth last false (Some (byte, not now)) s)
+    (until quoted byte last s ∙ sym (until-behind byte last (run || begins_blank s) r))
+    ∙ ap (λ z. list_closed nodes place (suc (suc depth)) now (list_until byte last rows) ++ z)
+    (rows_placed quoted depth last false (Some (byte, not now)) s ∙ sym (placed-run depth false (Some (byte, not now)) (run || begins_blank s) r))
+
+runs_rows : (quoted : Bool) (last : ℕ) (list : Pending) (run : Bool) (s : Skeleton) → run_behind quoted (byte_in list) run s ≡ ends_in_gap (rows_on quoted last list run s)
+runs_rows quoted last NoList run s = run_ends quoted None run last s
+runs_rows quoted last (OneList place byte loose) run s = run_ends quoted (Some byte) run last s
+
+gaps_rows : (quoted : Bool) (last : ℕ) (list : Pending) (run : Bool) (s : Skeleton)
+    → has_gap quoted (byte_in list) run s ≡ any_gap (rows_beyond list (rows_on quoted last list run s))
+gaps_rows quoted last NoList run s = gaps quoted None run last s
+gaps_rows quoted last (OneList place byte loose) run s = gaps quoted (Some byte) run last s
+
+-- what is equal comes about alike
+finish_moved : (d : Document) (run run' : Bool) (frames frames' : List Frame) (nodes nodes' : List (ℕ × Item)) (os : List ℕ) (lines : List Place) (forest : List (ℕ × Item)) (tables : Tables)
+    → run ≡ run' → frames ≡ frames' → nodes ≡ nodes' → Finish d NoList run frames nodes os Line lines forest tables → Finish d NoList run' frames' nodes' os Line lines forest tables
+finish_moved d run run' frames frames' nodes nodes' os lines forest tables runs same alike fin =
+    subst (λ z. Finish d NoList run' frames' z os Line lines forest tables) alike
+    (subst (λ z. Finish d NoList run' z nodes os Line lines forest tables) same (subst (λ z. Finish d NoList z frames nodes os Line lines forest tables) runs fin))
+
+to_one_pass : (d : Document) (os : List ℕ) (list : Pending) (run : Bool) (frames : List Frame) (nodes : List (ℕ × Item)) (from : From) (lines : List Place) (forest : List (ℕ × Item)) (tables : Tables)
+    → Finish d list run frames nodes os from lines forest tables → OnePassFinish d list run frames nodes os from lines forest tables
+unfolding Finish OnePassFinish
+to_one_pass d [] list run [] nodes from lines forest tables (s, seq, is, tables_are) = (s, seq, is ∙ sym (rendered_rows false 1 (length d.text) nodes list run s), tables_are)
+to_one_pass d (o ∷ os) list run [] nodes from lines forest tables fin = fin
+to_one_pass d [] list run (InContainer c ∷ frames) nodes from lines forest tables fin = fin
+to_one_pass d [] list run (InList byte loose ∷ frames) nodes from lines forest tables fin = fin
+to_one_pass d (o ∷ os) list run (InList byte loose ∷ frames) nodes from lines forest tables fin = to_one_pass d os (OneList o byte loose) run frames nodes from lines forest tables fin
+to_one_pass d (o ∷ os) list run (InContainer c ∷ frames) nodes from lines forest tables (s, mid, seq, fin) =
+    let q : Bool = is_quote c in
+    let e : ℕ = end_before (length d.text) (containers_of frames) from mid in (
+      s,
+      mid,
+      seq,
+      to_one_pass d os NoList _ _ _ Line mid forest tables
+          (finish_moved d _ _ _ _ _ _ os mid forest tables (sym (runs_rows q e list run s)) (ap (λ z. loosened z frames) (sym (gaps_rows q e list run s)))
+          (ap (λ z. ended z o e) (sym (rendered_rows q (suc (length (o ∷ os))) e nodes list run s))) fin),
+    )
+
+from_one_pass : (d : Document) (os : List ℕ) (list : Pending) (run : Bool) (frames : List Frame) (nodes : List (ℕ × Item)) (from : From) (lines : List Place) (forest : List (ℕ × Item)) (tables : Tables)
+    → OnePassFinish d list run frames nodes os from lines forest tables → Finish d list run frames nodes os from lines forest tables
+unfolding Finish OnePassFinish
+from_one_pass d [] list run [] nodes from lines forest tables (s, seq, is, tables_are) = (s, seq, is ∙ rendered_rows false 1 (length d.text) nodes list run s, tables_are)
+from_one_pass d (o ∷ os) list run [] nodes from lines forest tables fin = fin
+from_one_pass d [] list run (InContainer c ∷ frames) nodes from lines forest tables fin = fin
+from_one_pass d [] list run (InList byte loose ∷ frames) nodes from lines forest tables fin = fin
+from_one_pass d (o ∷ os) list run (InList byte loose ∷ frames) nodes from lines forest tables fin = from_one_pass d os (OneList o byte loose) run frames nodes from lines forest tables fin
+from_one_pass d (o ∷ os) list run (InContainer c ∷ frames) nodes from lines forest tables (s, mid, seq, fin) =
+    let q : Bool = is_quote c in
+    let e : ℕ = end_before (length d.text) (containers_of frames) from mid in (
+      s,
+      mid,
+      seq,
+      finish_moved d _ _ _ _ _ _ os mid forest tables (runs_rows q e list run s) (ap (λ z. loosened z frames) (gaps_rows q e list run s))
+          (ap (λ z. ended z o e) (rendered_rows q (suc (length (o ∷ os))) e nodes list run s)) (from_one_pass d os NoList _ _ _ Line mid forest tables fin),
+    )
+
+-- whatever completes these nodes, told in one pass
+abbrev pub CompletesInOnePass : Document → Bool → List Frame → List (ℕ × Item) → List ℕ → From → List Place → Type 0
+CompletesInOnePass d run frames nodes os from lines =
+    (forest : List (ℕ × Item)) (tables : Tables) → OnePassFinish d NoList run frames nodes os from lines forest tables → Derives d forest tables
+
+pub in_one_pass : (d : Document) (run : Bool) (frames : List Frame) (nodes : List (ℕ × Item)) (os : List ℕ) (from : From) (lines : List Place)
+    → Completes d run frames nodes os from lines → CompletesInOnePass d run frames nodes os from lines
+in_one_pass d run frames nodes os from lines c forest tables fin = c.whole forest tables (from_one_pass d os NoList run frames nodes from lines forest tables fin)
+
+pub by_one_pass : (d : Document) (run : Bool) (frames : List Frame) (nodes : List (ℕ × Item)) (os : List ℕ) (from : From) (lines : List Place)
+    → CompletesInOnePass d run frames nodes os from lines
+    → (forest : List (ℕ × Item)) (tables : Tables) → Finish d NoList run frames nodes os from lines forest tables → Derives d forest tables
+by_one_pass d run frames nodes os from lines whole forest tables fin = whole forest tables (to_one_pass d os NoList run frames nodes from lines forest tables fin)
