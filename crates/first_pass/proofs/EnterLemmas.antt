@@ -20,7 +20,8 @@ use Rattle.first_pass_grammar.specs.Kinds.{Blank, all_taken, is_blank_rest, item
 use Rattle.first_pass_grammar.specs.Leaves.{Document}
 use Rattle.first_pass_grammar.specs.Skeleton.{BlankLine, From, Line, Inside, Blanks, OpensLeaf, OpensAs, OpensQuote, OpensFrom, Opens, is_blank_behind, next_is_blank, end_before}
 use Rattle.first_pass_grammar.specs.Derivation.{node_of}
-use Rattle.first_pass_grammar.specs.Completion.{Frame, InContainer, InList, containers_of, AreBelow, Completes}
+use Rattle.first_pass_grammar.specs.Completion.{Frame, InContainer, InList, containers_of, AreBelow}
+use Rattle.first_pass_grammar.proofs.OnePassFinish.{CompletesAt}
 use Rattle.first_pass_text.proofs.KindLemmas.{blank_kind}
 use Rattle.first_pass_grammar.proofs.Completions.{counts_in, completes-enter, completes-blank_line, completes-only_blank}
 use Rattle.first_pass_open.specs.OpenBlock.{closed_by}
@@ -217,8 +218,8 @@ blank_place line None h = cc
 blank_place line (Some q) h = (q, refl, h)
 
 only_blank_by : (d : Document) (f : Forest Item) (run : Bool) (e : ℕ) (ix : TreeIndex) (rest : List TreeIndex) (line : Place) (lines : List Place) (frames : List Frame) → frame_at f.nodes ix.0 ≡ Some (InContainer (ListItem 0))
-    → is_blank_behind (after (ListItem 0 ∷ path_in f.nodes rest) line.rest) ≡ true → AreOpen f.nodes (ix ∷ rest) frames → Completes d run frames f.nodes (ix.0 ∷ map (λ i. i.0) rest) (Blanks e) (line ∷ lines)
-    → Completes d true frames f.nodes (ix.0 ∷ map (λ i. i.0) rest) (Blanks e) lines
+    → is_blank_behind (after (ListItem 0 ∷ path_in f.nodes rest) line.rest) ≡ true → AreOpen f.nodes (ix ∷ rest) frames → CompletesAt d run frames f.nodes (ix.0 ∷ map (λ i. i.0) rest) (Blanks e) (line ∷ lines)
+    → CompletesAt d true frames f.nodes (ix.0 ∷ map (λ i. i.0) rest) (Blanks e) lines
 only_blank_by d f run e ix rest line lines [] is blank o k = absurd o
 only_blank_by d f run e ix rest line lines (InList byte loose ∷ frames) is blank o k = (let x : Some (InContainer (ListItem 0)) ≡ Some (InList byte loose) = sym is ∙ o.0 in cc)
 only_blank_by d f run e ix rest line lines (InContainer c ∷ frames) is blank o k =
@@ -226,8 +227,8 @@ only_blank_by d f run e ix rest line lines (InContainer c ∷ frames) is blank o
     let same : ListItem 0 ≡ c = cc in
     let path : path_in f.nodes rest ≡ containers_of frames = open_path f.nodes rest frames o.1 in
     let b = blank_place line (after (ListItem 0 ∷ containers_of frames) line.rest) (subst (λ z. is_blank_behind (after (ListItem 0 ∷ z) line.rest) ≡ true) path blank) in
-    let k' : Completes d run (InContainer (ListItem 0) ∷ frames) f.nodes (ix.0 ∷ map (λ i. i.0) rest) (Blanks e) (line ∷ lines) = subst (λ z. Completes d run (InContainer z ∷ frames) f.nodes (ix.0 ∷ map (λ i. i.0) rest) (Blanks e) (line ∷ lines)) (sym same) k in
-    subst (λ z. Completes d true (InContainer z ∷ frames) f.nodes (ix.0 ∷ map (λ i. i.0) rest) (Blanks e) lines) same
+    let k' : CompletesAt d run (InContainer (ListItem 0) ∷ frames) f.nodes (ix.0 ∷ map (λ i. i.0) rest) (Blanks e) (line ∷ lines) = subst (λ z. CompletesAt d run (InContainer z ∷ frames) f.nodes (ix.0 ∷ map (λ i. i.0) rest) (Blanks e) (line ∷ lines)) (sym same) k in
+    subst (λ z. CompletesAt d true (InContainer z ∷ frames) f.nodes (ix.0 ∷ map (λ i. i.0) rest) (Blanks e) lines) same
     (completes-only_blank d run 0 frames f.nodes (ix.0 ∷ map (λ i. i.0) rest) e line (at_rest line b.0) lines (ap (option_map (at_rest line)) b.1, refl, b.2)
     (opens_blank d (ListItem 0 ∷ containers_of frames) (at_rest line b.0) lines b.2) k')
 
@@ -236,11 +237,11 @@ only_blank : (d : Document) (f : Forest Item) (run : Bool) (e : ℕ) (ix : TreeI
     → is_blank_behind (after (ListItem 0 ∷ path_in f.nodes rest) line.rest) ≡ true → ReadyAt d f run (Blanks e) (line ∷ lines) → ReadyAt d f true (Blanks e) lines
 only_blank d f run e ix rest line lines spine item blank ready =
     let o : AreOpen f.nodes (ix ∷ rest) ready.frames = subst (λ s. AreOpen f.nodes s ready.frames) spine ready.are_open in
-    let k : Completes d run ready.frames f.nodes (ix.0 ∷ map (λ i. i.0) rest) (Blanks e) (line ∷ lines) = subst (λ s. Completes d run ready.frames f.nodes (map (λ i. i.0) s) (Blanks e) (line ∷ lines)) spine ready.completes in
+    let k : CompletesAt d run ready.frames f.nodes (ix.0 ∷ map (λ i. i.0) rest) (Blanks e) (line ∷ lines) = subst (λ s. CompletesAt d run ready.frames f.nodes (map (λ i. i.0) s) (Blanks e) (line ∷ lines)) spine ready.completes in
     record {
       frames = ready.frames;
       are_open = ready.are_open;
-      completes = subst (λ s. Completes d true ready.frames f.nodes (map (λ i. i.0) s) (Blanks e) lines) (sym spine) (only_blank_by d f run e ix rest line lines ready.frames (ap (option_and_then frame_of) item) blank o k);
+      completes = subst (λ s. CompletesAt d true ready.frames f.nodes (map (λ i. i.0) s) (Blanks e) lines) (sym spine) (only_blank_by d f run e ix rest line lines ready.frames (ap (option_and_then frame_of) item) blank o k);
     }
 
 -- what is below a place alone counts

@@ -12,7 +12,8 @@ use Rattle.first_pass_grammar.specs.declared.kind.Container.{Container}
 use Rattle.first_pass_grammar.specs.Leaves.{Document}
 use Rattle.first_pass_grammar.specs.Skeleton.{Inside, Opening, Opens}
 use Rattle.first_pass_grammar.specs.Derivation.{node_of, list_flags}
-use Rattle.first_pass_grammar.specs.Completion.{flagged, reflagged, Frame, InContainer, InList, loosened_in, IsPlain, Completes}
+use Rattle.first_pass_grammar.specs.Completion.{flagged, reflagged, Frame, InContainer, InList, loosened_in, IsPlain}
+use Rattle.first_pass_grammar.proofs.OnePassFinish.{CompletesAt}
 use Rattle.first_pass_grammar.proofs.Completions.{OpensAway, OpensBlock, completes-note, completes-reflag}
 use Rattle.first_pass_open.specs.OpenBlock.{closed_by}
 use Rattle.first_pass_lists.specs.Closing.{loosened_by, loosened_at, top_body, is_list, popped_by, popped, item_finished_by, item_finished, list_left, gap_tree, gap_noted, list_finished}
@@ -134,8 +135,8 @@ loose_frame f ix flags list number byte loose is framed =
     ap (option_and_then frame_of) now ∙ ap (λ b. Some (InList b true)) set.0 ∙ ap (λ l. Some (InList byte l)) (sym (or_true loose))
 
 module _ (d : Document) (f : Forest Item) (p : Place) (lines : List Place) (opening : Opening) (opens : Opens d (path_of f) p lines opening) (block : OpensBlock opening) where
-  noted_at : (frames : List Frame) (run : Bool) → IsPlain frames → AreOpen f.nodes f.spine frames → Completes d run frames f.nodes (map (λ i. i.0) f.spine) (Inside p) lines
-      → Completes d false (loosened_in run frames) f.nodes (map (λ i. i.0) f.spine) (Inside p) lines
+  noted_at : (frames : List Frame) (run : Bool) → IsPlain frames → AreOpen f.nodes f.spine frames → CompletesAt d run frames f.nodes (map (λ i. i.0) f.spine) (Inside p) lines
+      → CompletesAt d false (loosened_in run frames) f.nodes (map (λ i. i.0) f.spine) (Inside p) lines
   noted_at frames run plain o k =
       completes-note d run frames f.nodes (map (λ i. i.0) f.spine) p lines opening plain (subst (λ z. Opens d z p lines opening) (open_path f.nodes f.spine frames o) opens) block k
 
@@ -145,12 +146,12 @@ module _ (d : Document) (f : Forest Item) (p : Place) (lines : List Place) (open
   plain_in run (InList byte loose ∷ frames) h = absurd h
 
   -- where no list is around what is innermost
-  noted_still : (frames : List Frame) → loosened_in true frames ≡ frames → IsPlain frames → AreOpen f.nodes f.spine frames → Completes d true frames f.nodes (map (λ i. i.0) f.spine) (Inside p) lines → ReadyPlain d f false p lines
+  noted_still : (frames : List Frame) → loosened_in true frames ≡ frames → IsPlain frames → AreOpen f.nodes f.spine frames → CompletesAt d true frames f.nodes (map (λ i. i.0) f.spine) (Inside p) lines → ReadyPlain d f false p lines
   noted_still frames same plain o k =
       let q : ReadyAt d f false (Inside p) lines = record {
         frames = frames;
         are_open = o;
-        completes = subst (λ z. Completes d false z f.nodes (map (λ i. i.0) f.spine) (Inside p) lines) same (noted_at frames true plain o k);
+        completes = subst (λ z. CompletesAt d false z f.nodes (map (λ i. i.0) f.spine) (Inside p) lines) same (noted_at frames true plain o k);
       } in
       (q, plain)
 
@@ -164,20 +165,20 @@ module _ (d : Document) (f : Forest Item) (p : Place) (lines : List Place) (open
   list_at (Some (ListBody flags list number)) byte loose h = (flags, list, number, refl)
   list_at (Some b) byte loose h = cc
 
-  noted_by : (s : List TreeIndex) (frames : List Frame) → f.spine ≡ s → IsPlain frames → AreOpen f.nodes s frames → Completes d true frames f.nodes (map (λ i. i.0) s) (Inside p) lines → ReadyPlain d (gap_tree f s) false p lines
-  noted_by [] [] spine plain o k = noted_still [] refl tt (subst (λ z. AreOpen f.nodes z []) (sym spine) o) (subst (λ z. Completes d true [] f.nodes (map (λ i. i.0) z) (Inside p) lines) (sym spine) k)
+  noted_by : (s : List TreeIndex) (frames : List Frame) → f.spine ≡ s → IsPlain frames → AreOpen f.nodes s frames → CompletesAt d true frames f.nodes (map (λ i. i.0) s) (Inside p) lines → ReadyPlain d (gap_tree f s) false p lines
+  noted_by [] [] spine plain o k = noted_still [] refl tt (subst (λ z. AreOpen f.nodes z []) (sym spine) o) (subst (λ z. CompletesAt d true [] f.nodes (map (λ i. i.0) z) (Inside p) lines) (sym spine) k)
   noted_by [] (frame ∷ frames) spine plain o k = absurd o
   noted_by (ix ∷ s) [] spine plain o k = absurd o
   noted_by (ix ∷ s) (InList byte loose ∷ frames) spine plain o k = absurd plain
   noted_by (ix ∷ []) (InContainer c ∷ []) spine plain o k =
-      noted_still (InContainer c ∷ []) refl tt (subst (λ z. AreOpen f.nodes z (InContainer c ∷ [])) (sym spine) o) (subst (λ z. Completes d true (InContainer c ∷ []) f.nodes (map (λ i. i.0) z) (Inside p) lines) (sym spine) k)
+      noted_still (InContainer c ∷ []) refl tt (subst (λ z. AreOpen f.nodes z (InContainer c ∷ [])) (sym spine) o) (subst (λ z. CompletesAt d true (InContainer c ∷ []) f.nodes (map (λ i. i.0) z) (Inside p) lines) (sym spine) k)
   noted_by (ix ∷ []) (InContainer c ∷ frame ∷ frames) spine plain o k = absurd o.1
   noted_by (ix ∷ jx ∷ s) (InContainer c ∷ []) spine plain o k = absurd o.1
   noted_by (ix ∷ jx ∷ s) (InContainer c ∷ InContainer b ∷ frames) spine plain o k =
       let same : loosened_at f jx ≡ f = no_list_at (body_at f.nodes jx.0) b o.1.0 jx in
       subst (λ g. ReadyPlain d g false p lines) (sym same)
       (noted_still (InContainer c ∷ InContainer b ∷ frames) refl tt (subst (λ z. AreOpen f.nodes z (InContainer c ∷ InContainer b ∷ frames)) (sym spine) o)
-      (subst (λ z. Completes d true (InContainer c ∷ InContainer b ∷ frames) f.nodes (map (λ i. i.0) z) (Inside p) lines) (sym spine) k))
+      (subst (λ z. CompletesAt d true (InContainer c ∷ InContainer b ∷ frames) f.nodes (map (λ i. i.0) z) (Inside p) lines) (sym spine) k))
   noted_by (ix ∷ jx ∷ s) (InContainer c ∷ InList byte loose ∷ frames) spine plain o k =
       let b = list_at (body_at f.nodes jx.0) byte loose o.1.0 in
       let g : Forest Item = loosened_at f jx in
@@ -190,17 +191,17 @@ module _ (d : Document) (f : Forest Item) (p : Place) (lines : List Place) (open
       let outer : AreOpen g.nodes s frames =
       subst (λ (z : Forest Item). AreOpen z.nodes s frames) (sym named)
       (open_below f.nodes now.nodes jx.0 s frames (λ i h. ap (option_and_then frame_of) (body-other f.nodes jx.0 i (λ x. record { start = x.start; «end» = x.«end»; body = ListBody (list_flags false) b.1 b.2 }) h)) k.below.1.1 o.1.1) in
-      let noted : Completes d false (InContainer c ∷ InList byte (loose || true) ∷ frames) f.nodes (ix.0 ∷ jx.0 ∷ map (λ i. i.0) s) (Inside p) lines =
-      subst (λ z. Completes d false (InContainer c ∷ InList byte (loose || true) ∷ frames) f.nodes (map (λ i. i.0) z) (Inside p) lines) spine
+      let noted : CompletesAt d false (InContainer c ∷ InList byte (loose || true) ∷ frames) f.nodes (ix.0 ∷ jx.0 ∷ map (λ i. i.0) s) (Inside p) lines =
+      subst (λ z. CompletesAt d false (InContainer c ∷ InList byte (loose || true) ∷ frames) f.nodes (map (λ i. i.0) z) (Inside p) lines) spine
       (noted_at (InContainer c ∷ InList byte loose ∷ frames) true tt (subst (λ z. AreOpen f.nodes z (InContainer c ∷ InList byte loose ∷ frames)) (sym spine) o)
-      (subst (λ z. Completes d true (InContainer c ∷ InList byte loose ∷ frames) f.nodes (map (λ i. i.0) z) (Inside p) lines) (sym spine) k)) in
+      (subst (λ z. CompletesAt d true (InContainer c ∷ InList byte loose ∷ frames) f.nodes (map (λ i. i.0) z) (Inside p) lines) (sym spine) k)) in
       let flagged_now = completes-reflag d false c byte (loose || true) true frames f.nodes ix.0 jx.0 (map (λ i. i.0) s) (Inside p) lines noted in
-      let done : Completes d false (InContainer c ∷ InList byte (loose || true) ∷ frames) g.nodes (ix.0 ∷ jx.0 ∷ map (λ i. i.0) s) (Inside p) lines =
-      subst (λ z. Completes d false (InContainer c ∷ InList byte (loose || true) ∷ frames) z (ix.0 ∷ jx.0 ∷ map (λ i. i.0) s) (Inside p) lines) (sym nodes) flagged_now in
+      let done : CompletesAt d false (InContainer c ∷ InList byte (loose || true) ∷ frames) g.nodes (ix.0 ∷ jx.0 ∷ map (λ i. i.0) s) (Inside p) lines =
+      subst (λ z. CompletesAt d false (InContainer c ∷ InList byte (loose || true) ∷ frames) z (ix.0 ∷ jx.0 ∷ map (λ i. i.0) s) (Inside p) lines) (sym nodes) flagged_now in
       let q : ReadyAt d g false (Inside p) lines = record {
         frames = InContainer c ∷ InList byte (loose || true) ∷ frames;
         are_open = subst (λ z. AreOpen g.nodes z (InContainer c ∷ InList byte (loose || true) ∷ frames)) (sym same) (top, (loose_frame f jx b.0 b.1 b.2 byte loose b.3 o.1.0, outer));
-        completes = subst (λ z. Completes d false (InContainer c ∷ InList byte (loose || true) ∷ frames) g.nodes (map (λ i. i.0) z) (Inside p) lines) (sym same) done;
+        completes = subst (λ z. CompletesAt d false (InContainer c ∷ InList byte (loose || true) ∷ frames) g.nodes (map (λ i. i.0) z) (Inside p) lines) (sym same) done;
       } in
       (q, tt)
 

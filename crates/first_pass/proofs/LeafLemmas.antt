@@ -19,7 +19,8 @@ use Rattle.first_pass_grammar.specs.Kinds.{Kind, Blank, ThematicBreak, AtxHeadin
 use Rattle.first_pass_grammar.specs.Leaves.{Document, IsParagraph, IsHeading, heading_text_at, rule_block, heading_block, paragraph_block, marker_items}
 use Rattle.first_pass_grammar.proofs.OnePass.{leaf_closes}
 use Rattle.first_pass_grammar.specs.Skeleton.{BlankLine, LeafBlock, Block, block_at, leaf_block, Line, Inside, At, ALeafAlone, IsFirst, Opening, OpensLeaf, OpensParagraph, OpensAs, OpensBlockAt, OpensQuote, OpensFrom, Opens}
-use Rattle.first_pass_grammar.specs.Completion.{lines_from, Frame, containers_of, AreBelow, Completes}
+use Rattle.first_pass_grammar.specs.Completion.{lines_from, Frame, containers_of, AreBelow}
+use Rattle.first_pass_grammar.proofs.OnePassFinish.{CompletesAt}
 use Rattle.first_pass_grammar.proofs.Completions.{completes-leaf, completes-blank, completes-block, completes-text, counts_in}
 use Rattle.first_pass_text.specs.Appends.{line_end_at, AddsParagraph, AddsHeading}
 use Rattle.first_pass_lists.specs.Closing.{remembered, top_body, is_list, list_finished, blank_read_by, blank_read}
@@ -59,13 +60,13 @@ block_away (Some b) at block left closes = tt
 
 -- the items of a block behind the nodes
 with_block : (d : Document) (f : Forest Item) (frames : List Frame) (items : List (ℕ × Item)) (gap : Bool) (left : List Place) → AreOpen f.nodes f.spine frames
-    → (let os : List ℕ = map (λ (i : TreeIndex). i.0) f.spine in AreBelow (length f.nodes) os → Completes d gap frames (f.nodes ++ at_depth (suc (length os)) items) os Line left → ReadyAt d (added f items) gap Line left)
+    → (let os : List ℕ = map (λ (i : TreeIndex). i.0) f.spine in AreBelow (length f.nodes) os → CompletesAt d gap frames (f.nodes ++ at_depth (suc (length os)) items) os Line left → ReadyAt d (added f items) gap Line left)
 with_block d f frames items gap left o below k =
     let os : List ℕ = map (λ (i : TreeIndex). i.0) f.spine in
     record {
       frames = frames;
       are_open = open_below f.nodes (f.nodes ++ at_depth (length f.spine + 1) items) (length f.nodes) f.spine frames (λ i h. frame-append f.nodes (at_depth (length f.spine + 1) items) i h) below o;
-      completes = subst (λ z. Completes d gap frames (f.nodes ++ at_depth z items) os Line left) (depth_of f.spine) k;
+      completes = subst (λ z. CompletesAt d gap frames (f.nodes ++ at_depth z items) os Line left) (depth_of f.spine) k;
     }
 
 -- what is remembered then, with no empty item
@@ -137,7 +138,7 @@ ready_blank_leaf d r p lines kind none (inr lazy) =
     let now : ReadyAt d f false Line lines = record {
       frames = frames;
       are_open = lazy.ready.are_open;
-      completes = subst (λ t. Completes d t frames f.nodes os Line lines) counts (completes-blank d false frames f.nodes os (At p ALeafAlone) lines lines (λ path mid. refl) first lazy.ready.completes);
+      completes = subst (λ t. CompletesAt d t frames f.nodes os Line lines) counts (completes-blank d false frames f.nodes os (At p ALeafAlone) lines lines (λ path mid. refl) first lazy.ready.completes);
     } in
     subst (λ q. Ready d q lines) (sym (kind_blank_is r (top_body r.tree) lazy.kind lazy.quote)) (ready_plain d r lines none (subst (λ t. ReadyAt d f t Line lines) (sym lazy.blank) now))
 

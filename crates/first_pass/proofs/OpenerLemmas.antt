@@ -22,7 +22,8 @@ use Rattle.first_pass_grammar.specs.Leaves.{Document}
 use Rattle.first_pass_grammar.specs.OpenOrder.{is_in_item}
 use Rattle.first_pass_grammar.specs.Skeleton.{From, Line, Inside, Blanks, Opening, OpensNode, next_is_blank, item_head, task_behind, behind_task, behind_marker, task_alone, item_opening, quote_head, tag_behind, behind_tag, quote_opening, OpensQuote, OpensFrom, Opens}
 use Rattle.first_pass_grammar.specs.Derivation.{node_of, list_flags}
-use Rattle.first_pass_grammar.specs.Completion.{lines_from, Frame, InContainer, InList, containers_of, AreBelow, IsPlain, Completes}
+use Rattle.first_pass_grammar.specs.Completion.{lines_from, Frame, InContainer, InList, containers_of, AreBelow, IsPlain}
+use Rattle.first_pass_grammar.proofs.OnePassFinish.{CompletesAt}
 use Rattle.first_pass_grammar.proofs.Tightening.{modify-append, length-modify}
 use Rattle.first_pass_grammar.proofs.Completions.{AreBelow-more, completes-mark, completes-quote, completes-list, completes-item, completes-reflag_list}
 use Rattle.first_pass_open.specs.OpenBlock.{with_child}
@@ -97,7 +98,7 @@ quote_is_open d r p lines behind kind inside forest opens none ready =
     let now : ReadyAt d g false inside behind = record {
       frames = InContainer (BlockQuote kind) ∷ frames;
       are_open = opened_too f.nodes (length f.spine + 1) x f.spine frames (InContainer (BlockQuote kind)) refl done.ready.0.completes.below done.ready.0.are_open;
-      completes = subst (λ z. Completes d false (InContainer (BlockQuote kind) ∷ frames) (f.nodes ++ (z, x) ∷ []) (length f.nodes ∷ os) inside behind) (depth_of f.spine) k;
+      completes = subst (λ z. CompletesAt d false (InContainer (BlockQuote kind) ∷ frames) (f.nodes ++ (z, x) ∷ []) (length f.nodes ∷ os) inside behind) (depth_of f.spine) k;
     } in
     record {
       ready = now;
@@ -171,8 +172,8 @@ module _ (d : Document) (r : Reading) (p : Place) (lines : List Place) (byte num
       let q : ReadyAt d h false inside lines = record {
         frames = InContainer (ListItem columns) ∷ InList byte false ∷ frames;
         are_open = opened_too g.nodes (length g.spine + 1) x g.spine (InList byte false ∷ frames) (InContainer (ListItem columns)) refl below list_open;
-        completes = subst (λ z. Completes d false (InContainer (ListItem columns) ∷ InList byte false ∷ frames) h.nodes (z ∷ length f.nodes ∷ os) inside lines) (sym n)
-            (subst (λ z. Completes d false (InContainer (ListItem columns) ∷ InList byte false ∷ frames) z (suc (length f.nodes) ∷ length f.nodes ∷ os) inside lines) nodes k);
+        completes = subst (λ z. CompletesAt d false (InContainer (ListItem columns) ∷ InList byte false ∷ frames) h.nodes (z ∷ length f.nodes ∷ os) inside lines) (sym n)
+            (subst (λ z. CompletesAt d false (InContainer (ListItem columns) ∷ InList byte false ∷ frames) z (suc (length f.nodes) ∷ length f.nodes ∷ os) inside lines) nodes k);
       } in
       let same : path_of h ≡ ListItem columns ∷ path_of r.tree =
       open_path h.nodes h.spine q.frames q.are_open ∙ ap (λ z. ListItem columns ∷ z) (sym (open_path f.nodes f.spine frames done.ready.0.are_open) ∙ done.path) in
@@ -186,9 +187,9 @@ module _ (d : Document) (r : Reading) (p : Place) (lines : List Place) (byte num
   kept_by false is ix rest flags list n spine body = (refl, is, none)
 
   goes_on_as : (run : Bool) (ix : TreeIndex) (rest : List TreeIndex) (flags : ListFlags) (list n b : ℕ) (loose : Bool) (frames : List Frame) → r.tree.spine ≡ ix ∷ rest → body_at r.tree.nodes ix.0 ≡ Some (ListBody flags list n)
-      → AreOpen r.tree.nodes (ix ∷ rest) (InList b loose ∷ frames) → Completes d run (InList b loose ∷ frames) r.tree.nodes (ix.0 ∷ map (λ i. i.0) rest) (Inside p) lines
+      → AreOpen r.tree.nodes (ix ∷ rest) (InList b loose ∷ frames) → CompletesAt d run (InList b loose ∷ frames) r.tree.nodes (ix.0 ∷ map (λ i. i.0) rest) (Inside p) lines
       → (let f : Forest Item = if run then loosened_at r.tree ix else r.tree in
-      AreOpen f.nodes (ix ∷ rest) (InList b (loose || run) ∷ frames) × Completes d run (InList b loose ∷ frames) f.nodes (ix.0 ∷ map (λ i. i.0) rest) (Inside p) lines × (f.spine ≡ ix ∷ rest))
+      AreOpen f.nodes (ix ∷ rest) (InList b (loose || run) ∷ frames) × CompletesAt d run (InList b loose ∷ frames) f.nodes (ix.0 ∷ map (λ i. i.0) rest) (Inside p) lines × (f.spine ≡ ix ∷ rest))
   goes_on_as true ix rest flags list n b loose frames spine body o k =
       let g : Forest Item = loosened_at r.tree ix in
       let nodes = loose_is r.tree ix flags list n body in
@@ -198,14 +199,14 @@ module _ (d : Document) (r : Reading) (p : Place) (lines : List Place) (byte num
       subst (λ (z : Forest Item). AreOpen z.nodes rest frames) (sym named)
       (open_below r.tree.nodes now.nodes ix.0 rest frames (λ i h. ap (option_and_then frame_of) (body-other r.tree.nodes ix.0 i (λ x. record { start = x.start; «end» = x.«end»; body = ListBody (list_flags false) list n }) h)) k.below.1 o.1) in (
         (loose_frame r.tree ix flags list n b loose body o.0, outer),
-        subst (λ z. Completes d true (InList b loose ∷ frames) z (ix.0 ∷ map (λ i. i.0) rest) (Inside p) lines) (sym nodes) (completes-reflag_list d true b loose true frames r.tree.nodes ix.0 (map (λ i. i.0) rest) (Inside p) lines k),
+        subst (λ z. CompletesAt d true (InList b loose ∷ frames) z (ix.0 ∷ map (λ i. i.0) rest) (Inside p) lines) (sym nodes) (completes-reflag_list d true b loose true frames r.tree.nodes ix.0 (map (λ i. i.0) rest) (Inside p) lines k),
         loosened_spine r.tree ix (body_at r.tree.nodes ix.0) ∙ spine,
       )
   goes_on_as false ix rest flags list n b loose frames spine body o k =
       ((ap (λ l. l) o.0 ∙ ap (λ l. Some (InList b l)) (sym (or_false loose)), o.1), k, spine)
 
   item_by : (run : Bool) (ix : TreeIndex) (rest : List TreeIndex) (flags : ListFlags) (list n : ℕ) (frames : List Frame) → r.tree.spine ≡ ix ∷ rest → body_at r.tree.nodes ix.0 ≡ Some (ListBody flags list n) → list ≡ byte
-      → AreOpen r.tree.nodes (ix ∷ rest) frames → Completes d run frames r.tree.nodes (ix.0 ∷ map (λ i. i.0) rest) (Inside p) lines
+      → AreOpen r.tree.nodes (ix ∷ rest) frames → CompletesAt d run frames r.tree.nodes (ix.0 ∷ map (λ i. i.0) rest) (Inside p) lines
       → (let f : Forest Item = if run then loosened_at r.tree ix else r.tree in let g : Forest Item = pushed (appended f (node_of (offset p) 0 (ListItemBody columns))) (record { 0 = length f.nodes }) in
       ReadyAt d g false inside lines × (path_of g ≡ ListItem columns ∷ path_of r.tree))
   item_by run ix rest flags list n [] spine body same o k = absurd o
@@ -219,7 +220,7 @@ module _ (d : Document) (r : Reading) (p : Place) (lines : List Place) (byte num
       let now = goes_on_as run ix rest flags list n b loose frames spine body o k in
       let opens' : Opens d (containers_of frames) p lines (OpensNode (item_head p byte number columns) inside lines) = subst (λ z. Opens d z p lines (OpensNode (item_head p byte number columns) inside lines)) path opens in
       let x : Item = node_of (offset p) 0 (ListItemBody columns) in
-      let k' : Completes d run (InList byte loose ∷ frames) f.nodes (ix.0 ∷ os) (Inside p) lines = subst (λ z. Completes d run (InList z loose ∷ frames) f.nodes (ix.0 ∷ os) (Inside p) lines) b_is now.1 in
+      let k' : CompletesAt d run (InList byte loose ∷ frames) f.nodes (ix.0 ∷ os) (Inside p) lines = subst (λ z. CompletesAt d run (InList z loose ∷ frames) f.nodes (ix.0 ∷ os) (Inside p) lines) b_is now.1 in
       let done = completes-item d run loose frames f.nodes ix.0 os p lines lines byte number columns (offset p) p.line 0 inside opens' k' in
       let deep : suc (suc (length os)) ≡ length f.spine + 1 = (let l = depth_of rest in let m = ap (λ (s : List TreeIndex). length s) now.2 in omega arith) in
       let frames' : List Frame = InList byte (loose || run) ∷ frames in
@@ -228,8 +229,8 @@ module _ (d : Document) (r : Reading) (p : Place) (lines : List Place) (byte num
         frames = InContainer (ListItem columns) ∷ frames';
         are_open = opened_too f.nodes (length f.spine + 1) x f.spine frames' (InContainer (ListItem columns)) refl (subst (λ s. AreBelow (length f.nodes) (map (λ (i : TreeIndex). i.0) s)) (sym now.2) now.1.below)
             (subst (λ s. AreOpen f.nodes s frames') (sym now.2) o');
-        completes = subst (λ s. Completes d false (InContainer (ListItem columns) ∷ frames') (f.nodes ++ (length f.spine + 1, x) ∷ []) (length f.nodes ∷ map (λ (i : TreeIndex). i.0) s) inside lines) (sym now.2)
-            (subst (λ z. Completes d false (InContainer (ListItem columns) ∷ frames') (f.nodes ++ (z, x) ∷ []) (length f.nodes ∷ ix.0 ∷ os) inside lines) deep done);
+        completes = subst (λ s. CompletesAt d false (InContainer (ListItem columns) ∷ frames') (f.nodes ++ (length f.spine + 1, x) ∷ []) (length f.nodes ∷ map (λ (i : TreeIndex). i.0) s) inside lines) (sym now.2)
+            (subst (λ z. CompletesAt d false (InContainer (ListItem columns) ∷ frames') (f.nodes ++ (z, x) ∷ []) (length f.nodes ∷ ix.0 ∷ os) inside lines) deep done);
       } in
       let g : Forest Item = pushed (appended f x) (record { 0 = length f.nodes }) in
       (q, open_path g.nodes g.spine q.frames q.are_open ∙ ap (λ z. ListItem columns ∷ z) (sym path))
@@ -245,7 +246,7 @@ module _ (d : Document) (r : Reading) (p : Place) (lines : List Place) (byte num
       let kept = kept_by r.blank refl ix rest flags list n spine is in
       let equal : list ≡ byte = grind (arith, nat_tests, same) in
       let f : Forest Item = if r.blank then loosened_at r.tree ix else r.tree in
-      let done = item_by r.blank ix rest flags list n ready.frames spine is equal (subst (λ z. AreOpen r.tree.nodes z ready.frames) spine ready.are_open) (subst (λ z. Completes d r.blank ready.frames r.tree.nodes (map (λ (i : TreeIndex). i.0) z) (Inside p) lines) spine ready.completes) in (
+      let done = item_by r.blank ix rest flags list n ready.frames spine is equal (subst (λ z. AreOpen r.tree.nodes z ready.frames) spine ready.are_open) (subst (λ z. CompletesAt d r.blank ready.frames r.tree.nodes (map (λ (i : TreeIndex). i.0) z) (Inside p) lines) spine ready.completes) in (
         subst (λ (z : Forest Item). ReadyAt d (pushed (appended z (node_of (offset p) 0 (ListItemBody columns))) (record { 0 = length z.nodes })) false inside lines) (sym kept.0) done.0,
         subst (λ (z : Forest Item). path_of (pushed (appended z (node_of (offset p) 0 (ListItemBody columns))) (record { 0 = length z.nodes })) ≡ ListItem columns ∷ path_of r.tree) (sym kept.0) done.1,
         kept.1,
@@ -350,7 +351,7 @@ ready_marked d f (Some x) p blanks lines ix rest columns spine body ready =
     record {
       frames = ready.frames;
       are_open = open_below f.nodes (f.nodes ++ (length f.spine + 1, x) ∷ []) (length f.nodes) f.spine ready.frames (λ i h. frame-append f.nodes ((length f.spine + 1, x) ∷ []) i h) ready.completes.below ready.are_open;
-      completes = subst (λ z. Completes d false ready.frames (f.nodes ++ (z, x) ∷ []) os (behind_marker blanks) lines) (depth_of f.spine) k;
+      completes = subst (λ z. CompletesAt d false ready.frames (f.nodes ++ (z, x) ∷ []) os (behind_marker blanks) lines) (depth_of f.spine) k;
     }
 
 emptied_marked : (f : Forest Item) (ix : TreeIndex) (marker : Option Item) → ix.0 < length f.nodes

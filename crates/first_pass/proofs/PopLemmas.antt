@@ -13,7 +13,8 @@ use Rattle.first_pass_grammar.specs.declared.kind.Container.{Container}
 use Rattle.first_pass_grammar.specs.Leaves.{Document}
 use Rattle.first_pass_grammar.specs.Skeleton.{From, Line, Inside, Ends, end_before, Opening, Opens}
 use Rattle.first_pass_grammar.specs.Derivation.{list_flags}
-use Rattle.first_pass_grammar.specs.Completion.{ended, list_closed, Frame, InContainer, InList, containers_of, AreBelow, IsPlain, Completes}
+use Rattle.first_pass_grammar.specs.Completion.{ended, list_closed, Frame, InContainer, InList, containers_of, AreBelow, IsPlain}
+use Rattle.first_pass_grammar.proofs.OnePassFinish.{CompletesAt}
 use Rattle.first_pass_grammar.proofs.Completions.{OpensAway, completes-pop, completes-pop_list, completes-close}
 use Rattle.first_pass_open.specs.OpenBlock.{closed_by}
 use Rattle.first_pass_lists.specs.Closing.{tight_items}
@@ -32,7 +33,7 @@ not_container false true list c h = cc
 not_container false false list c h = cc
 
 closed_container : (d : Document) (f : Forest Item) (run : Bool) (from : From) (lines : List Place) (e : ℕ) (ix : TreeIndex) (rest : List TreeIndex) (c : Container) (frames : List Frame) → frame_at f.nodes ix.0 ≡ Some (InContainer c)
-    → Ends (c ∷ path_in f.nodes rest) from lines → e ≡ end_before (length d.text) (path_in f.nodes rest) from lines → AreOpen f.nodes (ix ∷ rest) frames → Completes d run frames f.nodes (ix.0 ∷ map (λ i. i.0) rest) from lines
+    → Ends (c ∷ path_in f.nodes rest) from lines → e ≡ end_before (length d.text) (path_in f.nodes rest) from lines → AreOpen f.nodes (ix ∷ rest) frames → CompletesAt d run frames f.nodes (ix.0 ∷ map (λ i. i.0) rest) from lines
     → ReadyAt d (closed_by f e (ix ∷ rest)) run Line lines
 unfolding ended
 closed_container d f run from lines e ix rest c [] is ends e_is o k = absurd o
@@ -46,7 +47,7 @@ closed_container d f run from lines e ix rest c (InContainer b ∷ frames) is en
     record {
       frames = frames;
       are_open = open_below f.nodes (ended f.nodes ix.0 e) ix.0 rest frames (λ i h. frame-ended f.nodes ix.0 e i) k.below.1 o.1;
-      completes = subst (λ z. Completes d run frames (ended f.nodes ix.0 z) (map (λ i. i.0) rest) Line lines) e' (completes-pop d run b frames f.nodes ix.0 (map (λ i. i.0) rest) from lines ends' k);
+      completes = subst (λ z. CompletesAt d run frames (ended f.nodes ix.0 z) (map (λ i. i.0) rest) Line lines) e' (completes-pop d run b frames f.nodes ix.0 (map (λ i. i.0) rest) from lines ends' k);
     }
 
 -- a container closed
@@ -54,7 +55,7 @@ pub pop_container : (d : Document) (f : Forest Item) (run : Bool) (from : From) 
     → Ends (c ∷ path_in f.nodes rest) from lines → e ≡ end_before (length d.text) (path_in f.nodes rest) from lines → ReadyAt d f run from lines → ReadyAt d (closed_by f e (ix ∷ rest)) run Line lines
 pop_container d f run from lines e ix rest c spine is ends e_is ready =
     closed_container d f run from lines e ix rest c ready.frames is ends e_is (subst (λ s. AreOpen f.nodes s ready.frames) spine ready.are_open)
-    (subst (λ s. Completes d run ready.frames f.nodes (map (λ i. i.0) s) from lines) spine ready.completes)
+    (subst (λ s. CompletesAt d run ready.frames f.nodes (map (λ i. i.0) s) from lines) spine ready.completes)
 
 -- the tree once a list of these flags is closed
 abbrev pub list_popped : Forest Item → ℕ → TreeIndex → List TreeIndex → ListFlags → Forest Item
@@ -74,22 +75,22 @@ list_nodes f e ix rest flags list number false forest spine is set =
 module _ (d : Document) (f : Forest Item) (run : Bool) (lines : List Place) (e : ℕ) (ix : TreeIndex) (rest : List TreeIndex) (flags : ListFlags) (list number : ℕ) (forest : IsForest f) (spine : f.spine ≡ ix ∷ rest) (is : body_at f.nodes ix.0 ≡ Some (ListBody flags list number)) where
   -- what is left open once a list is closed
   list_left_open : (byte : ℕ) (loose : Bool) (from : From) (frames : List Frame) → flags ≡ list_flags (not loose) → AreOpen f.nodes rest frames → AreBelow ix.0 (map (λ i. i.0) rest)
-      → Completes d run frames (list_closed f.nodes ix.0 (suc (suc (suc (length (map (λ (i : TreeIndex). i.0) rest))))) loose e) (map (λ i. i.0) rest) from lines → (q : ReadyAt d (list_popped f e ix rest flags) run from lines) × (q.frames ≡ frames)
+      → CompletesAt d run frames (list_closed f.nodes ix.0 (suc (suc (suc (length (map (λ (i : TreeIndex). i.0) rest))))) loose e) (map (λ i. i.0) rest) from lines → (q : ReadyAt d (list_popped f e ix rest flags) run from lines) × (q.frames ≡ frames)
   list_left_open byte loose from frames set o below k =
       let now : Forest Item = list_popped f e ix rest flags in
       let nodes : now.nodes ≡ list_closed f.nodes ix.0 (suc (suc (suc (length rest)))) loose e = list_nodes f e ix rest flags list number loose forest spine is set in
-      let k' : Completes d run frames (list_closed f.nodes ix.0 (suc (suc (suc (length rest)))) loose e) (map (λ i. i.0) rest) from lines =
-      subst (λ n. Completes d run frames (list_closed f.nodes ix.0 n loose e) (map (λ i. i.0) rest) from lines) (list_depth rest) k in
+      let k' : CompletesAt d run frames (list_closed f.nodes ix.0 (suc (suc (suc (length rest)))) loose e) (map (λ i. i.0) rest) from lines =
+      subst (λ n. CompletesAt d run frames (list_closed f.nodes ix.0 n loose e) (map (λ i. i.0) rest) from lines) (list_depth rest) k in
       let o' : AreOpen (list_closed f.nodes ix.0 (suc (suc (suc (length rest)))) loose e) rest frames = open_below f.nodes _ ix.0 rest frames (λ i h. frame-closed f.nodes ix.0 (suc (suc (suc (length rest)))) loose e i h) below o in
       let s : now.spine ≡ rest = spine_by (bit_and flags.0 1 == 1) f e ix rest in
       let q : ReadyAt d now run from lines = record {
         frames = frames;
         are_open = subst (λ z. AreOpen now.nodes z frames) (sym s) (subst (λ z. AreOpen z rest frames) (sym nodes) o');
-        completes = subst (λ z. Completes d run frames now.nodes (map (λ i. i.0) z) from lines) (sym s) (subst (λ z. Completes d run frames z (map (λ i. i.0) rest) from lines) (sym nodes) k');
+        completes = subst (λ z. CompletesAt d run frames now.nodes (map (λ i. i.0) z) from lines) (sym s) (subst (λ z. CompletesAt d run frames z (map (λ i. i.0) rest) from lines) (sym nodes) k');
       } in
       (q, refl)
 
-  popped_list : (frames : List Frame) → start_of (length d.text) lines ≡ e → Ends (path_in f.nodes rest) Line lines → AreOpen f.nodes (ix ∷ rest) frames → Completes d run frames f.nodes (ix.0 ∷ map (λ i. i.0) rest) Line lines
+  popped_list : (frames : List Frame) → start_of (length d.text) lines ≡ e → Ends (path_in f.nodes rest) Line lines → AreOpen f.nodes (ix ∷ rest) frames → CompletesAt d run frames f.nodes (ix.0 ∷ map (λ i. i.0) rest) Line lines
       → ReadyAt d (list_popped f e ix rest flags) run Line lines
   popped_list [] e_is ends o k = absurd o
   popped_list (InContainer c ∷ frames) e_is ends o k = absurd (not_container (flags.0 == 1) (flags.0 == 0) list c (sym (ap (option_and_then frame_of) is) ∙ o.0))
@@ -97,16 +98,16 @@ module _ (d : Document) (f : Forest Item) (run : Bool) (lines : List Place) (e :
       let set = open_flags flags list number byte loose (sym (ap (option_and_then frame_of) is) ∙ o.0) in
       let path : path_in f.nodes rest ≡ containers_of frames = open_path f.nodes rest frames o.1 in
       (list_left_open byte loose Line frames set.1 o.1 k.below.1
-      (subst (λ z. Completes d run frames (list_closed f.nodes ix.0 (suc (suc (suc (length (map (λ (i : TreeIndex). i.0) rest))))) loose z) (map (λ i. i.0) rest) Line lines) e_is
+      (subst (λ z. CompletesAt d run frames (list_closed f.nodes ix.0 (suc (suc (suc (length (map (λ (i : TreeIndex). i.0) rest))))) loose z) (map (λ i. i.0) rest) Line lines) e_is
       (completes-pop_list d run byte loose frames f.nodes ix.0 (map (λ i. i.0) rest) lines (subst (λ p. Ends p Line lines) path ends) k))).0
 
   -- a list closed with what is around it
   pub pop_list : start_of (length d.text) lines ≡ e → Ends (path_in f.nodes rest) Line lines → ReadyAt d f run Line lines → ReadyAt d (list_popped f e ix rest flags) run Line lines
   pop_list e_is ends ready =
       popped_list ready.frames e_is ends (subst (λ s. AreOpen f.nodes s ready.frames) spine ready.are_open)
-      (subst (λ s. Completes d run ready.frames f.nodes (map (λ i. i.0) s) Line lines) spine ready.completes)
+      (subst (λ s. CompletesAt d run ready.frames f.nodes (map (λ i. i.0) s) Line lines) spine ready.completes)
 
-  left_list : (p : Place) (opening : Opening) (frames : List Frame) → Opens d (path_in f.nodes rest) p lines opening → OpensAway list e opening → AreOpen f.nodes (ix ∷ rest) frames → Completes d run frames f.nodes (ix.0 ∷ map (λ i. i.0) rest) (Inside p) lines
+  left_list : (p : Place) (opening : Opening) (frames : List Frame) → Opens d (path_in f.nodes rest) p lines opening → OpensAway list e opening → AreOpen f.nodes (ix ∷ rest) frames → CompletesAt d run frames f.nodes (ix.0 ∷ map (λ i. i.0) rest) (Inside p) lines
       → (q : ReadyAt d (list_popped f e ix rest flags) run (Inside p) lines) × IsPlain q.frames
   left_list p opening [] opens away o k = absurd o
   left_list p opening (InContainer c ∷ frames) opens away o k = absurd (not_container (flags.0 == 1) (flags.0 == 0) list c (sym (ap (option_and_then frame_of) is) ∙ o.0))
@@ -121,4 +122,4 @@ module _ (d : Document) (f : Forest Item) (run : Bool) (lines : List Place) (e :
   pub leave_list : (p : Place) (opening : Opening) → Opens d (path_in f.nodes rest) p lines opening → OpensAway list e opening → ReadyAt d f run (Inside p) lines → (q : ReadyAt d (list_popped f e ix rest flags) run (Inside p) lines) × IsPlain q.frames
   leave_list p opening opens away ready =
       left_list p opening ready.frames opens away (subst (λ s. AreOpen f.nodes s ready.frames) spine ready.are_open)
-      (subst (λ s. Completes d run ready.frames f.nodes (map (λ i. i.0) s) (Inside p) lines) spine ready.completes)
+      (subst (λ s. CompletesAt d run ready.frames f.nodes (map (λ i. i.0) s) (Inside p) lines) spine ready.completes)

@@ -18,7 +18,8 @@ use Rattle.first_pass_grammar.specs.Containers.{prefix, after, next_goes_on}
 use Rattle.first_pass_grammar.specs.Leaves.{Document, document}
 use Rattle.first_pass_grammar.specs.Skeleton.{Line, Blanks, is_blank_behind, next_is_blank, Ends, end_before}
 use Rattle.first_pass_grammar.specs.Derivation.{Derives, tight_body, tightened}
-use Rattle.first_pass_grammar.specs.Completion.{lines_from, Frame, Completes}
+use Rattle.first_pass_grammar.specs.Completion.{lines_from, Frame}
+use Rattle.first_pass_grammar.proofs.OnePassFinish.{CompletesAt}
 use Rattle.first_pass_grammar.proofs.Completions.{completes-first, completes-end}
 use Rattle.first_pass_open.specs.OpenBlock.{closed_by}
 use Rattle.first_pass_lists.specs.Closing.{remembered, tight_run, tight_at, tight_items, popped_by, popped_at, popped}
@@ -38,14 +39,14 @@ ready_first text options names tree root top tree_is =
     let e : tree ≡ with_end_at empty_forest (at_top 0) (length text) = tree_is ∙ ap (λ n. with_end_at empty_forest (at_top n) (length text)) top in
     subst (λ f. ReadyAt (document text options names) f false Line (lines_from text 0)) (sym e) (record { frames = []; are_open = tt; completes = completes-first (document text options names) })
 
-ended_by : (d : Document) (tree : Forest Item) (run : Bool) (frames : List Frame) → AreOpen tree.nodes [] frames → Completes d run frames tree.nodes [] Line [] → Derives d tree.nodes no_tables
+ended_by : (d : Document) (tree : Forest Item) (run : Bool) (frames : List Frame) → AreOpen tree.nodes [] frames → CompletesAt d run frames tree.nodes [] Line [] → Derives d tree.nodes no_tables
 ended_by d tree run [] o k = completes-end d run tree.nodes k
 ended_by d tree run (frame ∷ frames) o k = absurd o
 
 -- at the end of the text, with nothing open
 ready_end : (d : Document) (tree : Forest Item) (run : Bool) → tree.spine ≡ [] → ReadyAt d tree run Line [] → Derives d tree.nodes no_tables
 ready_end d tree run closed ready =
-    ended_by d tree run ready.frames (subst (λ s. AreOpen tree.nodes s ready.frames) closed ready.are_open) (subst (λ s. Completes d run ready.frames tree.nodes (map (λ ix. ix.0) s) Line []) closed ready.completes)
+    ended_by d tree run ready.frames (subst (λ s. AreOpen tree.nodes s ready.frames) closed ready.are_open) (subst (λ s. CompletesAt d run ready.frames tree.nodes (map (λ ix. ix.0) s) Line []) closed ready.completes)
 
 ended_with : (d : Document) (r : Reading) (o : Option ℕ) → r.tree.spine ≡ [] → ReadyWith d r [] o → Derives d r.tree.nodes no_tables
 ended_with d r None closed ready = ready_end d r.tree r.blank closed ready

@@ -19,11 +19,11 @@ use Rattle.first_pass_grammar.specs.Kinds.{Kind, Paragraph}
 use Rattle.first_pass_grammar.specs.Rows.{is_paragraph}
 use Rattle.first_pass_grammar.proofs.OnePass.{joins, counts_with, run_behind, has_gap, list_end, is_loosened, leaf_closes, head_closes, leaf_items, container_items, forest_of}
 use Rattle.first_pass_grammar.specs.Derivation.{Tables, Derives, node_of, tables_of, root_of, list_flags, tight_body, tightened}
-use Rattle.first_pass_grammar.specs.Completion.{ended, flagged, reflagged, list_closed, Pending, NoList, OneList, Frame, InContainer, InList, containers_of, is_quote, loosened, loosened_in, AreBelow, IsPlain, IsShaped, Completes}
+use Rattle.first_pass_grammar.specs.Completion.{ended, flagged, reflagged, list_closed, Pending, NoList, OneList, Frame, InContainer, InList, containers_of, is_quote, loosened, loosened_in, AreBelow, IsPlain, IsShaped}
 use Rattle.first_pass_grammar.proofs.Tightening.{eqb-same, modify-append, length-modify, list_closed-append, length-closed, list_closed-mid, closed_item}
 use Rattle.first_pass_grammar.proofs.Alike.{AlikeOpening}
 use Rattle.first_pass_grammar.proofs.RowLemmas.{rows_items}
-use Rattle.first_pass_grammar.proofs.OnePassFinish.{byte_in, one_pass_rendered, OnePassFinish, in_one_pass, by_one_pass}
+use Rattle.first_pass_grammar.proofs.OnePassFinish.{byte_in, one_pass_rendered, OnePassFinish, containers-loosened, CompletesAt, in_one_pass, by_one_pass}
 use Rattle.first_pass_grammar.proofs.Unique.{one_opening, ends_at_once}
 
 pub ended-append : (nodes more : List (ℕ × Item)) (place e : ℕ) → place < length nodes → ended (nodes ++ more) place e ≡ ended nodes place e ++ more
@@ -47,11 +47,6 @@ loosened-false (InList byte false ∷ frames) = refl
 pub loosened_in-false : (frames : List Frame) → loosened_in false frames ≡ frames
 loosened_in-false [] = refl
 loosened_in-false (frame ∷ frames) = ap (λ z. frame ∷ z) (loosened-false frames)
-
-containers-loosened : (gap : Bool) (frames : List Frame) → containers_of (loosened gap frames) ≡ containers_of frames
-containers-loosened gap [] = refl
-containers-loosened gap (InContainer c ∷ frames) = refl
-containers-loosened gap (InList byte loose ∷ frames) = refl
 
 pub containers-loosened_in : (gap : Bool) (frames : List Frame) → containers_of (loosened_in gap frames) ≡ containers_of frames
 containers-loosened_in gap [] = refl
@@ -670,7 +665,7 @@ reflag_outer d c frames byte loose run l nodes x o os from lines forest tables p
     )
 
 -- before the first line
-pub completes-first : (d : Document) → Completes d false [] (root_of (length d.text) ∷ []) [] Line (lines_at 0 d.text)
+pub completes-first : (d : Document) → CompletesAt d false [] (root_of (length d.text) ∷ []) [] Line (lines_at 0 d.text)
 unfolding OnePassFinish one_pass_rendered
 completes-first d = record {
   below = tt;
@@ -680,7 +675,7 @@ completes-first d = record {
 
 -- inside a line that the whole path goes on with
 pub completes-enter : (d : Document) (run : Bool) (frames : List Frame) (nodes : List (ℕ × Item)) (os : List ℕ) (line q : Place) (lines : List Place)
-    → taken (containers_of frames) line ≡ Some q → Completes d run frames nodes os Line (line ∷ lines) → Completes d run frames nodes os (Inside q) lines
+    → taken (containers_of frames) line ≡ Some q → CompletesAt d run frames nodes os Line (line ∷ lines) → CompletesAt d run frames nodes os (Inside q) lines
 completes-enter d run frames nodes os line q lines is c = record {
   below = c.below;
   shape = c.shape;
@@ -690,7 +685,7 @@ completes-enter d run frames nodes os line q lines is c = record {
 -- behind a block with no blocks in it, wherever it begins
 pub completes-leaf : (d : Document) (frames : List Frame) (nodes : List (ℕ × Item)) (os : List ℕ) (from : From) (lines left : List Place) (b : LeafBlock)
     → IsPlain frames → EndsAlike (length d.text) from (behind_first from Line) → IsFirst d (containers_of frames) from lines (OpensLeaf (Block b) Line left)
-    → Completes d false frames nodes os from lines → Completes d b.gap frames (nodes ++ leaf_items (suc (length os)) false (Block b)) os (behind_first from Line) left
+    → CompletesAt d false frames nodes os from lines → CompletesAt d b.gap frames (nodes ++ leaf_items (suc (length os)) false (Block b)) os (behind_first from Line) left
 completes-leaf d frames nodes os from lines left b plain alike first c = record {
   below = AreBelow-more _ _ os (let k = length-append nodes (leaf_items (suc (length os)) false (Block b)) in omega arith) c.below;
   shape = c.shape;
@@ -700,14 +695,14 @@ completes-leaf d frames nodes os from lines left b plain alike first c = record 
 -- behind a block with no blocks in it, which begins inside a line
 pub completes-block : (d : Document) (frames : List Frame) (nodes : List (ℕ × Item)) (os : List ℕ) (p : Place) (lines left : List Place) (b : LeafBlock)
     → IsPlain frames → Opens d (containers_of frames) p lines (OpensLeaf (Block b) Line left)
-    → Completes d false frames nodes os (Inside p) lines → Completes d b.gap frames (nodes ++ leaf_items (suc (length os)) false (Block b)) os Line left
+    → CompletesAt d false frames nodes os (Inside p) lines → CompletesAt d b.gap frames (nodes ++ leaf_items (suc (length os)) false (Block b)) os Line left
 completes-block d frames nodes os p lines left b plain opens c =
     completes-leaf d frames nodes os (Inside p) lines left b plain (λ path mid. refl) (first_here d (containers_of frames) p lines (OpensLeaf (Block b) Line left) opens) c
 
 -- behind the paragraph of a task list item marker
 pub completes-text : (d : Document) (frames : List Frame) (nodes : List (ℕ × Item)) (os : List ℕ) (marker : Item) (p : Place) (lines left : List Place) (b : LeafBlock)
     → IsPlain frames → OpensParagraph d (containers_of frames) p lines (Some marker) (OpensLeaf (Block b) Line left)
-    → Completes d false frames nodes os (At p (TextOf marker)) lines → Completes d b.gap frames (nodes ++ leaf_items (suc (length os)) false (Block b)) os Line left
+    → CompletesAt d false frames nodes os (At p (TextOf marker)) lines → CompletesAt d b.gap frames (nodes ++ leaf_items (suc (length os)) false (Block b)) os Line left
 completes-text d frames nodes os marker p lines left b plain opens c =
     completes-leaf d frames nodes os (At p (TextOf marker)) lines left b plain (λ path mid. refl) (record { place = p; behind = lines; begins = (refl, refl); opens = opens }) c
 
@@ -717,11 +712,11 @@ mark_alike n (Some e) path mid = refl
 
 -- behind a task list item marker with nothing behind it on its line
 pub completes-mark : (d : Document) (frames : List Frame) (nodes : List (ℕ × Item)) (os : List ℕ) (marker : Item) (p : Place) (blanks : Option ℕ) (lines : List Place)
-    → IsPlain frames → Completes d false frames nodes os (At p (MarkAlone marker blanks)) lines
-    → Completes d false frames (nodes ++ (suc (length os), marker) ∷ []) os (behind_marker blanks) lines
+    → IsPlain frames → CompletesAt d false frames nodes os (At p (MarkAlone marker blanks)) lines
+    → CompletesAt d false frames (nodes ++ (suc (length os), marker) ∷ []) os (behind_marker blanks) lines
 completes-mark d frames nodes os marker p blanks lines plain c =
     let deep : suc (length os) + 0 ≡ suc (length os) = omega arith in
-    subst (λ depth. Completes d false frames (nodes ++ (depth, marker) ∷ []) os (behind_marker blanks) lines) deep
+    subst (λ depth. CompletesAt d false frames (nodes ++ (depth, marker) ∷ []) os (behind_marker blanks) lines) deep
     (completes-leaf d frames nodes os (At p (MarkAlone marker blanks)) lines lines (block_at Paragraph p ((0, marker) ∷ []) false) plain (mark_alike (length d.text) blanks)
     (record { place = p; behind = lines; begins = (refl, refl); opens = refl }) c)
 
@@ -743,7 +738,7 @@ blank_any d (InList byte loose ∷ frames) run nodes (o ∷ os) from lines left 
 -- behind a blank line, wherever it begins
 pub completes-blank : (d : Document) (run : Bool) (frames : List Frame) (nodes : List (ℕ × Item)) (os : List ℕ) (from : From) (lines left : List Place)
     → EndsAlike (length d.text) from (behind_first from Line) → IsFirst d (containers_of frames) from lines (OpensLeaf BlankLine Line left)
-    → Completes d run frames nodes os from lines → Completes d (counts_in frames run) frames nodes os (behind_first from Line) left
+    → CompletesAt d run frames nodes os from lines → CompletesAt d (counts_in frames run) frames nodes os (behind_first from Line) left
 completes-blank d run frames nodes os from lines left alike first c = record {
   below = c.below;
   shape = c.shape;
@@ -753,26 +748,26 @@ completes-blank d run frames nodes os from lines left alike first c = record {
 -- behind a blank line that begins inside a line
 pub completes-blank_line : (d : Document) (run : Bool) (frames : List Frame) (nodes : List (ℕ × Item)) (os : List ℕ) (p : Place) (lines left : List Place)
     → Opens d (containers_of frames) p lines (OpensLeaf BlankLine Line left)
-    → Completes d run frames nodes os (Inside p) lines → Completes d (counts_in frames run) frames nodes os Line left
+    → CompletesAt d run frames nodes os (Inside p) lines → CompletesAt d (counts_in frames run) frames nodes os Line left
 completes-blank_line d run frames nodes os p lines left opens c = completes-blank d run frames nodes os (Inside p) lines left (λ path mid. refl) (first_here d (containers_of frames) p lines (OpensLeaf BlankLine Line left) opens) c
 
 -- behind a blank line in an item that takes blank lines alone
 pub completes-only_blank : (d : Document) (run : Bool) (columns : ℕ) (frames : List Frame) (nodes : List (ℕ × Item)) (os : List ℕ) (e : ℕ) (line p : Place) (lines : List Place)
     → Begins (ListItem columns ∷ containers_of frames) (Blanks e) (line ∷ lines) p lines → Opens d (ListItem columns ∷ containers_of frames) p lines (OpensLeaf BlankLine Line lines)
-    → Completes d run (InContainer (ListItem columns) ∷ frames) nodes os (Blanks e) (line ∷ lines) → Completes d true (InContainer (ListItem columns) ∷ frames) nodes os (Blanks e) lines
+    → CompletesAt d run (InContainer (ListItem columns) ∷ frames) nodes os (Blanks e) (line ∷ lines) → CompletesAt d true (InContainer (ListItem columns) ∷ frames) nodes os (Blanks e) lines
 completes-only_blank d run columns frames nodes os e line p lines begins opens c =
-    subst (λ z. Completes d z (InContainer (ListItem columns) ∷ frames) nodes os (Blanks e) lines) (or-true run)
+    subst (λ z. CompletesAt d z (InContainer (ListItem columns) ∷ frames) nodes os (Blanks e) lines) (or-true run)
     (completes-blank d run (InContainer (ListItem columns) ∷ frames) nodes os (Blanks e) (line ∷ lines) lines (λ path mid. refl) (record { place = p; behind = lines; begins = begins; opens = opens }) c)
 
 -- At the text's end, with nothing open, the nodes are the forest.
-pub completes-end : (d : Document) (run : Bool) (nodes : List (ℕ × Item)) → Completes d run [] nodes [] Line [] → Derives d nodes (tables_of Nil)
+pub completes-end : (d : Document) (run : Bool) (nodes : List (ℕ × Item)) → CompletesAt d run [] nodes [] Line [] → Derives d nodes (tables_of Nil)
 unfolding OnePassFinish IsSequence forest_of one_pass_rendered
 completes-end d run nodes c = in_one_pass _ _ _ _ _ _ _ c nodes (tables_of Nil) (Nil, (tt, refl), sym (append-nil nodes), refl)
 
 -- the innermost container closed
 pub completes-pop : (d : Document) (run : Bool) (c : Container) (frames : List Frame) (nodes : List (ℕ × Item)) (o : ℕ) (os : List ℕ) (from : From) (lines : List Place)
-    → Ends (c ∷ containers_of frames) from lines → Completes d run (InContainer c ∷ frames) nodes (o ∷ os) from lines
-    → Completes d run frames (ended nodes o (end_before (length d.text) (containers_of frames) from lines)) os Line lines
+    → Ends (c ∷ containers_of frames) from lines → CompletesAt d run (InContainer c ∷ frames) nodes (o ∷ os) from lines
+    → CompletesAt d run frames (ended nodes o (end_before (length d.text) (containers_of frames) from lines)) os Line lines
 completes-pop d run c frames nodes o os from lines ends k = record {
   below = AreBelow-more o _ os (let l = length-ended nodes o (end_before (length d.text) (containers_of frames) from lines) in let b : o < length nodes = k.below.0 in omega arith) k.below.1;
   shape = k.shape;
@@ -788,8 +783,8 @@ pop_list_whole d frames byte loose run nodes o os lines forest tables plain ends
 
 -- a list closed with what is around it
 pub completes-pop_list : (d : Document) (run : Bool) (byte : ℕ) (loose : Bool) (frames : List Frame) (nodes : List (ℕ × Item)) (o : ℕ) (os : List ℕ) (lines : List Place)
-    → Ends (containers_of frames) Line lines → Completes d run (InList byte loose ∷ frames) nodes (o ∷ os) Line lines
-    → Completes d run frames (list_closed nodes o (suc (suc (suc (length os)))) loose (start_of (length d.text) lines)) os Line lines
+    → Ends (containers_of frames) Line lines → CompletesAt d run (InList byte loose ∷ frames) nodes (o ∷ os) Line lines
+    → CompletesAt d run frames (list_closed nodes o (suc (suc (suc (length os)))) loose (start_of (length d.text) lines)) os Line lines
 completes-pop_list d run byte loose frames nodes o os lines ends k = record {
   below = AreBelow-more o _ os (let l = length-closed nodes o (suc (suc (suc (length os)))) loose (start_of (length d.text) lines) in let b : o < length nodes = k.below.0 in omega arith) k.below.1;
   shape = k.shape.1;
@@ -799,8 +794,8 @@ completes-pop_list d run byte loose frames nodes o os lines ends k = record {
 -- a list closed before a block that ends it
 pub completes-close : (d : Document) (run : Bool) (byte : ℕ) (loose : Bool) (frames : List Frame) (nodes : List (ℕ × Item)) (o : ℕ) (os : List ℕ) (p : Place) (lines : List Place) (at : ℕ) (opening : Opening)
     → Opens d (containers_of frames) p lines opening → OpensAway byte at opening
-    → Completes d run (InList byte loose ∷ frames) nodes (o ∷ os) (Inside p) lines
-    → Completes d run frames (list_closed nodes o (suc (suc (suc (length os)))) loose at) os (Inside p) lines
+    → CompletesAt d run (InList byte loose ∷ frames) nodes (o ∷ os) (Inside p) lines
+    → CompletesAt d run frames (list_closed nodes o (suc (suc (suc (length os)))) loose at) os (Inside p) lines
 completes-close d run byte loose frames nodes o os p lines at opening opens away k = record {
   below = AreBelow-more o _ os (let l = length-closed nodes o (suc (suc (suc (length os)))) loose at in let b : o < length nodes = k.below.0 in omega arith) k.below.1;
   shape = k.shape.1;
@@ -825,7 +820,7 @@ shaped-loosened_in gap (InList byte loose ∷ frames) h = (plain-loosened gap fr
 -- a gap noted before a block
 pub completes-note : (d : Document) (run : Bool) (frames : List Frame) (nodes : List (ℕ × Item)) (os : List ℕ) (p : Place) (lines : List Place) (opening : Opening)
     → IsPlain frames → Opens d (containers_of frames) p lines opening → OpensBlock opening
-    → Completes d run frames nodes os (Inside p) lines → Completes d false (loosened_in run frames) nodes os (Inside p) lines
+    → CompletesAt d run frames nodes os (Inside p) lines → CompletesAt d false (loosened_in run frames) nodes os (Inside p) lines
 completes-note d run frames nodes os p lines opening plain opens block k = record {
   below = k.below;
   shape = shaped-loosened_in run frames k.shape;
@@ -834,7 +829,7 @@ completes-note d run frames nodes os p lines opening plain opens block k = recor
 
 -- the flags of the list in whose item blocks go on
 pub completes-reflag : (d : Document) (run : Bool) (c : Container) (byte : ℕ) (loose l : Bool) (frames : List Frame) (nodes : List (ℕ × Item)) (x o : ℕ) (os : List ℕ) (from : From) (lines : List Place)
-    → Completes d run (InContainer c ∷ InList byte loose ∷ frames) nodes (x ∷ o ∷ os) from lines → Completes d run (InContainer c ∷ InList byte loose ∷ frames) (reflagged nodes o l) (x ∷ o ∷ os) from lines
+    → CompletesAt d run (InContainer c ∷ InList byte loose ∷ frames) nodes (x ∷ o ∷ os) from lines → CompletesAt d run (InContainer c ∷ InList byte loose ∷ frames) (reflagged nodes o l) (x ∷ o ∷ os) from lines
 completes-reflag d run c byte loose l frames nodes x o os from lines k = record {
   below = AreBelow-more _ _ (x ∷ o ∷ os) (let n = length-reflagged nodes o l in omega arith) k.below;
   shape = k.shape;
@@ -849,7 +844,7 @@ reflag_whole d frames byte loose run l nodes o os from lines forest tables plain
 
 -- the flags of a list that may go on
 pub completes-reflag_list : (d : Document) (run : Bool) (byte : ℕ) (loose l : Bool) (frames : List Frame) (nodes : List (ℕ × Item)) (o : ℕ) (os : List ℕ) (from : From) (lines : List Place)
-    → Completes d run (InList byte loose ∷ frames) nodes (o ∷ os) from lines → Completes d run (InList byte loose ∷ frames) (reflagged nodes o l) (o ∷ os) from lines
+    → CompletesAt d run (InList byte loose ∷ frames) nodes (o ∷ os) from lines → CompletesAt d run (InList byte loose ∷ frames) (reflagged nodes o l) (o ∷ os) from lines
 completes-reflag_list d run byte loose l frames nodes o os from lines k = record {
   below = AreBelow-more _ _ (o ∷ os) (let n = length-reflagged nodes o l in omega arith) k.below;
   shape = k.shape;
@@ -859,8 +854,8 @@ completes-reflag_list d run byte loose l frames nodes o os from lines k = record
 -- a block quote opened
 pub completes-quote : (d : Document) (frames : List Frame) (nodes : List (ℕ × Item)) (os : List ℕ) (p : Place) (lines behind : List Place) (kind : Option BlockQuoteKind) (start line some_end : ℕ) (inside : From)
     → IsPlain frames → Opens d (containers_of frames) p lines (OpensNode (record { opener = QuoteMarker kind; start = start; line = line }) inside behind)
-    → Completes d false frames nodes os (Inside p) lines
-    → Completes d false (InContainer (BlockQuote kind) ∷ frames) (nodes ++ (suc (length os), node_of start some_end (BlockQuoteBody kind)) ∷ []) (length nodes ∷ os) inside behind
+    → CompletesAt d false frames nodes os (Inside p) lines
+    → CompletesAt d false (InContainer (BlockQuote kind) ∷ frames) (nodes ++ (suc (length os), node_of start some_end (BlockQuoteBody kind)) ∷ []) (length nodes ∷ os) inside behind
 completes-quote d frames nodes os p lines behind kind start line some_end inside plain opens k =
     let l : length (nodes ++ (suc (length os), node_of start some_end (BlockQuoteBody kind)) ∷ []) ≡ length nodes + 1 = length-append nodes ((suc (length os), node_of start some_end (BlockQuoteBody kind)) ∷ []) in
     record {
@@ -872,8 +867,8 @@ completes-quote d frames nodes os p lines behind kind start line some_end inside
 -- a list opened, with its first item
 pub completes-list : (d : Document) (frames : List Frame) (nodes : List (ℕ × Item)) (os : List ℕ) (p : Place) (lines behind : List Place) (byte number columns start line some_end other_end : ℕ) (flags : ListFlags) (inside : From)
     → IsPlain frames → Opens d (containers_of frames) p lines (OpensNode (record { opener = ItemMarker byte number columns; start = start; line = line }) inside behind)
-    → Completes d false frames nodes os (Inside p) lines
-    → Completes d false (InContainer (ListItem columns) ∷ InList byte false ∷ frames)
+    → CompletesAt d false frames nodes os (Inside p) lines
+    → CompletesAt d false (InContainer (ListItem columns) ∷ InList byte false ∷ frames)
     (nodes ++ (suc (length os), node_of start some_end (ListBody flags byte number)) ∷ (suc (suc (length os)), node_of start other_end (ListItemBody columns)) ∷ []) (suc (length nodes) ∷ length nodes ∷ os) inside behind
 completes-list d frames nodes os p lines behind byte number columns start line some_end other_end flags inside plain opens k =
     let more : List (ℕ × Item) = (suc (length os), node_of start some_end (ListBody flags byte number)) ∷ (suc (suc (length os)), node_of start other_end (ListItemBody columns)) ∷ [] in
@@ -887,8 +882,8 @@ completes-list d frames nodes os p lines behind byte number columns start line s
 -- an item opened in a list that goes on
 pub completes-item : (d : Document) (run loose : Bool) (frames : List Frame) (nodes : List (ℕ × Item)) (o : ℕ) (os : List ℕ) (p : Place) (lines behind : List Place) (byte number columns start line some_end : ℕ) (inside : From)
     → Opens d (containers_of frames) p lines (OpensNode (record { opener = ItemMarker byte number columns; start = start; line = line }) inside behind)
-    → Completes d run (InList byte loose ∷ frames) nodes (o ∷ os) (Inside p) lines
-    → Completes d false (InContainer (ListItem columns) ∷ InList byte (loose || run) ∷ frames) (nodes ++ (suc (suc (length os)), node_of start some_end (ListItemBody columns)) ∷ []) (length nodes ∷ o ∷ os) inside behind
+    → CompletesAt d run (InList byte loose ∷ frames) nodes (o ∷ os) (Inside p) lines
+    → CompletesAt d false (InContainer (ListItem columns) ∷ InList byte (loose || run) ∷ frames) (nodes ++ (suc (suc (length os)), node_of start some_end (ListItemBody columns)) ∷ []) (length nodes ∷ o ∷ os) inside behind
 completes-item d run loose frames nodes o os p lines behind byte number columns start line some_end inside opens k =
     let l : length (nodes ++ (suc (suc (length os)), node_of start some_end (ListItemBody columns)) ∷ []) ≡ length nodes + 1 = length-append nodes ((suc (suc (length os)), node_of start some_end (ListItemBody columns)) ∷ []) in
     record {

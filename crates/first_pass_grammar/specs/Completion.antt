@@ -40,14 +40,34 @@ pub data Pending : Type 0 where
   NoList : Pending
   OneList : ℕ → ℕ → Bool → Pending
 
+-- what stands so far: nodes, a list that may go on, and whether the run of blank lines behind them holds one that counts
+pub record Standing : Type 0 where
+  pub nodes : List (ℕ × Item)
+  pub list : Pending
+  pub run : Bool
+
+-- what a container takes further: blocks, and where it ends behind them
+pub record Further : Type 0 where
+  pub blocks : Skeleton
+  pub «end» : ℕ
+
+-- What the containers of a path take further from here on, from the innermost on, and the text itself at last: each a sequence of the grammar.
+unfoldable pub AreFurther : Document → List Container → From → List Place → List Further → Type 0
+AreFurther d [] from lines [] = ⊥
+AreFurther d [] from lines (f ∷ []) = IsSequence d f.blocks [] from lines [] × (f.«end» ≡ length d.text)
+AreFurther d [] from lines (f ∷ g ∷ more) = ⊥
+AreFurther d (c ∷ path) from lines [] = ⊥
+AreFurther d (c ∷ path) from lines (f ∷ more) =
+    (left : List Place) × IsSequence d f.blocks (c ∷ path) from lines left × (f.«end» ≡ end_before (length d.text) path from left) × AreFurther d path Line left more
+
 -- a blank line is first, and counts there: behind an item its list is innermost (this project)
 abbrev pub counts_first : Pending → Skeleton → Bool
 counts_first NoList s = false
 counts_first (OneList place byte loose) s = begins_blank s
 
--- The rows of what goes on in a container, a block quote or not, that ends at an offset, behind a run of blank lines of which one counts or none.
-abbrev pub rows_on : Bool → ℕ → Pending → Bool → Skeleton → Rows
-rows_on quoted last list run s = behind (run || counts_first list s) (rows_of quoted last s)
+-- the rows of what a container takes further, a block quote or not, behind what stands
+abbrev pub rows_on : Bool → Standing → Further → Rows
+rows_on quoted w f = behind (w.run || counts_first w.list f.blocks) (rows_of quoted f.«end» f.blocks)
 
 -- of such rows those that are not the list's that may go on
 abbrev pub rows_beyond : Pending → Rows → Rows
@@ -89,23 +109,20 @@ abbrev pub loosened_in : Bool → List Frame → List Frame
 loosened_in gap [] = []
 loosened_in gap (frame ∷ frames) = frame ∷ loosened gap frames
 
--- From these nodes, of which those at these places are not closed and are what the frames say, both listed from the innermost on, and from here on the
--- forest and the tables come about: the innermost container takes some sequence of the grammar, whose rows stand in it then, and ends behind it, and so on
--- outwards; a list ends with what goes on with it.
-unfoldable pub Finish : Document → Pending → Bool → List Frame → List (ℕ × Item) → List ℕ → From → List Place → List (ℕ × Item) → Tables → Type 0
-Finish d list run [] nodes [] from lines forest tables =
-    (s : Skeleton) × IsSequence d s [] from lines [] × (forest ≡ rendered 1 (length d.text) nodes list (rows_on false (length d.text) list run s))
-    × (tables ≡ tables_of s)
-Finish d list run [] nodes (place ∷ places) from lines forest tables = ⊥
-Finish d list run (frame ∷ frames) nodes [] from lines forest tables = ⊥
-Finish d list run (InList byte loose ∷ frames) nodes (place ∷ places) from lines forest tables =
-    Finish d (OneList place byte loose) run frames nodes places from lines forest tables
-Finish d list run (InContainer c ∷ frames) nodes (place ∷ places) from lines forest tables =
-    (s : Skeleton) × (mid : List Place) × IsSequence d s (c ∷ containers_of frames) from lines mid
-    × (let last : ℕ = end_before (length d.text) (containers_of frames) from mid in
-    let rows : Rows = rows_on (is_quote c) last list run s in
-    Finish d NoList (ends_in_gap rows) (loosened (any_gap (rows_beyond list rows)) frames) (ended (rendered (suc (length (place ∷ places))) last nodes list rows) place last)
-    places Line mid forest tables)
+-- what stands once a container, whose node is at a place, is closed behind these rows: those of what it took further
+abbrev pub container_closed : ℕ → ℕ → Standing → Further → Rows → Standing
+container_closed depth place w f rows = record { nodes = ended (rendered depth f.«end» w.nodes w.list rows) place f.«end»; list = NoList; run = ends_in_gap rows }
+
+-- What stands becomes this forest, and these tables are told then, where the nodes at these places are not closed and are what the frames say, both listed
+-- from the innermost on: each container ends behind what it takes further, and so on outwards; a list ends with what goes on with it.
+unfoldable pub Becomes : List Frame → List ℕ → Standing → List Further → List (ℕ × Item) → Tables → Type 0
+Becomes [] [] w (f ∷ []) forest tables = (forest ≡ rendered 1 f.«end» w.nodes w.list (rows_on false w f)) × (tables ≡ tables_of f.blocks)
+Becomes (InList byte loose ∷ frames) (place ∷ places) w further forest tables =
+    Becomes frames places (record { nodes = w.nodes; list = OneList place byte loose; run = w.run }) further forest tables
+Becomes (InContainer c ∷ frames) (place ∷ places) w (f ∷ further) forest tables =
+    let rows : Rows = rows_on (is_quote c) w f in
+    Becomes (loosened (any_gap (rows_beyond w.list rows)) frames) places (container_closed (suc (length (place ∷ places))) place w f rows) further forest tables
+Becomes _ _ w further forest tables = ⊥
 
 -- each place is before the one inside it, and the innermost before an end
 abbrev pub AreBelow : ℕ → List ℕ → Type 0
@@ -124,8 +141,9 @@ IsShaped [] = Unit {0}
 IsShaped (InContainer c ∷ frames) = IsShaped frames
 IsShaped (InList byte loose ∷ frames) = IsPlain frames × IsShaped frames
 
--- Whatever completes these nodes from here on, the text derives; the run of blank lines before holds one that counts, or doesn't.
-pub record Completes (d : Document) (run : Bool) (frames : List Frame) (nodes : List (ℕ × Item)) (places : List ℕ) (from : From) (lines : List Place) : Type 0 where
-  pub below : AreBelow (length nodes) places
+-- Of what stands the nodes at these places are not closed, and are what the frames say: whatever completes them from here on, the text derives.
+pub record Completes (d : Document) (frames : List Frame) (places : List ℕ) (w : Standing) (from : From) (lines : List Place) : Type 0 where
+  pub below : AreBelow (length w.nodes) places
   pub shape : IsShaped frames
-  pub whole : (forest : List (ℕ × Item)) (tables : Tables) → Finish d NoList run frames nodes places from lines forest tables → Derives d forest tables
+  pub whole : (further : List Further) (forest : List (ℕ × Item)) (tables : Tables)
+      → AreFurther d (containers_of frames) from lines further → Becomes frames places w further forest tables → Derives d forest tables
