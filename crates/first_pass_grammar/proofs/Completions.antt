@@ -19,12 +19,21 @@ use Rattle.first_pass_grammar.specs.Kinds.{Kind, Paragraph}
 use Rattle.first_pass_grammar.specs.Rows.{is_paragraph}
 use Rattle.first_pass_grammar.proofs.OnePass.{joins, counts_with, run_behind, has_gap, list_end, is_loosened, leaf_closes, head_closes, leaf_items, container_items, forest_of}
 use Rattle.first_pass_grammar.specs.Derivation.{Tables, Derives, node_of, tables_of, root_of, list_flags, tight_body, tightened}
-use Rattle.first_pass_grammar.specs.Completion.{ended, flagged, reflagged, list_closed, Pending, NoList, OneList, Frame, InContainer, InList, containers_of, is_quote, loosened, loosened_in, AreBelow, IsPlain, IsShaped}
+use Rattle.first_pass_grammar.specs.Completion.{ended, flagged, list_closed, Pending, NoList, OneList, Frame, InContainer, InList, containers_of, is_quote, loosened, AreBelow, IsPlain, IsShaped}
 use Rattle.first_pass_grammar.proofs.Tightening.{eqb-same, modify-append, length-modify, list_closed-append, length-closed, list_closed-mid, closed_item}
 use Rattle.first_pass_grammar.proofs.Alike.{AlikeOpening}
 use Rattle.first_pass_grammar.proofs.RowLemmas.{rows_items}
 use Rattle.first_pass_grammar.proofs.OnePassFinish.{byte_in, one_pass_rendered, OnePassFinish, containers-loosened, CompletesAt, in_one_pass, by_one_pass}
 use Rattle.first_pass_grammar.proofs.Unique.{one_opening, ends_at_once}
+
+-- the nodes once the list at a place is said to be loose or not
+unfoldable pub reflagged : List (ℕ × Item) → ℕ → Bool → List (ℕ × Item)
+reflagged nodes place loose = modify nodes place (λ x. record x { body = flagged loose x.body })
+
+-- A block in what is innermost, with a blank line before it, makes the list loose around that.
+abbrev pub loosened_in : Bool → List Frame → List Frame
+loosened_in gap [] = []
+loosened_in gap (frame ∷ frames) = frame ∷ loosened gap frames
 
 pub ended-append : (nodes more : List (ℕ × Item)) (place e : ℕ) → place < length nodes → ended (nodes ++ more) place e ≡ ended nodes place e ++ more
 unfolding ended

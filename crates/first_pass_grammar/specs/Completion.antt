@@ -25,10 +25,6 @@ abbrev pub flagged : Bool → ItemBody → ItemBody
 flagged loose (ListBody flags byte number) = ListBody (list_flags (not loose)) byte number
 flagged loose body = body
 
--- the nodes once the list at a place is said to be loose or not
-unfoldable pub reflagged : List (ℕ × Item) → ℕ → Bool → List (ℕ × Item)
-reflagged nodes place loose = modify nodes place (λ x. record x { body = flagged loose x.body })
-
 -- The nodes once the list at a place is closed, in whose items blocks have this depth: it has its end, is loose or isn't, and where it isn't its
 -- paragraphs are tight.
 unfoldable pub list_closed : List (ℕ × Item) → ℕ → ℕ → Bool → ℕ → List (ℕ × Item)
@@ -53,12 +49,10 @@ pub record Further : Type 0 where
 
 -- What the containers of a path take further from here on, from the innermost on, and the text itself at last: each a sequence of the grammar.
 unfoldable pub AreFurther : Document → List Container → From → List Place → List Further → Type 0
-AreFurther d [] from lines [] = ⊥
 AreFurther d [] from lines (f ∷ []) = IsSequence d f.blocks [] from lines [] × (f.«end» ≡ length d.text)
-AreFurther d [] from lines (f ∷ g ∷ more) = ⊥
-AreFurther d (c ∷ path) from lines [] = ⊥
 AreFurther d (c ∷ path) from lines (f ∷ more) =
     (left : List Place) × IsSequence d f.blocks (c ∷ path) from lines left × (f.«end» ≡ end_before (length d.text) path from left) × AreFurther d path Line left more
+AreFurther d _ from lines _ = ⊥
 
 -- a blank line is first, and counts there: behind an item its list is innermost (this project)
 abbrev pub counts_first : Pending → Skeleton → Bool
@@ -103,11 +97,6 @@ abbrev pub loosened : Bool → List Frame → List Frame
 loosened gap [] = []
 loosened gap (InContainer c ∷ frames) = InContainer c ∷ frames
 loosened gap (InList byte loose ∷ frames) = InList byte (loose || gap) ∷ frames
-
--- the same for a block in what is innermost
-abbrev pub loosened_in : Bool → List Frame → List Frame
-loosened_in gap [] = []
-loosened_in gap (frame ∷ frames) = frame ∷ loosened gap frames
 
 -- what stands once a container, whose node is at a place, is closed behind these rows: those of what it took further
 abbrev pub container_closed : ℕ → ℕ → Standing → Further → Rows → Standing
