@@ -21,7 +21,7 @@ use Rattle.first_pass_grammar.specs.Leaves.{Document}
 use Rattle.first_pass_grammar.specs.Skeleton.{BlankLine, From, Line, Inside, Blanks, OpensLeaf, OpensAs, OpensQuote, OpensFrom, Opens, is_blank_behind, next_is_blank, end_before}
 use Rattle.first_pass_grammar.specs.Derivation.{node_of}
 use Rattle.first_pass_grammar.specs.Completion.{Frame, InContainer, InList, containers_of, AreBelow}
-use Rattle.first_pass_grammar.proofs.OnePassFinish.{CompletesAt}
+use Rattle.first_pass_grammar.proofs.Finishes.{CompletesAt}
 use Rattle.first_pass_text.proofs.KindLemmas.{blank_kind}
 use Rattle.first_pass_grammar.proofs.Completions.{counts_in, completes-enter, completes-blank_line, completes-only_blank}
 use Rattle.first_pass_open.specs.OpenBlock.{closed_by}

@@ -13,7 +13,7 @@ use Rattle.first_pass_grammar.specs.Leaves.{Document}
 use Rattle.first_pass_grammar.specs.Skeleton.{Inside, Opening, Opens}
 use Rattle.first_pass_grammar.specs.Derivation.{node_of, list_flags}
 use Rattle.first_pass_grammar.specs.Completion.{flagged, Frame, InContainer, InList, IsPlain}
-use Rattle.first_pass_grammar.proofs.OnePassFinish.{CompletesAt}
+use Rattle.first_pass_grammar.proofs.Finishes.{CompletesAt}
 use Rattle.first_pass_grammar.proofs.Completions.{reflagged, loosened_in, OpensAway, OpensBlock, completes-note, completes-reflag}
 use Rattle.first_pass_open.specs.OpenBlock.{closed_by}
 use Rattle.first_pass_lists.specs.Closing.{loosened_by, loosened_at, top_body, is_list, popped_by, popped, item_finished_by, item_finished, list_left, gap_tree, gap_noted, list_finished}

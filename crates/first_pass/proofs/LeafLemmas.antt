@@ -17,11 +17,10 @@ use Rattle.first_pass_grammar.specs.declared.kind.Container.TheVariants.{BlockQu
 use Rattle.first_pass_grammar.specs.Containers.{at_rest, prefix}
 use Rattle.first_pass_grammar.specs.Kinds.{Kind, Blank, ThematicBreak, AtxHeading, Paragraph, unindented, item_at, IsKind}
 use Rattle.first_pass_grammar.specs.Leaves.{Document, IsParagraph, IsHeading, heading_text_at, rule_block, heading_block, paragraph_block, marker_items}
-use Rattle.first_pass_grammar.proofs.OnePass.{leaf_closes}
 use Rattle.first_pass_grammar.specs.Skeleton.{BlankLine, LeafBlock, Block, block_at, leaf_block, Line, Inside, At, ALeafAlone, IsFirst, Opening, OpensLeaf, OpensParagraph, OpensAs, OpensBlockAt, OpensQuote, OpensFrom, Opens}
 use Rattle.first_pass_grammar.specs.Completion.{lines_from, Frame, containers_of, AreBelow}
-use Rattle.first_pass_grammar.proofs.OnePassFinish.{CompletesAt}
-use Rattle.first_pass_grammar.proofs.Completions.{completes-leaf, completes-blank, completes-block, completes-text, counts_in}
+use Rattle.first_pass_grammar.proofs.Finishes.{CompletesAt}
+use Rattle.first_pass_grammar.proofs.Completions.{leaf_closes, completes-leaf, completes-blank, completes-block, completes-text, counts_in}
 use Rattle.first_pass_text.specs.Appends.{line_end_at, AddsParagraph, AddsHeading}
 use Rattle.first_pass_lists.specs.Closing.{remembered, top_body, is_list, list_finished, blank_read_by, blank_read}
 use Rattle.first_pass_lists.specs.declared.reading.Reading.{Reading}

@@ -23,7 +23,7 @@ use Rattle.first_pass_grammar.specs.OpenOrder.{is_in_item}
 use Rattle.first_pass_grammar.specs.Skeleton.{From, Line, Inside, Blanks, Opening, OpensNode, next_is_blank, item_head, task_behind, behind_task, behind_marker, task_alone, item_opening, quote_head, tag_behind, behind_tag, quote_opening, OpensQuote, OpensFrom, Opens}
 use Rattle.first_pass_grammar.specs.Derivation.{node_of, list_flags}
 use Rattle.first_pass_grammar.specs.Completion.{lines_from, Frame, InContainer, InList, containers_of, AreBelow, IsPlain}
-use Rattle.first_pass_grammar.proofs.OnePassFinish.{CompletesAt}
+use Rattle.first_pass_grammar.proofs.Finishes.{CompletesAt}
 use Rattle.first_pass_grammar.proofs.Tightening.{modify-append, length-modify}
 use Rattle.first_pass_grammar.proofs.Completions.{AreBelow-more, completes-mark, completes-quote, completes-list, completes-item, completes-reflag_list}
 use Rattle.first_pass_open.specs.OpenBlock.{with_child}

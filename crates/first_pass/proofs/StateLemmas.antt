@@ -19,7 +19,7 @@ use Rattle.first_pass_grammar.specs.Leaves.{Document, document}
 use Rattle.first_pass_grammar.specs.Skeleton.{Line, Blanks, is_blank_behind, next_is_blank, Ends, end_before}
 use Rattle.first_pass_grammar.specs.Derivation.{Derives, tight_body, tightened}
 use Rattle.first_pass_grammar.specs.Completion.{lines_from, Frame}
-use Rattle.first_pass_grammar.proofs.OnePassFinish.{CompletesAt}
+use Rattle.first_pass_grammar.proofs.Finishes.{CompletesAt}
 use Rattle.first_pass_grammar.proofs.Completions.{completes-first, completes-end}
 use Rattle.first_pass_open.specs.OpenBlock.{closed_by}
 use Rattle.first_pass_lists.specs.Closing.{remembered, tight_run, tight_at, tight_items, popped_by, popped_at, popped}

@@ -1,12 +1,12 @@
 -- Items that read alike: they differ at most in indices that name one text.
-use Rattle.std.proofs.Common.{◌≡◌, ℕ, zero, suc, ◌+◌, ◌-◌, ◌==◌, ◌&&◌, ◌||◌, not, Bool, true, false, nat_lt, List, [], ◌∷◌, ◌++◌, map, slice_get, Option, Some, None, refl, sym, ap, ◌∙◌, subst, if◌then◌else◌}
+use Rattle.std.proofs.Common.{◌≡◌, ℕ, zero, suc, ◌+◌, ◌-◌, ◌==◌, Bool, true, false, nat_lt, List, [], ◌∷◌, ◌++◌, map, slice_get, Option, Some, refl, sym, ap, ◌∙◌, if◌then◌else◌}
 use Rattle.std.specs.Option.{option_map}
 use Rattle.std.proofs.lemmas.List.{map-append}
 use Rattle.first_pass_items.specs.CowText.{text_of}
 use Rattle.first_pass_items.specs.declared.item.CowIndex.{CowIndex}
 use Rattle.first_pass_items.specs.declared.item.Item.{Item}
 use Rattle.first_pass_items.specs.declared.item.ItemBody.{ItemBody}
-use Rattle.first_pass_items.specs.declared.item.ItemBody.TheVariants.{SynthesizeText, FencedCodeBlock, Paragraph, BlockQuote as BlockQuoteBody, List as ListBody, ListItem as ListItemBody}
+use Rattle.first_pass_items.specs.declared.item.ItemBody.TheVariants.{SynthesizeText, FencedCodeBlock, Paragraph}
 use Rattle.first_pass_tree.specs.Forest.{at_depth, is_text}
 use Rattle.first_pass_lines.specs.Places.{Place, offset, line_end}
 use Rattle.first_pass_tokens.specs.TreeTokens.{leaves}
@@ -14,11 +14,9 @@ use Rattle.first_pass_tokens.specs.Chains.{text_token, touches, add_token, add_t
 use Rattle.first_pass_grammar.specs.Names.{Names, NamesText, index_of, kind_alone, read, read_nodes}
 use Rattle.first_pass_grammar.specs.Leaves.{Document, document, block_with}
 use Rattle.first_pass_grammar.specs.RawLines.{AreColumns, ends_with_both, Ranges, range_text, range_html, raw_items, AreRawLines, spaces}
-use Rattle.first_pass_grammar.specs.Skeleton.{LeafBlock, Leaf, BlankLine, Block, Head, Opener, QuoteMarker, ItemMarker, From, Line, Blanks, At, Anything, ALeafAlone, TextOf, MarkAlone, Opening, OpensLeaf, OpensNode, Skeleton, Nil, Then, Node}
+use Rattle.first_pass_grammar.specs.Skeleton.{LeafBlock, Leaf, BlankLine, Block, From, Line, Blanks, At, Anything, ALeafAlone, TextOf, MarkAlone, Opening, OpensLeaf, OpensNode, Skeleton, Nil, Then, Node}
 use Rattle.first_pass_grammar.specs.Kinds.{Kind}
-use Rattle.first_pass_grammar.specs.Rows.{is_paragraph, is_quote_marker}
-use Rattle.first_pass_grammar.proofs.OnePass.{list_byte, joins, counts_with, run_behind, has_gap, list_end, is_loosened, head_closes, leaf_items, tight_of, list_item, container_items, forest_of}
-use Rattle.first_pass_grammar.specs.Derivation.{node_of, list_flags, tight_body, tightened}
+use Rattle.first_pass_grammar.specs.Derivation.{node_of, tight_body, tightened}
 use Rattle.first_pass_grammar.proofs.NoIndex.{HasNoIndex, HaveNoIndex, read_alone, both_free, unless_free}
 
 -- the same document, where indices name other texts
@@ -73,7 +71,7 @@ Alike m n (Node head e kids next) (Node head' e' kids' next') = (head ≡ head')
 chains_append : (m n : Names) (xs xs' ys ys' : List Item) → AlikeChains m n xs xs' → AlikeChains m n ys ys' → AlikeChains m n (xs ++ ys) (xs' ++ ys')
 chains_append m n xs xs' ys ys' h k = let a = map-append (read m) xs ys in let b = map-append (read n) xs' ys' in cc
 
-nodes_append : (m n : Names) (xs xs' ys ys' : List (ℕ × Item)) → AlikeNodes m n xs xs' → AlikeNodes m n ys ys' → AlikeNodes m n (xs ++ ys) (xs' ++ ys')
+pub nodes_append : (m n : Names) (xs xs' ys ys' : List (ℕ × Item)) → AlikeNodes m n xs xs' → AlikeNodes m n ys ys' → AlikeNodes m n (xs ++ ys) (xs' ++ ys')
 nodes_append m n xs xs' ys ys' h k =
     let a : read_nodes m (xs ++ ys) ≡ read_nodes m xs ++ read_nodes m ys = map-append (λ (x : ℕ × Item). (x.0, read m x.1)) xs ys in
     let b : read_nodes n (xs' ++ ys') ≡ read_nodes n xs' ++ read_nodes n ys' = map-append (λ (x : ℕ × Item). (x.0, read n x.1)) xs' ys' in
@@ -188,157 +186,17 @@ tight_index Paragraph = refl
 tight_index b = refl
 
 -- a node read, made tight
-abbrev tight_read : ℕ → ℕ × (Item × Option (List ℕ)) → ℕ × (Item × Option (List ℕ))
+abbrev pub tight_read : ℕ → ℕ × (Item × Option (List ℕ)) → ℕ × (Item × Option (List ℕ))
 tight_read depth x = (x.0, if x.0 == depth then (node_of x.1.0.start x.1.0.«end» (tight_body x.1.0.body), x.1.1) else x.1)
 
 read_tight_by : (m : Names) (t : Bool) (x : Item) → read m (if t then node_of x.start x.«end» (tight_body x.body) else x) ≡ (if t then (node_of x.start x.«end» (tight_body (read m x).0.body), (read m x).1) else read m x)
 read_tight_by m true x = rw (tight_alone x.body, tight_index x.body) refl
 read_tight_by m false x = refl
 
-read_tight : (m : Names) (depth : ℕ) (nodes : List (ℕ × Item)) → read_nodes m (map (tightened depth) nodes) ≡ map (tight_read depth) (read_nodes m nodes)
+pub read_tight : (m : Names) (depth : ℕ) (nodes : List (ℕ × Item)) → read_nodes m (map (tightened depth) nodes) ≡ map (tight_read depth) (read_nodes m nodes)
 read_tight m depth [] = refl
 read_tight m depth (x ∷ nodes) = let a = read_tight_by m (x.0 == depth) x.1 in let b = read_tight m depth nodes in ap (λ z. (x.0, z) ∷ read_nodes m (map (tightened depth) nodes)) a ∙ ap (λ z. tight_read depth (x.0, read m x.1) ∷ z) b
 
-read_at_depth : (m : Names) (depth : ℕ) (nodes : List (ℕ × Item)) → read_nodes m (at_depth depth nodes) ≡ at_depth depth (read_nodes m nodes)
+pub read_at_depth : (m : Names) (depth : ℕ) (nodes : List (ℕ × Item)) → read_nodes m (at_depth depth nodes) ≡ at_depth depth (read_nodes m nodes)
 read_at_depth m depth [] = refl
 read_at_depth m depth (x ∷ nodes) = ap (λ z. (depth + x.0, read m x.1) ∷ z) (read_at_depth m depth nodes)
-
-deep_alike : (m n : Names) (depth : ℕ) (items items' : List (ℕ × Item)) → AlikeNodes m n items items' → AlikeNodes m n (at_depth depth items) (at_depth depth items')
-deep_alike m n depth items items' h = read_at_depth m depth items ∙ ap (at_depth depth) h ∙ sym (read_at_depth n depth items')
-
-leaf_alike : (m n : Names) (depth : ℕ) (tight : Bool) (b b' : LeafBlock) → AlikeNodes m n b.items b'.items → AlikeNodes m n (leaf_items depth tight (Block b)) (leaf_items depth tight (Block b'))
-leaf_alike m n depth true b b' h =
-    read_tight m depth (at_depth depth b.items) ∙ ap (map (tight_read depth)) (deep_alike m n depth b.items b'.items h) ∙ sym (read_tight n depth (at_depth depth b'.items))
-leaf_alike m n depth false b b' h = deep_alike m n depth b.items b'.items h
-
--- containers around what reads alike
-item_alike : (m n : Names) (depth : ℕ) (t : Option Bool) (start «end» byte number columns : ℕ) (kids kids' : ℕ → Bool → List (ℕ × Item)) (next next' : Option (ℕ × Bool) → List (ℕ × Item)) (last : ℕ) (loose : Bool)
-    → ((d : ℕ) (tight : Bool) → AlikeNodes m n (kids d tight) (kids' d tight)) → ((l : Option (ℕ × Bool)) → AlikeNodes m n (next l) (next' l))
-    → AlikeNodes m n (list_item depth t start «end» byte number columns kids next last loose) (list_item depth t start «end» byte number columns kids' next' last loose)
-item_alike m n depth (Some tight) start end byte number columns kids kids' next next' last loose k l =
-    let x : ℕ × (Item × Option (List ℕ)) = (suc depth, (node_of start end (ListItemBody columns), None)) in
-    ap (λ z. x ∷ z) (nodes_append m n (kids (suc (suc depth)) tight) (kids' (suc (suc depth)) tight) (next (Some (byte, tight))) (next' (Some (byte, tight))) (k (suc (suc depth)) tight) (l (Some (byte, tight))))
-item_alike m n depth None start end byte number columns kids kids' next next' last loose k l =
-    let y : ℕ × (Item × Option (List ℕ)) = (depth, (node_of start last (ListBody (list_flags (not loose)) byte number), None)) in
-    let x : ℕ × (Item × Option (List ℕ)) = (suc depth, (node_of start end (ListItemBody columns), None)) in
-    ap (λ z. y ∷ x ∷ z)
-    (nodes_append m n (kids (suc (suc depth)) (not loose)) (kids' (suc (suc depth)) (not loose)) (next (Some (byte, not loose))) (next' (Some (byte, not loose))) (k (suc (suc depth)) (not loose)) (l (Some (byte, not loose))))
-
-container_alike : (m n : Names) (depth : ℕ) (list : Option (ℕ × Bool)) (opener : Opener) (start «end» : ℕ) (kids kids' : ℕ → Bool → List (ℕ × Item)) (next next' : Option (ℕ × Bool) → List (ℕ × Item)) (last last' : ℕ → ℕ) (loose loose' : ℕ → Bool)
-    → ((d : ℕ) (tight : Bool) → AlikeNodes m n (kids d tight) (kids' d tight)) → ((l : Option (ℕ × Bool)) → AlikeNodes m n (next l) (next' l))
-    → ((byte : ℕ) → last byte ≡ last' byte) → ((byte : ℕ) → loose byte ≡ loose' byte)
-    → AlikeNodes m n (container_items depth list opener start «end» kids next last loose) (container_items depth list opener start «end» kids' next' last' loose')
-container_alike m n depth list (QuoteMarker kind) start end kids kids' next next' last last' loose loose' k l same alike =
-    let x : ℕ × (Item × Option (List ℕ)) = (depth, (node_of start end (BlockQuoteBody kind), None)) in
-    ap (λ z. x ∷ z) (nodes_append m n (kids (suc depth) false) (kids' (suc depth) false) (next None) (next' None) (k (suc depth) false) (l None))
-container_alike m n depth list (ItemMarker byte number columns) start end kids kids' next next' last last' loose loose' k l same alike =
-    item_alike m n depth (tight_of list byte) start end byte number columns kids kids' next next' (last byte) (loose byte) k l
-    ∙ ap (λ z. read_nodes n (list_item depth (tight_of list byte) start end byte number columns kids' next' z (loose byte))) (same byte)
-    ∙ ap (λ z. read_nodes n (list_item depth (tight_of list byte) start end byte number columns kids' next' (last' byte) z)) (alike byte)
-
--- Skeletons that are alike have the same runs of blank lines, the same gaps, and lists that end and are loose alike.
-run_alike : (m n : Names) (quoted : Bool) (list : Option ℕ) (run : Bool) (s t : Skeleton) → Alike m n s t → run_behind quoted list run s ≡ run_behind quoted list run t
-unfolding run_behind
-run_alike m n quoted list run Nil Nil a = refl
-run_alike m n quoted list run Nil (Then leaf' next') a = absurd a
-run_alike m n quoted list run Nil (Node head' e' kids' next') a = absurd a
-run_alike m n quoted list run (Then leaf next) Nil a = absurd a
-run_alike m n quoted list run (Then leaf next) (Node head' e' kids' next') a = absurd a
-run_alike m n quoted list run (Node head e kids next) Nil a = absurd a
-run_alike m n quoted list run (Node head e kids next) (Then leaf' next') a = absurd a
-run_alike m n quoted list run (Then BlankLine next) (Then BlankLine next') a = run_alike m n quoted list (counts_with quoted list run) next next' a.1
-run_alike m n quoted list run (Then BlankLine next) (Then (Block b') next') a = absurd a.0
-run_alike m n quoted list run (Then (Block b) next) (Then BlankLine next') a = absurd a.0
-run_alike m n quoted list run (Then (Block b) next) (Then (Block b') next') a =
-    run_alike m n quoted None b.gap next next' a.1 ∙ ap (λ z. run_behind quoted None z next') a.0.2
-run_alike m n quoted list run (Node head e kids next) (Node head' e' kids' next') a =
-    run_alike m n quoted (list_byte head.opener) (run_behind (is_quote_marker head.opener) None false kids) next next' a.3
-    ∙ ap (λ z. run_behind quoted (list_byte head.opener) z next') (run_alike m n (is_quote_marker head.opener) None false kids kids' a.2)
-    ∙ ap (λ (h : Head). run_behind quoted (list_byte h.opener) (run_behind (is_quote_marker h.opener) None false kids') next') a.0
-
-gap_alike : (m n : Names) (quoted : Bool) (list : Option ℕ) (run : Bool) (s t : Skeleton) → Alike m n s t → has_gap quoted list run s ≡ has_gap quoted list run t
-unfolding has_gap
-gap_alike m n quoted list run Nil Nil a = refl
-gap_alike m n quoted list run Nil (Then leaf' next') a = absurd a
-gap_alike m n quoted list run Nil (Node head' e' kids' next') a = absurd a
-gap_alike m n quoted list run (Then leaf next) Nil a = absurd a
-gap_alike m n quoted list run (Then leaf next) (Node head' e' kids' next') a = absurd a
-gap_alike m n quoted list run (Node head e kids next) Nil a = absurd a
-gap_alike m n quoted list run (Node head e kids next) (Then leaf' next') a = absurd a
-gap_alike m n quoted list run (Then BlankLine next) (Then BlankLine next') a = gap_alike m n quoted list (counts_with quoted list run) next next' a.1
-gap_alike m n quoted list run (Then BlankLine next) (Then (Block b') next') a = absurd a.0
-gap_alike m n quoted list run (Then (Block b) next) (Then BlankLine next') a = absurd a.0
-gap_alike m n quoted list run (Then (Block b) next) (Then (Block b') next') a =
-    ap (λ z. run || z) (gap_alike m n quoted None b.gap next next' a.1 ∙ ap (λ z. has_gap quoted None z next') a.0.2)
-gap_alike m n quoted list run (Node head e kids next) (Node head' e' kids' next') a =
-    let opener : Opener = head.opener in
-    ap (λ z. (run && not (joins list opener)) || z)
-    (gap_alike m n quoted (list_byte opener) (run_behind (is_quote_marker opener) None false kids) next next' a.3
-    ∙ ap (λ z. has_gap quoted (list_byte opener) z next') (run_alike m n (is_quote_marker opener) None false kids kids' a.2))
-    ∙ ap (λ (h : Head). (run && not (joins list h.opener)) || has_gap quoted (list_byte h.opener) (run_behind (is_quote_marker h.opener) None false kids') next') a.0
-
-end_alike : (m n : Names) (list last : ℕ) (s t : Skeleton) → Alike m n s t → list_end list last s ≡ list_end list last t
-unfolding list_end
-end_alike m n list last Nil Nil a = refl
-end_alike m n list last Nil (Then leaf' next') a = absurd a
-end_alike m n list last Nil (Node head' e' kids' next') a = absurd a
-end_alike m n list last (Then leaf next) Nil a = absurd a
-end_alike m n list last (Then leaf next) (Node head' e' kids' next') a = absurd a
-end_alike m n list last (Node head e kids next) Nil a = absurd a
-end_alike m n list last (Node head e kids next) (Then leaf' next') a = absurd a
-end_alike m n list last (Then BlankLine next) (Then BlankLine next') a = end_alike m n list last next next' a.1
-end_alike m n list last (Then BlankLine next) (Then (Block b') next') a = absurd a.0
-end_alike m n list last (Then (Block b) next) (Then BlankLine next') a = absurd a.0
-end_alike m n list last (Then (Block b) next) (Then (Block b') next') a = ap (λ (z : Kind × ℕ × ℕ). if is_paragraph z.0 then z.2 else z.1) a.0.0
-end_alike m n list last (Node head e kids next) (Node head' e' kids' next') a =
-    ap (λ z. if joins (Some list) head.opener then z else head_closes head) (end_alike m n list last next next' a.3)
-    ∙ ap (λ (h : Head). if joins (Some list) h.opener then list_end list last next' else head_closes h) a.0
-
-inside_alike : (m n : Names) (list : ℕ) (kids kids' next next' : Skeleton) → Alike m n kids kids' → ((run : Bool) → is_loosened list run next ≡ is_loosened list run next')
-    → (has_gap false None false kids || is_loosened list (run_behind false None false kids) next) ≡ (has_gap false None false kids' || is_loosened list (run_behind false None false kids') next')
-inside_alike m n list kids kids' next next' a b =
-    ap (λ z. z || is_loosened list (run_behind false None false kids) next) (gap_alike m n false None false kids kids' a)
-    ∙ ap (λ z. has_gap false None false kids' || z) (b (run_behind false None false kids) ∙ ap (λ z. is_loosened list z next') (run_alike m n false None false kids kids' a))
-
-loose_alike : (m n : Names) (list : ℕ) (run : Bool) (s t : Skeleton) → Alike m n s t → is_loosened list run s ≡ is_loosened list run t
-unfolding is_loosened
-loose_alike m n list run Nil Nil a = refl
-loose_alike m n list run Nil (Then leaf' next') a = absurd a
-loose_alike m n list run Nil (Node head' e' kids' next') a = absurd a
-loose_alike m n list run (Then leaf next) Nil a = absurd a
-loose_alike m n list run (Then leaf next) (Node head' e' kids' next') a = absurd a
-loose_alike m n list run (Node head e kids next) Nil a = absurd a
-loose_alike m n list run (Node head e kids next) (Then leaf' next') a = absurd a
-loose_alike m n list run (Then BlankLine next) (Then BlankLine next') a = loose_alike m n list true next next' a.1
-loose_alike m n list run (Then BlankLine next) (Then (Block b') next') a = absurd a.0
-loose_alike m n list run (Then (Block b) next) (Then BlankLine next') a = absurd a.0
-loose_alike m n list run (Then (Block b) next) (Then (Block b') next') a = refl
-loose_alike m n list run (Node head e kids next) (Node head' e' kids' next') a =
-    ap (λ z. if joins (Some list) head.opener then run || z else false)
-    (inside_alike m n list kids kids' next next' a.2 (λ r. loose_alike m n list r next next' a.3))
-    ∙ ap (λ (h : Head). if joins (Some list) h.opener then run || (has_gap false None false kids' || is_loosened list (run_behind false None false kids') next') else false) a.0
-
--- the items of alike skeletons read alike
-pub forest_alike : (m n : Names) (depth last : ℕ) (tight : Bool) (list : Option (ℕ × Bool)) (s t : Skeleton) → Alike m n s t → AlikeNodes m n (forest_of depth last tight list s) (forest_of depth last tight list t)
-unfolding forest_of
-forest_alike m n depth last tight list Nil Nil a = refl
-forest_alike m n depth last tight list Nil (Then leaf' next') a = absurd a
-forest_alike m n depth last tight list Nil (Node head' e' kids' next') a = absurd a
-forest_alike m n depth last tight list (Then leaf next) Nil a = absurd a
-forest_alike m n depth last tight list (Then leaf next) (Node head' e' kids' next') a = absurd a
-forest_alike m n depth last tight list (Node head e kids next) Nil a = absurd a
-forest_alike m n depth last tight list (Node head e kids next) (Then leaf' next') a = absurd a
-forest_alike m n depth last tight list (Then BlankLine next) (Then BlankLine next') a = forest_alike m n depth last tight list next next' a.1
-forest_alike m n depth last tight list (Then BlankLine next) (Then (Block b') next') a = absurd a.0
-forest_alike m n depth last tight list (Then (Block b) next) (Then BlankLine next') a = absurd a.0
-forest_alike m n depth last tight list (Then (Block b) next) (Then (Block b') next') a =
-    nodes_append m n (leaf_items depth tight (Block b)) (leaf_items depth tight (Block b')) (forest_of depth last tight None next) (forest_of depth last tight None next')
-    (leaf_alike m n depth tight b b' a.0.1) (forest_alike m n depth last tight None next next' a.1)
-forest_alike m n depth last tight list (Node head e kids next) (Node head' e' kids' next') a =
-    subst (λ (h : Head). read_nodes m (forest_of depth last tight list (Node head e kids next)) ≡ read_nodes n (forest_of depth last tight list (Node h e' kids' next'))) a.0
-    (subst (λ (x : ℕ). read_nodes m (forest_of depth last tight list (Node head e kids next)) ≡ read_nodes n (forest_of depth last tight list (Node head x kids' next'))) a.1
-    (container_alike m n depth list head.opener head.start e (λ d t. forest_of d e t None kids) (λ d t. forest_of d e t None kids') (λ l. forest_of depth last tight l next) (λ l. forest_of depth last tight l next')
-    (λ byte. list_end byte last next) (λ byte. list_end byte last next')
-    (λ byte. has_gap false None false kids || is_loosened byte (run_behind false None false kids) next) (λ byte. has_gap false None false kids' || is_loosened byte (run_behind false None false kids') next')
-    (λ d t. forest_alike m n d e t None kids kids' a.2) (λ l. forest_alike m n depth last tight l next next' a.3)
-    (λ byte. end_alike m n byte last next next' a.3) (λ byte. inside_alike m n byte kids kids' next next' a.2 (λ r. loose_alike m n byte r next next' a.3))))

@@ -1,10 +1,10 @@
 pub mod Alike
 pub mod Completions
+pub mod Finishes
 pub mod NamedItems
 pub mod NoIndex
-pub mod OnePass
-pub mod OnePassFinish
 pub mod Orders
 pub mod RowLemmas
+pub mod RowsAlike
 pub mod Tightening
 pub mod Unique

@@ -1,5 +1,5 @@
 -- What closing a list makes of its nodes, against what the grammar says of a tight list.
-use Rattle.std.proofs.Common.{◌≡◌, ℕ, zero, suc, ◌+◌, ◌<◌, ◌≤◌, Bool, true, false, not, ◌||◌, eqb, List, [], ◌∷◌, ◌++◌, length, map, Option, Some, None, refl, ap, ◌∙◌, arith, eq-eqb, if◌then◌else◌}
+use Rattle.std.proofs.Common.{◌≡◌, ℕ, zero, suc, ◌+◌, ◌<◌, ◌≤◌, Bool, true, false, not, eqb, List, [], ◌∷◌, ◌++◌, length, map, Option, refl, ap, ◌∙◌, arith, eq-eqb, if◌then◌else◌}
 use Rattle.std.proofs.lemmas.List.{map-append, length-map}
 use Rattle.std.proofs.lemmas.Bool.Decides.{nat_tests}
 use Rattle.first_pass_items.specs.declared.item.Item.{Item}
@@ -7,9 +7,9 @@ use Rattle.first_pass_items.specs.declared.item.ListFlags.{ListFlags}
 use Rattle.first_pass_items.specs.declared.item.BlockQuoteKind.{BlockQuoteKind}
 use Rattle.first_pass_items.specs.declared.item.ItemBody.TheVariants.{BlockQuote as BlockQuoteBody, List as ListBody, ListItem as ListItemBody}
 use Rattle.first_pass_tree.specs.Forest.{modify, map_from, at_depth}
-use Rattle.first_pass_grammar.specs.Skeleton.{Leaf, BlankLine, Block, Opener, QuoteMarker, ItemMarker, Skeleton, Nil, Then, Node}
-use Rattle.first_pass_grammar.proofs.OnePass.{list_end, is_loosened, has_gap, run_behind, leaf_items, tight_of, list_item, container_items, forest_of}
-use Rattle.first_pass_grammar.specs.Derivation.{node_of, list_flags, tightened}
+use Rattle.first_pass_grammar.specs.Skeleton.{BlankLine, Block, Opener, QuoteMarker, ItemMarker, Skeleton, Nil, Then, Node}
+use Rattle.first_pass_grammar.specs.Rows.{What, ALeaf, AQuote, AList, AnItem, Row, Rows, End, OneOf, behind, is_loose, list_behind, row_of, container_row, rows_of}
+use Rattle.first_pass_grammar.specs.Derivation.{node_of, list_flags, tightened, row_items, tight_in, items_of}
 use Rattle.first_pass_grammar.specs.Completion.{flagged, list_closed}
 
 pub eqb-same : (n : ℕ) → eqb n n ≡ true
@@ -30,53 +30,58 @@ deep_tight : (d e : ℕ) (items : List (ℕ × Item)) → d < e → map (tighten
 deep_tight d e [] h = refl
 deep_tight d e (n ∷ items) h = let t = eqb-more d (e + n.0) (omega arith) in let r = deep_tight d e items h in rw t (ap (λ z. tightened e (e + n.0, n.1) ∷ z) r)
 
-deep_leaf : (d e : ℕ) (tight : Bool) (leaf : Leaf) → d < e → map (tightened d) (leaf_items e tight leaf) ≡ leaf_items e tight leaf
-deep_leaf d e tight BlankLine h = refl
-deep_leaf d e true (Block b) h = deep_tight d e b.items h
-deep_leaf d e false (Block b) h = deep_at d e b.items h
+deep_row : (d e : ℕ) (tight loose : Bool) (start : ℕ) (w : What) → d < e → map (tightened d) (row_items e tight loose start w) ≡ row_items e tight loose start w
+deep_row d e true loose start (ALeaf b) h = deep_tight d e b.items h
+deep_row d e false loose start (ALeaf b) h = deep_at d e b.items h
+deep_row d e tight loose start (AQuote kind x) h = ap (λ z. z ∷ []) (deep_node d e (node_of start x (BlockQuoteBody kind)) h)
+deep_row d e tight loose start (AList byte number x) h = ap (λ z. z ∷ []) (deep_node d e (node_of start x (ListBody (list_flags (not loose)) byte number)) h)
+deep_row d e tight loose start (AnItem columns x) h = ap (λ z. z ∷ []) (deep_node d e (node_of start x (ListItemBody columns)) h)
 
-deep_parts : (d : ℕ) (x : ℕ × Item) (a b : List (ℕ × Item)) → tightened d x ≡ x → map (tightened d) a ≡ a → map (tightened d) b ≡ b → map (tightened d) (x ∷ (a ++ b)) ≡ x ∷ (a ++ b)
-deep_parts d x a b hx ha hb = let e = map-append (tightened d) a b in cc
+map_parts : (d : ℕ) (x a b x' a' b' : List (ℕ × Item)) → map (tightened d) x ≡ x' → map (tightened d) a ≡ a' → map (tightened d) b ≡ b' → map (tightened d) (x ++ (a ++ b)) ≡ x' ++ (a' ++ b')
+map_parts d x a b x' a' b' hx ha hb = let e = map-append (tightened d) a b in let f = map-append (tightened d) x (a ++ b) in cc
 
-deep_list : (d : ℕ) (y x : ℕ × Item) (a b : List (ℕ × Item)) → tightened d y ≡ y → tightened d x ≡ x → map (tightened d) a ≡ a → map (tightened d) b ≡ b → map (tightened d) (y ∷ x ∷ (a ++ b)) ≡ y ∷ x ∷ (a ++ b)
-deep_list d y x a b hy hx ha hb = let e = map-append (tightened d) a b in cc
+deep_items : (d e : ℕ) (tight : Bool) (r : Rows) → d < e → map (tightened d) (items_of e tight r) ≡ items_of e tight r
+unfolding items_of
+deep_items d e tight (End gap) h = refl
+deep_items d e tight (OneOf row inner next) h =
+    map_parts d _ _ _ _ _ _ (deep_row d e tight (is_loose inner) row.start row.what h)
+    (deep_items d (suc e) (tight_in tight (is_loose inner) row.what) inner (omega arith)) (deep_items d e tight next h)
 
--- an item, behind one of its list or not, below a depth
-deep_item : (d e : ℕ) (t : Option Bool) (start «end» byte number columns : ℕ) (kids : ℕ → Bool → List (ℕ × Item)) (next : Option (ℕ × Bool) → List (ℕ × Item)) (last : ℕ) (loose : Bool) → d < e
-    → ((tight : Bool) → map (tightened d) (kids (suc (suc e)) tight) ≡ kids (suc (suc e)) tight) → ((l : Option (ℕ × Bool)) → map (tightened d) (next l) ≡ next l)
-    → map (tightened d) (list_item e t start «end» byte number columns kids next last loose) ≡ list_item e t start «end» byte number columns kids next last loose
-deep_item d e None start end byte number columns kids next last loose h k n =
-    deep_list d (e, node_of start last (ListBody (list_flags (not loose)) byte number)) (suc e, node_of start end (ListItemBody columns)) (kids (suc (suc e)) (not loose)) (next (Some (byte, not loose)))
-    (deep_node d e _ h) (deep_node d (suc e) _ (omega arith)) (k (not loose)) (n (Some (byte, not loose)))
-deep_item d e (Some t) start end byte number columns kids next last loose h k n =
-    deep_parts d (suc e, node_of start end (ListItemBody columns)) (kids (suc (suc e)) t) (next (Some (byte, t))) (deep_node d (suc e) _ (omega arith)) (k t) (n (Some (byte, t)))
+-- Directly in a container stands no item of a list.
+abbrev NoItem : What → Type 0
+NoItem (ALeaf b) = Unit {0}
+NoItem (AQuote kind e) = Unit {0}
+NoItem (AList byte number e) = Unit {0}
+NoItem (AnItem columns e) = ⊥
 
-deep_container : (d e : ℕ) (list : Option (ℕ × Bool)) (opener : Opener) (start «end» : ℕ) (kids : ℕ → Bool → List (ℕ × Item)) (next : Option (ℕ × Bool) → List (ℕ × Item)) (last : ℕ → ℕ) (loose : ℕ → Bool) → d < e
-    → ((k : ℕ) (tight : Bool) → d < k → map (tightened d) (kids k tight) ≡ kids k tight) → ((l : Option (ℕ × Bool)) → map (tightened d) (next l) ≡ next l)
-    → map (tightened d) (container_items e list opener start «end» kids next last loose) ≡ container_items e list opener start «end» kids next last loose
-deep_container d e list (QuoteMarker kind) start end kids next last loose h k n =
-    deep_parts d (e, node_of start end (BlockQuoteBody kind)) (kids (suc e) false) (next None) (deep_node d e _ h) (k (suc e) false (omega arith)) (n None)
-deep_container d e list (ItemMarker byte number columns) start end kids next last loose h k n =
-    deep_item d e (tight_of list byte) start end byte number columns kids next (last byte) (loose byte) h (λ tight. k (suc (suc e)) tight (omega arith)) n
+abbrev AreBlocks : Rows → Type 0
+AreBlocks (End gap) = Unit {0}
+AreBlocks (OneOf row inner next) = NoItem row.what × AreBlocks next
 
-pub deep_forest : (d e last : ℕ) (tight : Bool) (list : Option (ℕ × Bool)) (s : Skeleton) → d < e → map (tightened d) (forest_of e last tight list s) ≡ forest_of e last tight list s
-unfolding forest_of
-deep_forest d e last tight list Nil h = refl
-deep_forest d e last tight list (Then BlankLine next) h = deep_forest d e last tight list next h
-deep_forest d e last tight list (Then (Block b) next) h =
-    map-append (tightened d) (leaf_items e tight (Block b)) (forest_of e last tight None next)
-    ∙ ap (λ z. z ++ map (tightened d) (forest_of e last tight None next)) (deep_leaf d e tight (Block b) h)
-    ∙ ap (λ z. leaf_items e tight (Block b) ++ z) (deep_forest d e last tight None next h)
-deep_forest d e last tight list (Node head x kids next) h =
-    deep_container d e list head.opener head.start x (λ k t. forest_of k x t None kids) (λ l. forest_of e last tight l next)
-    (λ byte. list_end byte last next) (λ byte. has_gap false None false kids || is_loosened byte (run_behind false None false kids) next) h
-    (λ k t g. deep_forest d k x t None kids g) (λ l. deep_forest d e last tight l next h)
+blocks_behind : (run : Bool) (r : Rows) → AreBlocks r → AreBlocks (behind run r)
+blocks_behind run (End gap) h = tt
+blocks_behind run (OneOf row inner next) h = h
 
-tight_parts : (d : ℕ) (x : ℕ × Item) (a b c : List (ℕ × Item)) → tightened d x ≡ x → map (tightened d) a ≡ a → map (tightened d) b ≡ c → map (tightened d) (x ∷ (a ++ b)) ≡ x ∷ (a ++ c)
-tight_parts d x a b c hx ha hb = let e = map-append (tightened d) a b in cc
+blocks_by : (t : Bool) (row : Row) (inner next : Rows) → AreBlocks (OneOf row inner next) → AreBlocks (if t then next else OneOf row inner next)
+blocks_by true row inner next h = h.1
+blocks_by false row inner next h = h
 
-tight_list : (d : ℕ) (y x : ℕ × Item) (a b c : List (ℕ × Item)) → tightened d y ≡ y → tightened d x ≡ x → map (tightened d) a ≡ a → map (tightened d) b ≡ c → map (tightened d) (y ∷ x ∷ (a ++ b)) ≡ y ∷ x ∷ (a ++ c)
-tight_list d y x a b c hy hx ha hb = let e = map-append (tightened d) a b in cc
+blocks_past : (byte : ℕ) (r : Rows) → AreBlocks r → AreBlocks (list_behind byte r)
+blocks_past byte (End gap) h = tt
+blocks_past byte (OneOf row inner next) h = blocks_by _ row inner next h
+
+blocks_container : (last : ℕ) (opener : Opener) (line start e : ℕ) (inner next : Rows) → AreBlocks next
+    → AreBlocks (container_row last opener (row_of (record { opener = opener; line = line; start = start }) e) inner next)
+blocks_container last (QuoteMarker kind) line start e inner next h = (tt, h)
+blocks_container last (ItemMarker byte number columns) line start e inner next h = (tt, blocks_past byte next h)
+
+are_blocks : (quoted : Bool) (last : ℕ) (s : Skeleton) → AreBlocks (rows_of quoted last s)
+unfolding rows_of
+are_blocks quoted last Nil = tt
+are_blocks quoted last (Then BlankLine next) = blocks_behind (not quoted) (rows_of quoted last next) (are_blocks quoted last next)
+are_blocks quoted last (Then (Block b) next) = (tt, blocks_behind b.gap (rows_of quoted last next) (are_blocks quoted last next))
+are_blocks quoted last (Node head e kids next) =
+    blocks_container last head.opener head.line head.start e _ _ (blocks_behind _ (rows_of quoted last next) (are_blocks quoted last next))
 
 -- no quote and no list is a paragraph
 same_by : (t : Bool) (x : Item) → (if t then x else x) ≡ x
@@ -92,34 +97,26 @@ same_quote d k start end kind = same_at (eqb k d) k (node_of start end (BlockQuo
 same_list : (d k start «end» byte number : ℕ) (flags : ListFlags) → tightened d (k, node_of start «end» (ListBody flags byte number)) ≡ (k, node_of start «end» (ListBody flags byte number))
 same_list d k start end byte number flags = same_at (eqb k d) k (node_of start end (ListBody flags byte number))
 
-tight_item : (d : ℕ) (t : Option Bool) (start «end» byte number columns : ℕ) (kids : ℕ → Bool → List (ℕ × Item)) (next later : Option (ℕ × Bool) → List (ℕ × Item)) (last : ℕ) (loose : Bool)
-    → ((tight : Bool) → map (tightened d) (kids (suc (suc d)) tight) ≡ kids (suc (suc d)) tight) → ((l : Option (ℕ × Bool)) → map (tightened d) (next l) ≡ later l)
-    → map (tightened d) (list_item d t start «end» byte number columns kids next last loose) ≡ list_item d t start «end» byte number columns kids later last loose
-tight_item d None start end byte number columns kids next later last loose k n =
-    tight_list d (d, node_of start last (ListBody (list_flags (not loose)) byte number)) (suc d, node_of start end (ListItemBody columns)) (kids (suc (suc d)) (not loose)) (next (Some (byte, not loose))) (later (Some (byte, not loose)))
-    (same_list d d start last byte number (list_flags (not loose))) (deep_node d (suc d) _ (omega arith)) (k (not loose)) (n (Some (byte, not loose)))
-tight_item d (Some t) start end byte number columns kids next later last loose k n =
-    tight_parts d (suc d, node_of start end (ListItemBody columns)) (kids (suc (suc d)) t) (next (Some (byte, t))) (later (Some (byte, t))) (deep_node d (suc d) _ (omega arith)) (k t) (n (Some (byte, t)))
+tight_row : (d : ℕ) (loose : Bool) (start : ℕ) (w : What) → map (tightened d) (row_items d false loose start w) ≡ row_items d true loose start w
+tight_row d loose start (ALeaf b) = refl
+tight_row d loose start (AQuote kind x) = ap (λ z. z ∷ []) (same_quote d d start x kind)
+tight_row d loose start (AList byte number x) = ap (λ z. z ∷ []) (same_list d d start x byte number (list_flags (not loose)))
+tight_row d loose start (AnItem columns x) = ap (λ z. z ∷ []) (same_at (eqb d d) d (node_of start x (ListItemBody columns)))
 
-tight_container : (d : ℕ) (list : Option (ℕ × Bool)) (opener : Opener) (start «end» : ℕ) (kids : ℕ → Bool → List (ℕ × Item)) (next later : Option (ℕ × Bool) → List (ℕ × Item)) (last : ℕ → ℕ) (loose : ℕ → Bool)
-    → ((k : ℕ) (tight : Bool) → d < k → map (tightened d) (kids k tight) ≡ kids k tight) → ((l : Option (ℕ × Bool)) → map (tightened d) (next l) ≡ later l)
-    → map (tightened d) (container_items d list opener start «end» kids next last loose) ≡ container_items d list opener start «end» kids later last loose
-tight_container d list (QuoteMarker kind) start end kids next later last loose k n =
-    tight_parts d (d, node_of start end (BlockQuoteBody kind)) (kids (suc d) false) (next None) (later None) (same_quote d d start end kind) (k (suc d) false (omega arith)) (n None)
-tight_container d list (ItemMarker byte number columns) start end kids next later last loose k n =
-    tight_item d (tight_of list byte) start end byte number columns kids next later (last byte) (loose byte) (λ tight. k (suc (suc d)) tight (omega arith)) n
+block_in : (loose : Bool) (w : What) → NoItem w → tight_in false loose w ≡ tight_in true loose w
+block_in loose (ALeaf b) h = refl
+block_in loose (AQuote kind x) h = refl
+block_in loose (AList byte number x) h = refl
+block_in loose (AnItem columns x) h = absurd h
 
--- the items of a sequence in a tight list are those of one that isn't, with its paragraphs made tight
-pub tight_forest : (d last : ℕ) (list : Option (ℕ × Bool)) (s : Skeleton) → map (tightened d) (forest_of d last false list s) ≡ forest_of d last true list s
-unfolding forest_of
-tight_forest d last list Nil = refl
-tight_forest d last list (Then BlankLine next) = tight_forest d last list next
-tight_forest d last list (Then (Block b) next) =
-    map-append (tightened d) (at_depth d b.items) (forest_of d last false None next) ∙ ap (λ z. map (tightened d) (at_depth d b.items) ++ z) (tight_forest d last None next)
-tight_forest d last list (Node head x kids next) =
-    tight_container d list head.opener head.start x (λ k t. forest_of k x t None kids) (λ l. forest_of d last false l next) (λ l. forest_of d last true l next)
-    (λ byte. list_end byte last next) (λ byte. has_gap false None false kids || is_loosened byte (run_behind false None false kids) next)
-    (λ k t g. deep_forest d k x t None kids g) (λ l. tight_forest d last l next)
+-- the items of blocks in a tight list are those of blocks that aren't, with their paragraphs made tight
+tight_items : (d : ℕ) (r : Rows) → AreBlocks r → map (tightened d) (items_of d false r) ≡ items_of d true r
+unfolding items_of
+tight_items d (End gap) h = refl
+tight_items d (OneOf row inner next) h =
+    map_parts d _ _ _ _ _ _ (tight_row d (is_loose inner) row.start row.what)
+    (deep_items d (suc d) (tight_in false (is_loose inner) row.what) inner (omega arith) ∙ ap (λ z. items_of (suc d) z inner) (block_in (is_loose inner) row.what h.0))
+    (tight_items d next h.1)
 
 tight_front : (nodes more : List (ℕ × Item)) (o d : ℕ) → o ≤ length nodes → map_from (tightened d) o (nodes ++ more) ≡ map_from (tightened d) o nodes ++ map (tightened d) more
 tight_front nodes more zero d h = map-append (tightened d) nodes more
@@ -181,6 +178,8 @@ up_node d x = let t : eqb (suc d) (suc (suc d)) ≡ false = grind (arith, nat_te
 
 -- an item of a list that is closed
 pub closed_item : (d last : ℕ) (loose : Bool) (x : Item) (kids : Skeleton)
-    → (let items : List (ℕ × Item) = (suc d, x) ∷ forest_of (suc (suc d)) last false None kids in if loose then items else map (tightened (suc (suc d))) items) ≡ (suc d, x) ∷ forest_of (suc (suc d)) last (not loose) None kids
+    → (let inner : Rows = rows_of false last kids in
+    let items : List (ℕ × Item) = (suc d, x) ∷ items_of (suc (suc d)) false inner in
+    (if loose then items else map (tightened (suc (suc d))) items) ≡ (suc d, x) ∷ items_of (suc (suc d)) (not loose) inner)
 closed_item d last true x kids = refl
-closed_item d last false x kids = let a = up_node d x in let b = tight_forest (suc (suc d)) last None kids in cc
+closed_item d last false x kids = let a = up_node d x in let b = tight_items (suc (suc d)) (rows_of false last kids) (are_blocks false last kids) in cc

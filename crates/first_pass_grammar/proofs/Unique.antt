@@ -26,8 +26,8 @@ use Rattle.first_pass_grammar.specs.Skeleton.{leaf_block, Head, opened, From, Li
 use Rattle.first_pass_grammar.specs.Derivation.{Tables, node_of, Derives}
 use Rattle.first_pass_grammar.proofs.NoIndex.{HasNoIndex, read_alone, paragraph_free, heading_free, marked_free}
 use Rattle.first_pass_grammar.specs.RawLines.{range_text, range_html}
-use Rattle.first_pass_grammar.proofs.RowLemmas.{rows_items}
-use Rattle.first_pass_grammar.proofs.Alike.{with_names, AlikeNodes, HoldsNoIndex, AlikeOpening, Alike, text_free, html_free, raw_alike, block_alike, fence_alike, forest_alike}
+use Rattle.first_pass_grammar.proofs.Alike.{with_names, AlikeNodes, HoldsNoIndex, AlikeOpening, Alike, text_free, html_free, raw_alike, block_alike, fence_alike}
+use Rattle.first_pass_grammar.proofs.RowsAlike.{forest_alike}
 
 -- a paragraph has one chain and leaves one list of lines
 one_paragraph : (d : Document) (n : Names) (path : List Container) (start : ℕ) (chain : List Item) (lines : List Place) (w w' : List Item) (l l' : List Place)
@@ -318,8 +318,8 @@ one_forest text options m n f g t u x y =
     let d : Document = document text options m in
     let s = (one_sequence d n x.skeleton y.skeleton [] Line (lines_at 0 text) [] [] tt x.sequence y.sequence).0 in
     let root : ℕ × (Item × Option (List ℕ)) = (0, (node_of 0 (length text) Root, None)) in (
-      ap (read_nodes m) (x.forest_is ∙ rows_items text x.skeleton)
-          ∙ ap (λ z. root ∷ z) (forest_alike m n 1 (length text) false None x.skeleton y.skeleton s)
-          ∙ sym (ap (read_nodes n) (y.forest_is ∙ rows_items text y.skeleton)),
+      ap (read_nodes m) x.forest_is
+          ∙ ap (λ z. root ∷ z) (forest_alike m n false 1 (length text) x.skeleton y.skeleton s)
+          ∙ sym (ap (read_nodes n) y.forest_is),
       x.tables_are ∙ sym y.tables_are,
     )
