@@ -70,7 +70,8 @@ unfolding any_gap
 any_alike m n (End gap) (End gap') a = refl
 any_alike m n (End gap) (OneOf row' inner' next') a = absurd a
 any_alike m n (OneOf row inner next) (End gap') a = absurd a
-any_alike m n (OneOf row inner next) (OneOf row' inner' next') a = ap (λ (z : Row). z.gap || any_gap next) a.0.0 ∙ ap (λ z. row'.gap || z) (any_alike m n next next' a.2)
+any_alike m n (OneOf row inner next) (OneOf row' inner' next') a = ap (λ (z : Row). z.gap || any_gap next) a.0.0
+    ∙ ap (λ z. row'.gap || z) (any_alike m n next next' a.2)
 
 loose_alike : (m n : Names) (r r' : Rows) → AlikeRows m n r r' → is_loose r ≡ is_loose r'
 unfolding is_loose
@@ -87,9 +88,11 @@ until_alike m n byte last (End gap) (End gap') a = refl
 until_alike m n byte last (End gap) (OneOf row' inner' next') a = absurd a
 until_alike m n byte last (OneOf row inner next) (End gap') a = absurd a
 until_alike m n byte last (OneOf row inner next) (OneOf row' inner' next') a =
-    sym (until_what byte last row.line row.start row.gap row.what) ∙ ap (until_at byte last) a.0.0 ∙ until_what byte last row'.line row'.start row'.gap row'.what
+    sym (until_what byte last row.line row.start row.gap row.what) ∙ ap (until_at byte last) a.0.0
+    ∙ until_what byte last row'.line row'.start row'.gap row'.what
 
-chosen : (m n : Names) (t t' : Bool) (x x' y y' : Rows) → t ≡ t' → AlikeRows m n x x' → AlikeRows m n y y' → AlikeRows m n (if t then x else y) (if t' then x' else y')
+chosen : (m n : Names) (t t' : Bool) (x x' y y' : Rows) → t ≡ t' → AlikeRows m n x x' → AlikeRows m n y y'
+    → AlikeRows m n (if t then x else y) (if t' then x' else y')
 chosen m n t true x x' y y' is a b = rw is a
 chosen m n t false x x' y y' is a b = rw is b
 
@@ -107,7 +110,8 @@ past_alike m n byte (End gap) (OneOf row' inner' next') a = absurd a
 past_alike m n byte (OneOf row inner next) (End gap') a = absurd a
 past_alike m n byte (OneOf row inner next) (OneOf row' inner' next') a = chosen m n _ _ next next' (OneOf row inner next) (OneOf row' inner' next') (same_list m n byte row row' a.0) a.2 a
 
-container_alike : (m n : Names) (last : ℕ) (opener : Opener) (line start e : ℕ) (inner inner' next next' : Rows) → AlikeRows m n inner inner' → AlikeRows m n next next'
+container_alike : (m n : Names) (last : ℕ) (opener : Opener) (line start e : ℕ) (inner inner' next next' : Rows) → AlikeRows m n inner inner'
+    → AlikeRows m n next next'
     → (let row : Row = row_of (record { opener = opener; line = line; start = start }) e in
     AlikeRows m n (container_row last opener row inner next) (container_row last opener row inner' next'))
 container_alike m n last (QuoteMarker kind) line start e inner inner' next next' a b = ((refl, refl), a, b)
@@ -133,7 +137,8 @@ counts_alike : (m n : Names) (opener : Opener) (s t : Skeleton) → Alike m n s 
 counts_alike m n (QuoteMarker kind) s t a = refl
 counts_alike m n (ItemMarker byte number columns) s t a = blank_alike m n s t a
 
-leaf_row : (b b' : LeafBlock) → stands b ≡ stands b' → b.gap ≡ b'.gap → (let row : LeafBlock → Row = λ x. record { what = ALeaf x; line = x.line; start = x.start; gap = false } in bare (row b) ≡ bare (row b'))
+leaf_row : (b b' : LeafBlock) → stands b ≡ stands b' → b.gap ≡ b'.gap
+    → (let row : LeafBlock → Row = λ x. record { what = ALeaf x; line = x.line; start = x.start; gap = false } in bare (row b) ≡ bare (row b'))
 leaf_row b b' is gap =
     ap (λ (z : Kind × ℕ × ℕ). record { what = ALeaf (record { kind = z.0; line = z.1; start = z.2; items = []; gap = b.gap }); line = z.1; start = z.2; gap = false }) is
     ∙ ap (λ g. record { what = ALeaf (record { kind = b'.kind; line = b'.line; start = b'.start; items = []; gap = g }); line = b'.line; start = b'.start; gap = false }) gap
@@ -159,7 +164,8 @@ rows_alike m n quoted last (Node head e kids next) (Node head' e' kids' next') a
     let inner' : Rows = rows_of q e kids' in
     let in_it : AlikeRows m n inner inner' = rows_alike m n q e kids kids' a.2 in
     let run : (ends_in_gap inner || counts_behind head.opener next) ≡ (ends_in_gap inner' || counts_behind head.opener next') =
-    ap (λ z. z || counts_behind head.opener next) (ends_alike m n inner inner' in_it) ∙ ap (λ z. ends_in_gap inner' || z) (counts_alike m n head.opener next next' a.3) in
+    ap (λ z. z || counts_behind head.opener next) (ends_alike m n inner inner' in_it)
+    ∙ ap (λ z. ends_in_gap inner' || z) (counts_alike m n head.opener next next' a.3) in
     subst (λ (h : Head). AlikeRows m n (rows_of quoted last (Node head e kids next)) (rows_of quoted last (Node h e' kids' next'))) a.0
     (subst (λ (x : ℕ). AlikeRows m n (rows_of quoted last (Node head e kids next)) (rows_of quoted last (Node head x kids' next'))) a.1
     (container_alike m n last head.opener head.line head.start e inner inner' _ _ in_it
@@ -172,7 +178,8 @@ shown depth tight loose start (AQuote kind e) items = (depth, (node_of start e (
 shown depth tight loose start (AList byte number e) items = (depth, (node_of start e (ListBody (list_flags (not loose)) byte number), None)) ∷ []
 shown depth tight loose start (AnItem columns e) items = (depth, (node_of start e (ListItemBody columns), None)) ∷ []
 
-shown_is : (m : Names) (depth : ℕ) (tight loose : Bool) (start : ℕ) (w : What) → read_nodes m (row_items depth tight loose start w) ≡ shown depth tight loose start (bare_what w) (read_nodes m (inside w))
+shown_is : (m : Names) (depth : ℕ) (tight loose : Bool) (start : ℕ) (w : What)
+    → read_nodes m (row_items depth tight loose start w) ≡ shown depth tight loose start (bare_what w) (read_nodes m (inside w))
 shown_is m depth true loose start (ALeaf b) = read_tight m depth (at_depth depth b.items) ∙ ap (map (tight_read depth)) (read_at_depth m depth b.items)
 shown_is m depth false loose start (ALeaf b) = read_at_depth m depth b.items
 shown_is m depth tight loose start w = refl
@@ -194,7 +201,8 @@ rows_read m n depth tight (OneOf row inner next) (OneOf row' inner' next') a =
     ∙ sym (shown_is n depth tight loose row'.start row'.what)
     ∙ ap (λ z. read_nodes n (row_items depth tight z row'.start row'.what)) same in
     let t : tight_in tight loose row.what ≡ tight_in tight loose' row'.what =
-    sym (tight_bare tight loose row.what) ∙ ap (λ (z : Row). tight_in tight loose z.what) a.0.0 ∙ tight_bare tight loose row'.what ∙ ap (λ z. tight_in tight z row'.what) same in
+    sym (tight_bare tight loose row.what) ∙ ap (λ (z : Row). tight_in tight loose z.what) a.0.0 ∙ tight_bare tight loose row'.what
+    ∙ ap (λ z. tight_in tight z row'.what) same in
     let kids : AlikeNodes m n (items_of (suc depth) (tight_in tight loose row.what) inner) (items_of (suc depth) (tight_in tight loose' row'.what) inner') =
     rows_read m n (suc depth) (tight_in tight loose row.what) inner inner' a.1 ∙ ap (λ z. read_nodes n (items_of (suc depth) z inner')) t in
     nodes_append m n _ _ _ _ one (nodes_append m n _ _ _ _ kids (rows_read m n depth tight next next' a.2))

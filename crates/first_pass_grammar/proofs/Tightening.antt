@@ -37,7 +37,8 @@ deep_row d e tight loose start (AQuote kind x) h = ap (λ z. z ∷ []) (deep_nod
 deep_row d e tight loose start (AList byte number x) h = ap (λ z. z ∷ []) (deep_node d e (node_of start x (ListBody (list_flags (not loose)) byte number)) h)
 deep_row d e tight loose start (AnItem columns x) h = ap (λ z. z ∷ []) (deep_node d e (node_of start x (ListItemBody columns)) h)
 
-map_parts : (d : ℕ) (x a b x' a' b' : List (ℕ × Item)) → map (tightened d) x ≡ x' → map (tightened d) a ≡ a' → map (tightened d) b ≡ b' → map (tightened d) (x ++ (a ++ b)) ≡ x' ++ (a' ++ b')
+map_parts : (d : ℕ) (x a b x' a' b' : List (ℕ × Item)) → map (tightened d) x ≡ x' → map (tightened d) a ≡ a' → map (tightened d) b ≡ b'
+    → map (tightened d) (x ++ (a ++ b)) ≡ x' ++ (a' ++ b')
 map_parts d x a b x' a' b' hx ha hb = let e = map-append (tightened d) a b in let f = map-append (tightened d) x (a ++ b) in cc
 
 deep_items : (d e : ℕ) (tight : Bool) (r : Rows) → d < e → map (tightened d) (items_of e tight r) ≡ items_of e tight r
@@ -91,10 +92,12 @@ same_by false x = refl
 same_at : (t : Bool) (d : ℕ) (x : Item) → ◌≡◌ {A = ℕ × Item} (d, if t then x else x) (d, x)
 same_at t d x = ap (λ (z : Item). (d, z)) (same_by t x)
 
-same_quote : (d k start «end» : ℕ) (kind : Option BlockQuoteKind) → tightened d (k, node_of start «end» (BlockQuoteBody kind)) ≡ (k, node_of start «end» (BlockQuoteBody kind))
+same_quote : (d k start «end» : ℕ) (kind : Option BlockQuoteKind)
+    → tightened d (k, node_of start «end» (BlockQuoteBody kind)) ≡ (k, node_of start «end» (BlockQuoteBody kind))
 same_quote d k start end kind = same_at (eqb k d) k (node_of start end (BlockQuoteBody kind))
 
-same_list : (d k start «end» byte number : ℕ) (flags : ListFlags) → tightened d (k, node_of start «end» (ListBody flags byte number)) ≡ (k, node_of start «end» (ListBody flags byte number))
+same_list : (d k start «end» byte number : ℕ) (flags : ListFlags)
+    → tightened d (k, node_of start «end» (ListBody flags byte number)) ≡ (k, node_of start «end» (ListBody flags byte number))
 same_list d k start end byte number flags = same_at (eqb k d) k (node_of start end (ListBody flags byte number))
 
 tight_row : (d : ℕ) (loose : Bool) (start : ℕ) (w : What) → map (tightened d) (row_items d false loose start w) ≡ row_items d true loose start w
@@ -118,7 +121,8 @@ tight_items d (OneOf row inner next) h =
     (deep_items d (suc d) (tight_in false (is_loose inner) row.what) inner (omega arith) ∙ ap (λ z. items_of (suc d) z inner) (block_in (is_loose inner) row.what h.0))
     (tight_items d next h.1)
 
-tight_front : (nodes more : List (ℕ × Item)) (o d : ℕ) → o ≤ length nodes → map_from (tightened d) o (nodes ++ more) ≡ map_from (tightened d) o nodes ++ map (tightened d) more
+tight_front : (nodes more : List (ℕ × Item)) (o d : ℕ) → o ≤ length nodes
+    → map_from (tightened d) o (nodes ++ more) ≡ map_from (tightened d) o nodes ++ map (tightened d) more
 tight_front nodes more zero d h = map-append (tightened d) nodes more
 tight_front [] more (suc o) d h = absurd (omega arith)
 tight_front (x ∷ nodes) more (suc o) d h = ap (λ z. x ∷ z) (tight_front nodes more o d (omega arith))
@@ -145,7 +149,8 @@ unfolding list_closed
 list_closed-append nodes more o d true e h = modify-append nodes more o _ h
 list_closed-append nodes more o d false e h =
     let l = length-front nodes o d in
-    ap (λ z. modify z o (λ x. record { start = x.start; «end» = e; body = flagged false x.body })) (tight_front nodes more o d (omega arith)) ∙ modify-append (map_from (tightened d) o nodes) (map (tightened d) more) o _ (omega arith)
+    ap (λ z. modify z o (λ x. record { start = x.start; «end» = e; body = flagged false x.body })) (tight_front nodes more o d (omega arith))
+    ∙ modify-append (map_from (tightened d) o nodes) (map (tightened d) more) o _ (omega arith)
 
 pub length-closed : (nodes : List (ℕ × Item)) (o d : ℕ) (loose : Bool) (e : ℕ) → length (list_closed nodes o d loose e) ≡ length nodes
 unfolding list_closed

@@ -51,7 +51,8 @@ pub record Further : Type 0 where
 unfoldable pub AreFurther : Document → List Container → From → List Place → List Further → Type 0
 AreFurther d [] from lines (f ∷ []) = IsSequence d f.blocks [] from lines [] × (f.«end» ≡ length d.text)
 AreFurther d (c ∷ path) from lines (f ∷ more) =
-    (left : List Place) × IsSequence d f.blocks (c ∷ path) from lines left × (f.«end» ≡ end_before (length d.text) path from left) × AreFurther d path Line left more
+    (left : List Place) × IsSequence d f.blocks (c ∷ path) from lines left × (f.«end» ≡ end_before (length d.text) path from left)
+    × AreFurther d path Line left more
 AreFurther d _ from lines _ = ⊥
 
 -- a blank line is first, and counts there: behind an item its list is innermost (this project)
@@ -100,7 +101,8 @@ loosened gap (InList byte loose ∷ frames) = InList byte (loose || gap) ∷ fra
 
 -- what stands once a container, whose node is at a place, is closed behind these rows: those of what it took further
 abbrev pub container_closed : ℕ → ℕ → Standing → Further → Rows → Standing
-container_closed depth place w f rows = record { nodes = ended (rendered depth f.«end» w.nodes w.list rows) place f.«end»; list = NoList; run = ends_in_gap rows }
+container_closed depth place w f rows =
+    record { nodes = ended (rendered depth f.«end» w.nodes w.list rows) place f.«end»; list = NoList; run = ends_in_gap rows }
 
 -- What stands becomes this forest, and these tables are told then, where the nodes at these places are not closed and are what the frames say, both listed
 -- from the innermost on: each container ends behind what it takes further, and so on outwards; a list ends with what goes on with it.
