@@ -1,15 +1,13 @@
 -- What a contract sees of the tables beside a tree.
-use Rattle.std.specs.Prelude.{[], ◌∷◌, ◌++◌, map}
+use Rattle.std.specs.Prelude.{List, [], ◌∷◌, ◌++◌, map}
 use Rattle.std.specs.Option.{option_map}
 use Rattle.first_pass_items.specs.declared.cow_str.CowStr.{CowStr}
 use Rattle.first_pass_items.specs.CowText.{text_of}
 use Rattle.first_pass_grammar.specs.Names.{Names}
 use Rattle.first_pass_grammar.specs.Derivation.{LinkEntry, Tables}
-use Rattle.first_pass_names.specs.declared.items.LinkDef.{LinkDef}
-use Rattle.first_pass_names.specs.declared.items.FootnoteDef.{FootnoteDef}
+use Rattle.first_pass_labels.specs.declared.label_table.LinkDef.{LinkDef}
+use Rattle.first_pass_labels.specs.declared.label_table.FootnoteDef.{FootnoteDef}
 use Rattle.first_pass_names.specs.declared.items.Allocations.{Allocations}
-use Rattle.first_pass_names.specs.declared.items.FootDefs.{FootDefs}
-use Rattle.first_pass_names.specs.declared.items.RefDefs.{RefDefs}
 
 -- a link definition with its label
 abbrev pub link_entry : CowStr × LinkDef → LinkEntry
@@ -17,13 +15,13 @@ link_entry e = record { label = text_of e.0; dest = text_of e.1.dest; title = op
 
 -- what the tables define
 abbrev pub tables : Allocations → Tables
-tables a = record { links = map link_entry a.refdefs.entries.items; footnotes = map (λ (e : CowStr × FootnoteDef). text_of e.0) a.footdefs.entries.items }
+tables a = record { links = map link_entry a.refdefs; footnotes = map (λ (e : CowStr × FootnoteDef). text_of e.0) a.footdefs }
 
 -- these tables as they stand
-abbrev pub refdefs_of : Allocations → RefDefs
+abbrev pub refdefs_of : Allocations → List (CowStr × LinkDef)
 refdefs_of a = a.refdefs
 
-abbrev pub footdefs_of : Allocations → FootDefs
+abbrev pub footdefs_of : Allocations → List (CowStr × FootnoteDef)
 footdefs_of a = a.footdefs
 
 -- nothing

@@ -8,35 +8,10 @@ ghost use Rattle.first_pass_grammar.specs.Names.{text_named};
 
 use first_pass_items::cow_str::CowStr;
 use first_pass_items::item::CowIndex;
+use first_pass_labels::label_table::LabelTable;
+pub use first_pass_labels::label_table::{FootDefs, FootnoteDef, LinkDef, RefDefs};
 use std::alloc::{AllocError, Global};
-use std::ops::{DerefStr, Index, Range};
-
-/// What a link reference definition says: where the link leads, its title, and where in the text the
-/// definition stands (CommonMark 4.7).
-#[derive(Drop)]
-pub struct LinkDef<'a> {
-    pub dest: CowStr<'a>,
-    pub title: Option<CowStr<'a>>,
-    pub span: Range<usize>,
-}
-
-/// What is known of a footnote: how often it is used, which this pass does not count.
-#[derive(Drop)]
-pub struct FootnoteDef {
-    pub use_count: usize,
-}
-
-/// The link definitions of a text, by label. No block that the pass reads so far makes one.
-#[derive(Drop)]
-pub struct RefDefs<'a> {
-    entries: Vec<(CowStr<'a>, LinkDef<'a>)>,
-}
-
-/// The footnote definitions of a text, by label. No block that the pass reads so far makes one.
-#[derive(Drop)]
-pub struct FootDefs<'a> {
-    entries: Vec<(CowStr<'a>, FootnoteDef)>,
-}
+use std::ops::{DerefStr, Index};
 
 /// The tables beside a tree: what the text defines, and the texts that nodes name by an index.
 #[derive(Drop)]
@@ -54,23 +29,19 @@ impl<'a> Allocations<'a> {
     {
         Allocations {
             texts: Vec::new(alloc),
-            refdefs: RefDefs {
-                entries: Vec::new(alloc),
-            },
-            footdefs: FootDefs {
-                entries: Vec::new(alloc),
-            },
+            refdefs: LabelTable::new(alloc),
+            footdefs: LabelTable::new(alloc),
         }
     }
 
-    /// The link definitions.
+    /// The link definitions. No block that the pass reads so far makes one.
     pub fn refdefs(&self) -> &RefDefs<'a>
         ensures { result.now ≡ refdefs_of self.now }
     {
         &self.refdefs
     }
 
-    /// The footnote definitions.
+    /// The footnote definitions. No block that the pass reads so far makes one.
     pub fn footdefs(&self) -> &FootDefs<'a>
         ensures { result.now ≡ footdefs_of self.now }
     {
