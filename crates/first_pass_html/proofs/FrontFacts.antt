@@ -16,11 +16,11 @@ pub some_if : (t : Bool) (x n : ℕ) → cond t (Some x) None ≡ Some n → (t 
 some_if true x n h = (refl, let e : x ≡ n = cc in e)
 some_if false x n h = cc
 
-some_unless : (t : Bool) (o : Option ℕ) (n : ℕ) → cond t None o ≡ Some n → (t ≡ false) × (o ≡ Some n)
+pub some_unless : (t : Bool) (o : Option ℕ) (n : ℕ) → cond t None o ≡ Some n → (t ≡ false) × (o ≡ Some n)
 some_unless true o n h = cc
 some_unless false o n h = (refl, h)
 
-some_map : (f : ℕ → ℕ) (o : Option ℕ) (n : ℕ) → option_map f o ≡ Some n → (k : ℕ) × (o ≡ Some k) × (f k ≡ n)
+pub some_map : (f : ℕ → ℕ) (o : Option ℕ) (n : ℕ) → option_map f o ≡ Some n → (k : ℕ) × (o ≡ Some k) × (f k ≡ n)
 some_map f None n h = cc
 some_map f (Some k) n h = (k, refl, let e : f k ≡ n = cc in e)
 

@@ -7,3 +7,4 @@ pub mod FrontFacts
 pub mod WholeTagFacts
 pub mod LongestNames
 pub mod RawFacts
+pub mod TagDecisions

@@ -47,6 +47,9 @@ opening_rest bs front behind parts tag = record {
   rest = rest_of_others tag.0.attributes tag.0.ending behind tag.0.are_attributes tag.0.ends;
 }
 
+pub opening_needs_name : (bs : List ℕ) → tag_name_len bs ≡ None → HasNoFront IsBehindOpening bs
+opening_needs_name bs none front behind parts tag = let some = name_counted bs behind (opening_rest bs front behind parts tag) in cc
+
 pub opening_not_raw : (bs : List ℕ) (n : ℕ) → tag_name_len bs ≡ Some n → is_raw_name (take n bs) ≡ true → HasNoFront IsBehindOpening bs
 unfolding opening_rest
 opening_not_raw bs n h raw front behind parts tag =
@@ -122,6 +125,9 @@ closing_name bs front behind parts tag = record {
   is_name = tag.is_name;
   rest = rest_of_others [] (tag.blanks ++ 62 ∷ []) behind tt (record { blanks = tag.blanks; slash = []; parts = refl; is_blanks = tag.is_blanks; is_slash = inl refl });
 }
+
+pub closing_needs_name : (bs : List ℕ) → tag_name_len bs ≡ None → HasNoFront IsBehindClosing bs
+closing_needs_name bs none front behind parts tag = let some = name_counted bs behind (closing_name bs front behind parts tag) in cc
 
 closing_end_is : (blanks behind : List ℕ) → list_all is_blank blanks ≡ true → closing_end_len ((blanks ++ 62 ∷ []) ++ behind) ≡ Some (length blanks + 1)
 unfolding closing_end_len
