@@ -4,3 +4,4 @@ pub mod CutOrder
 pub mod LineLemmas
 pub mod OrderLemmas
 pub mod SoFar
+pub mod LineFound
