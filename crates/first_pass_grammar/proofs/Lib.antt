@@ -1,6 +1,8 @@
 pub mod Alike
 pub mod Completions
 pub mod Finishes
+pub mod Found
+pub mod MoreNames
 pub mod NamedItems
 pub mod NoIndex
 pub mod Orders

@@ -1,0 +1,88 @@
+-- Names that go on with others are found, with what they name: texts, info strings, and raw lines.
+use Rattle.std.proofs.Common.{◌≡◌, ℕ, zero, suc, false, List, [], ◌∷◌, ◌++◌, length, slice_get, Some, refl}
+use Rattle.first_pass_items.specs.declared.cow_str.CowStr.{CowStr}
+use Rattle.first_pass_items.specs.declared.cow_str.CowStr.TheVariants.{Borrowed}
+use Rattle.first_pass_items.specs.declared.item.CowIndex.{CowIndex}
+use Rattle.first_pass_items.specs.declared.item.Item.{Item}
+use Rattle.first_pass_items.specs.declared.item.ItemBody.TheVariants.{SynthesizeText}
+use Rattle.first_pass_items.specs.declared.option_set.Options.{Options}
+use Rattle.first_pass_lines.specs.Places.{Place, offset, line_end}
+use Rattle.first_pass_links.specs.Escapes.{unescaped}
+use Rattle.first_pass_tokens.specs.Chains.{add_tokens}
+use Rattle.first_pass_grammar.specs.Names.{Names, NamesText, Extends}
+use Rattle.first_pass_grammar.specs.Leaves.{document}
+use Rattle.first_pass_grammar.specs.CodeBlocks.{NamesInfo}
+use Rattle.first_pass_grammar.proofs.MoreNames.{extends_none, extends_both, named_last, still_named}
+use Rattle.first_pass_grammar.specs.RawLines.{spaces, AreColumns, Ranges, raw_items, AreRawLines}
+
+-- A value, and names that go on with these, so that this holds of it for all names that go on with those.
+pub record Found (names : Names) (A : Type 0) (Holds : Names → A → Type 0) : Type 0 where
+  pub value : A
+  pub more : Names
+  pub extends : Extends more names
+  pub holds : (later : Names) → Extends later more → Holds later value
+
+-- a text that is borrowed, and names with it
+borrowed : List ℕ → CowStr
+borrowed text = Borrowed (record { ref_ptr = (0, 0); now = text })
+
+naming : Names → CowStr → Names
+naming names cow = record { texts = names.texts ++ cow ∷ [] }
+
+next_index : Names → CowIndex
+next_index names = record { 0 = length names.texts }
+
+next_named : (names later : Names) (cow : CowStr) → Extends later (naming names cow) → slice_get later.texts (next_index names).0 ≡ Some cow
+unfolding naming next_index
+next_named names later cow e = still_named later (naming names cow) (length names.texts) cow e (named_last names.texts cow (length names.texts) refl)
+
+naming_extends : (names : Names) (cow : CowStr) → Extends (naming names cow) names
+unfolding naming
+naming_extends names cow = record { more = cow ∷ []; texts = refl }
+
+named_text : (names : Names) (text : List ℕ) → Found names CowIndex (λ later ix. NamesText later ix text)
+unfolding borrowed
+named_text names text = record {
+  value = next_index names;
+  more = naming names (borrowed text);
+  extends = naming_extends names (borrowed text);
+  holds = λ later e. (borrowed text, next_named names later (borrowed text) e, refl);
+}
+
+pub named_info : (names : Names) (info : List ℕ) → Found names CowIndex (λ later ix. NamesInfo later ix info)
+unfolding borrowed
+named_info names info =
+    let cow : CowStr = borrowed (unescaped false info) in
+    record {
+      value = next_index names;
+      more = naming names cow;
+      extends = naming_extends names cow;
+      holds = λ later e. record { named = cow; at = next_named names later cow e; text = refl; borrowed = λ same. same };
+    }
+
+-- columns, and raw lines
+columns_found : (names : Names) (owed at : ℕ) → Found names (List Item) (λ later items. AreColumns later owed at items)
+columns_found names zero at = record { value = []; more = names; extends = extends_none names; holds = λ later e. refl }
+columns_found names (suc n) at =
+    let ix = named_text names (spaces (suc n)) in
+    record {
+      value = record { start = at; «end» = at; body = SynthesizeText ix.value } ∷ [];
+      more = ix.more;
+      extends = ix.extends;
+      holds = λ later e. (ix.value, ix.holds later e, refl);
+    }
+
+pub raw_lines_found : (range : Ranges) (text : List ℕ) (options : Options) (names : Names) (chain : List Item) (places : List Place)
+    → Found names (List Item) (λ later whole. AreRawLines range (document text options later) chain places whole)
+unfolding AreRawLines
+raw_lines_found range text options names chain [] = record { value = chain; more = names; extends = extends_none names; holds = λ later e. refl }
+raw_lines_found range text options names chain (p ∷ ps) =
+    let columns = columns_found names p.rest.owed (offset p) in
+    let line : List Item = columns.value ++ raw_items range text (offset p) (line_end p) in
+    let whole = raw_lines_found range text options columns.more (add_tokens chain line) ps in
+    record {
+      value = whole.value;
+      more = whole.more;
+      extends = extends_both _ _ _ whole.extends columns.extends;
+      holds = λ later e. (line, (columns.value, columns.holds later (extends_both _ _ _ e whole.extends), refl), whole.holds later e);
+    }
