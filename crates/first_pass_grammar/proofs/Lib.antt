@@ -2,6 +2,7 @@ pub mod Alike
 pub mod Completions
 pub mod Finishes
 pub mod Found
+pub mod KindsFound
 pub mod LinesFound
 pub mod MoreNames
 pub mod NamedItems
