@@ -7,6 +7,7 @@ pub mod LinesFound
 pub mod MoreNames
 pub mod NamedItems
 pub mod NoIndex
+pub mod OpeningsFound
 pub mod Orders
 pub mod RowLemmas
 pub mod RowsAlike

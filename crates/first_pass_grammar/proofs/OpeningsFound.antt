@@ -1,0 +1,166 @@
+-- At each place where blocks go on something opens, and inside a container less of the text is left.
+use Rattle.std.proofs.Common.{◌≡◌, inl, inr, ℕ, suc, ◌-◌, ◌<◌, ◌≤◌, Bool, true, false, List, [], ◌∷◌, length, Option, Some, None, refl, sym, ap, arith, nat_lt, if◌then◌else◌}
+use Rattle.std.specs.Option.{option_map}
+use Rattle.std.proofs.lemmas.List.{length-drop}
+use Rattle.std.proofs.lemmas.List.Sums.{prefix_len-le-length}
+use Rattle.std.proofs.lemmas.Option.{none-some, same_Some}
+use Rattle.first_pass_items.specs.declared.item.Item.{Item}
+use Rattle.first_pass_items.specs.declared.item.BlockQuoteKind.{BlockQuoteKind}
+use Rattle.first_pass_items.specs.declared.option_set.Options.{Options}
+use Rattle.first_pass_items.specs.OptionWords.{has, tasklists}
+use Rattle.first_pass_lines.specs.Lines.{is_content}
+use Rattle.first_pass_lines.specs.Rest.{Rest, indent, after_columns, past_bytes, past_quote}
+use Rattle.first_pass_lines.specs.Places.{Place, start_of}
+use Rattle.first_pass_lines.proofs.PlaceFacts.{columns_shorter, quote_shorter}
+use Rattle.first_pass_scan.specs.Markers.{item_of, task_of}
+use Rattle.first_pass_scan.proofs.MarkerPlaces.{IsMarked, item-marked, task-marked}
+use Rattle.first_pass_grammar.specs.declared.kind.Container.{Container}
+use Rattle.first_pass_grammar.specs.declared.kind.Container.TheVariants.{BlockQuote, ListItem}
+use Rattle.first_pass_grammar.specs.Names.{Names}
+use Rattle.first_pass_grammar.specs.Containers.{at_rest, prefix, front}
+use Rattle.first_pass_grammar.specs.Kinds.{Paragraph, all_taken, unindented, is_blank_rest, quote_inside, item_at, ends_tag}
+use Rattle.first_pass_grammar.specs.Leaves.{Document, document}
+use Rattle.first_pass_grammar.specs.Skeleton.{leaf_block, Head, From, Line, At, May, Anything, ALeafAlone, TextOf, MarkAlone, Inside, behind_marker, Opening, OpensNode, next_is_blank, item_head, task_by, task_behind, behind_task, task_alone, item_opening, quote_head, tag_behind, behind_tag, quote_opening, OpensQuote, OpensFrom, Opens, OpensIf}
+use Rattle.first_pass_grammar.proofs.KindsFound.{IsShorter, leads_alone, leads_leaf, reach, Shrinks, Leads, leads_paragraph, leads_block}
+
+-- behind a marker less is left
+mapped_to : {A B : Type 0} (f : A → B) (o : Option A) (y : B) → option_map f o ≡ Some y → (x : A) × (o ≡ Some x) × (f x ≡ y)
+mapped_to f None y h = absurd (none-some y h)
+mapped_to f (Some x) y h = (x, refl, same_Some (f x) y h)
+
+marked_shorter : (r s : Rest) → IsMarked r s → length s.left < length r.left
+marked_shorter r s m =
+    let some = m.some in
+    let within = m.within in
+    let fits = prefix_len-le-length is_content r.left in
+    let first = columns_shorter m.first (past_bytes m.width r) in
+    let further = columns_shorter m.further (after_columns m.first (past_bytes m.width r)) in
+    let left : length (past_bytes m.width r).left ≡ length r.left - m.width = length-drop m.width r.left in
+    let same = ap (λ (q : Rest). length q.left) m.same in
+    omega arith
+
+item_shorter_by : (t : Bool) (r : Rest) (item : (ℕ × ℕ × ℕ) × Rest) → (if t then item_of (indent r) (all_taken r) else None) ≡ Some item
+    → length item.1.left < length r.left
+item_shorter_by true r item h =
+    let marked = marked_shorter (all_taken r) item.1 (item-marked (indent r) (all_taken r) item h) in
+    let all = columns_shorter (indent r) r in
+    omega arith
+item_shorter_by false r item h = absurd (none-some item h)
+
+item_shorter : (r : Rest) (item : (ℕ × ℕ × ℕ) × Rest) → item_at r ≡ Some item → length item.1.left < length r.left
+unfolding item_at
+item_shorter r item h = item_shorter_by (nat_lt (indent r) 4) r item h
+
+task_shorter_by : (line : ℕ) (r : Rest) (o : Option (Bool × Rest)) → ((task : Bool × Rest) → o ≡ Some task → length task.1.left ≤ length r.left)
+    → length (task_by line r o).1.left ≤ length r.left
+task_shorter_by line r None f = omega arith
+task_shorter_by line r (Some task) f = f task refl
+
+task_if : (t : Bool) (r : Rest) (task : Bool × Rest) → (if t then task_of r else None) ≡ Some task → length task.1.left ≤ length r.left
+task_if true r task h =
+    let marked = marked_shorter (after_columns 3 r) task.1 (task-marked r task h) in
+    let three = columns_shorter 3 r in
+    omega arith
+task_if false r task h = absurd (none-some task h)
+
+task_shorter : (options : Options) (line : ℕ) (r : Rest) → length (task_behind options line r).1.left ≤ length r.left
+task_shorter options line r = task_shorter_by line r (if has options tasklists then task_of r else None) (task_if (has options tasklists) r)
+
+quote_inside_shorter : (p inside : Place) → quote_inside p ≡ Some inside → length inside.rest.left < length p.rest.left
+unfolding prefix
+quote_inside_shorter p inside h =
+    let place = mapped_to (at_rest p) (prefix (BlockQuote None) p.rest) inside h in
+    let marker = mapped_to (after_columns 1) (past_quote (after_columns 3 p.rest)) place.0 place.1 in
+    let three = columns_shorter 3 p.rest in
+    let one = columns_shorter 1 marker.0 in
+    let quote = quote_shorter (after_columns 3 p.rest) marker.0 marker.1 in
+    let same : length place.0.left ≡ length (after_columns 1 marker.0).left = ap (λ (q : Rest). length q.left) (sym marker.2) in
+    let there : length inside.rest.left ≡ length place.0.left = ap (λ (q : Place). length q.rest.left) (sym place.2) in
+    omega arith
+
+-- list items
+behind_reach : (marker : Option Item) (p : Place) → reach (behind_task marker p) ≤ suc (length p.rest.left)
+behind_reach None p = omega arith
+behind_reach (Some marker) p = omega arith
+
+marker_reach : (blanks : Option ℕ) → reach (behind_marker blanks) ≤ 0
+marker_reach None = omega arith
+marker_reach (Some e) = omega arith
+
+alone_reach : (marker : Option Item) (p : Place) (blanks : Option ℕ) → reach (task_alone marker p blanks) ≤ suc (length p.rest.left)
+alone_reach None p blanks = let none = marker_reach blanks in omega arith
+alone_reach (Some marker) p blanks = omega arith
+
+either_shrinks : (most : ℕ) (lines : List Place) (t : Bool) (o o' : Opening) → Shrinks most lines o → Shrinks most lines o'
+    → Shrinks most lines (if t then o else o')
+either_shrinks most lines true o o' h k = h
+either_shrinks most lines false o o' h k = k
+
+node_shrinks : (most : ℕ) (lines : List Place) (head : Head) (inside : From) → reach inside ≤ most → Shrinks most lines (OpensNode head inside lines)
+node_shrinks most lines head inside h = (omega arith, inl h)
+
+item_shrinks : (d : Document) (most : ℕ) (path : List Container) (p : Place) (lines : List Place) (item : ℕ × ℕ × ℕ) (task : Option Item × Rest)
+    → suc (length task.1.left) ≤ most → Shrinks most lines (item_opening d path p lines item task)
+item_shrinks d most path p lines (byte, number, columns) (marker, r) h =
+    let q : Place = at_rest p r in
+    let blanks : Option ℕ = Some (start_of (length d.text) lines) in
+    let alone = alone_reach marker q blanks in
+    let next = alone_reach marker q None in
+    let behind = behind_reach marker q in
+    either_shrinks most lines (is_blank_rest r) _ _
+    (either_shrinks most lines (next_is_blank (ListItem columns ∷ path) lines) _ _
+    (node_shrinks most lines (item_head p byte number 0) (task_alone marker q blanks) (omega arith))
+    (node_shrinks most lines (item_head p byte number columns) (task_alone marker q None) (omega arith)))
+    (node_shrinks most lines (item_head p byte number columns) (behind_task marker q) (omega arith))
+
+-- block quotes
+abbrev IsBehind : ℕ → List Place → From × List Place → Type 0
+IsBehind most lines (inside, behind) = IsShorter most lines inside behind
+
+tag_shrinks_by : (most : ℕ) (line p : Place) (lines : List Place) (t : Bool)
+    → IsBehind most (line ∷ lines) (if◌then◌else◌ {A = From × List Place} t (Line, line ∷ lines) (At p ALeafAlone, lines))
+tag_shrinks_by most line p lines true = (omega arith, inl (omega arith))
+tag_shrinks_by most line p lines false = (omega arith, inr (omega arith))
+
+tag_shrinks : (most : ℕ) (path : List Container) (lines : List Place) → IsBehind most lines (behind_tag path lines)
+tag_shrinks most path [] = (omega arith, inl (omega arith))
+tag_shrinks most path (line ∷ lines) = tag_shrinks_by most line (unindented (at_rest line (front path line.rest))) lines (ends_tag path line.rest)
+
+quote_shrinks : (most : ℕ) (path : List Container) (p inside : Place) (lines : List Place) (kind : Option BlockQuoteKind)
+    → suc (length inside.rest.left) ≤ most → Shrinks most lines (quote_opening path p inside lines kind)
+quote_shrinks most path p inside lines None h = node_shrinks most lines (quote_head p None) (Inside inside) h
+quote_shrinks most path p inside lines (Some kind) h = tag_shrinks most (BlockQuote (Some kind) ∷ path) lines
+
+-- what opens at a place
+leads_quote : (text : List ℕ) (options : Options) (names : Names) (path : List Container) (p : Place) (lines : List Place) (o : Option Place)
+    → ((inside : Place) → o ≡ Some inside → length inside.rest.left < length p.rest.left)
+    → Leads names (length p.rest.left) lines (λ later x. OpensQuote (document text options later) path p lines o x)
+leads_quote text options names path p lines None less = leads_block text options names (length p.rest.left) path p lines
+leads_quote text options names path p lines (Some inside) less =
+    let kind : Option BlockQuoteKind = tag_behind options inside.rest in
+    let shorter = less inside refl in
+    leads_alone (quote_opening path p inside lines kind) (λ later. refl) (quote_shrinks (length p.rest.left) path p inside lines kind (omega arith))
+
+leads_from : (text : List ℕ) (options : Options) (names : Names) (path : List Container) (p : Place) (lines : List Place)
+    (o : Option ((ℕ × ℕ × ℕ) × Rest)) → ((item : (ℕ × ℕ × ℕ) × Rest) → o ≡ Some item → length item.1.left < length p.rest.left)
+    → Leads names (length p.rest.left) lines (λ later x. OpensFrom (document text options later) path p lines o x)
+unfolding OpensFrom
+leads_from text options names path p lines None less = leads_quote text options names path p lines (quote_inside p) (quote_inside_shorter p)
+leads_from text options names path p lines (Some item) less =
+    let d : Document = document text options names in
+    let task : Option Item × Rest = task_behind options p.line item.1 in
+    let shorter = less item refl in
+    let behind = task_shorter options p.line item.1 in
+    leads_alone (item_opening d path p lines item.0 task) (λ later. refl) (item_shrinks d (length p.rest.left) path p lines item.0 task (omega arith))
+
+pub leads_any : (text : List ℕ) (options : Options) (names : Names) (path : List Container) (p : Place) (lines : List Place)
+    → Leads names (length p.rest.left) lines (λ later x. Opens (document text options later) path p lines x)
+leads_any text options names path p lines = leads_from text options names path p lines (item_at p.rest) (item_shorter p.rest)
+
+pub leads_if : (text : List ℕ) (options : Options) (names : Names) (path : List Container) (may : May) (p : Place) (lines : List Place)
+    → Leads names (length p.rest.left) lines (λ later x. OpensIf (document text options later) path may p lines x)
+leads_if text options names path Anything p lines = leads_any text options names path p lines
+leads_if text options names path ALeafAlone p lines = leads_block text options names (length p.rest.left) path p lines
+leads_if text options names path (TextOf marker) p lines = leads_paragraph text options names (length p.rest.left) path p lines (Some marker)
+leads_if text options names path (MarkAlone marker blanks) p lines =
+    leads_leaf (leaf_block Paragraph p ((0, marker) ∷ []) false) lines (λ later. refl) (omega arith)
