@@ -11,5 +11,6 @@ pub mod OpeningsFound
 pub mod Orders
 pub mod RowLemmas
 pub mod RowsAlike
+pub mod SequencesFound
 pub mod Tightening
 pub mod Unique
