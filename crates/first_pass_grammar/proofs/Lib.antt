@@ -1,4 +1,5 @@
 pub mod Alike
+pub mod Completed
 pub mod Completions
 pub mod Finishes
 pub mod Found

@@ -1,5 +1,5 @@
 -- What nodes that are not yet a whole tree can still become.
-use Rattle.std.specs.Prelude.{◌≡◌, ℕ, suc, ◌<◌, ◌||◌, not, Bool, true, false, List, [], ◌∷◌, ◌++◌, length, drop, if◌then◌else◌}
+use Rattle.std.specs.Prelude.{◌≡◌, ℕ, suc, ◌<◌, ◌||◌, not, Bool, true, false, List, [], ◌∷◌, ◌++◌, length, drop, None, if◌then◌else◌}
 use Rattle.first_pass_items.specs.declared.item.Item.{Item}
 use Rattle.first_pass_items.specs.declared.item.ItemBody.{ItemBody}
 use Rattle.first_pass_items.specs.declared.item.ItemBody.TheVariants.{List as ListBody}
@@ -7,8 +7,9 @@ use Rattle.first_pass_tree.specs.Forest.{modify, map_from}
 use Rattle.first_pass_lines.specs.Places.{Place, lines_at}
 use Rattle.first_pass_grammar.specs.declared.kind.Container.{Container}
 use Rattle.first_pass_grammar.specs.declared.kind.Container.TheVariants.{BlockQuote, ListItem}
-use Rattle.first_pass_grammar.specs.Leaves.{Document}
-use Rattle.first_pass_grammar.specs.Skeleton.{From, Line, end_before, Skeleton, IsSequence}
+use Rattle.first_pass_grammar.specs.Leaves.{Document, document}
+use Rattle.first_pass_grammar.specs.Names.{Names, Extends}
+use Rattle.first_pass_grammar.specs.Skeleton.{From, Line, blanks_alone, end_before, Skeleton, IsSequence}
 use Rattle.first_pass_grammar.specs.Rows.{Rows, behind, ends_in_gap, any_gap, is_loose, list_until, items_behind, list_behind, begins_blank, rows_of}
 use Rattle.first_pass_grammar.specs.Derivation.{Tables, Derives, tables_of, list_flags, tightened, items_of}
 
@@ -138,3 +139,19 @@ pub record Completes (d : Document) (frames : List Frame) (places : List ℕ) (w
   pub shape : IsShaped frames
   pub whole : (further : List Further) (forest : List (ℕ × Item)) (tables : Tables)
       → AreFurther d (containers_of frames) from lines further → Becomes frames places w further forest tables → Derives d forest tables
+
+-- Where blocks go on inside these containers: blank lines are taken alone in one of them, in an item (CommonMark 5.2, and this project).
+abbrev pub CanGoOn : List Container → From → Type 0
+CanGoOn [] from = blanks_alone from ≡ None
+CanGoOn (c ∷ path) from = Unit {0}
+
+-- What completes open nodes from here on, with names that go on with the present ones: what the containers take further, and the forest and the tables
+-- that come of it.
+pub record Completion (d : Document) (frames : List Frame) (places : List ℕ) (w : Standing) (from : From) (lines : List Place) : Type 0 where
+  pub names : Names
+  pub extends : Extends names d.names
+  pub further : List Further
+  pub forest : List (ℕ × Item)
+  pub tables : Tables
+  pub taken : AreFurther (document d.text d.options names) (containers_of frames) from lines further
+  pub becomes : Becomes frames places w further forest tables

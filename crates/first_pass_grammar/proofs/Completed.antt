@@ -1,0 +1,118 @@
+-- Whatever is open can be completed, and each text has a derivation.
+use Rattle.std.proofs.Common.{◌≡◌, ℕ, suc, Bool, false, List, [], ◌∷◌, length, refl, sym, subst, arith}
+use Rattle.std.proofs.lemmas.Option.{none-some}
+use Rattle.first_pass_items.specs.declared.item.Item.{Item}
+use Rattle.first_pass_items.specs.declared.option_set.Options.{Options}
+use Rattle.first_pass_lines.specs.Places.{Place, lines_at}
+use Rattle.first_pass_grammar.specs.declared.kind.Container.{Container}
+use Rattle.first_pass_grammar.specs.Names.{Names, Extends}
+use Rattle.first_pass_grammar.specs.Containers.{after}
+use Rattle.first_pass_grammar.specs.Leaves.{Document, document}
+use Rattle.first_pass_grammar.specs.Skeleton.{From, Line, Ends, end_before, IsSequence}
+use Rattle.first_pass_grammar.specs.Rows.{Rows, any_gap, rows_of}
+use Rattle.first_pass_grammar.specs.Derivation.{Tables, Derives, tables_of, root_of, items_of}
+use Rattle.first_pass_grammar.specs.Completion.{OneList, Standing, Further, AreFurther, rows_on, rows_beyond, rendered, Frame, InContainer, InList, containers_of, is_quote, loosened, container_closed, Becomes, Completes, CanGoOn, Completion}
+use Rattle.first_pass_grammar.proofs.Found.{Found}
+use Rattle.first_pass_grammar.proofs.MoreNames.{extends_none, extends_both}
+use Rattle.first_pass_grammar.proofs.Finishes.{containers-loosened}
+use Rattle.first_pass_grammar.proofs.SequencesFound.{sequence_found}
+
+-- at the top a sequence takes all lines
+all_taken_by : (left : List Place) → Ends [] Line left → left ≡ []
+unfolding after
+all_taken_by [] h = refl
+all_taken_by (line ∷ lines) h = absurd (none-some line.rest (sym h))
+
+pub line_goes_on : (path : List Container) → CanGoOn path Line
+line_goes_on [] = refl
+line_goes_on (c ∷ path) = tt
+
+-- what the containers of a path take further
+further_found : (text : List ℕ) (options : Options) (names : Names) (path : List Container) (from : From) (lines : List Place) → CanGoOn path from
+    → Found names (List Further) (λ later further. AreFurther (document text options later) path from lines further)
+unfolding AreFurther
+further_found text options names [] from lines can =
+    let s = sequence_found text options names [] from lines in
+    let none : s.left ≡ [] = all_taken_by s.left (s.ends can) in
+    record {
+      value = record { blocks = s.blocks; «end» = length text } ∷ [];
+      more = s.more;
+      extends = s.extends;
+      holds = λ later x. (subst (λ z. IsSequence (document text options later) s.blocks [] from lines z) none (s.is later x), refl);
+    }
+further_found text options names (c ∷ path) from lines can =
+    let s = sequence_found text options names (c ∷ path) from lines in
+    let outer = further_found text options s.more path Line s.left (line_goes_on path) in
+    record {
+      value = record { blocks = s.blocks; «end» = end_before (length text) path from s.left } ∷ outer.value;
+      more = outer.more;
+      extends = extends_both _ _ _ outer.extends s.extends;
+      holds = λ later x. (s.left, s.is later (extends_both _ _ _ x outer.extends), refl, outer.holds later x);
+    }
+
+-- what stands becomes something with what is taken further
+length-loosened : (gap : Bool) (frames : List Frame) → length (loosened gap frames) ≡ length frames
+length-loosened gap [] = refl
+length-loosened gap (InContainer c ∷ frames) = refl
+length-loosened gap (InList byte loose ∷ frames) = refl
+
+becomes_some : (d : Document) (frames : List Frame) (places : List ℕ) (w : Standing) (further : List Further) (from : From) (lines : List Place)
+    → length frames ≡ length places → AreFurther d (containers_of frames) from lines further
+    → (forest : List (ℕ × Item)) × (tables : Tables) × Becomes frames places w further forest tables
+unfolding AreFurther Becomes
+becomes_some d [] [] w [] from lines size are = absurd are
+becomes_some d [] [] w (f ∷ []) from lines size are = (rendered 1 f.«end» w.nodes w.list (rows_on false w f), tables_of f.blocks, (refl, refl))
+becomes_some d [] [] w (f ∷ g ∷ more) from lines size are = absurd are
+becomes_some d [] (place ∷ places) w further from lines size are = absurd (omega arith)
+becomes_some d (frame ∷ frames) [] w further from lines size are = absurd (omega arith)
+becomes_some d (InList byte loose ∷ frames) (place ∷ places) w further from lines size are =
+    becomes_some d frames places (record { nodes = w.nodes; list = OneList place byte loose; run = w.run }) further from lines (omega arith) are
+becomes_some d (InContainer c ∷ frames) (place ∷ places) w [] from lines size are = absurd are
+becomes_some d (InContainer c ∷ frames) (place ∷ places) w (f ∷ further) from lines size (left, sequence, ends, are) =
+    let rows : Rows = rows_on (is_quote c) w f in
+    let gap : Bool = any_gap (rows_beyond w.list rows) in
+    let now : Standing = container_closed (suc (length (place ∷ places))) place w f rows in
+    becomes_some d (loosened gap frames) places now further Line left (omega (arith, length-loosened gap frames))
+    (subst (λ (path : List Container). AreFurther d path Line left further) (sym (containers-loosened gap frames)) are)
+
+pub completion_found : (d : Document) (frames : List Frame) (places : List ℕ) (w : Standing) (from : From) (lines : List Place)
+    → length frames ≡ length places → CanGoOn (containers_of frames) from → Completion d frames places w from lines
+completion_found d frames places w from lines size can =
+    let further = further_found d.text d.options d.names (containers_of frames) from lines can in
+    let taken = further.holds further.more (extends_none further.more) in
+    let becomes = becomes_some (document d.text d.options further.more) frames places w further.value from lines size taken in
+    record {
+      names = further.more;
+      extends = further.extends;
+      further = further.value;
+      forest = becomes.0;
+      tables = becomes.1;
+      taken = taken;
+      becomes = becomes.2;
+    }
+
+pub completion_derives : (d : Document) (frames : List Frame) (places : List ℕ) (w : Standing) (from : From) (lines : List Place)
+    → length frames ≡ length places → CanGoOn (containers_of frames) from
+    → ((more : Names) → Extends more d.names → Completes (document d.text d.options more) frames places w from lines)
+    → (c : Completion d frames places w from lines) × Derives (document d.text d.options c.names) c.forest c.tables
+completion_derives d frames places w from lines size can ready =
+    let c = completion_found d frames places w from lines size can in
+    (c, (ready c.names c.extends).whole c.further c.forest c.tables c.taken c.becomes)
+
+-- the whole text
+pub text_derives : (text : List ℕ) (options : Options) (names : Names)
+    → (more : Names) × (forest : List (ℕ × Item)) × (tables : Tables) × Extends more names × Derives (document text options more) forest tables
+text_derives text options names =
+    let s = sequence_found text options names [] Line (lines_at 0 text) in
+    let none : s.left ≡ [] = all_taken_by s.left (s.ends refl) in (
+      s.more,
+      root_of (length text) ∷ items_of 1 false (rows_of false (length text) s.blocks),
+      tables_of s.blocks,
+      s.extends,
+      record {
+        skeleton = s.blocks;
+        sequence = subst (λ z. IsSequence (document text options s.more) s.blocks [] Line (lines_at 0 text) z) none (s.is s.more (extends_none s.more));
+        forest_is = refl;
+        tables_are = refl;
+      },
+    )
