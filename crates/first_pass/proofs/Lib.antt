@@ -16,6 +16,7 @@ pub mod OrderLemmas
 pub mod OrderSteps
 pub mod PopLemmas
 pub mod RawFits
+pub mod ReadyCompleted
 pub mod RuleLemmas
 pub mod StateLemmas
 pub mod TagLemmas

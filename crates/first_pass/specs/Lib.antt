@@ -1,4 +1,5 @@
 pub mod Adding
+pub mod Completed
 pub mod Opening
 pub mod Ordered
 pub mod Progress

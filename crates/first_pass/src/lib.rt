@@ -4,6 +4,7 @@
 
 pub mod containers;
 mod interrupt;
+mod laws;
 mod leaf;
 mod list;
 pub mod pass;
@@ -12,3 +13,4 @@ mod state;
 
 pub use first_pass_below::{below, flank, walk};
 pub use first_pass_names::items;
+pub use laws::ready_is_completed;
