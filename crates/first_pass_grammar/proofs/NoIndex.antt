@@ -1,14 +1,18 @@
 -- Items that have no index: the tokens of lines, and the chains of paragraphs and headings. They read alike whatever indices name.
 use Rattle.std.proofs.Common.{◌≡◌, inl, inr, ℕ, ◌+◌, ◌-◌, ◌==◌, ◌&&◌, Bool, true, false, nat_lt, nat_le, min, List, [], ◌∷◌, ◌++◌, length, map, Option, Some, None, IfSome, refl, sym, subst, if◌then◌else◌}
+use Rattle.std.proofs.lemmas.Bool.{false≢true}
 use Rattle.first_pass_items.specs.declared.item.Item.{Item}
-use Rattle.first_pass_items.specs.declared.item.ItemBody.TheVariants.{SoftBreak, HardBreak}
+use Rattle.first_pass_items.specs.declared.item.ItemBody.{ItemBody}
+use Rattle.first_pass_items.specs.declared.item.ItemBody.TheVariants.{SoftBreak, HardBreak, MaybeCode, MaybeHtml, MaybeLinkOpen, MaybeLinkClose, MaybeImage}
 use Rattle.first_pass_tree.specs.Forest.{is_escaped, cut_item}
 use Rattle.first_pass_lines.specs.Places.{Place, offset}
 use Rattle.first_pass_tokens.specs.declared.pieces.Piece.{Piece}
-use Rattle.first_pass_tokens.specs.declared.pieces.Piece.TheVariants.{Left, Begins}
+use Rattle.first_pass_tokens.specs.declared.pieces.Piece.TheVariants.{Left, Begins, Token}
 use Rattle.first_pass_tokens.specs.Pieces.{Source, size}
-use Rattle.first_pass_tokens.specs.LineTokens.{add_piece, add_pieces, text_end, line_end_len, breaks_by_backslash, blanks_at_end, break_of, line_break, IsLine}
-use Rattle.first_pass_tokens.specs.Chains.{text_token, touches, add_token, add_tokens, add_text, is_backslash_break, close_break, cut}
+use Rattle.first_pass_tokens.specs.LineTokens.{ArePieces, add_piece, add_pieces, text_end, line_end_len, breaks_by_backslash, blanks_at_end, break_of, line_break, IsLine}
+use Rattle.first_pass_tokens.specs.Chains.{text_token, token, touches, add_token, add_tokens, add_text, is_backslash_break, close_break, cut}
+use Rattle.first_pass_tokens.proofs.PieceFacts.{IsPieceAt, is_markup}
+use Rattle.first_pass_tokens.proofs.LineLemmas.{piece_of}
 use Rattle.first_pass_grammar.specs.declared.kind.Container.{Container}
 use Rattle.first_pass_grammar.specs.Names.{Names, index_of, read}
 use Rattle.first_pass_grammar.specs.Containers.{at_rest, front}
@@ -56,17 +60,30 @@ unless_free false xs ys h k = k
 text_free : (from to : ℕ) (escaped : Bool) (chain : List Item) → HaveNoIndex chain → HaveNoIndex (add_text from to escaped chain)
 text_free from to escaped chain h = unless_free (nat_lt from to) (add_token chain (text_token from to escaped)) chain (token_free chain (text_token from to escaped) h refl) h
 
-piece_free : (stop at : ℕ) (p : Piece) (chain : List Item) → HaveNoIndex chain → HaveNoIndex (add_piece stop at p chain)
-piece_free stop at (Left n) chain h = text_free at (min (at + n) stop) false chain h
-piece_free stop at (Begins dropped escaped) chain h = text_free (at + dropped) (min (at + (dropped + 1)) stop) escaped chain h
+-- a token of possible markup has no index
+markup_free : (body : ItemBody) → is_markup body ≡ true → index_of body ≡ None
+markup_free (MaybeCode n escaped) h = refl
+markup_free MaybeHtml h = refl
+markup_free MaybeLinkOpen h = refl
+markup_free (MaybeLinkClose b) h = refl
+markup_free MaybeImage h = refl
+markup_free _ h = absurd (false≢true h)
 
-pieces_free : (stop at : ℕ) (ps : List Piece) (chain : List Item) → HaveNoIndex chain → HaveNoIndex (add_pieces stop at ps chain)
-pieces_free stop at [] chain h = h
-pieces_free stop at (p ∷ ps) chain h = pieces_free stop (at + size p) ps (add_piece stop at p chain) (piece_free stop at p chain h)
+piece_free : (text : List ℕ) (stop at : ℕ) (p : Piece) (chain : List Item) → IsPieceAt text at p → HaveNoIndex chain → HaveNoIndex (add_piece stop at p chain)
+piece_free text stop at (Left n) chain facts h = text_free at (min (at + n) stop) false chain h
+piece_free text stop at (Begins dropped escaped) chain facts h = text_free (at + dropped) (min (at + (dropped + 1)) stop) escaped chain h
+piece_free text stop at (Token dropped n body) chain facts h = token_free chain (token (at + dropped) n body) h (markup_free body facts.kind)
+
+pieces_free : (s : Source) (stop at : ℕ) (ps : List Piece) (end : ℕ) (chain : List Item) → ArePieces s at ps end → HaveNoIndex chain
+    → HaveNoIndex (add_pieces stop at ps chain)
+pieces_free s stop at [] end chain are h = h
+pieces_free s stop at (p ∷ ps) end chain are h =
+    pieces_free s stop (at + size p) ps end (add_piece stop at p chain) are.2 (piece_free s.text stop at p chain (piece_of s at p are.0 are.1) h)
 
 -- the tokens of a line have no index, nor has its break
 line_free : (s : Source) (tokens : List Item) (answer : ℕ × Option Item) → IsLine s tokens answer → HaveNoIndex tokens
-line_free s tokens answer h = subst HaveNoIndex (sym h.tokens_are) (pieces_free (text_end s h.content_end) s.start h.pieces [] tt)
+line_free s tokens answer h =
+    subst HaveNoIndex (sym h.tokens_are) (pieces_free s (text_end s h.content_end) s.start h.pieces h.content_end [] h.division.divided tt)
 
 soft_free : (two : Bool) (end next blanks : ℕ) → HasNoIndex (if two then record { start = end - blanks; «end» = next; body = HardBreak false } else record { start = end; «end» = next; body = SoftBreak })
 soft_free true end next blanks = refl

@@ -1,19 +1,19 @@
 -- Each token of a chain has a byte, so a chain in order has at most as many tokens as bytes.
-use Rattle.std.proofs.Common.{◌≡◌, ℕ, zero, suc, ◌+◌, ◌-◌, ◌≤◌, ◌<◌, ◌==◌, ◌&&◌, Bool, true, false, List, [], ◌∷◌, ◌++◌, length, Option, Some, None, nat_lt, min, slice_index, if◌then◌else◌, refl, sym, ap, subst, arith}
+use Rattle.std.proofs.Common.{◌≡◌, ℕ, zero, suc, ◌+◌, ◌-◌, ◌≤◌, ◌<◌, ◌==◌, ◌&&◌, Bool, false, List, [], ◌∷◌, ◌++◌, length, Option, Some, None, nat_lt, min, if◌then◌else◌, refl, sym, ap, subst, arith}
 use Rattle.std.proofs.lemmas.Bool.{and_parts, cond_both, eqb-true, ltb-true}
 use Rattle.first_pass_items.specs.declared.item.Item.{Item}
 use Rattle.std.proofs.lemmas.List.{length-append}
-use Rattle.std.specs.Char.{is_ascii_punctuation}
 use Rattle.first_pass_tree.specs.declared.tree_index.TreeIndex.{TreeIndex}
-use Rattle.first_pass_walk.specs.Walk.{is_special}
 use Rattle.first_pass_tree.specs.Forest.{Forest, is_text, is_escaped, cut_item, modify, joins_at, with_end, appended}
 use Rattle.first_pass_tokens.specs.declared.pieces.Piece.{Piece}
-use Rattle.first_pass_tokens.specs.declared.pieces.Piece.TheVariants.{Left, Begins}
-use Rattle.first_pass_tokens.specs.Pieces.{Source, piece_at, special_piece, backslash_piece, size}
-use Rattle.first_pass_tokens.specs.Chains.{text_token, touches, add_token, add_tokens, add_text, is_backslash_break, close_break, cut}
+use Rattle.first_pass_tokens.specs.declared.pieces.Piece.TheVariants.{Left, Begins, Token}
+use Rattle.first_pass_tokens.specs.Pieces.{Source, size}
+use Rattle.first_pass_tokens.specs.Chains.{text_token, token, touches, add_token, add_tokens, add_text, is_backslash_break, close_break, cut}
 use Rattle.first_pass_tokens.specs.LineTokens.{ArePieces, IsLine, add_piece, add_pieces, text_end, line_end_len}
 use Rattle.first_pass_tokens.specs.TreeTokens.{with_token, with_tokens, AppendsLine}
 use Rattle.first_pass_tokens.specs.Order.{AreInOrder, HaveBytes}
+use Rattle.first_pass_tokens.proofs.PieceFacts.{IsPieceAt}
+use Rattle.first_pass_tokens.proofs.LineLemmas.{piece_of}
 
 -- a chain in order has at most as many items as bytes
 pub few_in_order : (text : List ℕ) (from to : ℕ) (chain : List Item) → AreInOrder text from to chain → HaveBytes chain → length chain + from ≤ to
@@ -44,14 +44,17 @@ bytes_text a b escaped chain h =
     (λ some. bytes_add chain (text_token a b escaped) (ltb-true a b some) h)
     (λ none. h)
 
--- the texts of pieces behind
-bytes_piece : (stop at : ℕ) (p : Piece) (chain : List Item) → HaveBytes chain → HaveBytes (add_piece stop at p chain)
-bytes_piece stop at (Left n) chain h = bytes_text at (min (at + n) stop) false chain h
-bytes_piece stop at (Begins dropped escaped) chain h = bytes_text (at + dropped) (min (at + (dropped + 1)) stop) escaped chain h
+-- what a piece adds behind
+bytes_piece : (text : List ℕ) (stop at : ℕ) (p : Piece) (chain : List Item) → IsPieceAt text at p → HaveBytes chain → HaveBytes (add_piece stop at p chain)
+bytes_piece text stop at (Left n) chain facts h = bytes_text at (min (at + n) stop) false chain h
+bytes_piece text stop at (Begins dropped escaped) chain facts h = bytes_text (at + dropped) (min (at + (dropped + 1)) stop) escaped chain h
+bytes_piece text stop at (Token dropped n body) chain facts h = bytes_add chain (token (at + dropped) n body) (omega (arith, facts.some)) h
 
-bytes_pieces : (stop at : ℕ) (ps : List Piece) (chain : List Item) → HaveBytes chain → HaveBytes (add_pieces stop at ps chain)
-bytes_pieces stop at [] chain h = h
-bytes_pieces stop at (p ∷ ps) chain h = bytes_pieces stop (at + size p) ps (add_piece stop at p chain) (bytes_piece stop at p chain h)
+bytes_pieces : (s : Source) (stop at : ℕ) (ps : List Piece) (end : ℕ) (chain : List Item) → ArePieces s at ps end → HaveBytes chain
+    → HaveBytes (add_pieces stop at ps chain)
+bytes_pieces s stop at [] end chain are h = h
+bytes_pieces s stop at (p ∷ ps) end chain are h =
+    bytes_pieces s stop (at + size p) ps end (add_piece stop at p chain) are.2 (bytes_piece s.text stop at p chain (piece_of s at p are.0 are.1) h)
 
 -- the backslash of the last line's break behind, or nothing
 pub bytes_closed : (break : Option Item) (chain : List Item) → HaveBytes chain → HaveBytes (close_break break chain)
@@ -66,7 +69,8 @@ bytes_append (x ∷ xs) ys h k = (h.0, bytes_append xs ys h.1 k)
 
 -- the tokens of a line
 pub line_has_bytes : {s : Source} {tokens : List Item} {answer : ℕ × Option Item} → IsLine s tokens answer → HaveBytes tokens
-line_has_bytes {s} {tokens} {answer} line = subst HaveBytes (sym line.tokens_are) (bytes_pieces (text_end s line.content_end) s.start line.pieces [] tt)
+line_has_bytes {s} {tokens} {answer} line =
+    subst HaveBytes (sym line.tokens_are) (bytes_pieces s (text_end s line.content_end) s.start line.pieces line.content_end [] line.division.divided tt)
 
 -- a chain that is cut has no more items than before
 pub cut_few : (e : ℕ) (chain : List Item) → length (cut e chain) ≤ length chain
@@ -78,23 +82,16 @@ cut_few e (x ∷ xs) =
     (λ b. cond_both (is_escaped x.body && (x.start == e)) (text_token (e - 1) e false ∷ []) [] (λ (ys : List Item). length ys ≤ length (x ∷ xs)) (λ c. omega arith) (λ c. omega arith))
 
 -- a piece takes a byte at least
-piece_some : (s : Source) (at : ℕ) → 0 < size (piece_at s at)
-unfolding piece_at special_piece backslash_piece
-piece_some s at =
-    let holds : Piece → Type 0 = λ p. 0 < size p in
-    let left : holds (Left 1) = omega arith in
-    cond_both (is_special s.options (slice_index s.text at)) (special_piece s.text at) (Left 1) holds
-    (λ b. cond_both (slice_index s.text at == 92) (backslash_piece s.text at) (Left 1) holds
-    (λ c. cond_both (is_ascii_punctuation (slice_index s.text (at + 1))) (Begins 1 true) (Left 1) holds (λ d. omega arith) (λ d. left))
-    (λ c. left))
-    (λ b. left)
+piece_some : (text : List ℕ) (at : ℕ) (p : Piece) → IsPieceAt text at p → 0 < size p
+piece_some text at (Left n) facts = omega (arith, facts)
+piece_some text at (Begins dropped escaped) facts = omega arith
+piece_some text at (Token dropped n body) facts = omega (arith, facts.some)
 
 -- so there are at most as many pieces as bytes
 few_pieces : (s : Source) (at : ℕ) (ps : List Piece) (end : ℕ) → ArePieces s at ps end → length ps + at ≤ end
 few_pieces s at [] end is = omega arith
 few_pieces s at (p ∷ ps) end is =
-    let some = piece_some s at in
-    let same = ap size is.1 in
+    let some = piece_some s.text at p (piece_of s at p is.0 is.1) in
     let few = few_pieces s (at + size p) ps end is.2 in
     omega arith
 
@@ -113,6 +110,7 @@ few_text a b escaped chain =
 few_piece : (stop at : ℕ) (p : Piece) (chain : List Item) → length (add_piece stop at p chain) ≤ length chain + 1
 few_piece stop at (Left n) chain = few_text at (min (at + n) stop) false chain
 few_piece stop at (Begins dropped escaped) chain = few_text (at + dropped) (min (at + (dropped + 1)) stop) escaped chain
+few_piece stop at (Token dropped n body) chain = few_add chain (token (at + dropped) n body)
 
 few_by_pieces : (stop at : ℕ) (ps : List Piece) (chain : List Item) → length (add_pieces stop at ps chain) ≤ length chain + length ps
 few_by_pieces stop at [] chain = omega arith

@@ -1,16 +1,17 @@
 -- A chain that is in order stays so where it is cut.
-use Rattle.std.proofs.Common.{◌≡◌, ℕ, ◌+◌, ◌≤◌, ◌<◌, ◌==◌, ◌&&◌, Bool, true, false, List, [], ◌∷◌, slice_index, Option, Some, None, IsCharBoundary, nat_lt, min, inl, inr, refl, sym, ap, subst, ◌∙◌, arith}
+use Rattle.std.proofs.Common.{◌≡◌, ℕ, ◌+◌, ◌≤◌, ◌<◌, ◌==◌, ◌&&◌, Bool, false, List, [], ◌∷◌, slice_index, Option, Some, None, IsCharBoundary, nat_lt, min, inl, inr, refl, sym, ap, subst, ◌∙◌, arith}
 use Rattle.std.specs.Char.{is_ascii_punctuation}
-use Rattle.std.proofs.lemmas.Bool.{cond-true, cond-false, cond_both, cases_Bool, cases_lt, lt-ltb, le-ltb, eqb-true, false≢true}
+use Rattle.std.proofs.lemmas.Bool.{cond-true, cond-false, cond_both, cases_Bool, cases_lt, and_left, and_right, lt-ltb, le-ltb, eqb-true, false≢true}
 use Rattle.first_pass_items.specs.declared.item.Item.{Item}
 use Rattle.first_pass_tree.specs.Forest.{is_escaped, cut_item}
-use Rattle.first_pass_walk.specs.Walk.{is_special}
 use Rattle.first_pass_tokens.specs.declared.pieces.Piece.{Piece}
-use Rattle.first_pass_tokens.specs.declared.pieces.Piece.TheVariants.{Left, Begins}
-use Rattle.first_pass_tokens.specs.Pieces.{Source, piece_at, special_piece, backslash_piece, size}
-use Rattle.first_pass_tokens.specs.Chains.{text_token, touches, add_token, add_tokens, add_text, is_backslash_break, close_break, cut}
+use Rattle.first_pass_tokens.specs.declared.pieces.Piece.TheVariants.{Left, Begins, Token}
+use Rattle.first_pass_tokens.specs.Pieces.{Source, size}
+use Rattle.first_pass_tokens.specs.Chains.{text_token, token, touches, add_token, add_tokens, add_text, is_backslash_break, close_break, cut}
 use Rattle.first_pass_tokens.specs.LineTokens.{ArePieces, IsLine, add_piece, add_pieces, text_end}
 use Rattle.first_pass_tokens.specs.Order.{AreInOrder}
+use Rattle.first_pass_tokens.proofs.PieceFacts.{IsPieceAt, markup_unescaped}
+use Rattle.first_pass_tokens.proofs.LineLemmas.{piece_of}
 
 -- no text of the chain whose first byte was escaped begins at an offset
 abbrev pub NoneEscapedAt : ℕ → List Item → Type 0
@@ -63,31 +64,22 @@ none_closed e None chain h = h
 none_closed e (Some x) chain h = cond_both (is_backslash_break x.body) (add_text x.start (x.start + 1) false chain) chain (NoneEscapedAt e) (λ b. none_text e x.start (x.start + 1) false chain refl h) (λ b. h)
 
 module _ (s : Source) (e stop : ℕ) (plain : is_ascii_punctuation (slice_index s.text e) ≡ false) where
-  none_left : (at : ℕ) (chain : List Item) → NoneEscapedAt e chain → NoneEscapedAt e (add_piece stop at (Left 1) chain)
-  none_left at chain h = none_text e at (min (at + 1) stop) false chain refl h
-
-  none_escape : (at : ℕ) (chain : List Item) → is_ascii_punctuation (slice_index s.text (at + 1)) ≡ true → NoneEscapedAt e chain → NoneEscapedAt e (add_piece stop at (Begins 1 true) chain)
-  none_escape at chain punctuation h =
-      none_text e (at + 1) (min (at + 2) stop) true chain
-      (elim (cases_Bool ((at + 1) == e)) [
-        | inl same ↦ absurd (false≢true (sym plain ∙ ap (λ k. is_ascii_punctuation (slice_index s.text k)) (sym (eqb-true (at + 1) e same)) ∙ punctuation))
-        | inr other ↦ other
+  -- an escaped text begins with a punctuation character, and a token is no text
+  none_piece : (at : ℕ) (p : Piece) (chain : List Item) → IsPieceAt s.text at p → NoneEscapedAt e chain → NoneEscapedAt e (add_piece stop at p chain)
+  none_piece at (Left n) chain facts h = none_text e at (min (at + n) stop) false chain refl h
+  none_piece at (Begins dropped escaped) chain facts h =
+      none_text e (at + dropped) (min (at + (dropped + 1)) stop) escaped chain
+      (elim (cases_Bool ((at + dropped) == e)) [
+        | inl same ↦ absurd (false≢true
+            (sym plain ∙ ap (λ k. is_ascii_punctuation (slice_index s.text k)) (sym (eqb-true (at + dropped) e same)) ∙ facts.punctuation))
+        | inr other ↦ and_right _ _ other
       ]) h
-
-  none_piece : (at : ℕ) (chain : List Item) → NoneEscapedAt e chain → NoneEscapedAt e (add_piece stop at (piece_at s at) chain)
-  unfolding piece_at special_piece backslash_piece
-  none_piece at chain h =
-      let holds : Piece → Type 0 = λ p. NoneEscapedAt e (add_piece stop at p chain) in
-      cond_both (is_special s.options (slice_index s.text at)) (special_piece s.text at) (Left 1) holds
-      (λ special. cond_both (slice_index s.text at == 92) (backslash_piece s.text at) (Left 1) holds
-      (λ backslash. cond_both (is_ascii_punctuation (slice_index s.text (at + 1))) (Begins 1 true) (Left 1) holds (λ punctuation. none_escape at chain punctuation h) (λ other. none_left at chain h))
-      (λ other. none_left at chain h))
-      (λ other. none_left at chain h)
+  none_piece at (Token dropped n body) chain facts h = none_token e chain (token (at + dropped) n body) (and_left _ _ (markup_unescaped body facts.kind)) h
 
   none_pieces : (at : ℕ) (ps : List Piece) (end : ℕ) (chain : List Item) → ArePieces s at ps end → NoneEscapedAt e chain → NoneEscapedAt e (add_pieces stop at ps chain)
   none_pieces at [] end chain are h = h
   none_pieces at (p ∷ ps) end chain are h =
-      none_pieces (at + size p) ps end (add_piece stop at p chain) are.2 (subst (λ q. NoneEscapedAt e (add_piece stop at q chain)) (sym are.1) (none_piece at chain h))
+      none_pieces (at + size p) ps end (add_piece stop at p chain) are.2 (none_piece at p chain (piece_of s at p are.0 are.1) h)
 
 -- In the chain of a line no escaped text begins where the text has no punctuation character.
 pub line_none_escaped : (s : Source) (tokens : List Item) (next : ℕ) (break : Option Item) (e : ℕ) → IsLine s tokens (next, break) → is_ascii_punctuation (slice_index s.text e) ≡ false

@@ -1,3 +1,4 @@
+pub mod PieceFacts
 pub mod BytesLemmas
 pub mod ChainLemmas
 pub mod CutOrder

@@ -1,7 +1,6 @@
 -- The division of a content: one more piece, that there is one division, that no line end stands in it, and where the line ends.
 use Rattle.std.proofs.Common.{ℕ, min, zero, suc, ◌≡◌, ◌⊎◌, ◌+◌, ◌-◌, ◌≤◌, ◌<◌, ◌==◌, ◌&&◌, ◌%◌, if◌then◌else◌, Bool, true, false, List, [], ◌∷◌, ◌++◌, length, take, drop, get_or, slice_index, nat_lt, nat_le, Option, None, IfSome, Result, Ok, Err, IfOk, unwrap_or, refl, sym, ap, subst, ◌∙◌, inl, inr, arith, length-drop}
 use Rattle.std.specs.List.{suffix_len, slice_range, prefix_len}
-use Rattle.std.specs.Char.{is_ascii_punctuation}
 use Rattle.std.specs.declared.alloc.AllocError.{AllocError}
 use Rattle.std.proofs.lemmas.List.{get_or-drop, get_or_past, drop-drop, at_drop_all, at_drop_more}
 use Rattle.std.proofs.lemmas.List.Sums.{suffix_len-le-length, suffix_len-take_yes, suffix_len-take_no, prefix_len_is}
@@ -9,14 +8,14 @@ use Rattle.std.proofs.lemmas.Bool.{true≢false, false≢true, cases_lt, cases_B
 use Rattle.first_pass_items.specs.declared.item.Item.{Item}
 use Rattle.first_pass_tree.specs.Forest.{Forest}
 use Rattle.first_pass_lines.specs.Lines.{is_line_end, is_content, is_white, begins, eol_len, line_len}
-use Rattle.first_pass_walk.specs.Walk.{is_special}
 use Rattle.first_pass_tokens.specs.declared.pieces.Piece.{Piece}
-use Rattle.first_pass_tokens.specs.declared.pieces.Piece.TheVariants.{Left, Begins}
-use Rattle.first_pass_tokens.specs.Pieces.{Source, piece_at, special_piece, backslash_piece, size}
+use Rattle.first_pass_tokens.specs.declared.pieces.Piece.TheVariants.{Left, Begins, Token}
+use Rattle.first_pass_tokens.specs.Pieces.{Source, piece_at, size}
 use Rattle.first_pass_tokens.specs.LineTokens.{text_end, ends_at, ArePieces, IsDivision, IsLine, IsBreak, EndsLine, add_piece, add_pieces, line_end_len, line_break, breaks_by_backslash, backslashes_at_end, blanks_at_end}
 use Rattle.first_pass_tokens.specs.TreeTokens.{AppendsLine, with_tokens, chained, JoinsNone}
-use Rattle.first_pass_tokens.specs.Chains.{add_tokens, AreApart}
-use Rattle.first_pass_tokens.proofs.ChainLemmas.{add_text-apart, add_tokens-none, with_tokens-chained}
+use Rattle.first_pass_tokens.specs.Chains.{token, add_tokens, AreApart}
+use Rattle.first_pass_tokens.proofs.PieceFacts.{IsPieceAt, piece_facts, visible_plain, visible_fits}
+use Rattle.first_pass_tokens.proofs.ChainLemmas.{add_token-apart, add_text-apart, add_tokens-none, with_tokens-chained}
 
 -- one more piece
 pub are_more : (s : Source) (at : ℕ) (ps : List Piece) (mid : ℕ) → ArePieces s at ps mid → ends_at s mid ≡ false → ArePieces s at (ps ++ piece_at s mid ∷ []) (mid + size (piece_at s mid))
@@ -27,6 +26,11 @@ pub add_pieces_more : (s : Source) (stop at : ℕ) (ps : List Piece) (mid : ℕ)
     → add_pieces stop at (ps ++ p ∷ []) chain ≡ add_piece stop mid p (add_pieces stop at ps chain)
 add_pieces_more s stop at [] mid chain p same = ap (λ (x : ℕ). add_piece stop x p chain) same
 add_pieces_more s stop at (q ∷ ps) mid chain p h = add_pieces_more s stop (at + size q) ps mid (add_piece stop at q chain) p h.2
+
+-- pieces go on behind the place where they begin
+pub pieces_reach : (s : Source) (at : ℕ) (ps : List Piece) (end : ℕ) → ArePieces s at ps end → at ≤ end
+pieces_reach s at [] end same = omega arith
+pieces_reach s at (p ∷ ps) end h = (let more = pieces_reach s (at + size p) ps end h.2 in omega arith)
 
 -- a content has one division
 one_way : (s : Source) (at : ℕ) (ps : List Piece) (end : ℕ) (qs : List Piece) (stop : ℕ) → ArePieces s at ps end → ends_at s end ≡ true
@@ -48,56 +52,6 @@ one_line h k =
     let same = one_division h.division k.division in
     (h.tokens_are ∙ rw (same.0, same.1) (sym k.tokens_are), h.answer_is ∙ rw same.1 (sym k.answer_is))
 
--- a punctuation character is no line end, and stands in the text
-not_line_end : (b : ℕ) → is_ascii_punctuation b ≡ true → is_line_end b ≡ false
-not_line_end b punctuation =
-    elim (cases_Bool (is_line_end b)) [
-      | inl line ↦ elim (or_cases (b == 10) (b == 13) line) [
-        | inl lf ↦ absurd (false≢true (ap is_ascii_punctuation (sym (eqb-true b 10 lf)) ∙ punctuation))
-        | inr cr ↦ absurd (false≢true (ap is_ascii_punctuation (sym (eqb-true b 13 cr)) ∙ punctuation))
-      ]
-      | inr other ↦ other
-    ]
-
-punctuation_within : (text : List ℕ) (at : ℕ) → is_ascii_punctuation (slice_index text at) ≡ true → at < length text
-punctuation_within text at punctuation =
-    elim (cases_lt at (length text)) [
-      | inl within ↦ within
-      | inr past ↦ absurd (false≢true (ap is_ascii_punctuation (sym (get_or_past text at 0 past)) ∙ punctuation))
-    ]
-
--- a piece lies in the text, and no line end stands in it
-pub record IsInLine (text : List ℕ) (at : ℕ) (p : Piece) : Type 0 where
-  pub fits : at + size p ≤ length text
-  pub plain : (k : ℕ) → at ≤ k → k < at + size p → is_line_end (slice_index text k) ≡ false
-
-module _ (text : List ℕ) (at : ℕ) (within : at < length text) (here : is_line_end (slice_index text at) ≡ false) where
-  one_in_line : (k : ℕ) → at ≤ k → k < at + 1 → is_line_end (slice_index text k) ≡ false
-  one_in_line k low high =
-      let same : k ≡ at = omega arith in
-      ap (λ (x : ℕ). is_line_end (slice_index text x)) same ∙ here
-
-  two_in_line : is_line_end (slice_index text (at + 1)) ≡ false → (k : ℕ) → at ≤ k → k < at + 2 → is_line_end (slice_index text k) ≡ false
-  two_in_line next k low high =
-      elim (cases_lt k (at + 1)) [
-        | inl first ↦ one_in_line k low first
-        | inr later ↦ let same : k ≡ at + 1 = omega arith in ap (λ (x : ℕ). is_line_end (slice_index text x)) same ∙ next
-      ]
-
-  backslash_in_line : IsInLine text at (backslash_piece text at)
-  unfolding backslash_piece
-  backslash_in_line =
-      cond_both (is_ascii_punctuation (slice_index text (at + 1))) _ _ (λ (p : Piece). IsInLine text at p)
-      (λ punctuation. record {
-        fits = let next = punctuation_within text (at + 1) punctuation in omega arith;
-        plain = two_in_line (not_line_end (slice_index text (at + 1)) punctuation);
-      })
-      (λ other. record { fits = omega arith; plain = one_in_line })
-
-  special_in_line : IsInLine text at (special_piece text at)
-  unfolding special_piece
-  special_in_line = cond_both (slice_index text at == 92) _ _ (λ (p : Piece). IsInLine text at p) (λ b. backslash_in_line) (λ b. record { fits = omega arith; plain = one_in_line })
-
 -- where no content ends
 pub not_ended : (s : Source) (at : ℕ) → ends_at s at ≡ false → (at < length s.text) × (is_line_end (slice_index s.text at) ≡ false)
 unfolding ends_at
@@ -105,12 +59,34 @@ not_ended s at on =
     let parts = or_parts (nat_le (length s.text) at) (is_line_end (slice_index s.text at)) on in
     (leb-false (length s.text) at parts.0, parts.1)
 
-piece_in_line : (s : Source) (at : ℕ) → ends_at s at ≡ false → IsInLine s.text at (piece_at s at)
-unfolding piece_at
-piece_in_line s at on =
-    let parts = not_ended s at on in
-    cond_both (is_special s.options (slice_index s.text at)) (special_piece s.text at) (Left 1) (λ (p : Piece). IsInLine s.text at p) (λ b. special_in_line s.text at parts.0 parts.1)
-    (λ b. record { fits = let within = parts.0 in omega arith; plain = one_in_line s.text at parts.0 parts.1 })
+-- the piece at a place of a content
+pub piece_of : (s : Source) (at : ℕ) (p : Piece) → ends_at s at ≡ false → p ≡ piece_at s at → IsPieceAt s.text at p
+piece_of s at p on is = subst (IsPieceAt s.text at) (sym is) (piece_facts s at (not_ended s at on).0)
+
+-- a piece lies in the text, and no line end stands in it
+pub record IsInLine (text : List ℕ) (at : ℕ) (p : Piece) : Type 0 where
+  pub fits : at + size p ≤ length text
+  pub plain : (k : ℕ) → at ≤ k → k < at + size p → is_line_end (slice_index text k) ≡ false
+
+one_in_line : (text : List ℕ) (at : ℕ) → is_line_end (slice_index text at) ≡ false → (k : ℕ) → at ≤ k → k < at + 1 → is_line_end (slice_index text k) ≡ false
+one_in_line text at here k low high =
+    let same : k ≡ at = omega arith in
+    ap (λ (x : ℕ). is_line_end (slice_index text x)) same ∙ here
+
+piece_in_line : (s : Source) (at : ℕ) (p : Piece) → ends_at s at ≡ false → IsPieceAt s.text at p → IsInLine s.text at p
+piece_in_line s at (Left n) on facts =
+    let here = not_ended s at on in
+    record { fits = omega (arith, facts, here.0); plain = λ k low high. one_in_line s.text at here.1 k low (omega (arith, facts)) }
+piece_in_line s at (Begins dropped escaped) on facts =
+    record {
+      fits = visible_fits s.text at (dropped + 1) (omega arith) facts.bytes;
+      plain = λ k low high. visible_plain (slice_index s.text k) (facts.bytes k low high);
+    }
+piece_in_line s at (Token dropped n body) on facts =
+    record {
+      fits = visible_fits s.text at (dropped + n) (omega (arith, facts.some)) facts.bytes;
+      plain = λ k low high. visible_plain (slice_index s.text k) (facts.bytes k low high);
+    }
 
 -- a content lies in the text, and no line end stands in it
 pub record IsContent (text : List ℕ) (start end : ℕ) : Type 0 where
@@ -121,7 +97,7 @@ pub record IsContent (text : List ℕ) (start end : ℕ) : Type 0 where
 content_from : (s : Source) (at : ℕ) (ps : List Piece) (end : ℕ) → at ≤ length s.text → ArePieces s at ps end → IsContent s.text at end
 content_from s at [] end within same = record { order = omega arith; within = omega arith; plain = λ k low high. absurd (omega arith) }
 content_from s at (p ∷ ps) end within h =
-    let first = subst (λ (q : Piece). IsInLine s.text at q) (sym h.1) (piece_in_line s at h.0) in
+    let first = piece_in_line s at p h.0 (piece_of s at p h.0 h.1) in
     let rest = content_from s (at + size p) ps end first.fits h.2 in
     record {
       order = omega (arith, rest.order);
@@ -298,6 +274,8 @@ add_pieces-apart : (stop at : ℕ) (ps : List Piece) (chain : List Item) → Are
 add_pieces-apart stop at [] chain h = h
 add_pieces-apart stop at (Left n ∷ ps) chain h = add_pieces-apart stop (at + n) ps _ (add_text-apart at (min (at + n) stop) false chain h)
 add_pieces-apart stop at (Begins dropped escaped ∷ ps) chain h = add_pieces-apart stop (at + (dropped + 1)) ps _ (add_text-apart (at + dropped) (min (at + (dropped + 1)) stop) escaped chain h)
+add_pieces-apart stop at (Token dropped n body ∷ ps) chain h =
+    add_pieces-apart stop (at + (dropped + n)) ps _ (add_token-apart chain (token (at + dropped) n body) h)
 
 pub line_apart : {s : Source} {tokens : List Item} {answer : ℕ × Option Item} → IsLine s tokens answer → AreApart tokens
 line_apart {s} line = subst AreApart (sym line.tokens_are) (add_pieces-apart (text_end s line.content_end) s.start line.pieces [] tt)

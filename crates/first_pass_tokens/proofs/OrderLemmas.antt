@@ -7,18 +7,19 @@ use Rattle.std.proofs.lemmas.Str.{IsCharBoundary-after_ascii, IsCharBoundary-bef
 use Rattle.std.proofs.lemmas.Bool.{cases_lt, cases_Bool, cond_both, eqb-true, and_parts, false≢true}
 use Rattle.std.proofs.lemmas.Bool.Decides.{nat_tests}
 use Rattle.first_pass_items.specs.declared.item.Item.{Item}
+use Rattle.first_pass_items.specs.declared.item.ItemBody.{ItemBody}
 use Rattle.first_pass_lines.specs.Lines.{is_line_end, is_white}
 use Rattle.first_pass_lines.proofs.PlaceFacts.{line_end_boundary}
-use Rattle.first_pass_walk.specs.Walk.{is_special}
 use Rattle.first_pass_tokens.specs.declared.pieces.Piece.{Piece}
-use Rattle.first_pass_tokens.specs.declared.pieces.Piece.TheVariants.{Left, Begins}
-use Rattle.first_pass_tokens.specs.Pieces.{Source, piece_at, special_piece, backslash_piece}
+use Rattle.first_pass_tokens.specs.declared.pieces.Piece.TheVariants.{Left, Begins, Token}
+use Rattle.first_pass_tokens.specs.Pieces.{Source}
 use Rattle.first_pass_tokens.specs.LineTokens.{ends_at, ArePieces, IsLine, EndsLine, add_pieces, text_end, breaks_by_backslash, backslashes_at_end, blanks_at_end, line_end_len, break_of, line_break}
-use Rattle.first_pass_tokens.specs.Chains.{text_token, touches, add_token, add_tokens, add_text, is_backslash_break, close_break}
+use Rattle.first_pass_tokens.specs.Chains.{text_token, token, touches, add_token, add_tokens, add_text, is_backslash_break, close_break}
 use Rattle.first_pass_tokens.specs.Order.{AreInOrder}
 use Rattle.first_pass_tokens.proofs.ChainLemmas.{add_text-none}
-use Rattle.first_pass_tokens.proofs.LineLemmas.{not_ended, ended_by, content_of, ends_line}
-use Rattle.first_pass_tokens.proofs.SoFar.{add_text_grows, text_end_within}
+use Rattle.first_pass_tokens.proofs.PieceFacts.{IsVisible, IsEscape, IsMarkup, at_byte, visible_solid}
+use Rattle.first_pass_tokens.proofs.LineLemmas.{piece_of, pieces_reach, ended_by, content_of, ends_line}
+use Rattle.first_pass_tokens.proofs.SoFar.{add_text_grows, begins_before, text_end_within}
 
 -- the first of two offsets is not behind the other
 pub order_bound : (text : List ℕ) (from to : ℕ) (chain : List Item) → AreInOrder text from to chain → from ≤ to
@@ -61,58 +62,87 @@ order_text text from mid a b escaped chain h behind order starts ends =
     (λ some. order_add text from mid chain (text_token a b escaped) h behind order starts ends)
     (λ none. order_to text from mid b chain h (omega arith))
 
--- past an offset at which texts stop, no piece adds one
-stopped : (stop at : ℕ) (ps : List Piece) (chain : List Item) → stop ≤ at → add_pieces stop at ps chain ≡ chain
-stopped stop at [] chain past = refl
-stopped stop at (Left n ∷ ps) chain past =
-    ap (add_pieces stop (at + n) ps) (add_text-none at (min (at + n) stop) false chain (omega arith)) ∙ stopped stop (at + n) ps chain (omega arith)
-stopped stop at (Begins dropped escaped ∷ ps) chain past =
-    ap (add_pieces stop (at + (dropped + 1)) ps) (add_text-none (at + dropped) (min (at + (dropped + 1)) stop) escaped chain (omega arith))
-    ∙ stopped stop (at + (dropped + 1)) ps chain (omega arith)
+-- the tokens of a content end before an offset or there
+abbrev pub IsBehindTokens : Source → ℕ → ℕ → Type 0
+IsBehindTokens s end stop =
+    (at dropped n : ℕ) (body : ItemBody) → s.start ≤ at → at + dropped + n ≤ end → IsMarkup s.text at dropped n body → at + dropped + n ≤ stop
 
--- a piece that begins a text drops a backslash
-abbrev DropsBackslash : List ℕ → ℕ → Piece → Type 0
-DropsBackslash text at (Left n) = Unit
-DropsBackslash text at (Begins dropped escaped) = (dropped ≡ 1) × (slice_index text at ≡ 92)
+-- they end before the white space at its end, and before the backslash that breaks its line
+pub text_end_behind : (s : Source) (end : ℕ) → end ≤ length s.text → IsBehindTokens s end (text_end s end)
+text_end_behind s end within at dropped n body from inside markup =
+    let last = markup.bytes (at + dropped + n - 1) (omega (arith, markup.some)) (omega (arith, markup.some)) in
+    begins_before s (at + dropped + n) end (omega arith) inside within
+    (inr (omega (arith, markup.some), visible_solid (slice_index s.text (at + dropped + n - 1)) last, inr markup.last))
 
-backslash_drops : (text : List ℕ) (at : ℕ) → slice_index text at ≡ 92 → DropsBackslash text at (backslash_piece text at)
-unfolding backslash_piece
-backslash_drops text at is = cond_both _ (Begins 1 true) (Left 1) (DropsBackslash text at) (λ b. (refl, is)) (λ b. tt)
+-- a chain in order, the text that grows behind it, and pieces; texts stop at an offset, and all tokens end before it
+module _ (s : Source) (utf8 : IsUtf8 s.text) (stop end from : ℕ) (stops : IsCharBoundary s.text stop) (within : stop ≤ end)
+    (tokens : IsBehindTokens s end stop) where
+  -- past that offset, no piece adds anything
+  stopped : (at : ℕ) (ps : List Piece) (chain : List Item) → ArePieces s at ps end → s.start ≤ at → stop ≤ at → add_pieces stop at ps chain ≡ chain
+  stopped at [] chain pieces low past = refl
+  stopped at (Left n ∷ ps) chain pieces low past =
+      ap (add_pieces stop (at + n) ps) (add_text-none at (min (at + n) stop) false chain (omega arith))
+      ∙ stopped (at + n) ps chain pieces.2 (omega arith) (omega arith)
+  stopped at (Begins dropped escaped ∷ ps) chain pieces low past =
+      ap (add_pieces stop (at + (dropped + 1)) ps) (add_text-none (at + dropped) (min (at + (dropped + 1)) stop) escaped chain (omega arith))
+      ∙ stopped (at + (dropped + 1)) ps chain pieces.2 (omega arith) (omega arith)
+  stopped at (Token dropped n body ∷ ps) chain pieces low past =
+      let facts : IsMarkup s.text at dropped n body = piece_of s at (Token dropped n body) pieces.0 pieces.1 in
+      let reach = pieces_reach s (at + (dropped + n)) ps end pieces.2 in
+      let before = tokens at dropped n body low (omega arith) facts in
+      absurd (omega (arith, facts.some))
 
-special_drops : (text : List ℕ) (at : ℕ) → DropsBackslash text at (special_piece text at)
-unfolding special_piece
-special_drops text at = cond_both (slice_index text at == 92) (backslash_piece text at) (Left 1) (DropsBackslash text at) (λ b. backslash_drops text at (eqb-true (slice_index text at) 92 b)) (λ b. tt)
+  -- a visible byte stands between two characters
+  place_before : (at : ℕ) → IsVisible (slice_index s.text at) → IsCharBoundary s.text at
+  place_before at h = IsCharBoundary-before_ascii s.text at (at_byte s.text at (omega (arith, h.0))) (omega (arith, h.1))
 
-piece_drops : (s : Source) (at : ℕ) → DropsBackslash s.text at (piece_at s at)
-unfolding piece_at
-piece_drops s at = cond_both (is_special s.options (slice_index s.text at)) (special_piece s.text at) (Left 1) (DropsBackslash s.text at) (λ b. special_drops s.text at) (λ b. tt)
+  place_behind : (at : ℕ) → 0 < at → IsVisible (slice_index s.text (at - 1)) → IsCharBoundary s.text at
+  place_behind at some h =
+      let same : at - 1 + 1 ≡ at = omega arith in
+      subst (IsCharBoundary s.text) same (IsCharBoundary-after_ascii s.text (at - 1) utf8 (at_byte s.text (at - 1) (omega (arith, h.0))) (omega (arith, h.1)))
 
--- a chain in order, the text that grows behind it, and pieces
-module _ (s : Source) (utf8 : IsUtf8 s.text) (stop end from : ℕ) (stops : IsCharBoundary s.text stop) (within : stop ≤ end) where
-  pieces_in_order : (at : ℕ) (ps : List Piece) (begin : ℕ) (escaped : Bool) (chain : List Item) → ArePieces s at ps end → begin ≤ at → (begin < at) ⊎ (escaped ≡ false) → begin ≤ stop
+  pieces_in_order : (at : ℕ) (ps : List Piece) (begin : ℕ) (escaped : Bool) (chain : List Item) → ArePieces s at ps end → s.start ≤ begin → begin ≤ at
+      → (begin < at) ⊎ (escaped ≡ false) → begin ≤ stop
       → IsCharBoundary s.text begin → AreInOrder s.text from begin chain → AreInOrder s.text from stop (add_pieces stop at ps (add_text begin (min at stop) escaped chain))
-  pieces_in_order at [] begin escaped chain same upto mark ahead starts h =
+  pieces_in_order at [] begin escaped chain same low upto mark ahead starts h =
       let here : min at stop ≡ stop = omega arith in
       rw here (order_text s.text from begin begin stop escaped chain h (omega arith) ahead starts stops)
-  pieces_in_order at (Left n ∷ ps) begin escaped chain pieces upto mark ahead starts h =
+  pieces_in_order at (Left n ∷ ps) begin escaped chain pieces low upto mark ahead starts h =
       subst (λ c. AreInOrder s.text from stop (add_pieces stop (at + n) ps c)) (sym (add_text_grows begin at n stop escaped chain upto mark ahead))
-      (pieces_in_order (at + n) ps begin escaped chain pieces.2 (omega arith) (elim mark [ inl longer ↦ inl (omega arith) | inr plain ↦ inr plain ]) ahead starts h)
-  pieces_in_order at (Begins dropped mark_next ∷ ps) begin escaped chain pieces upto mark ahead starts h =
-      let drops : DropsBackslash s.text at (Begins dropped mark_next) = subst (DropsBackslash s.text at) (sym pieces.1) (piece_drops s at) in
-      let in_text = (not_ended s at pieces.0).0 in
-      let one : dropped ≡ 1 = drops.0 in
-      let here : IsCharBoundary s.text at = IsCharBoundary-before_ascii s.text at in_text (omega (arith, drops.1)) in
-      let behind : IsCharBoundary s.text (at + dropped) = rw one (IsCharBoundary-after_ascii s.text at utf8 in_text (omega (arith, drops.1))) in
+      (pieces_in_order (at + n) ps begin escaped chain pieces.2 low (omega arith)
+      (elim mark [ inl longer ↦ inl (omega arith) | inr plain ↦ inr plain ]) ahead starts h)
+  pieces_in_order at (Begins dropped mark_next ∷ ps) begin escaped chain pieces low upto mark ahead starts h =
+      let facts : IsEscape s.text at dropped = piece_of s at (Begins dropped mark_next) pieces.0 pieces.1 in
+      let here = place_before at (facts.bytes at (omega arith) (omega arith)) in
+      let behind = place_before (at + dropped) (facts.bytes (at + dropped) (omega arith) (omega arith)) in
       elim (cases_lt at stop) [
         | inl more ↦
             let cut : min at stop ≡ at = omega arith in
-            pieces_in_order (at + (dropped + 1)) ps (at + dropped) mark_next (add_text begin (min at stop) escaped chain) pieces.2 (omega arith) (inl (omega arith)) (omega arith) behind
+            pieces_in_order (at + (dropped + 1)) ps (at + dropped) mark_next (add_text begin (min at stop) escaped chain) pieces.2
+            (omega arith) (omega arith) (inl (omega arith)) (omega (arith, facts.one)) behind
             (rw cut (order_to s.text from at (at + dropped) (add_text begin at escaped chain) (order_text s.text from begin begin at escaped chain h (omega arith) upto starts here) (omega arith)))
         | inr past ↦
             let cut : min at stop ≡ stop = omega arith in
-            subst (AreInOrder s.text from stop) (sym (stopped stop at (Begins dropped mark_next ∷ ps) (add_text begin (min at stop) escaped chain) past))
+            subst (AreInOrder s.text from stop)
+            (sym (stopped at (Begins dropped mark_next ∷ ps) (add_text begin (min at stop) escaped chain) pieces (omega arith) past))
             (rw cut (order_text s.text from begin begin stop escaped chain h (omega arith) ahead starts stops))
       ]
+  pieces_in_order at (Token dropped n body ∷ ps) begin escaped chain pieces low upto mark ahead starts h =
+      let facts : IsMarkup s.text at dropped n body = piece_of s at (Token dropped n body) pieces.0 pieces.1 in
+      let reach = pieces_reach s (at + (dropped + n)) ps end pieces.2 in
+      let before : at + dropped + n ≤ stop = tokens at dropped n body (omega arith) (omega arith) facts in
+      let here = place_before at (facts.bytes at (omega arith) (omega (arith, facts.some))) in
+      let first = place_before (at + dropped) (facts.bytes (at + dropped) (omega arith) (omega (arith, facts.some))) in
+      let last =
+      place_behind (at + dropped + n) (omega (arith, facts.some))
+      (facts.bytes (at + dropped + n - 1) (omega (arith, facts.some)) (omega (arith, facts.some))) in
+      let cut : min at stop ≡ at = omega arith in
+      let more = add_token (add_text begin at escaped chain) (token (at + dropped) n body) in
+      let none = add_text-none (at + dropped + n) (min (at + (dropped + n)) stop) false more (omega arith) in
+      rw cut (subst (λ c. AreInOrder s.text from stop (add_pieces stop (at + (dropped + n)) ps c)) none
+      (pieces_in_order (at + (dropped + n)) ps (at + dropped + n) false more pieces.2 (omega arith) (omega arith) (inr refl) before last
+      (order_add s.text from at (add_text begin at escaped chain) (token (at + dropped) n body)
+      (order_text s.text from begin begin at escaped chain h (omega arith) upto starts here) (omega arith) (omega arith) first last)))
 
 -- the first and the last of the bytes that pass at the end of a front of a list
 suffix_first : (p : ℕ → Bool) (xs : List ℕ) (n : ℕ) → n ≤ length xs → 0 < suffix_len p (take n xs) → (suffix_len p (take n xs) ≤ n) × (p (get_or xs (n - suffix_len p (take n xs)) 0) ≡ true)
@@ -276,7 +306,8 @@ line_in_order {s} {tokens} {answer} utf8 boundary within line =
     let empty : add_text s.start (min s.start (text_end s end)) false [] ≡ [] = add_text-none s.start (min s.start (text_end s end)) false [] (omega arith) in
     record {
       tokens_fit = subst (AreInOrder s.text s.start (text_end s end)) (ap (add_pieces (text_end s end) s.start line.pieces) empty ∙ sym line.tokens_are)
-          (pieces_in_order s utf8 (text_end s end) end s.start place.1 short s.start line.pieces s.start false [] line.division.divided (omega arith) (inr refl) place.0 boundary (omega arith));
+          (pieces_in_order s utf8 (text_end s end) end s.start place.1 short (text_end_behind s end c.within)
+          s.start line.pieces s.start false [] line.division.divided (omega arith) (omega arith) (inr refl) place.0 boundary (omega arith));
       before = omega arith;
       ends = next;
       break_fits = subst (λ (o : Option Item). IfSome o (StandsBehind s.text (text_end s end) answer.0)) (sym break_is) (break_stands s end answer.0 answer_is c.order c.within finish next);

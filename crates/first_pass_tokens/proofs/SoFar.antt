@@ -5,19 +5,20 @@ use Rattle.std.specs.declared.alloc.AllocError.{AllocError}
 use Rattle.std.proofs.lemmas.Bool.{cases_lt, cases_Bool, lt-leb, le-leb, or_from, or_left, or_right, cond_both, cond-true, cond-false, and_parts, eqb-true, false≢true}
 use Rattle.first_pass_items.specs.declared.item.Item.{Item}
 use Rattle.first_pass_items.specs.declared.option_set.Options.{Options}
-use Rattle.first_pass_tree.specs.Forest.{Forest, with_text}
+use Rattle.first_pass_tree.specs.Forest.{Forest, appended, with_text}
 use Rattle.first_pass_lines.specs.Lines.{is_line_end, is_white}
 use Rattle.first_pass_walk.specs.Walk.{is_special}
 use Rattle.first_pass_tokens.specs.declared.line.Pending.{Pending}
 use Rattle.first_pass_tokens.specs.declared.pieces.Piece.{Piece}
-use Rattle.first_pass_tokens.specs.declared.pieces.Piece.TheVariants.{Left, Begins}
-use Rattle.first_pass_tokens.specs.Chains.{add_text}
+use Rattle.first_pass_tokens.specs.declared.pieces.Piece.TheVariants.{Left, Begins, Token}
+use Rattle.first_pass_tokens.specs.Chains.{token, add_token, add_text}
 use Rattle.first_pass_tokens.specs.Pieces.{Source, piece_at, special_piece, size, EndsSolid}
 use Rattle.first_pass_tokens.specs.LineTokens.{ends_at, ArePieces, add_piece, add_pieces, text_end, breaks_by_backslash, backslashes_at_end, blanks_at_end, line_end_len, line_break}
 use Rattle.first_pass_tokens.specs.TreeTokens.{with_tokens, AppendsLine}
 use Rattle.first_pass_tokens.specs.Pending.{pending_after, tree_after}
-use Rattle.first_pass_tokens.proofs.ChainLemmas.{add_text-none, add_text-joined, with_tokens-text}
-use Rattle.first_pass_tokens.proofs.LineLemmas.{are_more, add_pieces_more, end_bounded}
+use Rattle.first_pass_tokens.proofs.PieceFacts.{IsPieceAt, IsMarkup, markup_plain, visible_solid}
+use Rattle.first_pass_tokens.proofs.ChainLemmas.{add_text-none, add_text-joined, with_tokens-text, with_tokens-add, with_token-plain}
+use Rattle.first_pass_tokens.proofs.LineLemmas.{are_more, add_pieces_more, end_bounded, piece_of}
 
 -- the text that is not appended begins with the content, or behind a byte that is no white space, and no backslash if the text is empty
 abbrev pub BeginsText : List ℕ → ℕ → ℕ → ℕ → Type 0
@@ -39,6 +40,7 @@ pub record SoFar (z : Source) (chain : List Item) (pending : Pending) (at : ℕ)
 abbrev pub chain_after : ℕ → Piece → Pending → List Item → List Item
 chain_after at (Left n) p chain = chain
 chain_after at (Begins dropped escaped) p chain = add_text p.begin at p.escaped chain
+chain_after at (Token dropped n body) p chain = add_token (add_text p.begin at p.escaped chain) (token (at + dropped) n body)
 
 -- a byte that is not special is not that special byte
 off : (b c : ℕ) (options : Options) → is_special options c ≡ true → is_special options b ≡ false → (b == c) ≡ false
@@ -149,6 +151,21 @@ module _ (z : Source) (chain : List Item) (pending : Pending) (at : ℕ) (s : So
     begins = inr (omega (arith, ends.0), rw ends.1 refl, inl (omega arith));
     shown = λ stop ahead. shown_past (Begins dropped escaped) stop (omega arith);
   }
+  so_far_piece (Token dropped n body) is fits ends =
+      let facts : IsMarkup z.text at dropped n body = piece_of z at (Token dropped n body) on is in
+      record {
+        pieces = s.pieces ++ Token dropped n body ∷ [];
+        divided = divided_on (Token dropped n body) is;
+        from = omega arith;
+        upto = omega arith;
+        within = fits;
+        mark = inr refl;
+        begins =
+            let last = facts.bytes (at + dropped + n - 1) (omega (arith, facts.some)) (omega (arith, facts.some)) in
+            inr (omega (arith, facts.some), visible_solid (slice_index z.text (at + dropped + n - 1)) last, inr facts.last);
+        shown = λ stop ahead. shown_past (Token dropped n body) stop (omega arith)
+            ∙ sym (add_text-none (at + dropped + n) (min (at + (dropped + n)) stop) false _ (omega arith));
+      }
 
 -- n bytes that are single pieces
 so_far_bytes : (z : Source) (chain : List Item) (pending : Pending) (n at : ℕ) → SoFar z chain pending at → at + n ≤ length z.text
@@ -172,7 +189,8 @@ so_far_upto z chain pending at to s order within plain =
     (so_far_bytes z chain pending (to - at) at s (omega arith) (λ k low high. plain_piece z k (omega arith) (plain k low (omega arith))))
 
 -- the text that is left ends where it begins or behind that
-begins_before : (z : Source) (begin end : ℕ) → z.start ≤ begin → begin ≤ end → end ≤ length z.text → BeginsText z.text z.start begin end → begin ≤ text_end z end
+pub begins_before : (z : Source) (begin end : ℕ) → z.start ≤ begin → begin ≤ end → end ≤ length z.text
+    → BeginsText z.text z.start begin end → begin ≤ text_end z end
 unfolding text_end breaks_by_backslash backslashes_at_end blanks_at_end
 begins_before z begin end low high within begins =
     elim (cases_Bool (breaks_by_backslash z end)) [
@@ -215,10 +233,19 @@ pub read_upto : {z : Source} {old tree : Forest Item} {pending : Pending} (at to
 read_upto {z} {old} {tree} {pending} at to r order within plain = record { tokens = r.tokens; read = so_far_upto z r.tokens pending at to r.read order within plain; tree_is = r.tree_is }
 
 -- the tree behind a piece has the chain behind it
-tree_is_after : (old tree : Forest Item) (chain : List Item) (pending : Pending) (at : ℕ) (p : Piece) → pending.begin ≤ at → tree ≡ with_tokens old chain → tree_after at p pending tree ≡ with_tokens old (chain_after at p pending chain)
-tree_is_after old tree chain pending at (Left n) order same = same
-tree_is_after old tree chain pending at (Begins dropped escaped) order same =
+tree_is_after : (text : List ℕ) (old tree : Forest Item) (chain : List Item) (pending : Pending) (at : ℕ) (p : Piece) → IsPieceAt text at p
+    → pending.begin ≤ at → tree ≡ with_tokens old chain → tree_after at p pending tree ≡ with_tokens old (chain_after at p pending chain)
+tree_is_after text old tree chain pending at (Left n) facts order same = same
+tree_is_after text old tree chain pending at (Begins dropped escaped) facts order same =
     ap (λ (f : Forest Item). with_text f pending.begin at pending.escaped) same ∙ sym (with_tokens-text old chain pending.begin at pending.escaped order)
+tree_is_after text old tree chain pending at (Token dropped n body) facts order same =
+    let x = token (at + dropped) n body in
+    let more = add_text pending.begin at pending.escaped chain in
+    let before =
+    ap (λ (f : Forest Item). with_text f pending.begin at pending.escaped) same
+    ∙ sym (with_tokens-text old chain pending.begin at pending.escaped order) in
+    ap (λ (f : Forest Item). appended f x) before ∙ sym (with_token-plain (with_tokens old more) x (markup_plain body facts.kind))
+    ∙ sym (with_tokens-add old more x)
 
 pub read_piece : {z : Source} {old tree new : Forest Item} {pending next : Pending} {at to : ℕ} (p : Piece) → IsRead z old tree pending at → ends_at z at ≡ false → p ≡ piece_at z at → at + size p ≤ length z.text → EndsSolid z.text at p
     → new ≡ tree_after at p pending tree → next ≡ pending_after at p pending → to ≡ at + size p → IsRead z old new next to
@@ -226,7 +253,7 @@ read_piece {z} {old} {tree} {new} {pending} {next} {at} p r on is fits ends tree
     rw (next_is, to_is) (record {
       tokens = chain_after at p pending r.tokens;
       read = so_far_piece z r.tokens pending at r.read on p is fits ends;
-      tree_is = tree_new ∙ tree_is_after old tree r.tokens pending at p r.read.upto r.tree_is;
+      tree_is = tree_new ∙ tree_is_after z.text old tree r.tokens pending at p (piece_of z at p on is) r.read.upto r.tree_is;
     })
 
 -- the whole content
@@ -271,3 +298,4 @@ ended_by_text z = or_left _ _ (le-leb (length z.text) (length z.text) (omega ari
 pub size_positive : (text : List ℕ) (at : ℕ) (p : Piece) → EndsSolid text at p → 0 < size p
 size_positive text at (Left n) ends = ends
 size_positive text at (Begins dropped escaped) ends = omega arith
+size_positive text at (Token dropped n body) ends = omega (arith, ends)

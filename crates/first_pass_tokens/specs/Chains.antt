@@ -9,6 +9,10 @@ use Rattle.first_pass_tree.specs.Forest.{is_text, is_escaped, cut_item}
 abbrev pub text_token : ℕ → ℕ → Bool → Item
 text_token from to escaped = record { start = from; «end» = to; body = Text escaped }
 
+-- the token of so many bytes at an offset (this project)
+abbrev pub token : ℕ → ℕ → ItemBody → Item
+token at n body = record { start = at; «end» = at + n; body = body }
+
 -- the second is a text that begins where the first, a text, ends (this project)
 abbrev pub touches : Item → Item → Bool
 touches x y = is_text y.body && (is_text x.body && (x.«end» == y.start))

@@ -1,4 +1,4 @@
--- The tokens of a line: its content divided into pieces, the texts that they give, and the break behind them.
+-- The tokens of a line: its content divided into pieces, the texts and other tokens that they give, and the break behind them.
 use Rattle.std.specs.Prelude.{◌≡◌, ℕ, ◌+◌, ◌-◌, ◌%◌, ◌==◌, ◌<◌, ◌≤◌, ◌&&◌, ◌||◌, Bool, true, false, List, [], ◌∷◌, length, drop, slice_index, Option, Some, None, IfSome, nat_lt, nat_le, min, if◌then◌else◌}
 use Rattle.std.specs.List.{slice_range, suffix_len}
 use Rattle.first_pass_items.specs.Bytes.{line_feed, carriage_return, backslash}
@@ -7,8 +7,8 @@ use Rattle.first_pass_items.specs.declared.item.ItemBody.{ItemBody}
 use Rattle.first_pass_items.specs.declared.item.ItemBody.TheVariants.{SoftBreak, HardBreak}
 use Rattle.first_pass_lines.specs.Lines.{is_line_end, is_white, line_len}
 use Rattle.first_pass_tokens.specs.declared.pieces.Piece.{Piece}
-use Rattle.first_pass_tokens.specs.declared.pieces.Piece.TheVariants.{Left, Begins}
-use Rattle.first_pass_tokens.specs.Chains.{add_text}
+use Rattle.first_pass_tokens.specs.declared.pieces.Piece.TheVariants.{Left, Begins, Token}
+use Rattle.first_pass_tokens.specs.Chains.{token, add_token, add_text}
 use Rattle.first_pass_tokens.specs.Pieces.{Source, piece_at, size}
 
 -- a line end stands there, or the text ends (CommonMark 2.1)
@@ -25,12 +25,13 @@ pub record IsDivision (s : Source) (pieces : List Piece) (end : ℕ) : Type 0 wh
   pub divided : ArePieces s s.start pieces end
   pub ended : ends_at s end ≡ true
 
--- the chain with the text of a piece behind it, none of it past an offset; a dropped backslash is in no text (CommonMark 2.4)
+-- the chain with the text or the token of a piece behind it, no text past an offset; a dropped backslash is in neither (CommonMark 2.4)
 abbrev pub add_piece : ℕ → ℕ → Piece → List Item → List Item
 add_piece stop at (Left n) chain = add_text at (min (at + n) stop) false chain
 add_piece stop at (Begins dropped escaped) chain = add_text (at + dropped) (min (at + (dropped + 1)) stop) escaped chain
+add_piece stop at (Token dropped n body) chain = add_token chain (token (at + dropped) n body)
 
--- the chain with the texts of these pieces behind it (this project)
+-- the chain with the texts and tokens of these pieces behind it (this project)
 abbrev pub add_pieces : ℕ → ℕ → List Piece → List Item → List Item
 add_pieces stop at [] chain = chain
 add_pieces stop at (p ∷ ps) chain = add_pieces stop (at + size p) ps (add_piece stop at p chain)
@@ -70,7 +71,7 @@ line_break s end =
     if nat_le (length s.text) end then None
     else Some (break_of end (end + line_end_len s end) (breaks_by_backslash s end) (blanks_at_end s end))
 
--- The tokens of the line whose content begins there, and the answer: where the line ends, behind its line end, and its break (CommonMark 2.4, 6.7, 6.8).
+-- The tokens of the line whose content begins there, and the answer: where the line ends, behind its line end, and its break (CommonMark 2.4, 6.1, 6.3 to 6.8).
 pub record IsLine (s : Source) (tokens : List Item) (answer : ℕ × Option Item) : Type 0 where
   pub pieces : List Piece
   pub content_end : ℕ

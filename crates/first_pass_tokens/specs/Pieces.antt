@@ -1,11 +1,13 @@
 -- The pieces that the content of a line is divided into. Places are offsets into the text.
-use Rattle.std.specs.Prelude.{◌≡◌, ℕ, ◌+◌, ◌-◌, ◌==◌, ◌<◌, true, List, slice_index, if◌then◌else◌}
+use Rattle.std.specs.Prelude.{◌≡◌, ℕ, ◌+◌, ◌-◌, ◌==◌, ◌<◌, ◌&&◌, not, true, false, List, drop, slice_index, if◌then◌else◌}
 use Rattle.std.specs.Char.{is_ascii_punctuation}
-use Rattle.first_pass_items.specs.Bytes.{backslash}
+use Rattle.std.specs.List.{prefix_len}
+use Rattle.first_pass_items.specs.Bytes.{exclamation_mark, less_than, left_bracket, backslash, right_bracket, backquote}
+use Rattle.first_pass_items.specs.declared.item.ItemBody.TheVariants.{MaybeCode, MaybeHtml, MaybeLinkOpen, MaybeLinkClose, MaybeImage}
 use Rattle.first_pass_items.specs.declared.option_set.Options.{Options}
 use Rattle.first_pass_walk.specs.Walk.{is_special}
 use Rattle.first_pass_tokens.specs.declared.pieces.Piece.{Piece}
-use Rattle.first_pass_tokens.specs.declared.pieces.Piece.TheVariants.{Left, Begins}
+use Rattle.first_pass_tokens.specs.declared.pieces.Piece.TheVariants.{Left, Begins, Token}
 
 -- a content: the options that it is read under, the text that it stands in, and where it begins (this project)
 pub record Source : Type 0 where
@@ -13,13 +15,31 @@ pub record Source : Type 0 where
   pub text : List ℕ
   pub start : ℕ
 
--- at a backslash: before ASCII punctuation it is dropped, and that byte begins an escaped text; else it stands for itself (CommonMark 2.4)
-unfoldable pub backslash_piece : List ℕ → ℕ → Piece
-backslash_piece text at = if is_ascii_punctuation (slice_index text (at + 1)) then Begins 1 true else Left 1
+-- how many bytes like the one at a place stand there in a row (CommonMark 6.1, backtick string)
+unfoldable pub run_at : List ℕ → ℕ → ℕ
+run_at text at = prefix_len (λ b. b == slice_index text at) (drop at text)
 
--- at a special byte: the first case that fits, else the byte is left over (CommonMark 2.4)
+-- at a run of backquotes: all of them are one token, which may begin or end code (CommonMark 6.1)
+unfoldable pub backquote_piece : List ℕ → ℕ → Piece
+backquote_piece text at = Token 0 (run_at text at) (MaybeCode (run_at text at) false)
+
+-- at a backslash: before a run of backquotes it is dropped, and the token of the run keeps that it stood there; before other ASCII punctuation
+-- it is dropped, and that byte begins an escaped text; else it stands for itself (CommonMark 2.4, 6.1)
+unfoldable pub backslash_piece : List ℕ → ℕ → Piece
+backslash_piece text at =
+    if slice_index text (at + 1) == backquote then Token 1 (run_at text (at + 1)) (MaybeCode (run_at text (at + 1)) true)
+    else (if is_ascii_punctuation (slice_index text (at + 1)) then Begins 1 true else Left 1)
+
+-- at a special byte: the first case that fits, else the byte is left over (CommonMark 2.4, 6.1, 6.3 to 6.6)
 unfoldable pub special_piece : List ℕ → ℕ → Piece
-special_piece text at = if slice_index text at == backslash then backslash_piece text at else Left 1
+special_piece text at =
+    if slice_index text at == backslash then backslash_piece text at
+    else (if slice_index text at == backquote then backquote_piece text at
+    else (if slice_index text at == less_than && not (slice_index text (at + 1) == backslash) then Token 0 1 MaybeHtml
+    else (if slice_index text at == exclamation_mark && slice_index text (at + 1) == left_bracket then Token 0 2 MaybeImage
+    else (if slice_index text at == left_bracket then Token 0 1 MaybeLinkOpen
+    else (if slice_index text at == right_bracket then Token 0 1 (MaybeLinkClose true)
+    else Left 1)))))
 
 -- the piece that begins at a place: a byte that is not special is left over (CommonMark 6, textual content)
 unfoldable pub piece_at : Source → ℕ → Piece
@@ -29,8 +49,10 @@ piece_at s at = if is_special s.options (slice_index s.text at) then special_pie
 abbrev pub size : Piece → ℕ
 size (Left n) = n
 size (Begins dropped escaped) = dropped + 1
+size (Token dropped n body) = dropped + n
 
--- a piece is not empty, and what it drops ends with a backslash (this project)
+-- a piece is not empty, what it drops before a text ends with a backslash, and a token has bytes of its own (this project)
 abbrev pub EndsSolid : List ℕ → ℕ → Piece → Type 0
 EndsSolid text at (Left n) = 0 < n
 EndsSolid text at (Begins dropped escaped) = (0 < dropped) × (slice_index text (at + dropped - 1) ≡ backslash)
+EndsSolid text at (Token dropped n body) = 0 < n

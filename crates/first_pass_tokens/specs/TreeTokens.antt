@@ -27,7 +27,7 @@ leaves chain = map (λ x. (0, x)) chain
 abbrev pub JoinsNone : Forest Item → Type 0
 JoinsNone f = (at : ℕ) → joins_at f at f.current ≡ false
 
--- the new tree is the old one with the tokens of the line whose content begins there (CommonMark 2.4, 6.7, 6.8)
+-- the new tree is the old one with the tokens of the line whose content begins there (CommonMark 2.4, 6.1, 6.3 to 6.8)
 pub record AppendsLine (s : Source) (old new : Forest Item) (answer : ℕ × Option Item) : Type 0 where
   pub tokens : List Item
   pub line : IsLine s tokens answer

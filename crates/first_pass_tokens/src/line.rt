@@ -16,9 +16,10 @@ use first_pass_tree::forest::Tree;
 use first_pass_walk::walk::next_special_in_words;
 use std::alloc::AllocError;
 
-/// Appends the tokens of one line to the innermost open node: the texts of the content that begins at
-/// `start`, an offset into `text`, up to the first line end, or the text's end. `lut` is the table of
-/// the bytes that are special under `options`.
+/// Appends the tokens of one line to the innermost open node: the texts and the tokens of possible code,
+/// HTML, links and images (CommonMark 6.1, 6.3 to 6.6) of the content that begins at `start`, an offset
+/// into `text`, up to the first line end, or the text's end. `lut` is the table of the bytes that are
+/// special under `options`.
 ///
 /// Answers the offset behind the line's line end, and the line break there (CommonMark 6.7, 6.8), which
 /// is not appended; `None` where the text ends without a line end. A backslash before ASCII punctuation
@@ -69,7 +70,7 @@ struct Pending {
     escaped: bool,
 }
 
-// Appends the pending text, where the piece at `at` begins another one.
+// Appends the pending text, where the piece at `at` begins another one, and the piece's token.
 fn append_piece(
     tree: &mut Tree<Item>,
     pending: &mut Pending,
@@ -87,6 +88,16 @@ fn append_piece(
             *pending = Pending {
                 begin: at + dropped,
                 escaped,
+            };
+        }
+        Piece::Token(dropped, n, body) => {
+            tree.append_text(pending.begin, at, pending.escaped)?;
+            let start = at + dropped;
+            let end = start + n;
+            tree.append(Item { start, end, body })?;
+            *pending = Pending {
+                begin: end,
+                escaped: false,
             };
         }
     }

@@ -1,8 +1,11 @@
 //! The pieces that the content of a line is divided into: which one begins at a place.
 
 ghost use Rattle.std.specs.Prelude.{◌≡◌, ◌+◌, ◌<◌, ◌≤◌, ◌^◌, length, slice_index};
-ghost use Rattle.first_pass_items.specs.Bytes.{backslash};
-ghost use Rattle.first_pass_tokens.specs.Pieces.{special_piece, backslash_piece, size, EndsSolid};
+ghost use Rattle.first_pass_items.specs.Bytes.{backslash, backquote};
+ghost use Rattle.first_pass_tokens.specs.Pieces.{special_piece, backslash_piece, backquote_piece, run_at, size, EndsSolid};
+
+use first_pass_items::item::ItemBody;
+use first_pass_lines::places::rest_of;
 
 /// A part of a line's content, as the tokens are read off it.
 #[derive(Clone, Copy, Drop)]
@@ -11,10 +14,14 @@ pub enum Piece {
     Left(usize),
     /// Backslashes that are dropped, and a byte that begins a text, escaped or not.
     Begins(usize, bool),
+    /// Backslashes that are dropped, and then a token of so many bytes that is no text.
+    Token(usize, usize, ItemBody),
 }
 
-/// The piece at a special byte of a text: a backslash before ASCII punctuation is dropped and escapes it
-/// (CommonMark 2.4); any other byte is left over. `at` is an offset within the text.
+/// The piece at a special byte of a text; `at` is its offset. Backquotes are a token of possible code
+/// (CommonMark 6.1), `<` one of possible HTML or of an autolink (6.5, 6.6), `[`, `]` and `![` are tokens of
+/// possible links and images (6.3, 6.4). A backslash before backquotes or other ASCII punctuation is dropped
+/// (2.4). Any other byte is left over.
 #[tactic(auto, unfolding(crate::specs::Pieces::special_piece))]
 pub fn special_piece(text: &[u8], at: usize) -> Piece
     requires { at < length text.now }
@@ -24,6 +31,11 @@ pub fn special_piece(text: &[u8], at: usize) -> Piece
 {
     match text[at] {
         b'\\' => backslash_piece(text, at),
+        b'`' => backquote_piece(text, at),
+        b'<' if byte_at(text, at + 1) != b'\\' => Piece::Token(0, 1, ItemBody::MaybeHtml),
+        b'!' if byte_at(text, at + 1) == b'[' => Piece::Token(0, 2, ItemBody::MaybeImage),
+        b'[' => Piece::Token(0, 1, ItemBody::MaybeLinkOpen),
+        b']' => Piece::Token(0, 1, ItemBody::MaybeLinkClose(true)),
         _ => Piece::Left(1),
     }
 }
@@ -36,9 +48,11 @@ pub fn piece_len(piece: Piece) -> usize
     match piece {
         Piece::Left(n) => n,
         Piece::Begins(dropped, _) => dropped + 1,
+        Piece::Token(dropped, n, _) => dropped + n,
     }
 }
 
+// The piece at a backslash.
 #[tactic(auto, unfolding(crate::specs::Pieces::backslash_piece))]
 fn backslash_piece(text: &[u8], at: usize) -> Piece
     requires within { at < length text.now }
@@ -47,11 +61,40 @@ fn backslash_piece(text: &[u8], at: usize) -> Piece
     ensures fits { at + size result ≤ length text.now }
     ensures ends { EndsSolid text.now at result }
 {
-    if byte_at(text, at + 1).is_ascii_punctuation() {
+    let next = byte_at(text, at + 1);
+    if next == b'`' {
+        let n = run_len(text, at + 1);
+        Piece::Token(1, n, ItemBody::MaybeCode(n, true))
+    } else if next.is_ascii_punctuation() {
         Piece::Begins(1, true)
     } else {
         Piece::Left(1)
     }
+}
+
+// The piece at a run of backquotes.
+#[tactic(auto, unfolding(crate::specs::Pieces::backquote_piece))]
+fn backquote_piece(text: &[u8], at: usize) -> Piece
+    requires within { at < length text.now }
+    requires here { slice_index text.now at ≡ backquote }
+    ensures value { result ≡ backquote_piece text.now at }
+    ensures fits { at + size result ≤ length text.now }
+    ensures ends { EndsSolid text.now at result }
+{
+    let n = run_len(text, at);
+    Piece::Token(0, n, ItemBody::MaybeCode(n, false))
+}
+
+// How many bytes like the one at a place stand there in a row.
+#[tactic(auto, unfolding(crate::specs::Pieces::run_at))]
+fn run_len(text: &[u8], at: usize) -> usize
+    requires { at < length text.now }
+    ensures value { result ≡ run_at text.now at }
+    ensures some { 0 < result }
+    ensures fits { at + result ≤ length text.now }
+{
+    let byte = text[at];
+    rest_of(text, at).iter().take_while(|b| **b == byte).count()
 }
 
 // The byte at a place, and 0 past the end.

@@ -1,0 +1,216 @@
+-- The piece at a place, case by case: which bytes it has, and which token. What else is said of pieces rests on these facts alone.
+use Rattle.std.proofs.Common.{◌≡◌, ℕ, ◌+◌, ◌-◌, ◌≤◌, ◌<◌, ◌==◌, ◌&&◌, not, Bool, true, false, List, length, drop, get_or, slice_index, refl, sym, ap, subst, ◌∙◌, inl, inr, arith, length-drop}
+use Rattle.std.specs.Char.{is_ascii_punctuation}
+use Rattle.std.specs.List.{prefix_len}
+use Rattle.std.proofs.lemmas.List.{get_or-drop, get_or_past}
+use Rattle.std.proofs.lemmas.List.Sums.{prefix_len_passes, prefix_len_stops}
+use Rattle.std.proofs.lemmas.Bool.{cases_lt, cond_both, and_parts, eqb-true, eq-eqb, false≢true}
+use Rattle.std.proofs.lemmas.Bool.Decides.{nat_tests}
+use Rattle.first_pass_items.specs.declared.item.ItemBody.{ItemBody}
+use Rattle.first_pass_items.specs.declared.item.ItemBody.TheVariants.{Text, MaybeCode, MaybeHtml, MaybeLinkOpen, MaybeLinkClose, MaybeImage}
+use Rattle.first_pass_tree.specs.Forest.{is_text, is_escaped}
+use Rattle.first_pass_lines.specs.Lines.{is_line_end, is_white}
+use Rattle.first_pass_walk.specs.Walk.{is_special}
+use Rattle.first_pass_tokens.specs.declared.pieces.Piece.{Piece}
+use Rattle.first_pass_tokens.specs.declared.pieces.Piece.TheVariants.{Left, Begins, Token}
+use Rattle.first_pass_tokens.specs.Pieces.{Source, piece_at, special_piece, backslash_piece, backquote_piece, run_at}
+
+-- a visible character of ASCII
+abbrev pub IsVisible : ℕ → Type 0
+IsVisible b = (32 < b) × (b < 127)
+
+-- so many bytes from a place on are visible
+abbrev pub AreVisible : List ℕ → ℕ → ℕ → Type 0
+AreVisible text at n = (k : ℕ) → at ≤ k → k < at + n → IsVisible (slice_index text k)
+
+-- a token of possible code, HTML, links or images
+abbrev pub is_markup : ItemBody → Bool
+is_markup (MaybeCode n escaped) = true
+is_markup MaybeHtml = true
+is_markup MaybeLinkOpen = true
+is_markup (MaybeLinkClose b) = true
+is_markup MaybeImage = true
+is_markup _ = false
+
+-- it is no text
+pub markup_plain : (body : ItemBody) → is_markup body ≡ true → is_text body ≡ false
+markup_plain (Text escaped) h = absurd (false≢true h)
+markup_plain _ h = refl
+
+pub markup_unescaped : (body : ItemBody) → is_markup body ≡ true → is_escaped body ≡ false
+markup_unescaped (Text escaped) h = absurd (false≢true h)
+markup_unescaped _ h = refl
+
+-- a backslash that is dropped, and a punctuation character
+pub record IsEscape (text : List ℕ) (at dropped : ℕ) : Type 0 where
+  pub one : dropped ≡ 1
+  pub bytes : AreVisible text at (dropped + 1)
+  pub backslash : slice_index text at ≡ 92
+  pub punctuation : is_ascii_punctuation (slice_index text (at + dropped)) ≡ true
+
+-- a token's bytes, behind those that are dropped
+pub record IsMarkup (text : List ℕ) (at dropped n : ℕ) (body : ItemBody) : Type 0 where
+  pub some : 0 < n
+  pub bytes : AreVisible text at (dropped + n)
+  pub last : (slice_index text (at + dropped + n - 1) == 92) ≡ false
+  pub kind : is_markup body ≡ true
+
+-- the bytes of a piece
+abbrev pub IsPieceAt : List ℕ → ℕ → Piece → Type 0
+IsPieceAt text at (Left n) = n ≡ 1
+IsPieceAt text at (Begins dropped escaped) = IsEscape text at dropped
+IsPieceAt text at (Token dropped n body) = IsMarkup text at dropped n body
+
+punctuation_visible : (b : ℕ) → is_ascii_punctuation b ≡ true → IsVisible b
+punctuation_visible b h = (grind (arith, nat_tests, h), grind (arith, nat_tests, h))
+
+module _ (text : List ℕ) (at : ℕ) where
+  one_visible : IsVisible (slice_index text at) → AreVisible text at 1
+  one_visible here k low high =
+      let same : at ≡ k = omega arith in
+      subst (λ (x : ℕ). IsVisible (slice_index text x)) same here
+
+  two_visible : IsVisible (slice_index text at) → IsVisible (slice_index text (at + 1)) → AreVisible text at 2
+  two_visible here next k low high =
+      elim (cases_lt k (at + 1)) [
+        | inl first ↦ one_visible here k low first
+        | inr later ↦ let same : at + 1 ≡ k = omega arith in subst (λ (x : ℕ). IsVisible (slice_index text x)) same next
+      ]
+
+  -- a run of a byte
+  run_same : (k : ℕ) → at ≤ k → k < at + run_at text at → slice_index text k ≡ slice_index text at
+  unfolding run_at
+  run_same k low high =
+      let same : at + (k - at) ≡ k = omega arith in
+      let passes = prefix_len_passes (λ b. b == slice_index text at) (drop at text) (k - at) 0 (omega arith) in
+      eqb-true (slice_index text k) (slice_index text at)
+      (ap (λ (x : ℕ). slice_index text x == slice_index text at) (sym same)
+      ∙ ap (λ (b : ℕ). b == slice_index text at) (sym (get_or-drop at text (k - at) 0)) ∙ passes)
+
+  run_visible : IsVisible (slice_index text at) → AreVisible text at (run_at text at)
+  run_visible here k low high = subst IsVisible (sym (run_same k low high)) here
+
+  -- a token of one byte
+  one_byte : (b : ℕ) (body : ItemBody) → slice_index text at ≡ b → IsVisible b → (b == 92) ≡ false → is_markup body ≡ true → IsMarkup text at 0 1 body
+  one_byte b body is visible other kind = record {
+    some = omega arith;
+    bytes = one_visible (subst IsVisible (sym is) visible);
+    last = let place : at + 0 + 1 - 1 ≡ at = omega arith in ap (λ (k : ℕ). slice_index text k == 92) place ∙ ap (λ (x : ℕ). x == 92) is ∙ other;
+    kind = kind;
+  }
+
+  -- the token of an image
+  image_facts : slice_index text at ≡ 33 → slice_index text (at + 1) ≡ 91 → IsMarkup text at 0 2 MaybeImage
+  image_facts is next = record {
+    some = omega arith;
+    bytes = two_visible (omega (arith, is), omega (arith, is)) (omega (arith, next), omega (arith, next));
+    last = let place : at + 0 + 2 - 1 ≡ at + 1 = omega arith in ap (λ (k : ℕ). slice_index text k == 92) place ∙ ap (λ (x : ℕ). x == 92) next;
+    kind = refl;
+  }
+
+  -- a run of backquotes
+  run_facts : slice_index text at ≡ 96 → 0 < run_at text at → (n : ℕ) → n ≡ run_at text at → IsMarkup text at 0 n (MaybeCode n false)
+  run_facts is some n same = record {
+    some = omega arith;
+    bytes = λ k low high. run_visible (omega (arith, is), omega (arith, is)) k low (omega arith);
+    last =
+        let place = run_same (at + 0 + n - 1) (omega arith) (omega arith) in
+        ap (λ (x : ℕ). x == 92) (place ∙ is);
+    kind = refl;
+  }
+
+-- a run has its first byte
+run_some : (text : List ℕ) (at : ℕ) → at < length text → 0 < run_at text at
+unfolding run_at
+run_some text at within =
+    elim (cases_lt 0 (prefix_len (λ b. b == slice_index text at) (drop at text))) [
+      | inl some ↦ some
+      | inr none ↦
+          let p : ℕ → Bool = λ b. b == slice_index text at in
+          let len = length-drop at text in
+          let stops = prefix_len_stops p (drop at text) 0 (omega arith) in
+          let first : prefix_len p (drop at text) ≡ 0 = omega arith in
+          let here : at + 0 ≡ at = omega arith in
+          let same : get_or (drop at text) (prefix_len p (drop at text)) 0 ≡ slice_index text at =
+          ap (λ (k : ℕ). get_or (drop at text) k 0) first ∙ get_or-drop at text 0 0 ∙ ap (slice_index text) here in
+          absurd (false≢true (sym stops ∙ eq-eqb _ _ same))
+    ]
+
+-- a byte that is not 0 stands in the text
+pub at_byte : (text : List ℕ) (at : ℕ) → 0 < slice_index text at → at < length text
+at_byte text at some =
+    elim (cases_lt at (length text)) [
+      | inl within ↦ within
+      | inr past ↦ let none = get_or_past text at 0 past in absurd (omega arith)
+    ]
+
+-- a visible character is no line end and no white space
+pub visible_plain : (b : ℕ) → IsVisible b → is_line_end b ≡ false
+visible_plain b h = grind (arith, nat_tests, h.0, h.1)
+
+pub visible_solid : (b : ℕ) → IsVisible b → is_white b ≡ false
+visible_solid b h = grind (arith, nat_tests, h.0, h.1)
+
+-- visible bytes stand in the text
+pub visible_fits : (text : List ℕ) (at n : ℕ) → 0 < n → AreVisible text at n → at + n ≤ length text
+visible_fits text at n some bytes =
+    let last = bytes (at + n - 1) (omega arith) (omega arith) in
+    let within = at_byte text (at + n - 1) (omega (arith, last.0)) in
+    omega arith
+
+module _ (text : List ℕ) (at : ℕ) (within : at < length text) where
+  backquote_facts : slice_index text at ≡ 96 → IsPieceAt text at (backquote_piece text at)
+  unfolding backquote_piece
+  backquote_facts is = run_facts text at is (run_some text at within) (run_at text at) refl
+
+  -- a backslash, and what it is dropped before
+  backslash_facts : slice_index text at ≡ 92 → IsPieceAt text at (backslash_piece text at)
+  unfolding backslash_piece
+  backslash_facts is =
+      cond_both (slice_index text (at + 1) == 96) _ _ (IsPieceAt text at)
+      (λ backquote.
+      let next = eqb-true (slice_index text (at + 1)) 96 backquote in
+      let run = run_facts text (at + 1) next (run_some text (at + 1) (at_byte text (at + 1) (omega arith))) (run_at text (at + 1)) refl in
+      record {
+        some = run.some;
+        bytes = λ k low high. elim (cases_lt k (at + 1)) [
+          | inl first ↦ one_visible text at (omega (arith, is), omega (arith, is)) k low first
+          | inr later ↦ run.bytes k later (omega arith)
+        ];
+        last =
+            let place : at + 1 + run_at text (at + 1) - 1 ≡ at + 1 + 0 + run_at text (at + 1) - 1 = omega arith in
+            ap (λ (k : ℕ). slice_index text k == 92) place ∙ run.last;
+        kind = refl;
+      })
+      (λ other. cond_both (is_ascii_punctuation (slice_index text (at + 1))) (Begins 1 true) (Left 1) (IsPieceAt text at)
+      (λ punctuation. record {
+        one = refl;
+        bytes = two_visible text at (omega (arith, is), omega (arith, is)) (punctuation_visible (slice_index text (at + 1)) punctuation);
+        backslash = is;
+        punctuation = punctuation;
+      })
+      (λ left. refl))
+
+  -- the piece at a special byte
+  special_facts : IsPieceAt text at (special_piece text at)
+  unfolding special_piece
+  special_facts =
+      let holds : Piece → Type 0 = IsPieceAt text at in
+      let b = slice_index text at in
+      cond_both (b == 92) _ _ holds (λ h. backslash_facts (eqb-true b 92 h))
+      (λ h₁. cond_both (b == 96) _ _ holds (λ h. backquote_facts (eqb-true b 96 h))
+      (λ h₂. cond_both (b == 60 && not (slice_index text (at + 1) == 92)) _ _ holds
+      (λ h. one_byte text at 60 MaybeHtml (eqb-true b 60 (and_parts (b == 60) _ h).0) (omega arith, omega arith) refl refl)
+      (λ h₃. cond_both (b == 33 && slice_index text (at + 1) == 91) _ _ holds
+      (λ h. let both = and_parts (b == 33) (slice_index text (at + 1) == 91) h in
+      image_facts text at (eqb-true b 33 both.0) (eqb-true (slice_index text (at + 1)) 91 both.1))
+      (λ h₄. cond_both (b == 91) _ _ holds (λ h. one_byte text at 91 MaybeLinkOpen (eqb-true b 91 h) (omega arith, omega arith) refl refl)
+      (λ h₅. cond_both (b == 93) _ _ holds (λ h. one_byte text at 93 (MaybeLinkClose true) (eqb-true b 93 h) (omega arith, omega arith) refl refl)
+      (λ h₆. refl))))))
+
+-- the piece at a place of the text
+pub piece_facts : (s : Source) (at : ℕ) → at < length s.text → IsPieceAt s.text at (piece_at s at)
+unfolding piece_at
+piece_facts s at within =
+    cond_both (is_special s.options (slice_index s.text at)) (special_piece s.text at) (Left 1) (IsPieceAt s.text at)
+    (λ b. special_facts s.text at within) (λ b. refl)
