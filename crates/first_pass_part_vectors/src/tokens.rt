@@ -20,6 +20,12 @@ fn name(body: &ItemBody) -> &'static str {
         ItemBody::SoftBreak => "SoftBreak",
         ItemBody::HardBreak(true) => "HardBreak(true)",
         ItemBody::HardBreak(false) => "HardBreak(false)",
+        ItemBody::MaybeCode(1, false) => "MaybeCode(1,false)",
+        ItemBody::MaybeCode(2, true) => "MaybeCode(2,true)",
+        ItemBody::MaybeHtml => "MaybeHtml",
+        ItemBody::MaybeLinkOpen => "MaybeLinkOpen",
+        ItemBody::MaybeLinkClose(true) => "MaybeLinkClose(true)",
+        ItemBody::MaybeImage => "MaybeImage",
         _ => "other",
     }
 }
@@ -79,6 +85,19 @@ fn texts_have_their_tokens(rt: HostRuntime) -> Result<(), Fail> {
         ("a\\", "Text 0..2"),
         ("a\\\n", "Text 0..2, SoftBreak 2..3"),
         ("a \t", "Text 0..1"),
+        ("a`b", "Text 0..1, MaybeCode(1,false) 1..2, Text 2..3"),
+        ("\\``a", "MaybeCode(2,true) 1..3, Text 3..4"),
+        ("\\\\`", "Text(escaped) 1..2, MaybeCode(1,false) 2..3"),
+        ("<a<\\b", "MaybeHtml 0..1, Text 1..5"),
+        ("!![", "Text 0..1, MaybeImage 1..3"),
+        (
+            "[a]:",
+            "MaybeLinkOpen 0..1, Text 1..2, MaybeLinkClose(true) 2..3, Text 3..4",
+        ),
+        (
+            "[  \n]\\\n",
+            "MaybeLinkOpen 0..1, HardBreak(false) 1..4, MaybeLinkClose(true) 4..5, Text 5..6, SoftBreak 6..7",
+        ),
     ] {
         let tree = paragraph(rt.alloc(), text.as_bytes())?;
         assert_eq!(rt; printed(rt.alloc(), &tree)?.as_str(), wanted, "{text:?}");
