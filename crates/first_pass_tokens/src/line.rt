@@ -71,6 +71,7 @@ struct Pending {
 }
 
 // Appends the pending text, where the piece at `at` begins another one, and the piece's token.
+#[inline(always)]
 fn append_piece(
     tree: &mut Tree<Item>,
     pending: &mut Pending,
