@@ -3,6 +3,7 @@ pub mod BytesLemmas
 pub mod ChainLemmas
 pub mod CutOrder
 pub mod LineLemmas
+pub mod MarkupLemmas
 pub mod OrderLemmas
 pub mod SoFar
 pub mod LineFound

@@ -4,7 +4,7 @@ use Rattle.std.specs.Char.{is_ascii_punctuation}
 use Rattle.std.specs.List.{prefix_len}
 use Rattle.std.proofs.lemmas.List.{get_or-drop, get_or_past}
 use Rattle.std.proofs.lemmas.List.Sums.{prefix_len_passes, prefix_len_stops}
-use Rattle.std.proofs.lemmas.Bool.{cases_lt, cond_both, and_parts, eqb-true, eq-eqb, false≢true}
+use Rattle.std.proofs.lemmas.Bool.{cases_lt, cond_both, and_parts, eqb-true, eq-eqb, ne_eqb, false≢true}
 use Rattle.std.proofs.lemmas.Bool.Decides.{nat_tests}
 use Rattle.first_pass_items.specs.declared.item.ItemBody.{ItemBody}
 use Rattle.first_pass_items.specs.declared.item.ItemBody.TheVariants.{Text, MaybeCode, MaybeHtml, MaybeLinkOpen, MaybeLinkClose, MaybeImage}
@@ -13,6 +13,7 @@ use Rattle.first_pass_lines.specs.Lines.{is_line_end, is_white}
 use Rattle.first_pass_walk.specs.Walk.{is_special}
 use Rattle.first_pass_tokens.specs.declared.pieces.Piece.{Piece}
 use Rattle.first_pass_tokens.specs.declared.pieces.Piece.TheVariants.{Left, Begins, Token}
+use Rattle.first_pass_tokens.specs.MarkupBytes.{AreBackquotes, StandsOver}
 use Rattle.first_pass_tokens.specs.Pieces.{Source, piece_at, special_piece, backslash_piece, backquote_piece, run_at}
 
 -- a visible character of ASCII
@@ -54,6 +55,7 @@ pub record IsMarkup (text : List ℕ) (at dropped n : ℕ) (body : ItemBody) : T
   pub bytes : AreVisible text at (dropped + n)
   pub last : (slice_index text (at + dropped + n - 1) == 92) ≡ false
   pub kind : is_markup body ≡ true
+  pub over : StandsOver text (at + dropped) (at + dropped + n) body
 
 -- the bytes of a piece
 abbrev pub IsPieceAt : List ℕ → ℕ → Piece → Type 0
@@ -87,16 +89,31 @@ module _ (text : List ℕ) (at : ℕ) where
       (ap (λ (x : ℕ). slice_index text x == slice_index text at) (sym same)
       ∙ ap (λ (b : ℕ). b == slice_index text at) (sym (get_or-drop at text (k - at) 0)) ∙ passes)
 
+  -- ends before another byte
+  run_stops : 0 < slice_index text at → (slice_index text (at + run_at text at) == slice_index text at) ≡ false
+  unfolding run_at
+  run_stops some =
+      let p : ℕ → Bool = λ b. b == slice_index text at in
+      let len = length-drop at text in
+      elim (cases_lt (prefix_len p (drop at text)) (length (drop at text))) [
+        | inl inside ↦
+            ap p (sym (get_or-drop at text (prefix_len p (drop at text)) 0)) ∙ prefix_len_stops p (drop at text) 0 inside
+        | inr whole ↦
+            let past = get_or_past text (at + prefix_len p (drop at text)) 0 (omega arith) in
+            ne_eqb (slice_index text (at + prefix_len p (drop at text))) (slice_index text at) (λ same. omega arith)
+      ]
+
   run_visible : IsVisible (slice_index text at) → AreVisible text at (run_at text at)
   run_visible here k low high = subst IsVisible (sym (run_same k low high)) here
 
   -- a token of one byte
-  one_byte : (b : ℕ) (body : ItemBody) → slice_index text at ≡ b → IsVisible b → (b == 92) ≡ false → is_markup body ≡ true → IsMarkup text at 0 1 body
-  one_byte b body is visible other kind = record {
+  one_byte : (b : ℕ) (body : ItemBody) → slice_index text at ≡ b → IsVisible b → (b == 92) ≡ false → is_markup body ≡ true → StandsOver text at (at + 1) body → IsMarkup text at 0 1 body
+  one_byte b body is visible other kind over = record {
     some = omega arith;
     bytes = one_visible (subst IsVisible (sym is) visible);
     last = let place : at + 0 + 1 - 1 ≡ at = omega arith in ap (λ (k : ℕ). slice_index text k == 92) place ∙ ap (λ (x : ℕ). x == 92) is ∙ other;
     kind = kind;
+    over = let place : at ≡ at + 0 = omega arith in subst (λ (x : ℕ). StandsOver text x (x + 1) body) place over;
   }
 
   -- the token of an image
@@ -106,9 +123,13 @@ module _ (text : List ℕ) (at : ℕ) where
     bytes = two_visible (omega (arith, is), omega (arith, is)) (omega (arith, next), omega (arith, next));
     last = let place : at + 0 + 2 - 1 ≡ at + 1 = omega arith in ap (λ (k : ℕ). slice_index text k == 92) place ∙ ap (λ (x : ℕ). x == 92) next;
     kind = refl;
+    over = let place : at ≡ at + 0 = omega arith in subst (λ (x : ℕ). StandsOver text x (x + 2) MaybeImage) place (refl, is, next);
   }
 
   -- a run of backquotes
+  backquotes : slice_index text at ≡ 96 → 0 < run_at text at → AreBackquotes text at (run_at text at)
+  backquotes is some = record { some = some; each = λ k low high. run_same k low high ∙ is; behind = ap (λ (b : ℕ). slice_index text (at + run_at text at) == b) (sym is) ∙ run_stops (omega (arith, is)) }
+
   run_facts : slice_index text at ≡ 96 → 0 < run_at text at → (n : ℕ) → n ≡ run_at text at → IsMarkup text at 0 n (MaybeCode n false)
   run_facts is some n same = record {
     some = omega arith;
@@ -117,6 +138,10 @@ module _ (text : List ℕ) (at : ℕ) where
         let place = run_same (at + 0 + n - 1) (omega arith) (omega arith) in
         ap (λ (x : ℕ). x == 92) (place ∙ is);
     kind = refl;
+    over =
+        let place : at ≡ at + 0 = omega arith in
+        let all = subst (AreBackquotes text at) (sym same) (backquotes is some) in
+        subst (λ (x : ℕ). StandsOver text x (x + n) (MaybeCode n false)) place (refl, all, λ h. absurd (false≢true h));
   }
 
 -- a run has its first byte
@@ -169,6 +194,7 @@ module _ (text : List ℕ) (at : ℕ) (within : at < length text) where
   backslash_facts is =
       cond_both (slice_index text (at + 1) == 96) _ _ (IsPieceAt text at)
       (λ backquote.
+      let before : slice_index text (at + 1 - 1) ≡ 92 = (let place : at + 1 - 1 ≡ at = omega arith in ap (slice_index text) place ∙ is) in
       let next = eqb-true (slice_index text (at + 1)) 96 backquote in
       let run = run_facts text (at + 1) next (run_some text (at + 1) (at_byte text (at + 1) (omega arith))) (run_at text (at + 1)) refl in
       record {
@@ -181,6 +207,7 @@ module _ (text : List ℕ) (at : ℕ) (within : at < length text) where
             let place : at + 1 + run_at text (at + 1) - 1 ≡ at + 1 + 0 + run_at text (at + 1) - 1 = omega arith in
             ap (λ (k : ℕ). slice_index text k == 92) place ∙ run.last;
         kind = refl;
+        over = (refl, backquotes text (at + 1) next (run_some text (at + 1) (at_byte text (at + 1) (omega arith))), λ h. before);
       })
       (λ other. cond_both (is_ascii_punctuation (slice_index text (at + 1))) (Begins 1 true) (Left 1) (IsPieceAt text at)
       (λ punctuation. record {
@@ -200,12 +227,12 @@ module _ (text : List ℕ) (at : ℕ) (within : at < length text) where
       cond_both (b == 92) _ _ holds (λ h. backslash_facts (eqb-true b 92 h))
       (λ h₁. cond_both (b == 96) _ _ holds (λ h. backquote_facts (eqb-true b 96 h))
       (λ h₂. cond_both (b == 60 && not (slice_index text (at + 1) == 92)) _ _ holds
-      (λ h. one_byte text at 60 MaybeHtml (eqb-true b 60 (and_parts (b == 60) _ h).0) (omega arith, omega arith) refl refl)
+      (λ h. one_byte text at 60 MaybeHtml (eqb-true b 60 (and_parts (b == 60) _ h).0) (omega arith, omega arith) refl refl (refl, eqb-true b 60 (and_parts (b == 60) _ h).0))
       (λ h₃. cond_both (b == 33 && slice_index text (at + 1) == 91) _ _ holds
       (λ h. let both = and_parts (b == 33) (slice_index text (at + 1) == 91) h in
       image_facts text at (eqb-true b 33 both.0) (eqb-true (slice_index text (at + 1)) 91 both.1))
-      (λ h₄. cond_both (b == 91) _ _ holds (λ h. one_byte text at 91 MaybeLinkOpen (eqb-true b 91 h) (omega arith, omega arith) refl refl)
-      (λ h₅. cond_both (b == 93) _ _ holds (λ h. one_byte text at 93 (MaybeLinkClose true) (eqb-true b 93 h) (omega arith, omega arith) refl refl)
+      (λ h₄. cond_both (b == 91) _ _ holds (λ h. one_byte text at 91 MaybeLinkOpen (eqb-true b 91 h) (omega arith, omega arith) refl refl (refl, eqb-true b 91 h))
+      (λ h₅. cond_both (b == 93) _ _ holds (λ h. one_byte text at 93 (MaybeLinkClose true) (eqb-true b 93 h) (omega arith, omega arith) refl refl (refl, eqb-true b 93 h, refl))
       (λ h₆. refl))))))
 
 -- the piece at a place of the text

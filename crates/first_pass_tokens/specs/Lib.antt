@@ -1,4 +1,5 @@
 pub mod Pieces
+pub mod MarkupBytes
 pub mod Chains
 pub mod LineTokens
 pub mod Order

@@ -7,6 +7,7 @@ ghost use Rattle.first_pass_tokens.specs.declared.pieces.Piece.{Piece};
 ghost use Rattle.first_pass_tokens.specs.Pieces.{Source};
 ghost use Rattle.first_pass_tokens.specs.Chains.{AreApart};
 ghost use Rattle.first_pass_tokens.specs.LineTokens.{IsLine, IsDivision};
+ghost use Rattle.first_pass_tokens.specs.MarkupBytes.{StandOver};
 
 /// A line has one list of tokens, and one answer.
 pub fn one_line()
@@ -23,4 +24,10 @@ pub fn content_has_no_line_end()
 /// No token of a line touches the one before it: texts that touch are one text.
 pub fn line_is_joined()
     ensures { (s : Source) (tokens : List Item) (answer : ℕ × Option Item) → IsLine s tokens answer → AreApart tokens }
+{}
+
+/// A token of possible markup in a line stands over the bytes of its kind: all of some backquotes, and
+/// behind a backslash where it says so (CommonMark 6.1); `<` (6.5, 6.6); `![`, `[` or `]` (6.3, 6.4).
+pub fn markup_has_its_bytes()
+    ensures { (s : Source) (tokens : List Item) (answer : ℕ × Option Item) → IsLine s tokens answer → StandOver s.text tokens }
 {}

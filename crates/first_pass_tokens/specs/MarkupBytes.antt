@@ -1,0 +1,26 @@
+-- Which bytes the tokens of possible markup stand over.
+use Rattle.std.specs.Prelude.{◌≡◌, ℕ, ◌+◌, ◌-◌, ◌==◌, ◌<◌, ◌≤◌, Bool, true, false, List, [], ◌∷◌, slice_index}
+use Rattle.first_pass_items.specs.Bytes.{exclamation_mark, less_than, left_bracket, backslash, right_bracket, backquote}
+use Rattle.first_pass_items.specs.declared.item.Item.{Item}
+use Rattle.first_pass_items.specs.declared.item.ItemBody.{ItemBody}
+use Rattle.first_pass_items.specs.declared.item.ItemBody.TheVariants.{MaybeCode, MaybeHtml, MaybeLinkOpen, MaybeLinkClose, MaybeImage}
+
+-- so many backquotes from an offset on, and none behind them (CommonMark 6.1, backtick string)
+pub record AreBackquotes (text : List ℕ) (start n : ℕ) : Type 0 where
+  pub some : 0 < n
+  pub each : (k : ℕ) → start ≤ k → k < start + n → slice_index text k ≡ backquote
+  pub behind : (slice_index text (start + n) == backquote) ≡ false
+
+-- a token of possible markup stands over what its kind says: all of some backquotes, behind a backslash where it says so; `<`; `![`, `[` or `]` (CommonMark 6.1, 6.3 to 6.6)
+abbrev pub StandsOver : List ℕ → ℕ → ℕ → ItemBody → Type 0
+StandsOver text start end (MaybeCode n escaped) = (end ≡ start + n) × AreBackquotes text start n × (escaped ≡ true → slice_index text (start - 1) ≡ backslash)
+StandsOver text start end MaybeHtml = (end ≡ start + 1) × (slice_index text start ≡ less_than)
+StandsOver text start end MaybeImage = (end ≡ start + 2) × (slice_index text start ≡ exclamation_mark) × (slice_index text (start + 1) ≡ left_bracket)
+StandsOver text start end MaybeLinkOpen = (end ≡ start + 1) × (slice_index text start ≡ left_bracket)
+StandsOver text start end (MaybeLinkClose active) = (end ≡ start + 1) × (slice_index text start ≡ right_bracket) × (active ≡ true)
+StandsOver text start end _ = Unit {0}
+
+-- each of these tokens does (this project)
+abbrev pub StandOver : List ℕ → List Item → Type 0
+StandOver text [] = Unit {0}
+StandOver text (x ∷ xs) = StandsOver text x.start x.«end» x.body × StandOver text xs
