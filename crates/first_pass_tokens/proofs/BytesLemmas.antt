@@ -83,7 +83,7 @@ cut_few e (x ∷ xs) =
 
 -- a piece takes a byte at least
 piece_some : (text : List ℕ) (at : ℕ) (p : Piece) → IsPieceAt text at p → 0 < size p
-piece_some text at (Left n) facts = omega (arith, facts)
+piece_some text at (Left n) facts = omega (arith, facts.0)
 piece_some text at (Begins dropped escaped) facts = omega arith
 piece_some text at (Token dropped n body) facts = omega (arith, facts.some)
 

@@ -76,7 +76,7 @@ one_in_line text at here k low high =
 piece_in_line : (s : Source) (at : ℕ) (p : Piece) → ends_at s at ≡ false → IsPieceAt s.text at p → IsInLine s.text at p
 piece_in_line s at (Left n) on facts =
     let here = not_ended s at on in
-    record { fits = omega (arith, facts, here.0); plain = λ k low high. one_in_line s.text at here.1 k low (omega (arith, facts)) }
+    record { fits = omega (arith, facts.0, here.0); plain = λ k low high. one_in_line s.text at here.1 k low (omega (arith, facts.0)) }
 piece_in_line s at (Begins dropped escaped) on facts =
     record {
       fits = visible_fits s.text at (dropped + 1) (omega arith) facts.bytes;

@@ -1,6 +1,6 @@
--- The tokens of possible markup in a line stand over the bytes of their kinds.
-use Rattle.std.proofs.Common.{◌≡◌, ℕ, ◌+◌, ◌==◌, ◌&&◌, Bool, true, false, nat_lt, min, List, [], ◌∷◌, Option, sym, subst}
-use Rattle.std.proofs.lemmas.Bool.{cond_both, and_parts, false≢true}
+-- The tokens of possible markup in a line stand over the bytes of their kinds, and no backquote is left to a text.
+use Rattle.std.proofs.Common.{◌≡◌, ℕ, ◌+◌, ◌≤◌, ◌==◌, ◌&&◌, Bool, true, false, nat_lt, min, List, [], ◌∷◌, Option, slice_index, sym, ap, subst, ◌∙◌, inl, inr, arith}
+use Rattle.std.proofs.lemmas.Bool.{cases_lt, cond_both, and_parts, eqb-true, false≢true}
 use Rattle.first_pass_items.specs.declared.item.Item.{Item}
 use Rattle.first_pass_items.specs.declared.item.ItemBody.{ItemBody}
 use Rattle.first_pass_items.specs.declared.item.ItemBody.TheVariants.{Text}
@@ -8,10 +8,10 @@ use Rattle.first_pass_tree.specs.Forest.{is_text}
 use Rattle.first_pass_tokens.specs.declared.pieces.Piece.{Piece}
 use Rattle.first_pass_tokens.specs.declared.pieces.Piece.TheVariants.{Left, Begins, Token}
 use Rattle.first_pass_tokens.specs.Pieces.{Source, size}
-use Rattle.first_pass_tokens.specs.MarkupBytes.{StandsOver, StandOver}
+use Rattle.first_pass_tokens.specs.MarkupBytes.{StandsOver, StandOver, HasNoBackquote, TextsHaveNoBackquote}
 use Rattle.first_pass_tokens.specs.Chains.{text_token, token, touches, add_token, add_text}
 use Rattle.first_pass_tokens.specs.LineTokens.{ArePieces, IsLine, add_piece, add_pieces, text_end}
-use Rattle.first_pass_tokens.proofs.PieceFacts.{IsPieceAt}
+use Rattle.first_pass_tokens.proofs.PieceFacts.{IsPieceAt, markup_plain}
 use Rattle.first_pass_tokens.proofs.LineLemmas.{piece_of}
 
 -- a text is no markup, whatever its range
@@ -32,10 +32,12 @@ over_add text (x ∷ z ∷ zs) y over h = (h.0, over_add text (z ∷ zs) y over 
 -- a text behind, or none
 over_text : (text : List ℕ) (a b : ℕ) (escaped : Bool) (chain : List Item) → StandOver text chain → StandOver text (add_text a b escaped chain)
 over_text text a b escaped chain h =
-    cond_both (nat_lt a b) (add_token chain (text_token a b escaped)) chain (StandOver text) (λ some. over_add text chain (text_token a b escaped) tt h) (λ none. h)
+    cond_both (nat_lt a b) (add_token chain (text_token a b escaped)) chain (StandOver text)
+    (λ some. over_add text chain (text_token a b escaped) tt h) (λ none. h)
 
 -- what a piece adds behind
-over_piece : (text : List ℕ) (stop at : ℕ) (p : Piece) (chain : List Item) → IsPieceAt text at p → StandOver text chain → StandOver text (add_piece stop at p chain)
+over_piece : (text : List ℕ) (stop at : ℕ) (p : Piece) (chain : List Item) → IsPieceAt text at p → StandOver text chain
+    → StandOver text (add_piece stop at p chain)
 over_piece text stop at (Left n) chain facts h = over_text text at (min (at + n) stop) false chain h
 over_piece text stop at (Begins dropped escaped) chain facts h = over_text text (at + dropped) (min (at + (dropped + 1)) stop) escaped chain h
 over_piece text stop at (Token dropped n body) chain facts h = over_add text chain (token (at + dropped) n body) facts.over h
@@ -51,3 +53,50 @@ pub line_over : {s : Source} {tokens : List Item} {answer : ℕ × Option Item} 
 line_over {s} line =
     subst (StandOver s.text) (sym line.tokens_are)
     (over_pieces s (text_end s line.content_end) s.start line.pieces line.content_end [] line.division.divided tt)
+
+-- a token behind; a text that is joined has the bytes of both
+spare_add : (text : List ℕ) (chain : List Item) (y : Item) → (is_text y.body ≡ true → HasNoBackquote text y.start y.«end»)
+    → TextsHaveNoBackquote text chain → TextsHaveNoBackquote text (add_token chain y)
+spare_add text [] y none h = (none, tt)
+spare_add text (x ∷ []) y none h =
+    cond_both (touches x y) (record x { «end» = y.«end» } ∷ []) (x ∷ y ∷ []) (TextsHaveNoBackquote text)
+    (λ b. let joined = and_parts (is_text y.body) (is_text x.body && (x.«end» == y.start)) b in
+    let behind = and_parts (is_text x.body) (x.«end» == y.start) joined.1 in
+    let same = eqb-true x.«end» y.start behind.1 in
+    ((λ is k low high. elim (cases_lt k x.«end») [ inl first ↦ h.0 behind.0 k low first | inr later ↦ none joined.0 k (omega arith) high ]), tt))
+    (λ b. (h.0, (none, tt)))
+spare_add text (x ∷ z ∷ zs) y none h = (h.0, spare_add text (z ∷ zs) y none h.1)
+
+-- a text behind, or none
+spare_text : (text : List ℕ) (a b : ℕ) (escaped : Bool) (chain : List Item) → HasNoBackquote text a b → TextsHaveNoBackquote text chain
+    → TextsHaveNoBackquote text (add_text a b escaped chain)
+spare_text text a b escaped chain none h =
+    cond_both (nat_lt a b) (add_token chain (text_token a b escaped)) chain (TextsHaveNoBackquote text)
+    (λ some. spare_add text chain (text_token a b escaped) (λ is. none) h) (λ empty. h)
+
+-- a byte alone
+spare_byte : (text : List ℕ) (at to : ℕ) → to ≤ at + 1 → (slice_index text at == 96) ≡ false → HasNoBackquote text at to
+spare_byte text at to short other k low high = (let same : k ≡ at = omega arith in ap (λ (x : ℕ). slice_index text x == 96) same ∙ other)
+
+-- what a piece adds behind
+spare_piece : (text : List ℕ) (stop at : ℕ) (p : Piece) (chain : List Item) → IsPieceAt text at p → TextsHaveNoBackquote text chain
+    → TextsHaveNoBackquote text (add_piece stop at p chain)
+spare_piece text stop at (Left n) chain facts h =
+    spare_text text at (min (at + n) stop) false chain (spare_byte text at (min (at + n) stop) (omega (arith, facts.0)) facts.1) h
+spare_piece text stop at (Begins dropped escaped) chain facts h =
+    let to = min (at + (dropped + 1)) stop in
+    spare_text text (at + dropped) to escaped chain (spare_byte text (at + dropped) to (omega arith) facts.other) h
+spare_piece text stop at (Token dropped n body) chain facts h =
+    spare_add text chain (token (at + dropped) n body) (λ is. absurd (false≢true (sym (markup_plain body facts.kind) ∙ is))) h
+
+spare_pieces : (s : Source) (stop at : ℕ) (ps : List Piece) (end : ℕ) (chain : List Item) → ArePieces s at ps end → TextsHaveNoBackquote s.text chain
+    → TextsHaveNoBackquote s.text (add_pieces stop at ps chain)
+spare_pieces s stop at [] end chain are h = h
+spare_pieces s stop at (p ∷ ps) end chain are h =
+    spare_pieces s stop (at + size p) ps end (add_piece stop at p chain) are.2 (spare_piece s.text stop at p chain (piece_of s at p are.0 are.1) h)
+
+-- the texts of a line
+pub line_spares : {s : Source} {tokens : List Item} {answer : ℕ × Option Item} → IsLine s tokens answer → TextsHaveNoBackquote s.text tokens
+line_spares {s} line =
+    subst (TextsHaveNoBackquote s.text) (sym line.tokens_are)
+    (spare_pieces s (text_end s line.content_end) s.start line.pieces line.content_end [] line.division.divided tt)

@@ -4,9 +4,10 @@ use Rattle.std.specs.Char.{is_ascii_punctuation}
 use Rattle.std.specs.List.{prefix_len}
 use Rattle.std.proofs.lemmas.List.{get_or-drop, get_or_past}
 use Rattle.std.proofs.lemmas.List.Sums.{prefix_len_passes, prefix_len_stops}
-use Rattle.std.proofs.lemmas.Bool.{cases_lt, cond_both, and_parts, eqb-true, eq-eqb, ne_eqb, false≢true}
+use Rattle.std.proofs.lemmas.Bool.{cases_lt, cases_Bool, cond_both, and_parts, eqb-true, eq-eqb, ne_eqb, false≢true}
 use Rattle.std.proofs.lemmas.Bool.Decides.{nat_tests}
 use Rattle.first_pass_items.specs.declared.item.ItemBody.{ItemBody}
+use Rattle.first_pass_items.specs.declared.option_set.Options.{Options}
 use Rattle.first_pass_items.specs.declared.item.ItemBody.TheVariants.{Text, MaybeCode, MaybeHtml, MaybeLinkOpen, MaybeLinkClose, MaybeImage}
 use Rattle.first_pass_tree.specs.Forest.{is_text, is_escaped}
 use Rattle.first_pass_lines.specs.Lines.{is_line_end, is_white}
@@ -48,6 +49,7 @@ pub record IsEscape (text : List ℕ) (at dropped : ℕ) : Type 0 where
   pub bytes : AreVisible text at (dropped + 1)
   pub backslash : slice_index text at ≡ 92
   pub punctuation : is_ascii_punctuation (slice_index text (at + dropped)) ≡ true
+  pub other : (slice_index text (at + dropped) == 96) ≡ false
 
 -- a token's bytes, behind those that are dropped
 pub record IsMarkup (text : List ℕ) (at dropped n : ℕ) (body : ItemBody) : Type 0 where
@@ -57,9 +59,9 @@ pub record IsMarkup (text : List ℕ) (at dropped n : ℕ) (body : ItemBody) : T
   pub kind : is_markup body ≡ true
   pub over : StandsOver text (at + dropped) (at + dropped + n) body
 
--- the bytes of a piece
+-- the bytes of a piece; a byte that is left over is no backquote
 abbrev pub IsPieceAt : List ℕ → ℕ → Piece → Type 0
-IsPieceAt text at (Left n) = n ≡ 1
+IsPieceAt text at (Left n) = (n ≡ 1) × ((slice_index text at == 96) ≡ false)
 IsPieceAt text at (Begins dropped escaped) = IsEscape text at dropped
 IsPieceAt text at (Token dropped n body) = IsMarkup text at dropped n body
 
@@ -107,7 +109,8 @@ module _ (text : List ℕ) (at : ℕ) where
   run_visible here k low high = subst IsVisible (sym (run_same k low high)) here
 
   -- a token of one byte
-  one_byte : (b : ℕ) (body : ItemBody) → slice_index text at ≡ b → IsVisible b → (b == 92) ≡ false → is_markup body ≡ true → StandsOver text at (at + 1) body → IsMarkup text at 0 1 body
+  one_byte : (b : ℕ) (body : ItemBody) → slice_index text at ≡ b → IsVisible b → (b == 92) ≡ false → is_markup body ≡ true
+      → StandsOver text at (at + 1) body → IsMarkup text at 0 1 body
   one_byte b body is visible other kind over = record {
     some = omega arith;
     bytes = one_visible (subst IsVisible (sym is) visible);
@@ -128,7 +131,11 @@ module _ (text : List ℕ) (at : ℕ) where
 
   -- a run of backquotes
   backquotes : slice_index text at ≡ 96 → 0 < run_at text at → AreBackquotes text at (run_at text at)
-  backquotes is some = record { some = some; each = λ k low high. run_same k low high ∙ is; behind = ap (λ (b : ℕ). slice_index text (at + run_at text at) == b) (sym is) ∙ run_stops (omega (arith, is)) }
+  backquotes is some = record {
+    some = some;
+    each = λ k low high. run_same k low high ∙ is;
+    behind = ap (λ (b : ℕ). slice_index text (at + run_at text at) == b) (sym is) ∙ run_stops (omega (arith, is));
+  }
 
   run_facts : slice_index text at ≡ 96 → 0 < run_at text at → (n : ℕ) → n ≡ run_at text at → IsMarkup text at 0 n (MaybeCode n false)
   run_facts is some n same = record {
@@ -215,8 +222,9 @@ module _ (text : List ℕ) (at : ℕ) (within : at < length text) where
         bytes = two_visible text at (omega (arith, is), omega (arith, is)) (punctuation_visible (slice_index text (at + 1)) punctuation);
         backslash = is;
         punctuation = punctuation;
+        other = other;
       })
-      (λ left. refl))
+      (λ left. (refl, ap (λ (x : ℕ). x == 96) is)))
 
   -- the piece at a special byte
   special_facts : IsPieceAt text at (special_piece text at)
@@ -227,17 +235,32 @@ module _ (text : List ℕ) (at : ℕ) (within : at < length text) where
       cond_both (b == 92) _ _ holds (λ h. backslash_facts (eqb-true b 92 h))
       (λ h₁. cond_both (b == 96) _ _ holds (λ h. backquote_facts (eqb-true b 96 h))
       (λ h₂. cond_both (b == 60 && not (slice_index text (at + 1) == 92)) _ _ holds
-      (λ h. one_byte text at 60 MaybeHtml (eqb-true b 60 (and_parts (b == 60) _ h).0) (omega arith, omega arith) refl refl (refl, eqb-true b 60 (and_parts (b == 60) _ h).0))
+      (λ h. let is = eqb-true b 60 (and_parts (b == 60) _ h).0 in
+      one_byte text at 60 MaybeHtml is (omega arith, omega arith) refl refl (refl, is))
       (λ h₃. cond_both (b == 33 && slice_index text (at + 1) == 91) _ _ holds
       (λ h. let both = and_parts (b == 33) (slice_index text (at + 1) == 91) h in
       image_facts text at (eqb-true b 33 both.0) (eqb-true (slice_index text (at + 1)) 91 both.1))
-      (λ h₄. cond_both (b == 91) _ _ holds (λ h. one_byte text at 91 MaybeLinkOpen (eqb-true b 91 h) (omega arith, omega arith) refl refl (refl, eqb-true b 91 h))
-      (λ h₅. cond_both (b == 93) _ _ holds (λ h. one_byte text at 93 (MaybeLinkClose true) (eqb-true b 93 h) (omega arith, omega arith) refl refl (refl, eqb-true b 93 h, refl))
-      (λ h₆. refl))))))
+      (λ h₄. cond_both (b == 91) _ _ holds
+      (λ h. one_byte text at 91 MaybeLinkOpen (eqb-true b 91 h) (omega arith, omega arith) refl refl (refl, eqb-true b 91 h))
+      (λ h₅. cond_both (b == 93) _ _ holds
+      (λ h. one_byte text at 93 (MaybeLinkClose true) (eqb-true b 93 h) (omega arith, omega arith) refl refl (refl, eqb-true b 93 h, refl))
+      (λ h₆. (refl, h₂)))))))
+
+-- a byte that is not special is not that special byte
+pub off : (b c : ℕ) (options : Options) → is_special options c ≡ true → is_special options b ≡ false → (b == c) ≡ false
+off b c options marked plain =
+    elim (cases_Bool (b == c)) [
+      | inl same ↦ absurd (false≢true (sym plain ∙ ap (is_special options) (eqb-true b c same) ∙ marked))
+      | inr other ↦ other
+    ]
+
+special_backquote : (options : Options) → is_special options 96 ≡ true
+unfolding is_special
+special_backquote options = refl
 
 -- the piece at a place of the text
 pub piece_facts : (s : Source) (at : ℕ) → at < length s.text → IsPieceAt s.text at (piece_at s at)
 unfolding piece_at
 piece_facts s at within =
     cond_both (is_special s.options (slice_index s.text at)) (special_piece s.text at) (Left 1) (IsPieceAt s.text at)
-    (λ b. special_facts s.text at within) (λ b. refl)
+    (λ b. special_facts s.text at within) (λ b. (refl, off (slice_index s.text at) 96 s.options (special_backquote s.options) b))

@@ -2,7 +2,7 @@
 use Rattle.std.proofs.Common.{ℕ, zero, suc, ◌≡◌, ◌⊎◌, ◌+◌, ◌-◌, ◌≤◌, ◌<◌, ◌==◌, ◌%◌, min, Bool, true, false, List, [], ◌∷◌, ◌++◌, length, slice_index, nat_lt, Option, Result, Ok, Err, OnOk, IfOk, refl, sym, ap, subst, ◌∙◌, inl, inr, arith}
 use Rattle.std.specs.List.{suffix_len, slice_range}
 use Rattle.std.specs.declared.alloc.AllocError.{AllocError}
-use Rattle.std.proofs.lemmas.Bool.{cases_lt, cases_Bool, lt-leb, le-leb, or_from, or_left, or_right, cond_both, cond-true, cond-false, and_parts, eqb-true, false≢true}
+use Rattle.std.proofs.lemmas.Bool.{cases_lt, cases_Bool, lt-leb, le-leb, or_from, or_left, or_right, cond_both, cond-true, cond-false, and_parts, eqb-true}
 use Rattle.first_pass_items.specs.declared.item.Item.{Item}
 use Rattle.first_pass_items.specs.declared.option_set.Options.{Options}
 use Rattle.first_pass_tree.specs.Forest.{Forest, appended, with_text}
@@ -16,7 +16,7 @@ use Rattle.first_pass_tokens.specs.Pieces.{Source, piece_at, special_piece, size
 use Rattle.first_pass_tokens.specs.LineTokens.{ends_at, ArePieces, add_piece, add_pieces, text_end, breaks_by_backslash, backslashes_at_end, blanks_at_end, line_end_len, line_break}
 use Rattle.first_pass_tokens.specs.TreeTokens.{with_tokens, AppendsLine}
 use Rattle.first_pass_tokens.specs.Pending.{pending_after, tree_after}
-use Rattle.first_pass_tokens.proofs.PieceFacts.{IsPieceAt, IsMarkup, markup_plain, visible_solid}
+use Rattle.first_pass_tokens.proofs.PieceFacts.{IsPieceAt, IsMarkup, markup_plain, visible_solid, off}
 use Rattle.first_pass_tokens.proofs.ChainLemmas.{add_text-none, add_text-joined, with_tokens-text, with_tokens-add, with_token-plain}
 use Rattle.first_pass_tokens.proofs.LineLemmas.{are_more, add_pieces_more, end_bounded, piece_of}
 
@@ -41,14 +41,6 @@ abbrev pub chain_after : ℕ → Piece → Pending → List Item → List Item
 chain_after at (Left n) p chain = chain
 chain_after at (Begins dropped escaped) p chain = add_text p.begin at p.escaped chain
 chain_after at (Token dropped n body) p chain = add_token (add_text p.begin at p.escaped chain) (token (at + dropped) n body)
-
--- a byte that is not special is not that special byte
-off : (b c : ℕ) (options : Options) → is_special options c ≡ true → is_special options b ≡ false → (b == c) ≡ false
-off b c options marked plain =
-    elim (cases_Bool (b == c)) [
-      | inl same ↦ absurd (false≢true (sym plain ∙ ap (is_special options) (eqb-true b c same) ∙ marked))
-      | inr other ↦ other
-    ]
 
 special_lf : (options : Options) → is_special options 10 ≡ true
 unfolding is_special

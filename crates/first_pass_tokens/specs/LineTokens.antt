@@ -71,7 +71,8 @@ line_break s end =
     if nat_le (length s.text) end then None
     else Some (break_of end (end + line_end_len s end) (breaks_by_backslash s end) (blanks_at_end s end))
 
--- The tokens of the line whose content begins there, and the answer: where the line ends, behind its line end, and its break (CommonMark 2.4, 6.1, 6.3 to 6.8).
+-- The tokens of the line whose content begins there, and the answer: where the line ends, behind its line end, and its break
+-- (CommonMark 2.4, 6.1, 6.3 to 6.8).
 pub record IsLine (s : Source) (tokens : List Item) (answer : ℕ × Option Item) : Type 0 where
   pub pieces : List Piece
   pub content_end : ℕ

@@ -1,9 +1,10 @@
 -- Which bytes the tokens of possible markup stand over.
-use Rattle.std.specs.Prelude.{◌≡◌, ℕ, ◌+◌, ◌-◌, ◌==◌, ◌<◌, ◌≤◌, Bool, true, false, List, [], ◌∷◌, slice_index}
+use Rattle.std.specs.Prelude.{◌≡◌, ℕ, ◌+◌, ◌-◌, ◌==◌, ◌<◌, ◌≤◌, true, false, List, [], ◌∷◌, slice_index}
 use Rattle.first_pass_items.specs.Bytes.{exclamation_mark, less_than, left_bracket, backslash, right_bracket, backquote}
 use Rattle.first_pass_items.specs.declared.item.Item.{Item}
 use Rattle.first_pass_items.specs.declared.item.ItemBody.{ItemBody}
 use Rattle.first_pass_items.specs.declared.item.ItemBody.TheVariants.{MaybeCode, MaybeHtml, MaybeLinkOpen, MaybeLinkClose, MaybeImage}
+use Rattle.first_pass_tree.specs.Forest.{is_text}
 
 -- so many backquotes from an offset on, and none behind them (CommonMark 6.1, backtick string)
 pub record AreBackquotes (text : List ℕ) (start n : ℕ) : Type 0 where
@@ -11,7 +12,8 @@ pub record AreBackquotes (text : List ℕ) (start n : ℕ) : Type 0 where
   pub each : (k : ℕ) → start ≤ k → k < start + n → slice_index text k ≡ backquote
   pub behind : (slice_index text (start + n) == backquote) ≡ false
 
--- a token of possible markup stands over what its kind says: all of some backquotes, behind a backslash where it says so; `<`; `![`, `[` or `]` (CommonMark 6.1, 6.3 to 6.6)
+-- a token of possible markup stands over what its kind says: all of some backquotes, behind a backslash where it says so; `<`; `![`, `[` or `]`
+-- (CommonMark 6.1, 6.3 to 6.6)
 abbrev pub StandsOver : List ℕ → ℕ → ℕ → ItemBody → Type 0
 StandsOver text start end (MaybeCode n escaped) = (end ≡ start + n) × AreBackquotes text start n × (escaped ≡ true → slice_index text (start - 1) ≡ backslash)
 StandsOver text start end MaybeHtml = (end ≡ start + 1) × (slice_index text start ≡ less_than)
@@ -24,3 +26,12 @@ StandsOver text start end _ = Unit {0}
 abbrev pub StandOver : List ℕ → List Item → Type 0
 StandOver text [] = Unit {0}
 StandOver text (x ∷ xs) = StandsOver text x.start x.«end» x.body × StandOver text xs
+
+-- no backquote stands from one offset up to another (CommonMark 6.1)
+abbrev pub HasNoBackquote : List ℕ → ℕ → ℕ → Type 0
+HasNoBackquote text start end = (k : ℕ) → start ≤ k → k < end → (slice_index text k == backquote) ≡ false
+
+-- no text among these tokens has a backquote (CommonMark 6.1)
+abbrev pub TextsHaveNoBackquote : List ℕ → List Item → Type 0
+TextsHaveNoBackquote text [] = Unit {0}
+TextsHaveNoBackquote text (x ∷ xs) = (is_text x.body ≡ true → HasNoBackquote text x.start x.«end») × TextsHaveNoBackquote text xs

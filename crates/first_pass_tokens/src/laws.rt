@@ -7,7 +7,7 @@ ghost use Rattle.first_pass_tokens.specs.declared.pieces.Piece.{Piece};
 ghost use Rattle.first_pass_tokens.specs.Pieces.{Source};
 ghost use Rattle.first_pass_tokens.specs.Chains.{AreApart};
 ghost use Rattle.first_pass_tokens.specs.LineTokens.{IsLine, IsDivision};
-ghost use Rattle.first_pass_tokens.specs.MarkupBytes.{StandOver};
+ghost use Rattle.first_pass_tokens.specs.MarkupBytes.{StandOver, TextsHaveNoBackquote};
 
 /// A line has one list of tokens, and one answer.
 pub fn one_line()
@@ -30,4 +30,10 @@ pub fn line_is_joined()
 /// behind a backslash where it says so (CommonMark 6.1); `<` (6.5, 6.6); `![`, `[` or `]` (6.3, 6.4).
 pub fn markup_has_its_bytes()
     ensures { (s : Source) (tokens : List Item) (answer : ℕ × Option Item) → IsLine s tokens answer → StandOver s.text tokens }
+{}
+
+/// No text of a line has a backquote: none is left over, escaped or not (CommonMark 6.1).
+pub fn texts_have_no_backquote()
+    ensures { (s : Source) (tokens : List Item) (answer : ℕ × Option Item) → IsLine s tokens answer
+        → TextsHaveNoBackquote s.text tokens }
 {}
