@@ -29,7 +29,8 @@ pub fn line_is_joined()
 /// A token of possible markup in a line stands over the bytes of its kind: all of some backquotes, and
 /// behind a backslash where it says so (CommonMark 6.1); `<` (6.5, 6.6); `![`, `[` or `]` (6.3, 6.4).
 pub fn markup_has_its_bytes()
-    ensures { (s : Source) (tokens : List Item) (answer : ℕ × Option Item) → IsLine s tokens answer → StandOver s.text tokens }
+    ensures { (s : Source) (tokens : List Item) (answer : ℕ × Option Item) → IsLine s tokens answer
+        → StandOver s.text tokens }
 {}
 
 /// No text of a line has a backquote: none is left over, escaped or not (CommonMark 6.1).

@@ -18,10 +18,10 @@ pub enum Piece {
     Token(usize, usize, ItemBody),
 }
 
-/// The piece at a special byte of a text; `at` is its offset. Backquotes are a token of possible code
-/// (CommonMark 6.1), `<` one of possible HTML or of an autolink (6.5, 6.6), `[`, `]` and `![` are tokens of
-/// possible links and images (6.3, 6.4). A backslash before backquotes or other ASCII punctuation is dropped
-/// (2.4). Any other byte is left over.
+/// The piece at a special byte of a text; `at` is its offset. All backquotes in a row are a token of
+/// possible code (CommonMark 6.1), `<` with no backslash behind it is one of possible HTML or an autolink
+/// (6.5, 6.6), `[`, `]` and `![` are tokens of possible links and images (6.3, 6.4). A backslash before
+/// backquotes or other ASCII punctuation is dropped (2.4). Any other byte is left over.
 #[tactic(auto, unfolding(crate::specs::Pieces::special_piece))]
 pub fn special_piece(text: &[u8], at: usize) -> Piece
     requires { at < length text.now }
