@@ -1,0 +1,138 @@
+-- Link reference definitions (CommonMark 4.7), of the bytes from a place in the text on.
+use Rattle.std.specs.Prelude.{ℕ, ◌+◌, ◌==◌, ◌&&◌, ◌||◌, not, Bool, true, false, nat_lt, List, [], ◌∷◌, length, take, drop, slice_index, Option, Some, None, is_some, if◌then◌else◌}
+use Rattle.std.specs.List.{prefix_len}
+use Rattle.std.specs.Option.{option_map, option_and_then, option_map_or}
+use Rattle.first_pass_items.specs.Bytes.{line_feed, carriage_return, quotation_mark, apostrophe, left_parenthesis, right_parenthesis, colon, left_bracket}
+use Rattle.first_pass_lines.specs.Lines.{is_white, begins, eol_len, blank_len, at_line_end}
+use Rattle.first_pass_lines.specs.Rest.{Rest, indent, after_columns}
+use Rattle.first_pass_lines.specs.Places.{line_rest}
+use Rattle.first_pass_scan.specs.LeafLines.{setext_underline}
+use Rattle.first_pass_links.specs.Destinations.{unescaped_upto, destination_at}
+use Rattle.first_pass_links.specs.Labels.{joined, bytes_of, offsets_of, label_at}
+use Rattle.first_pass_grammar.specs.declared.kind.Container.{Container}
+use Rattle.first_pass_grammar.specs.Containers.{after, front}
+use Rattle.first_pass_grammar.specs.Kinds.{all_taken, is_blank_rest, ends_paragraph}
+
+-- the underline of a setext heading begins here, at under four columns (CommonMark 4.3)
+abbrev pub is_underline : Rest → Bool
+is_underline r = nat_lt (indent r) 4 && is_some (setext_underline (all_taken r).left)
+
+-- Where a definition that began before goes on in the line of which this is left: behind the prefixes of the containers that the line goes on with, and four
+-- columns or fewer. It doesn't in a line that would end a paragraph, or that is an underline; to a label a line is one only where it goes on with the whole
+-- path (CommonMark 4.7, and 4.3, 4.8 for what a definition can't hold).
+unfoldable pub crossed : Bool → List Container → Rest → Option Rest
+crossed in_label path line =
+    if ends_paragraph path line || (is_underline (front path line) && (not in_label || is_some (after path line))) then None else Some (after_columns 4 (front path line))
+
+-- how many bytes the line has before the place where a definition goes on in it, where it does; the line begins with these bytes
+abbrev pub prefix_crossed : Bool → List Container → List ℕ → Option ℕ
+prefix_crossed in_label path bs = option_map (λ (r : Rest). r.taken) (crossed in_label path (line_rest bs))
+
+-- White space with at most one line end: how many bytes it has, what stands before the place where the next line goes on too, and how many line ends. There is
+-- none where a second line end follows, or where no line follows in which the definition goes on (CommonMark 4.7).
+abbrev pub space_beyond : ℕ → List ℕ → ℕ → Option (ℕ × ℕ)
+space_beyond n bs k = let m = k + prefix_len is_white (drop k bs) in if at_line_end (drop m bs) then None else Some (n + m, 1)
+
+abbrev pub space_behind : List Container → List ℕ → ℕ → Option ℕ → Option (ℕ × ℕ)
+space_behind path bs n None = Some (n, 0)
+space_behind path bs n (Some e) = option_and_then (space_beyond (n + e) (drop (n + e) bs)) (prefix_crossed false path (drop (n + e) bs))
+
+unfoldable pub space_at : List Container → List ℕ → Option (ℕ × ℕ)
+space_at path bs = let n = prefix_len is_white bs in space_behind path bs n (eol_len (drop n bs))
+
+-- what ends a title that this byte begins: `'`, `"`, or for `(` its `)` (CommonMark 6.3, link title)
+abbrev pub title_end : ℕ → Option ℕ
+title_end b = if b == apostrophe || b == quotation_mark then Some b else (if b == left_parenthesis then Some right_parenthesis else None)
+
+-- what can't stand in a title with this end unless it is escaped: that end, and in parentheses the one that opens them (CommonMark 6.3, link title)
+abbrev pub ends_title : ℕ → ℕ → Bool
+ends_title close b = b == close || (close == right_parenthesis && b == left_parenthesis)
+
+-- how many bytes the line has before its text by which a title goes on in it: all its spaces and tabs are dropped, and a blank line is none (CommonMark 4.7)
+abbrev pub text_crossed : Rest → Option ℕ
+text_crossed r = if is_blank_rest (all_taken r) then None else Some (all_taken r).taken
+
+abbrev pub title_prefix : List Container → List ℕ → Option ℕ
+title_prefix path bs = option_and_then text_crossed (crossed false path (line_rest bs))
+
+-- bytes behind their offsets, with a line feed for each line end (this project)
+unfoldable pub with_line_feeds : List (ℕ × ℕ) → List (ℕ × ℕ)
+with_line_feeds [] = []
+with_line_feeds (c ∷ cs) =
+    if c.1 == carriage_return
+    then (if begins line_feed (bytes_of cs) then with_line_feeds cs else (c.0, line_feed) ∷ with_line_feeds cs)
+    else c ∷ with_line_feeds cs
+
+-- The title behind what begins it, with this end, of lines whose prefixes these are: how many bytes it has, its end too, and its text with the lines joined
+-- (CommonMark 4.7, 6.3).
+unfoldable pub title_text : (List ℕ → Option ℕ) → ℕ → List ℕ → Option (ℕ × List ℕ)
+title_text prefix close bs =
+    let whole = with_line_feeds (joined prefix 0 0 bs) in
+    let n = unescaped_upto (ends_title close) 0 (bytes_of whole) in
+    if begins close (drop n (bytes_of whole)) then Some (slice_index (offsets_of whole) n + 1, take n (bytes_of whole)) else None
+
+-- the title that begins here: how many bytes it has, and its text (CommonMark 4.7, 6.3)
+unfoldable pub title_at : List Container → List ℕ → Option (ℕ × List ℕ)
+title_at path [] = None
+title_at path (b ∷ bs) = option_and_then (λ close. option_map (λ (t : ℕ × List ℕ). (t.0 + 1, t.1)) (title_text (title_prefix path) close bs)) (title_end b)
+
+-- The title behind a destination: white space parts them, and behind the title the rest of its line is blank (CommonMark 4.7).
+abbrev pub alone_behind : ℕ → List ℕ → ℕ × List ℕ → Option (ℕ × List ℕ)
+alone_behind n bs t = if is_some (blank_len (drop (n + t.0) bs)) then Some (n + t.0, t.1) else None
+
+abbrev pub title_beyond : List Container → List ℕ → ℕ × ℕ → Option (ℕ × List ℕ)
+title_beyond path bs space = if space.0 == 0 then None else option_and_then (alone_behind space.0 bs) (title_at path (drop space.0 bs))
+
+abbrev pub title_behind : List Container → List ℕ → Option (ℕ × List ℕ)
+title_behind path bs = option_and_then (title_beyond path bs) (space_at path bs)
+
+-- What ends a definition behind its destination: a title, or nothing where the rest of the destination's line is blank (CommonMark 4.7).
+unfoldable pub behind_destination : List Container → List ℕ → Option (ℕ × Option (List ℕ))
+behind_destination path bs =
+    option_map_or (λ (t : ℕ × List ℕ). Some (t.0, Some t.1)) (title_behind path bs) (if is_some (blank_len bs) then Some (0, None) else None)
+
+-- how deep parentheses may be nested in a destination (CommonMark 6.3 asks for three levels at least)
+abbrev pub deepest_nesting : ℕ
+deepest_nesting = 32
+
+-- a link's destination and its title, as they stand in the text, its lines joined (CommonMark 4.7)
+pub record Target : Type 0 where
+  pub dest : List ℕ
+  pub title : Option (List ℕ)
+
+-- What a definition has behind the colon: white space, a destination, and a title or none; how many bytes these have (CommonMark 4.7).
+abbrev pub target_of : ℕ → ℕ × List ℕ → ℕ × Option (List ℕ) → ℕ × Target
+target_of n dest further = (n + dest.0 + further.0, record { dest = dest.1; title = further.1 })
+
+abbrev pub target_from : List Container → ℕ → List ℕ → ℕ × List ℕ → Option (ℕ × Target)
+target_from path n bs dest = option_map (target_of n dest) (behind_destination path (drop dest.0 bs))
+
+abbrev pub target_beyond : List Container → List ℕ → ℕ × ℕ → Option (ℕ × Target)
+target_beyond path bs space = option_and_then (target_from path space.0 (drop space.0 bs)) (destination_at deepest_nesting (drop space.0 bs))
+
+unfoldable pub target_at : List Container → List ℕ → Option (ℕ × Target)
+target_at path bs = option_and_then (target_beyond path bs) (space_at path bs)
+
+-- a link reference definition: how many bytes it has, its label as it is read, and its target (CommonMark 4.7)
+pub record LinkReference : Type 0 where
+  pub size : ℕ
+  pub label : List ℕ
+  pub target : Target
+
+abbrev pub reference_of : ℕ → List ℕ → ℕ × Target → LinkReference
+reference_of n label target = record { size = n + target.0; label = label; target = target.1 }
+
+-- The definition of which the label behind the `[` is read: a colon is directly behind the label.
+abbrev pub reference_behind : List Container → List ℕ → ℕ × List ℕ → Option LinkReference
+reference_behind path bs label =
+    if begins colon (drop label.0 bs)
+    then option_map (reference_of (label.0 + 2) label.1) (target_at path (drop (label.0 + 1) bs))
+    else None
+
+-- The definition that begins here: a label in square brackets, a colon, and a target (CommonMark 4.7); in a table, backslashes before pipes are no part of
+-- its label (GFM 4.10).
+unfoldable pub reference_at : Bool → List Container → List ℕ → Option LinkReference
+reference_at in_table path bs =
+    if begins left_bracket bs
+    then option_and_then (reference_behind path (drop 1 bs)) (label_at (prefix_crossed true path) in_table (drop 1 bs))
+    else None
