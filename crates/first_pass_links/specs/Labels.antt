@@ -10,13 +10,16 @@ use Rattle.first_pass_lines.specs.Lines.{begins, is_ascii_white, ends_line}
 use Rattle.first_pass_links.specs.Escapes.{read_in}
 use Rattle.first_pass_links.specs.Destinations.{unescaped_upto}
 
--- what may be answered at a line end is what the function says of the bytes behind it: how many bytes of prefix the next line has, or none where the label may not go on there (this project)
-abbrev pub AnswersWith : (List ℕ → Option ℕ) → (Bor (List ℕ) → Result (Option ℕ) AllocError → Type 0) → Type 0
-AnswersWith prefix post = (behind : Bor (List ℕ)) (answer : Option ℕ) → post behind (Ok answer) → prefix behind.now ≡ answer
+-- what may be answered at a line end is what the function says of the bytes behind it, those of the text from between two of its characters on: how many
+-- bytes of prefix the next line has, or none where the label may not go on there (this project)
+abbrev pub AnswersWith : List ℕ → (List ℕ → Option ℕ) → (Bor (List ℕ) → Result (Option ℕ) AllocError → Type 0) → Type 0
+AnswersWith text prefix post =
+    (behind : Bor (List ℕ)) (answer : Option ℕ) (at : ℕ) → IsCharBoundary text at → behind.now ≡ drop at text → post behind (Ok answer) → prefix behind.now ≡ answer
 
--- a prefix that may be answered is a part of the bytes, and ends between characters (this project)
-abbrev pub AnswersPlaces : (Bor (List ℕ) → Result (Option ℕ) AllocError → Type 0) → Type 0
-AnswersPlaces post = (behind : Bor (List ℕ)) (n : ℕ) → post behind (Ok (Some n)) → IsUtf8 behind.now → IsCharBoundary behind.now n
+-- a prefix that may be answered there is a part of the bytes, and ends between characters (this project)
+abbrev pub AnswersPlaces : List ℕ → (Bor (List ℕ) → Result (Option ℕ) AllocError → Type 0) → Type 0
+AnswersPlaces text post =
+    (behind : Bor (List ℕ)) (n at : ℕ) → IsCharBoundary text at → behind.now ≡ drop at text → post behind (Ok (Some n)) → IsUtf8 behind.now → IsCharBoundary behind.now n
 
 -- an opening or closing square bracket (CommonMark 4.7)
 abbrev pub is_bracket : ℕ → Bool

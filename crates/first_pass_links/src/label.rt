@@ -37,8 +37,8 @@ pub fn scan_link_label_rest<'t, F>(
 where
     F: Fn(&[u8]) -> Result<Option<usize>, AllocError> + Drop,
     requires callable { F.IsAlwaysCallable linebreak_handler }
-    requires places { AnswersPlaces (F.post linebreak_handler) }
-    ensures value { IfOk result (λ answer. (prefix : List ℕ → Option ℕ) → AnswersWith prefix (F.post linebreak_handler)
+    requires places { AnswersPlaces text.now (F.post linebreak_handler) }
+    ensures value { IfOk result (λ answer. (prefix : List ℕ → Option ℕ) → AnswersWith text.now prefix (F.post linebreak_handler)
         → MatchOption (label_at prefix is_in_table text.now)
         (answer ≡ None)
         (λ label. IsSomeAnd answer (λ found. (found.0 ≡ label.0) × (text_of found.1 ≡ label.1)))) }
@@ -95,15 +95,15 @@ fn scan_unit<F>(
 where
     F: Fn(&[u8]) -> Result<Option<usize>, AllocError>,
     requires callable { F.IsAlwaysCallable linebreak_handler.now }
-    requires places { AnswersPlaces (F.post linebreak_handler.now) }
+    requires places { AnswersPlaces bytes.now (F.post linebreak_handler.now) }
     requires within { at < length bytes.now }
     requires text { IsUtf8 bytes.now }
     requires no_bracket { is_bracket (slice_index bytes.now at) ≡ false }
     ensures some { IfOk result (λ answer. IfSome answer (λ unit. IsUnit bytes.now at unit)) }
     ensures reads { IfOk result (λ answer. IfSome answer (λ unit. (prefix : List ℕ → Option ℕ)
-        → AnswersWith prefix (F.post linebreak_handler.now) → Reads prefix in_table bytes.now at unit)) }
+        → AnswersWith bytes.now prefix (F.post linebreak_handler.now) → Reads prefix in_table bytes.now at unit)) }
     ensures none { IfOk result (λ answer. answer ≡ None → (prefix : List ℕ → Option ℕ)
-        → AnswersWith prefix (F.post linebreak_handler.now) → IsBlankRest prefix bytes.now at) }
+        → AnswersWith bytes.now prefix (F.post linebreak_handler.now) → IsBlankRest prefix bytes.now at) }
 {
     if is_ascii_white(bytes[at]) {
         return match scan_white_run(bytes, at, linebreak_handler)? {
@@ -127,16 +127,16 @@ fn scan_white_run<F>(
 where
     F: Fn(&[u8]) -> Result<Option<usize>, AllocError>,
     requires callable { F.IsAlwaysCallable linebreak_handler.now }
-    requires places { AnswersPlaces (F.post linebreak_handler.now) }
+    requires places { AnswersPlaces bytes.now (F.post linebreak_handler.now) }
     requires within { at < length bytes.now }
     requires text { IsUtf8 bytes.now }
     requires white { is_ascii_white (slice_index bytes.now at) ≡ true }
     ensures some { IfOk result (λ answer. IfSome answer (λ run. EndsWhiteRun bytes.now at run.0 run.1)) }
     ensures ends { IfOk result (λ answer. IfSome answer (λ run. is_ascii_white (slice_index bytes.now run.0) ≡ false)) }
     ensures reads { IfOk result (λ answer. IfSome answer (λ run. (prefix : List ℕ → Option ℕ)
-        → AnswersWith prefix (F.post linebreak_handler.now) → IsWhiteRun prefix bytes.now at run.0 run.1)) }
+        → AnswersWith bytes.now prefix (F.post linebreak_handler.now) → IsWhiteRun prefix bytes.now at run.0 run.1)) }
     ensures none { IfOk result (λ answer. answer ≡ None → (prefix : List ℕ → Option ℕ)
-        → AnswersWith prefix (F.post linebreak_handler.now) → IsBlankRest prefix bytes.now at) }
+        → AnswersWith bytes.now prefix (F.post linebreak_handler.now) → IsBlankRest prefix bytes.now at) }
 {
     let mut next = at;
     let mut characters = 0;
@@ -160,16 +160,16 @@ fn scan_space_byte<F>(
 where
     F: Fn(&[u8]) -> Result<Option<usize>, AllocError>,
     requires callable { F.IsAlwaysCallable linebreak_handler.now }
-    requires places { AnswersPlaces (F.post linebreak_handler.now) }
+    requires places { AnswersPlaces bytes.now (F.post linebreak_handler.now) }
     requires within { at < length bytes.now }
     requires text { IsUtf8 bytes.now }
     requires white { is_ascii_white (slice_index bytes.now at) ≡ true }
     ensures some { IfOk result (λ answer. IfSome answer (λ next. (at < next) × IsCharBoundary bytes.now next)) }
     ensures reads { IfOk result (λ answer. IfSome answer (λ next. (prefix : List ℕ → Option ℕ)
-        → AnswersWith prefix (F.post linebreak_handler.now)
+        → AnswersWith bytes.now prefix (F.post linebreak_handler.now)
         → left_at prefix bytes.now at ≡ (at, slice_index bytes.now at) ∷ left_at prefix bytes.now next)) }
     ensures none { IfOk result (λ answer. answer ≡ None → (prefix : List ℕ → Option ℕ)
-        → AnswersWith prefix (F.post linebreak_handler.now)
+        → AnswersWith bytes.now prefix (F.post linebreak_handler.now)
         → left_at prefix bytes.now at ≡ []) }
 {
     let behind = rest_of(bytes, at + 1);

@@ -1,5 +1,6 @@
-use Rattle.std.proofs.Common.{◌≡◌, Some, None, [], ◌++◌, ◌+◌, ◌<◌, ◌||◌, true, false, length, get_or, refl, sym, ap, subst, ◌∙◌, arith}
+use Rattle.std.proofs.Common.{◌≡◌, Some, None, [], ◌++◌, ◌+◌, ◌<◌, ◌||◌, true, false, length, get_or, drop, refl, sym, ap, subst, ◌∙◌, arith}
 use Rattle.std.specs.String.{string_bytes}
+use Rattle.std.specs.Str.{IsCharBoundary}
 use Rattle.std.proofs.lemmas.Str.{IsCharBoundary-start}
 use Rattle.first_pass_links.specs.Labels.{is_bracket, label_at}
 use Rattle.first_pass_links.specs.Units.{part, left_at, IsRead, Reads, IsBlankRest}
@@ -7,6 +8,10 @@ use Rattle.first_pass_links.proofs.Parts.{read_none, part-none}
 use Rattle.first_pass_links.proofs.Labels.{too_long, blank_stops, end_stops, open_stops, blank_label, closed, known_as, label_behind, nothing_known, unit_known, closing_bracket}
 use Rattle.first_pass_links.proofs.label.scan_link_label_rest.Goals as goal
 use Rattle.first_pass_links.proofs.label.scan_link_label_rest.Goals.{then-at-bytes-via-then-at-bytes, then-at-bytes-via-else-at-bytes+then-bytes-at-eq91, then-loop-at-test+else-not-is_bracket, else-loop-at-test, Else-at-bytes}
+
+pub scan_unit-requires-clause-places : goal.scan_unit-requires-clause-places
+scan_unit-requires-clause-places g c =
+    λ behind n at b e. c.requires.places behind n at (subst (λ xs. IsCharBoundary xs at) c.as_bytes-bytes.ensures.value b) (e ∙ ap (drop at) c.as_bytes-bytes.ensures.value)
 
 pub loop-at-init : goal.loop-at-init
 loop-at-init g c =
@@ -27,7 +32,7 @@ loop-at-preserved g c =
       read = c.in_ok-from.ensures.read;
       few = c.if-characters-gt-MOST_CHARACTERS.false;
       label = λ h a.
-          let r : Reads h c.args.is_in_table text c.loop-at.at unit = subst (λ xs. Reads h c.args.is_in_table xs c.loop-at.at unit) c.as_bytes-bytes.ensures.value (reads h a) in
+          let r : Reads h c.args.is_in_table text c.loop-at.at unit = subst (λ xs. Reads h c.args.is_in_table xs c.loop-at.at unit) c.as_bytes-bytes.ensures.value (reads h (λ behind answer at b e. a behind answer at (subst (λ xs. IsCharBoundary xs at) c.as_bytes-bytes.ensures.value b) (e ∙ ap (drop at) c.as_bytes-bytes.ensures.value))) in
           ap (λ bs. label_behind c.args.is_in_table (known_as (c.loop-at.characters + unit.characters) (c.loop-at.solid || unit.solid) bs) (left_at h text unit.next)) c.in_ok-from.ensures.bytes
           ∙ sym (unit_known h c.args.is_in_table text c.loop-at.at unit _ r)
           ∙ c.loop-at.invariant.label h a;
@@ -36,7 +41,7 @@ loop-at-preserved g c =
 pub returns-in_default-clause-value : goal.returns-in_default-clause-value
 returns-in_default-clause-value g c =
     λ h a.
-    let r : IsBlankRest h c.args.text.now c.loop-at.at = subst (λ xs. IsBlankRest h xs c.loop-at.at) c.as_bytes-bytes.ensures.value (c.in_ok-unit.ensures.none c.in_default.is h a) in
+    let r : IsBlankRest h c.args.text.now c.loop-at.at = subst (λ xs. IsBlankRest h xs c.loop-at.at) c.as_bytes-bytes.ensures.value (c.in_ok-unit.ensures.none c.in_default.is h (λ behind answer at b e. a behind answer at (subst (λ xs. IsCharBoundary xs at) c.as_bytes-bytes.ensures.value b) (e ∙ ap (drop at) c.as_bytes-bytes.ensures.value))) in
     let e : label_at h c.args.is_in_table c.args.text.now ≡ None = sym (c.loop-at.invariant.label h a) ∙ blank_stops h c.args.is_in_table c.args.text.now c.loop-at.at r _ in
     rw e refl
 
@@ -44,7 +49,7 @@ pub returns-then-characters-gt-MOST_CHARACTERS-clause-value : goal.returns-then-
 returns-then-characters-gt-MOST_CHARACTERS-clause-value g c =
     let reads = rw c.in-Some.is at c.in_ok-unit.ensures.reads in
     λ h a.
-    let r : Reads h c.args.is_in_table c.args.text.now c.loop-at.at c.in-Some.unit = subst (λ xs. Reads h c.args.is_in_table xs c.loop-at.at c.in-Some.unit) c.as_bytes-bytes.ensures.value (reads h a) in
+    let r : Reads h c.args.is_in_table c.args.text.now c.loop-at.at c.in-Some.unit = subst (λ xs. Reads h c.args.is_in_table xs c.loop-at.at c.in-Some.unit) c.as_bytes-bytes.ensures.value (reads h (λ behind answer at b e. a behind answer at (subst (λ xs. IsCharBoundary xs at) c.as_bytes-bytes.ensures.value b) (e ∙ ap (drop at) c.as_bytes-bytes.ensures.value))) in
     let e : label_at h c.args.is_in_table c.args.text.now ≡ None = sym (c.loop-at.invariant.label h a) ∙ unit_known h c.args.is_in_table c.args.text.now c.loop-at.at c.in-Some.unit _ r ∙ too_long c.args.is_in_table _ (left_at h c.args.text.now c.in-Some.unit.next) c.if-characters-gt-MOST_CHARACTERS.true in
     rw e refl
 

@@ -1,11 +1,15 @@
-use Rattle.std.proofs.Common.{Ok, ◌+◌, get_or, sym, ap, subst, ◌∙◌, arith, IsUtf8}
+use Rattle.std.proofs.Common.{◌≡◌, ◌<◌, ℕ, List, true, length, slice_index, Ok, ◌+◌, get_or, sym, ap, subst, ◌∙◌, arith, IsUtf8}
 use Rattle.std.specs.Str.{IsCharBoundary}
 use Rattle.std.proofs.lemmas.Str.{IsCharBoundary-after_ascii, IsUtf8-drop}
-use Rattle.first_pass_lines.specs.Lines.{ends_line}
+use Rattle.first_pass_lines.specs.Lines.{ends_line, is_ascii_white}
 use Rattle.first_pass_links.proofs.Labels.{left-byte, left-end, left-stop, white_is_ascii, place_behind}
 use Rattle.first_pass_links.proofs.label.scan_space_byte.Goals as goal
 use Rattle.first_pass_links.proofs.label.scan_space_byte.Goals.{After-rest_of-behind, In-Some}
 use Rattle.first_pass_links.proofs.label.scan_space_byte.Given.{Over}
+
+-- behind a byte of white space
+behind_white : (text : List ℕ) (at : ℕ) → IsUtf8 text → at < length text → is_ascii_white (slice_index text at) ≡ true → IsCharBoundary text (at + 1)
+behind_white text at u l w = IsCharBoundary-after_ascii text at u l (white_is_ascii _ w).0
 
 -- behind the byte
 after : (g : Over) (c : After-rest_of-behind g) → IsCharBoundary c.args.bytes.now (c.args.at + 1)
@@ -24,7 +28,7 @@ prefix_place g c =
     let e = c.rest_of-behind.ensures.value in
     let b : IsCharBoundary c.args.bytes.now (c.args.at + 1) = IsCharBoundary-after_ascii c.args.bytes.now c.args.at c.requires.text c.requires.within (white_is_ascii _ c.requires.white).0 in
     let u : IsUtf8 c.rest_of-behind.result.now = subst IsUtf8 (sym e) (IsUtf8-drop c.args.bytes.now (c.args.at + 1) c.requires.text b) in
-    place_behind c.args.bytes.now (c.args.at + 1) c.in-Some.prefix b.0 (subst (λ xs. IsCharBoundary xs c.in-Some.prefix) e (c.requires.places c.rest_of-behind.result c.in-Some.prefix (subst (λ o. g.F.Fn.post c.args.linebreak_handler.now (c.rest_of-behind.result, tt) (Ok o)) c.in-Some.is c.in_ok-prefix.ensures) u))
+    place_behind c.args.bytes.now (c.args.at + 1) c.in-Some.prefix b.0 (subst (λ xs. IsCharBoundary xs c.in-Some.prefix) e (c.requires.places c.rest_of-behind.result c.in-Some.prefix (c.args.at + 1) b e (subst (λ o. g.F.Fn.post c.args.linebreak_handler.now (c.rest_of-behind.result, tt) (Ok o)) c.in-Some.is c.in_ok-prefix.ensures) u))
 
 pub overflow_add-result-in-Some-2 : goal.overflow_add-result-in-Some-2
 overflow_add-result-in-Some-2 g c = let p = (prefix_place g (goal.at.overflow_add-result-in-Some-2 g c).In-Some).0 in omega arith
@@ -36,10 +40,10 @@ pub returns-in-Some-clause-reads : goal.returns-in-Some-clause-reads
 returns-in-Some-clause-reads g c =
     λ h a. left-end h c.args.bytes.now c.args.at c.in-Some.prefix c.requires.within
     (ap (ends_line (get_or c.args.bytes.now c.args.at 0)) (sym c.rest_of-behind.ensures.value) ∙ sym c.ends_line.ensures ∙ c.if-not-ends_line.false)
-    (ap h (sym c.rest_of-behind.ensures.value) ∙ a c.rest_of-behind.result c.in_ok-prefix.field-0 c.in_ok-prefix.ensures ∙ c.in-Some.is)
+    (ap h (sym c.rest_of-behind.ensures.value) ∙ a c.rest_of-behind.result c.in_ok-prefix.field-0 (c.args.at + 1) (behind_white c.args.bytes.now c.args.at c.requires.text c.requires.within c.requires.white) c.rest_of-behind.ensures.value c.in_ok-prefix.ensures ∙ c.in-Some.is)
 
 pub returns-in-None-clause-none : goal.returns-in-None-clause-none
 returns-in-None-clause-none g c =
     λ e h a. left-stop h c.args.bytes.now c.args.at c.requires.within
     (ap (ends_line (get_or c.args.bytes.now c.args.at 0)) (sym c.rest_of-behind.ensures.value) ∙ sym c.ends_line.ensures ∙ c.if-not-ends_line.false)
-    (ap h (sym c.rest_of-behind.ensures.value) ∙ a c.rest_of-behind.result c.in_ok-prefix.field-0 c.in_ok-prefix.ensures ∙ c.in-None.is)
+    (ap h (sym c.rest_of-behind.ensures.value) ∙ a c.rest_of-behind.result c.in_ok-prefix.field-0 (c.args.at + 1) (behind_white c.args.bytes.now c.args.at c.requires.text c.requires.within c.requires.white) c.rest_of-behind.ensures.value c.in_ok-prefix.ensures ∙ c.in-None.is)

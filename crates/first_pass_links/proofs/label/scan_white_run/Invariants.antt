@@ -12,7 +12,7 @@ invariant-loop-next g l = record {
   boundary : IsCharBoundary l.bytes l.next;
   few : l.characters ≤ l.next - l.at;
   started : (l.characters ≡ 0) → (l.next ≡ l.at);
-  run : (prefix : List ℕ → Option ℕ) → AnswersWith prefix (goal.F-post g l.linebreak_handler) → IsWhiteRun prefix l.bytes l.at l.next l.characters;
+  run : (prefix : List ℕ → Option ℕ) → AnswersWith l.bytes prefix (goal.F-post g l.linebreak_handler) → IsWhiteRun prefix l.bytes l.at l.next l.characters;
 }
 
 abbrev pub decreases-loop-next : goal.decreases-loop-next

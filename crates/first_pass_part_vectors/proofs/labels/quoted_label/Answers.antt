@@ -7,4 +7,4 @@ behind_space : (bs : List ℕ) (n : ℕ) → IsUtf8 bs → (n ≡ 2) × (1 < len
 behind_space bs n u h = rw h.0 (IsCharBoundary-after_ascii bs 1 u h.1 (omega (arith, h.2)))
 
 pub scan_link_label_rest-requires-clause-places : goal.scan_link_label_rest-requires-clause-places
-scan_link_label_rest-requires-clause-places c = λ behind n p u. behind_space behind.now n u (search rules)
+scan_link_label_rest-requires-clause-places c = λ behind n at b e p u. behind_space behind.now n u (search rules)
