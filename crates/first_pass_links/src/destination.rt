@@ -20,6 +20,7 @@ pub fn scan_link_dest(text: &str, start_ix: usize, max_next: usize) -> Option<(u
         (result ≡ None)
         (λ destination. IsSomeAnd result (λ answer. (answer.0 ≡ destination.0) × (answer.1.now ≡ destination.1))) }
     ensures fits { IfSome result (λ answer. start_ix + answer.0 ≤ length text.now) }
+    ensures behind { IfSome result (λ answer. IsCharBoundary text.now (start_ix + answer.0)) }
 {
     let bytes = rest_of(text.as_bytes(), start_ix);
     if begins(b'<', bytes) {
@@ -101,8 +102,9 @@ fn ends_run(byte: u8) -> bool
     byte.is_ascii_control() || byte == b' '
 }
 
-// How many bytes stand together: a backslash escape has two, any other byte stands alone.
-pub(crate) fn unit_len(bytes: &[u8]) -> usize
+/// How many bytes stand together at the start of `bytes`, which are not empty: a backslash escape has two, any other byte
+/// stands alone. CommonMark 2.4.
+pub fn unit_len(bytes: &[u8]) -> usize
     requires { 0 < length bytes.now }
     ensures value { result ≡ (if begins_escape bytes.now then 2 else 1) }
     ensures some { 0 < result }

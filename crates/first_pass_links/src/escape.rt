@@ -3,7 +3,7 @@
 ghost use Rattle.std.specs.Prelude.{◌≡◌, ◌+◌, ◌≤◌, length, drop, IfOk, IsOkAnd, IfSome, IfNone};
 ghost use Rattle.first_pass_items.specs.CowText.{text_of};
 ghost use Rattle.first_pass_links.specs.Escapes.{unescaped};
-ghost use Rattle.first_pass_links.specs.Texts.{Borrows};
+ghost use Rattle.first_pass_links.specs.Texts.{Borrows, TakesNoMemory};
 ghost use Rattle.first_pass_links.specs.Changes.{change_at, IsChange};
 
 use crate::entity::scan_reference;
@@ -19,6 +19,7 @@ use std::alloc::{AllocError, Global};
 pub fn unescape<'a>(alloc: Global, text: &'a str, in_table: bool) -> Result<CowStr<'a>, AllocError>
     ensures value { IfOk result (λ answer. text_of answer ≡ unescaped in_table text.now) }
     ensures borrowed { unescaped in_table text.now ≡ text.now → IsOkAnd result (Borrows text.now) }
+    ensures changed { IfOk result (λ answer. TakesNoMemory answer → unescaped in_table text.now ≡ text.now) }
 {
     let mut written = String::new(alloc);
     let mut from = 0;

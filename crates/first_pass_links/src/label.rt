@@ -43,6 +43,7 @@ where
         (answer ≡ None)
         (λ label. IsSomeAnd answer (λ found. (found.0 ≡ label.0) × (text_of found.1 ≡ label.1)))) }
     ensures within { IfOk result (λ answer. IfSome answer (λ found. (0 < found.0) × (found.0 ≤ length text.now))) }
+    ensures behind { IfOk result (λ answer. IfSome answer (λ found. IsCharBoundary text.now found.0)) }
     ensures borrowed { IfOk result (λ answer. IfSome answer (λ found.
         text_of found.1 ≡ take (found.0 - 1) text.now → Borrows (take (found.0 - 1) text.now) found.1)) }
 {

@@ -1,11 +1,14 @@
 //! Which lines end a paragraph before them.
 
-ghost use Rattle.std.specs.Prelude.{◌≡◌, min, drop, is_some, IfOk, OnOk, Some, None, if◌then◌else◌, IsUtf8, IsCharBoundary};
+ghost use Rattle.std.specs.Prelude.{◌≡◌, min, drop, is_some, nat_lt, ◌&&◌, ◌||◌, not, IfOk, IfSome, OnOk, Some, None, if◌then◌else◌, IsUtf8, IsCharBoundary};
+ghost use Rattle.first_pass_lines.specs.Lines.{at_line_end};
 ghost use Rattle.first_pass_lines.specs.Places.{line_rest, place_at, offset, IsPlaceOf};
 ghost use Rattle.first_pass_lines.specs.Rest.{indent};
+ghost use Rattle.first_pass_scan.specs.LeafLines.{setext_underline};
 ghost use Rattle.first_pass_scan.specs.Markers.{is_bullet, listitem};
 ghost use Rattle.first_pass_grammar.specs.Containers.{after, front};
-ghost use Rattle.first_pass_grammar.specs.Kinds.{all_taken, interrupts_with, item_interrupts, ends_paragraph, ends_tag, unindented};
+ghost use Rattle.first_pass_grammar.specs.Kinds.{all_taken, interrupts_with, interrupts, item_interrupts, ends_paragraph, ends_tag, unindented};
+ghost use Rattle.first_pass_grammar.specs.Definitions.{is_underline, crossed};
 ghost use Rattle.first_pass_open.specs.Path.{path_of};
 ghost use Rattle.first_pass_text.specs.Rests.{IsRestOf};
 
@@ -19,7 +22,7 @@ use first_pass_open::containers::scan_containers;
 use first_pass_open::indentation::scan_indentation;
 use first_pass_open::place::Place;
 use first_pass_open::source::Source;
-use first_pass_scan::leaf_scan::{scan_code_fence, scan_hrule};
+use first_pass_scan::leaf_scan::{scan_code_fence, scan_hrule, scan_setext_heading};
 use first_pass_scan::line_start::{LineStart, scan_listitem};
 use first_pass_tree::forest::Tree;
 use std::alloc::{AllocError, Global};
@@ -166,4 +169,106 @@ pub fn scan_line_behind_tag<'b>(
         return Ok(None);
     }
     Ok(Some(place.rest))
+}
+
+// Whether the text of a line, which begins at the offset `at` behind so many columns of indentation, but 4 where there
+// are more, ends a paragraph before it, in a line that goes on with all containers or not.
+fn scan_paragraph_end(
+    alloc: Global,
+    source: Source<'_>,
+    tree: &Tree<Item>,
+    at: usize,
+    columns: usize,
+    whole: bool,
+) -> Result<bool, AllocError>
+    requires { IsCharBoundary source.text.now at }
+    ensures { IfOk result (λ yes. yes ≡ (if nat_lt columns 4
+        then interrupts_with whole (drop at source.entry.text.now)
+        else at_line_end (drop at source.entry.text.now))) }
+{
+    if columns < 4 {
+        scan_paragraph_interrupt_no_table(alloc, &source.text[at..], whole, false, false, tree, 0)
+    } else {
+        Ok(scan_eol(rest_of(source.text.as_bytes(), at)).is_some())
+    }
+}
+
+// Whether the line that begins at the offset `start` goes on with all open containers, and what is left of it behind
+// what it takes for them.
+fn scan_front<'a>(source: Source<'a>, tree: &Tree<Item>, start: usize) -> (bool, LineStart<'a>)
+    requires { IsCharBoundary source.text.now start }
+    ensures whole { result.0 ≡ is_some (after (path_of tree.now) (line_rest (drop start source.entry.text.now))) }
+    ensures front { result.1 ≡ front (path_of tree.now) (line_rest (drop start source.entry.text.now)) }
+    ensures place { IsPlaceOf source.entry.text.now (place_at start result.1) }
+    ensures utf8 { IsUtf8 source.entry.text.now }
+{
+    let mut line_start = LineStart::new(rest_of(source.text.as_bytes(), start));
+    let kept = scan_containers(tree, &mut line_start, source.options, false);
+    (kept == tree.spine_len(), line_start)
+}
+
+// Whether what is left of a line behind so many columns of indentation, but 4 where there are more, is the underline of
+// a setext heading (CommonMark 4.3).
+fn is_underline(bytes: &[u8], columns: usize) -> bool
+    ensures { result ≡ (nat_lt columns 4 && is_some (setext_underline bytes.now)) }
+{
+    columns < 4 && scan_setext_heading(bytes).is_some()
+}
+
+// Whether a link reference definition, or with `in_label` its label, ends before the line that begins at the offset
+// `start` and of which this is left behind what it takes for the open containers, all of them or not.
+fn scan_definition_end(
+    alloc: Global,
+    source: Source<'_>,
+    tree: &Tree<Item>,
+    start: usize,
+    rest: &LineStart<'_>,
+    whole: bool,
+    in_label: bool,
+) -> Result<bool, AllocError>
+    requires utf8 { IsUtf8 source.text.now }
+    requires place { IsPlaceOf source.text.now (place_at start rest.now) }
+    ensures { IfOk result (λ yes. yes ≡ (interrupts whole rest.now
+        || (is_underline rest.now && (not in_label || whole)))) }
+{
+    source.is_short();
+    let mut text = rest.copy();
+    let columns = scan_indentation(&mut text);
+    let at = start + text.bytes_scanned();
+    if scan_paragraph_end(alloc, source, tree, at, columns, whole)? {
+        return Ok(true);
+    }
+    let is_over = in_label & !whole;
+    if is_over {
+        return Ok(false);
+    }
+    Ok(is_underline(text.left(), columns))
+}
+
+/// What is left of the line that begins at the offset `start` where a link reference definition, or with `in_label` its
+/// label, goes on in it: behind what the line has of the prefixes of the open containers, and behind up to four columns.
+/// `None` where it doesn't: where the line ends a paragraph, or is the underline of a setext heading; to a label a line
+/// is one only where it goes on with all open containers (CommonMark 4.7).
+#[tactic(auto, unfolding(first_pass_grammar::specs::Definitions::crossed))]
+pub fn scan_line_crossed<'a>(
+    alloc: Global,
+    source: Source<'a>,
+    tree: &Tree<Item>,
+    start: usize,
+    in_label: bool,
+) -> Result<Option<LineStart<'a>>, AllocError>
+    requires { IsCharBoundary source.text.now start }
+    ensures value { IfOk result (λ rest.
+        rest ≡ crossed in_label (path_of tree.now) (line_rest (drop start source.entry.text.now))) }
+    ensures place { IfOk result (λ rest. IfSome rest (λ r. IsPlaceOf source.entry.text.now (place_at start r))) }
+    ensures utf8 { IsUtf8 source.entry.text.now }
+{
+    source.is_short();
+    let (whole, rest) = scan_front(source, tree, start);
+    if scan_definition_end(alloc, source, tree, start, &rest, whole, in_label)? {
+        return Ok(None);
+    }
+    let mut behind = rest;
+    behind.scan_space_upto(4);
+    Ok(Some(behind))
 }

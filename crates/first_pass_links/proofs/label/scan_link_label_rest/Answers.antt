@@ -1,7 +1,7 @@
 use Rattle.std.proofs.Common.{◌≡◌, Some, None, [], ◌++◌, ◌+◌, ◌<◌, ◌||◌, true, false, length, get_or, drop, refl, sym, ap, subst, ◌∙◌, arith}
 use Rattle.std.specs.String.{string_bytes}
 use Rattle.std.specs.Str.{IsCharBoundary}
-use Rattle.std.proofs.lemmas.Str.{IsCharBoundary-start}
+use Rattle.std.proofs.lemmas.Str.{IsCharBoundary-start, IsCharBoundary-after_ascii}
 use Rattle.first_pass_links.specs.Labels.{is_bracket, label_at}
 use Rattle.first_pass_links.specs.Units.{part, left_at, IsRead, Reads, IsBlankRest}
 use Rattle.first_pass_links.proofs.Parts.{read_none, part-none}
@@ -93,3 +93,15 @@ returns-clause-value g c =
     sym (c.loop-at.invariant.label h a) ∙ closed h c.args.is_in_table c.args.text.now c.loop-at.at _ within closing c.loop-at.invariant.few c.if-not-solid.false
     in
     rw e (refl, c.in_ok-finish.ensures.value)
+
+pub returns-clause-behind : goal.returns-clause-behind
+returns-clause-behind g c =
+    let b = c.as_bytes-bytes.ensures.value in
+    let l = ap length b in
+    let within : c.loop-at.at < length c.args.text.now = omega (arith, c.if-at-bytes.false) in
+    let bracket : is_bracket (get_or c.args.text.now c.loop-at.at 0) ≡ true = elim c.loop-at-test.branch [
+      | then-loop-at-test+else-not-is_bracket w ↦ ap (λ xs. is_bracket (get_or xs c.loop-at.at 0)) (sym b) ∙ sym w.is_bracket.ensures ∙ w.if-not-is_bracket.false
+      | else-loop-at-test w ↦ absurd (omega (arith, w.loop-at-test.false))
+    ] in
+    let closing = closing_bracket _ bracket (λ e. c.if-bytes-at-eq91.false (ap (λ xs. get_or xs c.loop-at.at 0) b ∙ e)) in
+    IsCharBoundary-after_ascii c.args.text.now c.loop-at.at c.utf8.text within (omega (arith, closing))

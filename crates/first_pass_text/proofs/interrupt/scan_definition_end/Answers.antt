@@ -1,0 +1,82 @@
+use Rattle.std.proofs.Common.{◌≡◌, ℕ, ◌+◌, min, nat_lt, ◌&&◌, ◌||◌, not, Bool, true, false, IsCharBoundary, List, drop, is_some, refl, sym, ap, subst, ◌∙◌, arith, if◌then◌else◌}
+use Rattle.std.proofs.lemmas.Bool.Decides.{nat_tests}
+use Rattle.first_pass_lines.specs.Lines.{at_line_end}
+use Rattle.first_pass_lines.specs.Rest.{Rest, indent}
+use Rattle.first_pass_lines.specs.Places.{place_at, IsPlaceOf}
+use Rattle.first_pass_scan.specs.LeafLines.{setext_underline}
+use Rattle.first_pass_grammar.specs.Kinds.{all_taken, interrupts_with, interrupts}
+use Rattle.first_pass_grammar.specs.Definitions.{is_underline}
+use Rattle.first_pass_open.proofs.PlaceLemmas.{all_keep}
+use Rattle.first_pass_text.proofs.interrupt.scan_definition_end.Goals as goal
+use Rattle.first_pass_text.proofs.interrupt.scan_definition_end.Goals.{After-bytes_scanned}
+
+few : (n m : ℕ) → n ≡ min 4 m → nat_lt n 4 ≡ nat_lt m 4
+few n m e = grind (arith, nat_tests, e)
+
+interrupts_at : (whole : Bool) (r : Rest) (columns : ℕ) (bs : List ℕ) → columns ≡ min 4 (indent r) → bs ≡ (all_taken r).left → (if nat_lt columns 4 then interrupts_with whole bs else at_line_end bs) ≡ interrupts whole r
+unfolding interrupts
+interrupts_at whole r columns bs e f = let t : nat_lt columns 4 ≡ nat_lt (indent r) 4 = few columns (indent r) e in rw (t, f) refl
+
+underline_at : (r : Rest) (columns : ℕ) (bs : List ℕ) → columns ≡ min 4 (indent r) → bs ≡ (all_taken r).left → (nat_lt columns 4 && is_some (setext_underline bs)) ≡ is_underline r
+underline_at r columns bs e f = let t : nat_lt columns 4 ≡ nat_lt (indent r) 4 = few columns (indent r) e in rw (t, f) refl
+
+none_by : (t : Bool) → false ≡ t && false
+none_by true = refl
+none_by false = refl
+
+all_by : (t : Bool) → t ≡ t && true
+all_by true = refl
+all_by false = refl
+
+-- the text of a line ends a paragraph
+ended_by : (said by_text by_line last : Bool) → said ≡ by_text → by_text ≡ by_line → said ≡ true → true ≡ by_line || last
+ended_by said by_text by_line last e f g = let z : by_line ≡ true = sym f ∙ sym e ∙ g in rw z refl
+
+-- it doesn't, and an underline of it is none to a label in a line that doesn't go on with all containers
+lazy_by : (said by_text by_line last in_label whole : Bool) → said ≡ by_text → by_text ≡ by_line → said ≡ false → (in_label && not whole) ≡ true → false ≡ by_line || (last && (not in_label || whole))
+lazy_by said by_text by_line last true false e f g h = let z : by_line ≡ false = sym f ∙ sym e ∙ g in rw z (none_by last)
+lazy_by said by_text by_line last true true e f g h = cc
+lazy_by said by_text by_line last false whole e f g h = cc
+
+-- it doesn't, and an underline of it is one
+whole_by : (said by_text by_line last found in_label whole : Bool) → said ≡ by_text → by_text ≡ by_line → said ≡ false → (in_label && not whole) ≡ false → found ≡ last → found ≡ by_line || (last && (not in_label || whole))
+whole_by said by_text by_line last found true true e f g h k = let z : by_line ≡ false = sym f ∙ sym e ∙ g in rw z (k ∙ all_by last)
+whole_by said by_text by_line last found true false e f g h k = cc
+whole_by said by_text by_line last found false whole e f g h k = let z : by_line ≡ false = sym f ∙ sym e ∙ g in rw z (k ∙ all_by last)
+
+text_is : (g : After-bytes_scanned) → g.scan_indentation-columns.new.line_start ≡ all_taken g.args.rest.now
+text_is c = c.scan_indentation-columns.ensures.rest ∙ ap all_taken c.copy-text.ensures
+
+text_at : (c : After-bytes_scanned) → IsPlaceOf c.args.source.text.now (place_at c.args.start (all_taken c.args.rest.now))
+text_at c = all_keep c.args.source.text.now c.args.start c.args.rest.now c.requires.utf8 c.requires.place
+
+offset_is : (c : After-bytes_scanned) → c.args.start + c.bytes_scanned.result ≡ c.args.start + (all_taken c.args.rest.now).taken
+offset_is c = ap (λ n. c.args.start + n) (c.bytes_scanned.ensures ∙ ap (λ (r : Rest). r.taken) (text_is c))
+
+ends_is : (c : After-bytes_scanned) → (if nat_lt c.scan_indentation-columns.result 4 then interrupts_with c.args.whole (drop (c.args.start + c.bytes_scanned.result) c.args.source.text.now) else at_line_end (drop (c.args.start + c.bytes_scanned.result) c.args.source.text.now))
+    ≡ interrupts c.args.whole c.args.rest.now
+ends_is c = interrupts_at c.args.whole c.args.rest.now c.scan_indentation-columns.result (drop (c.args.start + c.bytes_scanned.result) c.args.source.text.now)
+    (c.scan_indentation-columns.ensures.columns ∙ ap (λ r. min 4 (indent r)) c.copy-text.ensures)
+    (ap (λ n. drop n c.args.source.text.now) (offset_is c) ∙ sym (text_at c).left)
+
+pub overflow_add-at : goal.overflow_add-at
+overflow_add-at c = let w = (text_at c).within in let o = offset_is c in let l = c.is_short.ensures in omega arith
+
+pub scan_paragraph_end-requires : goal.scan_paragraph_end-requires
+scan_paragraph_end-requires c = subst (IsCharBoundary c.args.source.text.now) (sym (offset_is c)) (text_at c).boundary
+
+pub returns-then-branch : goal.returns-then-branch
+returns-then-branch c =
+    let at = (goal.at.returns-then-branch c).After-bytes_scanned in
+    ended_by _ _ _ _ c.in_ok-scan_paragraph_end.ensures (ends_is at) c.if-branch.true
+
+pub returns-then-is_over : goal.returns-then-is_over
+returns-then-is_over c =
+    let at = (goal.at.returns-then-is_over c).After-bytes_scanned in
+    lazy_by _ _ _ _ _ _ c.in_ok-scan_paragraph_end.ensures (ends_is at) c.if-branch.false c.if-is_over.true
+
+pub returns : goal.returns
+returns c =
+    let at = (goal.at.returns c).After-bytes_scanned in
+    whole_by _ _ _ _ _ _ _ c.in_ok-scan_paragraph_end.ensures (ends_is at) c.if-branch.false c.if-is_over.false
+    (c.is_underline.ensures ∙ underline_at c.args.rest.now _ _ (c.scan_indentation-columns.ensures.columns ∙ ap (λ r. min 4 (indent r)) c.copy-text.ensures) (c.left.ensures ∙ ap (λ (r : Rest). r.left) (text_is at)))
