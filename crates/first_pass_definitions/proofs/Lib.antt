@@ -1,0 +1,4 @@
+pub mod Titles
+pub mod Spaces
+pub mod Places
+pub mod Targets

@@ -1,0 +1,92 @@
+-- Places in what is left of a text.
+use Rattle.std.proofs.Common.{◌≡◌, inl, inr, ℕ, zero, suc, ◌+◌, ◌-◌, ◌<◌, ◌≤◌, ◌==◌, Bool, true, false, List, [], ◌∷◌, length, drop, Option, Some, None, Result, Ok, Err, IfOk, IfSome, IsUtf8, IsCharBoundary, refl, sym, ap, subst, ◌∙◌, arith, length-drop, if◌then◌else◌}
+use Rattle.std.specs.Option.{option_map}
+use Rattle.std.specs.declared.alloc.AllocError.{AllocError}
+use Rattle.std.proofs.lemmas.Bool.{cases_lt, eqb-true}
+use Rattle.std.proofs.lemmas.List.{drop-drop, drop_all, get_or-drop}
+use Rattle.first_pass_lines.specs.Lines.{begins, eol_len, blank_len}
+use Rattle.first_pass_lines.specs.Rest.{Rest}
+use Rattle.first_pass_lines.specs.Places.{place_at, IsPlaceOf}
+use Rattle.first_pass_links.proofs.Labels.{place_behind}
+use Rattle.first_pass_text.specs.Rests.{IsRestOf}
+
+pub part_boundary : (text : List ℕ) (a n : ℕ) → a ≤ length text → IsCharBoundary text (a + n) → IsCharBoundary (drop a text) n
+part_boundary text a n l b =
+    let within = b.0 in
+    let d = length-drop a text in
+    let g = get_or-drop a text n 0 in
+    (omega arith, λ h k. let z = b.1 (omega arith) (omega arith) in omega arith)
+
+-- further on in what is left
+pub rest_further : (text bytes xs : List ℕ) (k : ℕ) → IsRestOf text bytes → xs ≡ drop k bytes → IsCharBoundary bytes k → IsRestOf text xs
+rest_further text bytes xs k r e b =
+    let s : ℕ = length text - length bytes in
+    let within = r.within in
+    let inside = b.0 in
+    let l : length xs ≡ length bytes - k = ap length e ∙ length-drop k bytes in
+    let n : length text - length xs ≡ s + k = omega arith in
+    let d : xs ≡ drop (s + k) text = e ∙ ap (drop k) r.are ∙ drop-drop k s text in
+    record {
+      within = omega arith;
+      are = d ∙ ap (λ m. drop m text) (sym n);
+      boundary = subst (IsCharBoundary text) (sym n) (place_behind text s k (omega arith) (subst (λ ys. IsCharBoundary ys k) r.are b));
+    }
+
+pub rest_from : (text xs : List ℕ) (s : ℕ) → IsCharBoundary text s → xs ≡ drop s text → IsRestOf text xs
+rest_from text xs s b e =
+    let within = b.0 in
+    let l : length xs ≡ length text - s = ap length e ∙ length-drop s text in
+    let n : length text - length xs ≡ s = omega arith in
+    record {
+      within = omega arith;
+      are = e ∙ ap (λ m. drop m text) (sym n);
+      boundary = subst (IsCharBoundary text) (sym n) b;
+    }
+
+-- a place in a line of what is left
+pub rest_place : (text bytes : List ℕ) (s : ℕ) (r : Rest) → s ≤ length text → bytes ≡ drop s text → IsPlaceOf text (place_at s r) → (r.left ≡ drop r.taken bytes) × IsCharBoundary bytes r.taken
+rest_place text bytes s r l e i =
+    let d : drop r.taken bytes ≡ drop (s + r.taken) text = ap (drop r.taken) e ∙ drop-drop r.taken s text in
+    (i.left ∙ sym d, subst (λ xs. IsCharBoundary xs r.taken) (sym e) (part_boundary text s r.taken l i.boundary))
+
+-- what isn't blank
+feed_by : (t : Bool) (b : ℕ) (bs : List ℕ) → (b == 10) ≡ t → blank_len (b ∷ bs) ≡ None → t ≡ false
+feed_by false b bs h f = refl
+feed_by true b bs h f = let d : b ≡ 10 = eqb-true b 10 h in let z : blank_len (10 ∷ bs) ≡ None = subst (λ x. blank_len (x ∷ bs) ≡ None) d f in cc
+
+pub no_feed : (xs : List ℕ) → blank_len xs ≡ None → begins 10 xs ≡ false
+no_feed [] h = refl
+no_feed (b ∷ bs) h = feed_by (b == 10) b bs refl h
+
+pub some_left : (xs : List ℕ) → blank_len xs ≡ None → 0 < length xs
+some_left [] h = cc
+some_left (b ∷ bs) h = omega arith
+
+abbrev ended : ℕ → Option ℕ
+ended n = Some n
+
+eol_some_by : (t u v : Bool) (e : ℕ) → (if t then ended 1 else (if u then ended (if v then 2 else 1) else None)) ≡ Some e → 0 < e
+eol_some_by true u v e h = let k : 1 ≡ e = cc in omega arith
+eol_some_by false true true e h = let k : 2 ≡ e = cc in omega arith
+eol_some_by false true false e h = let k : 1 ≡ e = cc in omega arith
+eol_some_by false false v e h = cc
+
+eol_some : (xs : List ℕ) (e : ℕ) → eol_len xs ≡ Some e → 0 < length xs → 0 < e
+eol_some [] e h l = absurd (omega arith)
+eol_some (b ∷ bs) e h l = eol_some_by (b == 10) (b == 13) (begins 10 bs) e h
+
+-- A line end has a byte where something is left behind it.
+pub later_by : (bytes : List ℕ) (at e n : ℕ) → 0 < length (drop (at + e + n) bytes) → eol_len (drop at bytes) ≡ Some e → at < at + e + n
+later_by bytes at e n l h =
+    let d = length-drop (at + e + n) bytes in
+    let k = length-drop at bytes in
+    let z = eol_some (drop at bytes) e h (omega arith) in
+    omega arith
+
+-- an answer about what is left, in the text
+pub label_fits : {X : Type 0} (r : Result (Option (ℕ × X)) AllocError) (text bytes : List ℕ) (s : ℕ) → IsCharBoundary text s → bytes ≡ drop s text
+    → IfOk r (λ answer. IfSome answer (λ (found : ℕ × X). (0 < found.0) × (found.0 ≤ length bytes))) → IfOk r (λ answer. IfSome answer (λ (found : ℕ × X). IsCharBoundary bytes found.0))
+    → IfOk r (λ answer. IfSome answer (λ (found : ℕ × X). (0 < found.0) × IsCharBoundary text (s + found.0)))
+label_fits (Err e) text bytes s b is within behind = tt
+label_fits (Ok None) text bytes s b is within behind = tt
+label_fits (Ok (Some found)) text bytes s b is within behind = (within.0, place_behind text s found.0 b.0 (subst (λ xs. IsCharBoundary xs found.0) is behind))

@@ -1,0 +1,77 @@
+-- White space, and the places behind it.
+use Rattle.std.proofs.Common.{◌≡◌, inl, inr, ℕ, ◌+◌, ◌-◌, ◌<◌, ◌≤◌, Bool, true, false, List, [], ◌∷◌, length, drop, Option, Some, None, IsUtf8, IsCharBoundary, refl, sym, ap, subst, ◌∙◌, arith, length-drop, if◌then◌else◌}
+use Rattle.std.specs.List.{prefix_len}
+use Rattle.std.specs.Option.{option_map, option_and_then}
+use Rattle.std.proofs.lemmas.Bool.{cases_lt}
+use Rattle.std.proofs.lemmas.List.{drop-drop, drop_all}
+use Rattle.first_pass_lines.specs.Lines.{is_white, begins, eol_len, blank_len, at_line_end}
+use Rattle.first_pass_lines.specs.Rest.{Rest}
+use Rattle.first_pass_lines.specs.Places.{line_rest, line_place, place_at, IsPlaceOf}
+use Rattle.first_pass_lines.proofs.LineFacts.{line_len-eol}
+use Rattle.first_pass_lines.proofs.PlaceFacts.{line_is_place, white_keeps, line_end_boundary}
+use Rattle.first_pass_grammar.specs.declared.kind.Container.{Container}
+use Rattle.first_pass_grammar.specs.Definitions.{crossed, prefix_crossed, space_beyond, space_behind, space_at}
+
+-- Behind white space, and behind a line end, a character begins.
+pub white_behind : (text : List ℕ) (s : ℕ) → IsUtf8 text → IsCharBoundary text s → IsCharBoundary text (s + prefix_len is_white (drop s text))
+white_behind text s u b =
+    let p = white_keeps text (line_place s (drop s text)) u (line_is_place text s b) in
+    let e : s + (0 + prefix_len is_white (drop s text)) ≡ s + prefix_len is_white (drop s text) = omega arith in
+    subst (IsCharBoundary text) e p.boundary
+
+past_end : (xs : List ℕ) (e : ℕ) → xs ≡ [] → eol_len xs ≡ Some e → e ≡ 0
+past_end xs e h k = let z : Some 0 ≡ Some e = ap eol_len (sym h) ∙ k in cc
+
+pub eol_behind : (text : List ℕ) (s e : ℕ) → IsUtf8 text → IsCharBoundary text s → eol_len (drop s text) ≡ Some e → IsCharBoundary text (s + e)
+eol_behind text s e u b h = elim (cases_lt s (length text)) [
+  | inl some ↦ subst (λ k. IsCharBoundary text (s + k)) (line_len-eol (drop s text) e h) (line_end_boundary text s u b some)
+  | inr none ↦ (let z = past_end (drop s text) e (drop_all s text none) h in let k : s ≡ s + e = omega arith in subst (IsCharBoundary text) k b)
+]
+
+-- behind the white space behind a place
+pub place_white : (text : List ℕ) (line n : ℕ) (r : Rest) → IsUtf8 text → IsPlaceOf text (place_at line r) → n ≡ prefix_len is_white (drop (line + r.taken) text) → IsCharBoundary text (line + r.taken + n)
+place_white text line n r u i h =
+    let b = white_behind text (line + r.taken) u i.boundary in subst (λ k. IsCharBoundary text (line + r.taken + k)) (sym h) b
+
+-- white space at an offset, up to an offset
+abbrev shifted : ℕ → Option (ℕ × ℕ) → Option (ℕ × ℕ)
+shifted s o = option_map (λ (x : ℕ × ℕ). (s + x.0, x.1)) o
+
+space_is : (path : List Container) (bs : List ℕ) (n : ℕ) (o : Option ℕ) → prefix_len is_white bs ≡ n → eol_len (drop n bs) ≡ o → space_at path bs ≡ space_behind path bs n o
+unfolding space_at
+space_is path bs n o e f = rw e (rw f refl)
+
+pub space_plain : (path : List Container) (text : List ℕ) (s n : ℕ) → n ≡ prefix_len is_white (drop s text) → eol_len (drop (s + n) text) ≡ None → Some (s + n, 0) ≡ shifted s (space_at path (drop s text))
+space_plain path text s n e f = ap (shifted s) (sym (space_is path (drop s text) n None (sym e) (ap eol_len (drop-drop n s text) ∙ f)))
+
+-- behind a line end
+crossed_space : (path : List Container) (text : List ℕ) (s n e : ℕ) (o : Option Rest) → n ≡ prefix_len is_white (drop s text) → eol_len (drop (s + n) text) ≡ Some e → o ≡ crossed false path (line_rest (drop (s + n + e) text))
+    → space_at path (drop s text) ≡ option_and_then (space_beyond (n + e) (drop (s + n + e) text)) (option_map (λ (r : Rest). r.taken) o)
+crossed_space path text s n e o h f g =
+    let i : s + (n + e) ≡ s + n + e = omega arith in
+    let d : drop (n + e) (drop s text) ≡ drop (s + n + e) text = drop-drop (n + e) s text ∙ ap (λ k. drop k text) i in
+    space_is path (drop s text) n (Some e) (sym h) (ap eol_len (drop-drop n s text) ∙ f)
+    ∙ ap (λ xs. option_and_then (space_beyond (n + e) xs) (prefix_crossed false path xs)) d
+    ∙ ap (λ q. option_and_then (space_beyond (n + e) (drop (s + n + e) text)) (option_map (λ (r : Rest). r.taken) q)) (sym g)
+
+pub space_stops : (path : List Container) (text : List ℕ) (s n e : ℕ) → n ≡ prefix_len is_white (drop s text) → eol_len (drop (s + n) text) ≡ Some e → None ≡ crossed false path (line_rest (drop (s + n + e) text))
+    → None ≡ shifted s (space_at path (drop s text))
+space_stops path text s n e h f g = ap (shifted s) (sym (crossed_space path text s n e None h f g))
+
+beyond : (t : Bool) (text : List ℕ) (at k m n : ℕ) → m ≡ prefix_len is_white (drop (at + k) text) → at_line_end (drop (at + k + m) text) ≡ t → space_beyond n (drop at text) k ≡ (if t then None else Some (n + (k + m), 1))
+beyond t text at k m n h f =
+    let a : prefix_len is_white (drop k (drop at text)) ≡ m = ap (prefix_len is_white) (drop-drop k at text) ∙ sym h in
+    let i : at + (k + m) ≡ at + k + m = omega arith in
+    let b : at_line_end (drop (k + m) (drop at text)) ≡ t = ap at_line_end (drop-drop (k + m) at text ∙ ap (λ j. drop j text) i) ∙ f in
+    rw a (rw b refl)
+
+over_by : (t : Bool) (s n e m k : ℕ) → (if t then None else Some (s + n + e + k + m, 1)) ≡ shifted s (if t then None else Some (n + e + (k + m), 1))
+over_by true s n e m k = refl
+over_by false s n e m k = let i : s + n + e + k + m ≡ s + (n + e + (k + m)) = omega arith in ap (λ j. Some (j, 1)) i
+
+pub space_over : (t : Bool) (path : List Container) (text : List ℕ) (s n e m : ℕ) (r : Rest) → n ≡ prefix_len is_white (drop s text) → eol_len (drop (s + n) text) ≡ Some e → Some r ≡ crossed false path (line_rest (drop (s + n + e) text))
+    → m ≡ prefix_len is_white (drop (s + n + e + r.taken) text) → at_line_end (drop (s + n + e + r.taken + m) text) ≡ t
+    → (if t then None else Some (s + n + e + r.taken + m, 1)) ≡ shifted s (space_at path (drop s text))
+space_over t path text s n e m r h f g i j =
+    let k = crossed_space path text s n e (Some r) h f g ∙ beyond t text (s + n + e) r.taken m (n + e) i j in
+    over_by t s n e m r.taken ∙ ap (shifted s) (sym k)

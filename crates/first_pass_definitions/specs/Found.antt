@@ -1,0 +1,51 @@
+-- What is found of a link reference definition (CommonMark 4.7).
+use Rattle.std.specs.Prelude.{◌≡◌, ℕ, ◌+◌, true, false, Bool, List, take, drop, Option, Some, None, ⊤}
+use Rattle.std.specs.List.{list_any}
+use Rattle.first_pass_items.specs.declared.cow_str.CowStr.{CowStr}
+use Rattle.first_pass_items.specs.CowText.{text_of}
+use Rattle.first_pass_labels.specs.declared.label_table.LinkDef.{LinkDef}
+use Rattle.first_pass_lines.specs.Lines.{is_line_end}
+use Rattle.first_pass_links.specs.Escapes.{unescaped}
+use Rattle.first_pass_links.specs.Texts.{Borrows}
+use Rattle.first_pass_links.specs.Labels.{label_at}
+use Rattle.first_pass_grammar.specs.declared.kind.Container.{Container}
+use Rattle.first_pass_grammar.specs.Definitions.{Target, LinkReference, prefix_crossed}
+
+-- The text is this one without its escapes and references, and borrowed where it has none (CommonMark 2.4, 2.5).
+pub record IsUnescaped (in_table : Bool) (text : List ℕ) (found : CowStr) : Type 0 where
+  pub value : text_of found ≡ unescaped in_table text
+  pub borrowed : unescaped in_table text ≡ text → Borrows text found
+
+-- the same of a title, which is borrowed where moreover it has no line end (CommonMark 4.7)
+pub record IsTitle (in_table : Bool) (text : List ℕ) (found : CowStr) : Type 0 where
+  pub value : text_of found ≡ unescaped in_table text
+  pub borrowed : list_any is_line_end text ≡ false → unescaped in_table text ≡ text → Borrows text found
+
+-- the title of a definition, or that it has none (CommonMark 4.7)
+abbrev pub HasTitle : Bool → Option (List ℕ) → Option CowStr → Type 0
+HasTitle in_table None None = ⊤
+HasTitle in_table None (Some found) = ⊥
+HasTitle in_table (Some text) None = ⊥
+HasTitle in_table (Some text) (Some found) = IsTitle in_table text found
+
+-- the definition leads to this target, and stands between two offsets (CommonMark 4.7)
+pub record IsDefinition (in_table : Bool) (target : Target) (from to : ℕ) (found : LinkDef) : Type 0 where
+  pub dest : IsUnescaped in_table target.dest found.dest
+  pub title : HasTitle in_table target.title found.title
+  pub start_is : found.span.start ≡ from
+  pub end_is : found.span.«end» ≡ to
+
+-- a target that begins at the second of two offsets has so many bytes, and stands in the definition that begins at the first (CommonMark 4.7)
+pub record IsTarget (in_table : Bool) (from at : ℕ) (target : ℕ × Target) (found : ℕ × LinkDef) : Type 0 where
+  pub size : found.0 ≡ target.0
+  pub definition : IsDefinition in_table target.1 from (at + target.0) found.1
+
+-- what was found of a definition that begins at an offset: how many bytes it has, its label, and where it leads (CommonMark 4.7)
+pub record IsReference (in_table : Bool) (at : ℕ) (reference : LinkReference) (found : ℕ × CowStr × LinkDef) : Type 0 where
+  pub size : found.0 ≡ reference.size
+  pub label : text_of found.1 ≡ reference.label
+  pub definition : IsDefinition in_table reference.target at (at + reference.size) found.2
+
+-- the label of which these bytes are the text and the `]`, and more, has so many bytes (CommonMark 4.7)
+abbrev pub IsLabelLen : List Container → Bool → List ℕ → ℕ → Type 0
+IsLabelLen path in_table bs n = (label : List ℕ) × (label_at (prefix_crossed true path) in_table bs ≡ Some (n + 1, label))

@@ -1,0 +1,73 @@
+//! The label of a link reference definition.
+
+ghost use Rattle.std.specs.Prelude.{◌≡◌, ℕ, ◌+◌, ◌-◌, ◌<◌, ◌≤◌, take, drop, None, IfOk, IfSome, IsSomeAnd, MatchOption, IsCharBoundary, true};
+ghost use Rattle.first_pass_items.specs.CowText.{text_of};
+ghost use Rattle.first_pass_links.specs.Labels.{label_at};
+ghost use Rattle.first_pass_links.specs.Texts.{Borrows};
+ghost use Rattle.first_pass_tree.specs.Forest.{in_table};
+ghost use Rattle.first_pass_grammar.specs.Definitions.{prefix_crossed};
+ghost use Rattle.first_pass_open.specs.Path.{path_of};
+
+use first_pass_items::cow_str::CowStr;
+use first_pass_items::item::Item;
+use first_pass_links::label::scan_link_label_rest;
+use first_pass_open::source::Source;
+use first_pass_text::interrupt::scan_line_crossed;
+use first_pass_tree::forest::Tree;
+use std::alloc::{AllocError, Global};
+
+/// The label behind the `[` that stands before the offset `start` into the text: how many bytes it has from there on,
+/// its `]` too, and its text, in which each run of white space is one space and backslashes stay; in a table one directly
+/// before a pipe is dropped. It is borrowed where nothing changes. It goes on over the lines that a definition crosses,
+/// without what they have of the prefixes of the open containers, and without up to four columns behind these.
+///
+/// `None` where there is no label: an unescaped `[`, a line that ends the definition or the text's end comes first, all is
+/// white space, or there are more than 999 characters. The error is want of memory (CommonMark 4.7).
+pub fn parse_refdef_label<'a>(
+    alloc: Global,
+    source: Source<'a>,
+    tree: &Tree<Item>,
+    start: usize,
+) -> Result<Option<(usize, CowStr<'a>)>, AllocError>
+    requires { IsCharBoundary source.text.now start }
+    ensures value { IfOk result (λ answer. MatchOption (label_at (prefix_crossed true (path_of tree.now))
+        (in_table tree.now.nodes tree.now.spine) (drop start source.entry.text.now))
+        (answer ≡ None)
+        (λ label. IsSomeAnd answer (λ found. (found.0 ≡ label.0) × (text_of found.1 ≡ label.1)))) }
+    ensures fits { IfOk result (λ answer. IfSome answer (λ found.
+        (0 < found.0) × IsCharBoundary source.entry.text.now (start + found.0))) }
+    ensures borrowed { IfOk result (λ answer. IfSome answer (λ found.
+        text_of found.1 ≡ take (found.0 - 1) (drop start source.entry.text.now)
+        → Borrows (take (found.0 - 1) (drop start source.entry.text.now)) found.1)) }
+{
+    let in_table = tree.is_in_table();
+    scan_link_label_rest(
+        alloc,
+        &source.text[start..],
+        |behind: &[u8]| scan_label_prefix(alloc, source, tree, behind),
+        in_table,
+    )
+}
+
+// How many bytes the line that `bytes` begin with, all that the text has from the line on, has before the place where a
+// label goes on in it; `None` where it doesn't.
+fn scan_label_prefix(
+    alloc: Global,
+    source: Source<'_>,
+    tree: &Tree<Item>,
+    bytes: &[u8],
+) -> Result<Option<usize>, AllocError>
+    ensures value { IfOk result (λ answer. (at : ℕ) → IsCharBoundary source.entry.text.now at
+        → bytes.now ≡ drop at source.entry.text.now → prefix_crossed true (path_of tree.now) bytes.now ≡ answer) }
+    ensures place { IfOk result (λ answer. IfSome answer (λ n. (at : ℕ) → IsCharBoundary source.entry.text.now at
+        → bytes.now ≡ drop at source.entry.text.now → IsCharBoundary bytes.now n)) }
+{
+    let whole = source.text.len();
+    if bytes.len() > whole || !source.text.is_char_boundary(whole - bytes.len()) {
+        return Ok(None);
+    }
+    match scan_line_crossed(alloc, source, tree, whole - bytes.len(), true)? {
+        Some(rest) => Ok(Some(rest.bytes_scanned())),
+        None => Ok(None),
+    }
+}

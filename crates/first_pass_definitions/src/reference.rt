@@ -1,0 +1,87 @@
+//! Link reference definitions.
+
+ghost use Rattle.std.specs.Prelude.{◌≡◌, ℕ, ◌+◌, ◌<◌, take, drop, None, IfOk, IfSome, IsSomeAnd, MatchOption, IsCharBoundary, true};
+ghost use Rattle.first_pass_items.specs.Bytes.{left_bracket};
+ghost use Rattle.first_pass_items.specs.CowText.{text_of};
+ghost use Rattle.first_pass_lines.specs.Lines.{begins};
+ghost use Rattle.first_pass_links.specs.Texts.{Borrows};
+ghost use Rattle.first_pass_tree.specs.Forest.{in_table};
+ghost use Rattle.first_pass_grammar.specs.Definitions.{reference_at};
+ghost use Rattle.first_pass_open.specs.Path.{path_of};
+ghost use Rattle.first_pass_definitions.specs.Found.{IsLabelLen, IsReference};
+
+use crate::label::parse_refdef_label;
+use crate::target::scan_refdef;
+use first_pass_items::item::Item;
+use first_pass_labels::label_key::LabelKey;
+use first_pass_labels::label_table::LinkDef;
+use first_pass_lines::lines::begins;
+use first_pass_lines::places::rest_of;
+use first_pass_open::source::Source;
+use first_pass_tree::forest::Tree;
+use std::alloc::{AllocError, Global};
+
+/// The link reference definition that begins at the offset `start` into the text: how many bytes it has, up to behind its
+/// destination or title, its label, and what it says, with a span from `start` on. The tree is that of the open blocks: its
+/// containers have prefixes in the lines that the definition crosses, and in a table backslashes before pipes are dropped.
+///
+/// `None` where none begins. The error is want of memory (CommonMark 4.7).
+#[inline(always)]
+pub fn parse_refdef_total<'a>(
+    alloc: Global,
+    source: Source<'a>,
+    tree: &Tree<Item>,
+    start: usize,
+) -> Result<Option<(usize, LabelKey<'a>, LinkDef<'a>)>, AllocError>
+    requires { IsCharBoundary source.text.now start }
+    ensures value { IfOk result (λ answer. let nested = in_table tree.now.nodes tree.now.spine in
+        MatchOption (reference_at nested (path_of tree.now) (drop start source.entry.text.now))
+        (answer ≡ None)
+        (λ reference. IsSomeAnd answer (IsReference nested start reference))) }
+    ensures fits { IfOk result (λ answer. IfSome answer (λ found.
+        (0 < found.0) × IsCharBoundary source.entry.text.now (start + found.0))) }
+    ensures borrowed { IfOk result (λ answer. IfSome answer (λ found. (n : ℕ)
+        → IsLabelLen (path_of tree.now) (in_table tree.now.nodes tree.now.spine) (drop (start + 1) source.entry.text.now) n
+        → text_of found.1 ≡ take n (drop (start + 1) source.entry.text.now)
+        → Borrows (take n (drop (start + 1) source.entry.text.now)) found.1)) }
+{
+    if !begins(b'[', rest_of(source.text.as_bytes(), start)) {
+        return Ok(None);
+    }
+    parse_behind_bracket(alloc, source, tree, start)
+}
+
+// The definition whose `[` stands at an offset.
+fn parse_behind_bracket<'a>(
+    alloc: Global,
+    source: Source<'a>,
+    tree: &Tree<Item>,
+    start: usize,
+) -> Result<Option<(usize, LabelKey<'a>, LinkDef<'a>)>, AllocError>
+    requires place { IsCharBoundary source.text.now start }
+    requires bracket { begins left_bracket (drop start source.text.now) ≡ true }
+    ensures value { IfOk result (λ answer. let nested = in_table tree.now.nodes tree.now.spine in
+        MatchOption (reference_at nested (path_of tree.now) (drop start source.entry.text.now))
+        (answer ≡ None)
+        (λ reference. IsSomeAnd answer (IsReference nested start reference))) }
+    ensures fits { IfOk result (λ answer. IfSome answer (λ found.
+        (0 < found.0) × IsCharBoundary source.entry.text.now (start + found.0))) }
+    ensures borrowed { IfOk result (λ answer. IfSome answer (λ found. (n : ℕ)
+        → IsLabelLen (path_of tree.now) (in_table tree.now.nodes tree.now.spine) (drop (start + 1) source.entry.text.now) n
+        → text_of found.1 ≡ take n (drop (start + 1) source.entry.text.now)
+        → Borrows (take n (drop (start + 1) source.entry.text.now)) found.1)) }
+{
+    source.is_short();
+    let bytes = source.text.as_bytes();
+    let Some((label_len, label)) = parse_refdef_label(alloc, source, tree, start + 1)? else {
+        return Ok(None);
+    };
+    let colon = start + 1 + label_len;
+    if !begins(b':', rest_of(bytes, colon)) {
+        return Ok(None);
+    }
+    let Some((len, definition)) = scan_refdef(alloc, source, tree, start, colon + 1)? else {
+        return Ok(None);
+    };
+    Ok(Some((label_len + 2 + len, LabelKey::new(alloc, label)?, definition)))
+}

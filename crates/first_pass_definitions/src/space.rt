@@ -1,0 +1,48 @@
+//! The white space of a link reference definition.
+
+ghost use Rattle.std.specs.Prelude.{◌≡◌, ◌+◌, drop, IfOk, IfSome, IsCharBoundary};
+ghost use Rattle.std.specs.Option.{option_map};
+ghost use Rattle.first_pass_grammar.specs.Definitions.{space_at, space_beyond};
+ghost use Rattle.first_pass_open.specs.Path.{path_of};
+
+use first_pass_items::item::Item;
+use first_pass_lines::lines::{scan_eol, scan_whitespace_no_nl};
+use first_pass_lines::places::rest_of;
+use first_pass_open::source::Source;
+use first_pass_text::interrupt::scan_line_crossed;
+use first_pass_tree::forest::Tree;
+use std::alloc::{AllocError, Global};
+
+/// The white space at the offset `start` into the text, with at most one line end: the offset behind it, and how many
+/// line ends it has, 0 or 1. Behind a line end it goes on where the definition goes on in the next line.
+///
+/// `None` where a second line end follows, or where no line follows in which the definition goes on. The error is want of
+/// memory (CommonMark 4.7).
+pub fn scan_refdef_space(
+    alloc: Global,
+    source: Source<'_>,
+    tree: &Tree<Item>,
+    start: usize,
+) -> Result<Option<(usize, usize)>, AllocError>
+    requires { IsCharBoundary source.text.now start }
+    ensures value { IfOk result (λ answer.
+        answer ≡ option_map (λ s. (start + s.0, s.1)) (space_at (path_of tree.now) (drop start source.entry.text.now))) }
+    ensures place { IfOk result (λ answer. IfSome answer (λ s. IsCharBoundary source.entry.text.now s.0)) }
+{
+    source.is_short();
+    let bytes = source.text.as_bytes();
+    let end = start + scan_whitespace_no_nl(rest_of(bytes, start));
+    let Some(line_end) = scan_eol(rest_of(bytes, end)) else {
+        return Ok(Some((end, 0)));
+    };
+    let next = end + line_end;
+    let Some(rest) = scan_line_crossed(alloc, source, tree, next, false)? else {
+        return Ok(None);
+    };
+    let behind = next + rest.bytes_scanned();
+    let at = behind + scan_whitespace_no_nl(rest_of(bytes, behind));
+    if scan_eol(rest_of(bytes, at)).is_some() {
+        return Ok(None);
+    }
+    Ok(Some((at, 1)))
+}

@@ -1,0 +1,163 @@
+//! What a link reference definition has behind its colon.
+
+ghost use Rattle.std.specs.Prelude.{◌≡◌, ℕ, ◌+◌, ◌≤◌, List, Option, length, drop, None, Some, IfOk, IfSome, IsSomeAnd, MatchOption, IsCharBoundary};
+ghost use Rattle.std.specs.Box.{boxed_str_bytes};
+ghost use Rattle.first_pass_items.specs.CowText.{text_of};
+ghost use Rattle.first_pass_tree.specs.Forest.{in_table};
+ghost use Rattle.first_pass_grammar.specs.Definitions.{target_at, behind_destination, title_behind, deepest_nesting};
+ghost use Rattle.first_pass_links.specs.Escapes.{unescaped};
+ghost use Rattle.first_pass_open.specs.Path.{path_of};
+ghost use Rattle.first_pass_definitions.specs.Found.{HasTitle, IsTarget};
+ghost use Rattle.first_pass_definitions.specs.Reading.{IsReadText, IsReadTitle};
+
+use crate::space::scan_refdef_space;
+use crate::title::scan_refdef_title;
+use first_pass_items::cow_str::CowStr;
+use first_pass_items::item::Item;
+use first_pass_labels::label_table::LinkDef;
+use first_pass_lines::lines::scan_blank_line;
+use first_pass_lines::places::rest_of;
+use first_pass_links::destination::scan_link_dest;
+use first_pass_links::escape::unescape;
+use first_pass_open::source::Source;
+use first_pass_tree::forest::Tree;
+use std::alloc::{AllocError, Global};
+use std::boxed::BoxedStr;
+
+// How deep parentheses are nested in a destination at most.
+const DEEPEST_NESTING: usize = 32;
+
+/// What a definition has behind its colon, before the offset `start` into the text: white space, a destination, and white
+/// space and a title or none. Answers how many bytes it has from `start` on, and the definition with its destination and
+/// title unescaped, whose span begins at `span_start`.
+///
+/// `None` where there is no destination, where something touches it, or where behind it neither a title nor a blank rest
+/// of its line stands. The error is want of memory (CommonMark 4.7).
+pub fn scan_refdef<'a>(
+    alloc: Global,
+    source: Source<'a>,
+    tree: &Tree<Item>,
+    span_start: usize,
+    start: usize,
+) -> Result<Option<(usize, LinkDef<'a>)>, AllocError>
+    requires { IsCharBoundary source.text.now start }
+    ensures value { IfOk result (λ answer. MatchOption (target_at (path_of tree.now) (drop start source.entry.text.now))
+        (answer ≡ None)
+        (λ target. IsSomeAnd answer
+        (IsTarget (in_table tree.now.nodes tree.now.spine) span_start start target))) }
+    ensures fits { IfOk result (λ answer. IfSome answer (λ found.
+        IsCharBoundary source.entry.text.now (start + found.0))) }
+{
+    source.is_short();
+    let Some((dest_start, _)) = scan_refdef_space(alloc, source, tree, start)? else {
+        return Ok(None);
+    };
+    let Some((dest_len, dest)) = scan_link_dest(source.text, dest_start, DEEPEST_NESTING) else {
+        return Ok(None);
+    };
+    let dest_end = dest_start + dest_len;
+    let Some((end, title)) = scan_behind_destination(alloc, source, tree, dest_end)? else {
+        return Ok(None);
+    };
+    let in_table = tree.is_in_table();
+    let definition = LinkDef {
+        dest: unescape(alloc, dest, in_table)?,
+        title: unescape_title(alloc, title, in_table)?,
+        span: span_start..end,
+    };
+    Ok(Some((end - start, definition)))
+}
+
+// What ends a definition behind its destination, at the offset `at`: the offset at which it ends, and its title.
+fn scan_behind_destination<'a>(
+    alloc: Global,
+    source: Source<'a>,
+    tree: &Tree<Item>,
+    at: usize,
+) -> Result<Option<(usize, Option<CowStr<'a>>)>, AllocError>
+    requires { IsCharBoundary source.text.now at }
+    ensures value { IfOk result (λ answer. MatchOption
+        (behind_destination (path_of tree.now) (drop at source.entry.text.now))
+        (answer ≡ None)
+        (λ further. IsSomeAnd answer (λ found. (found.0 ≡ at + further.0) × IsReadTitle further.1 found.1))) }
+    ensures fits { IfOk result (λ answer. IfSome answer (λ found.
+        (at ≤ found.0) × IsCharBoundary source.entry.text.now found.0)) }
+{
+    if let Some((end, title)) = scan_title_behind(alloc, source, tree, at)? {
+        return Ok(Some((end, Some(title))));
+    }
+    if scan_blank_line(rest_of(source.text.as_bytes(), at)).is_some() {
+        return Ok(Some((at, None)));
+    }
+    Ok(None)
+}
+
+// The title behind a destination that ends at the offset `at`, which white space parts from it and behind which the rest
+// of its line is blank: the offset behind it, and its text.
+fn scan_title_behind<'a>(
+    alloc: Global,
+    source: Source<'a>,
+    tree: &Tree<Item>,
+    at: usize,
+) -> Result<Option<(usize, CowStr<'a>)>, AllocError>
+    requires { IsCharBoundary source.text.now at }
+    ensures value { IfOk result (λ answer. MatchOption (title_behind (path_of tree.now) (drop at source.entry.text.now))
+        (answer ≡ None)
+        (λ title. IsSomeAnd answer (λ found. (found.0 ≡ at + title.0) × IsReadText title.1 found.1))) }
+    ensures fits { IfOk result (λ answer. IfSome answer (λ found.
+        (at ≤ found.0) × IsCharBoundary source.entry.text.now found.0)) }
+{
+    source.is_short();
+    let Some((start, _)) = scan_refdef_space(alloc, source, tree, at)? else {
+        return Ok(None);
+    };
+    if start == at {
+        return Ok(None);
+    }
+    let Some((len, title)) = scan_refdef_title(alloc, source, tree, &source.text[start..])? else {
+        return Ok(None);
+    };
+    let end = start + len;
+    if scan_blank_line(rest_of(source.text.as_bytes(), end)).is_none() {
+        return Ok(None);
+    }
+    Ok(Some((end, title)))
+}
+
+// A title without its escapes and references.
+fn unescape_title<'a>(
+    alloc: Global,
+    title: Option<CowStr<'a>>,
+    in_table: bool,
+) -> Result<Option<CowStr<'a>>, AllocError>
+    ensures { IfOk result (λ answer. (text : Option (List ℕ)) → IsReadTitle text title.entry
+        → HasTitle in_table text answer) }
+{
+    match title {
+        Some(CowStr::Borrowed(text)) => Ok(Some(unescape(alloc, text, in_table)?)),
+        Some(CowStr::Boxed(text)) => Ok(Some(unescape_owned(alloc, text, in_table)?)),
+        Some(CowStr::Inlined(text)) => {
+            let owned = BoxedStr::from_str(alloc, text.as_str())?;
+            Ok(Some(unescape_owned(alloc, owned, in_table)?))
+        }
+        None => Ok(None),
+    }
+}
+
+// A text of its own without its escapes and references: itself where nothing changes.
+fn unescape_owned<'a>(
+    alloc: Global,
+    text: BoxedStr,
+    in_table: bool,
+) -> Result<CowStr<'a>, AllocError>
+    ensures { IfOk result (λ answer. text_of answer ≡ unescaped in_table (boxed_str_bytes text)) }
+{
+    let changed = match unescape(alloc, text.as_str(), in_table)? {
+        CowStr::Boxed(changed) => Some(changed),
+        _ => None,
+    };
+    match changed {
+        Some(changed) => Ok(CowStr::Boxed(changed)),
+        None => Ok(CowStr::Boxed(text)),
+    }
+}

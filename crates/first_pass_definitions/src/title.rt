@@ -1,0 +1,198 @@
+//! The title of a link reference definition.
+
+ghost use Rattle.std.specs.Prelude.{◌≡◌, ◌+◌, ◌<◌, ◌≤◌, ◌++◌, ◌||◌, length, take, drop, None, Some, [], true, slice_get, IfOk, IfSome, IsSomeAnd, MatchOption, IsCharBoundary, IsUtf8, false};
+ghost use Rattle.std.specs.List.{list_any};
+ghost use Rattle.std.specs.Option.{option_and_then};
+ghost use Rattle.std.specs.String.{string_bytes};
+ghost use Rattle.first_pass_items.specs.CowText.{text_of};
+ghost use Rattle.first_pass_lines.specs.Lines.{is_line_end, begins, blank_len};
+ghost use Rattle.first_pass_links.specs.Destinations.{unescaped_upto};
+ghost use Rattle.first_pass_links.specs.Texts.{Borrows};
+ghost use Rattle.first_pass_links.specs.Units.{part};
+ghost use Rattle.first_pass_items.specs.Bytes.{line_feed};
+ghost use Rattle.first_pass_definitions.specs.Reading.{ClosesTitle, stops_title, goes_on_at};
+ghost use Rattle.first_pass_grammar.specs.Definitions.{title_at, title_end, title_text, title_prefix};
+ghost use Rattle.first_pass_open.specs.Path.{path_of};
+ghost use Rattle.first_pass_text.specs.Rests.{IsRestOf};
+
+use first_pass_items::cow_str::CowStr;
+use first_pass_items::item::Item;
+use first_pass_lines::lines::{begins, is_line_end, scan_blank_line, scan_eol};
+use first_pass_lines::places::rest_of;
+use first_pass_links::destination::unit_len;
+use first_pass_open::source::Source;
+use first_pass_text::interrupt::scan_line_crossed;
+use first_pass_tree::forest::Tree;
+use std::alloc::{AllocError, Global};
+
+/// The title that `text` begins with, all that the whole text has from a place on: how many bytes it has, what begins and
+/// ends it too (`'..'`, `".."` or `(..)`), and what stands between, not yet unescaped. It goes on over the lines that a
+/// definition crosses, each without what stands before its text, and each line end is one `\n`. Where no line is crossed
+/// it is borrowed, and no memory is taken.
+///
+/// `None` where there is no title: a blank line, a line that ends the definition or the text's end comes before what ends
+/// it, or in parentheses an unescaped `(`. The error is want of memory (CommonMark 4.7, 6.3).
+pub fn scan_refdef_title<'t>(
+    alloc: Global,
+    source: Source<'_>,
+    tree: &Tree<Item>,
+    text: &'t str,
+) -> Result<Option<(usize, CowStr<'t>)>, AllocError>
+    requires { IsRestOf source.text.now text.now }
+    ensures value { IfOk result (λ answer. MatchOption (title_at (path_of tree.now) text.now)
+        (answer ≡ None)
+        (λ title. IsSomeAnd answer (λ found. (found.0 ≡ title.0) × (text_of found.1 ≡ title.1)))) }
+    ensures fits { IfOk result (λ answer. IfSome answer (λ found. (1 < found.0) × IsCharBoundary text.now found.0)) }
+    ensures borrowed { IfOk result (λ answer. IfSome answer (λ found.
+        list_any is_line_end (text_of found.1) ≡ false → Borrows (text_of found.1) found.1)) }
+{
+    let bytes = text.as_bytes();
+    let Some(close) = title_end(bytes) else {
+        return Ok(None);
+    };
+    match scan_title_text(alloc, source, tree, &text[1..], close)? {
+        Some((len, title)) => Ok(Some((len + 1, title))),
+        None => Ok(None),
+    }
+}
+
+// What ends the title that begins here.
+fn title_end(bytes: &[u8]) -> Option<u8>
+    ensures value { result ≡ option_and_then title_end (slice_get bytes.now 0) }
+    ensures some { IfSome result (λ _. 0 < length bytes.now) }
+    ensures closes { IfSome result ClosesTitle }
+{
+    match bytes {
+        [b'"', ..] => Some(b'"'),
+        [b'\'', ..] => Some(b'\''),
+        [b'(', ..] => Some(b')'),
+        _ => None,
+    }
+}
+
+// The title behind what begins it, with the byte that ends it: how many bytes it has, its end too, and its text.
+fn scan_title_text<'t>(
+    alloc: Global,
+    source: Source<'_>,
+    tree: &Tree<Item>,
+    text: &'t str,
+    close: u8,
+) -> Result<Option<(usize, CowStr<'t>)>, AllocError>
+    requires rest { IsRestOf source.text.now text.now }
+    requires close { ClosesTitle close }
+    ensures value { IfOk result (λ answer. MatchOption (title_text (title_prefix (path_of tree.now)) close text.now)
+        (answer ≡ None)
+        (λ title. IsSomeAnd answer (λ found. (found.0 ≡ title.0) × (text_of found.1 ≡ title.1)))) }
+    ensures fits { IfOk result (λ answer. IfSome answer (λ found. (0 < found.0) × IsCharBoundary text.now found.0)) }
+    ensures borrowed { IfOk result (λ answer. IfSome answer (λ found.
+        list_any is_line_end (text_of found.1) ≡ false → Borrows (text_of found.1) found.1)) }
+{
+    let bytes = text.as_bytes();
+    let mut written = String::new(alloc);
+    let mut from = 0;
+    loop {
+        let at = from + scan_title_line(rest_of(bytes, from), close);
+        if begins(close, rest_of(bytes, at)) {
+            return Ok(Some((at + 1, finish(written, text, from, at)?)));
+        }
+        let Some(next) = scan_title_break(alloc, source, tree, bytes, at)? else {
+            return Ok(None);
+        };
+        written.push_str(&text[from..at])?;
+        written.push('\n')?;
+        from = next;
+    }
+}
+
+// How many bytes stand before what ends the title, or the line.
+fn scan_title_line(bytes: &[u8], close: u8) -> usize
+    requires { ClosesTitle close }
+    ensures value { result ≡ unescaped_upto (stops_title close) 0 bytes.now }
+    ensures within { result ≤ length bytes.now }
+{
+    let mut at = 0;
+    while at < bytes.len() && !stops_title(bytes[at], close) {
+        at += unit_len(rest_of(bytes, at));
+    }
+    at
+}
+
+// Whether a byte can't stand in a line of a title with this end unless it is escaped.
+fn stops_title(byte: u8, close: u8) -> bool
+    ensures { result ≡ stops_title close byte }
+{
+    is_line_end(byte) || byte == close || close == b')' && byte == b'('
+}
+
+// The offset at which a title goes on behind the line end at the offset `at`; `None` where no line ends there, or where
+// the title doesn't go on.
+fn scan_title_break(
+    alloc: Global,
+    source: Source<'_>,
+    tree: &Tree<Item>,
+    bytes: &[u8],
+    at: usize,
+) -> Result<Option<usize>, AllocError>
+    requires rest { IsRestOf source.text.now bytes.now }
+    requires utf8 { IsUtf8 bytes.now }
+    requires at { IsCharBoundary bytes.now at }
+    ensures value { IfOk result (λ answer. answer ≡ goes_on_at (title_prefix (path_of tree.now)) bytes.now at) }
+    ensures place { IfOk result (λ answer. IfSome answer (λ next. (at < next) × IsCharBoundary bytes.now next)) }
+    ensures texts { IfOk result (λ answer. IfSome answer (λ next. begins line_feed (drop next bytes.now) ≡ false)) }
+{
+    let Some(line_end) = scan_eol(rest_of(bytes, at)) else {
+        return Ok(None);
+    };
+    let next = at + line_end;
+    match scan_title_prefix(alloc, source, tree, rest_of(bytes, next))? {
+        Some(prefix) => Ok(Some(next + prefix)),
+        None => Ok(None),
+    }
+}
+
+// How many bytes the line that `bytes` begin with, all that the text has from the line on, has before its text, where a
+// title goes on in it.
+fn scan_title_prefix(
+    alloc: Global,
+    source: Source<'_>,
+    tree: &Tree<Item>,
+    bytes: &[u8],
+) -> Result<Option<usize>, AllocError>
+    requires { IsRestOf source.text.now bytes.now }
+    ensures value { IfOk result (λ answer. answer ≡ title_prefix (path_of tree.now) bytes.now) }
+    ensures place { IfOk result (λ answer. IfSome answer (λ n. IsCharBoundary bytes.now n)) }
+    ensures text { IfOk result (λ answer. IfSome answer (λ n. blank_len (drop n bytes.now) ≡ None)) }
+{
+    let start = source.text.len() - bytes.len();
+    let Some(rest) = scan_line_crossed(alloc, source, tree, start, false)? else {
+        return Ok(None);
+    };
+    let mut text = rest;
+    text.scan_all_space();
+    if scan_blank_line(text.left()).is_some() {
+        return Ok(None);
+    }
+    Ok(Some(text.bytes_scanned()))
+}
+
+// The title whose last line begins at the offset `from` and ends at the offset `at`.
+fn finish<'t>(
+    mut written: String,
+    text: &'t str,
+    from: usize,
+    at: usize,
+) -> Result<CowStr<'t>, AllocError>
+    requires order { from ≤ at }
+    requires from { IsCharBoundary text.now from }
+    requires at { IsCharBoundary text.now at }
+    requires lines { (from ≡ 0 → string_bytes written ≡ []) × (0 < from → list_any is_line_end (string_bytes written) ≡ true) }
+    ensures value { IfOk result (λ title. text_of title ≡ string_bytes written ++ part text.now from at) }
+    ensures borrowed { IfOk result (λ title.
+        list_any is_line_end (text_of title) ≡ false → Borrows (text_of title) title) }
+{
+    if from == 0 {
+        return Ok(CowStr::Borrowed(&text[..at]));
+    }
+    written.push_str(&text[from..at])?;
+    Ok(CowStr::Boxed(written.into_boxed_str()))
+}
