@@ -47,7 +47,7 @@ fn append_characters(text: &str, answer: &mut Answer) -> Result<(), AllocError> 
 }
 
 /// A text, and whether it is borrowed.
-fn append_cow(cow: &CowStr<'_>, answer: &mut Answer) -> Result<(), AllocError> {
+pub fn append_cow(cow: &CowStr<'_>, answer: &mut Answer) -> Result<(), AllocError> {
     answer.word(match cow {
         CowStr::Borrowed(_) => "borrowed",
         _ => "owned",
