@@ -2,3 +2,4 @@ pub mod Titles
 pub mod Spaces
 pub mod Places
 pub mod Targets
+pub mod ReferenceFacts

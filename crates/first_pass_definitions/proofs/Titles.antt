@@ -1,7 +1,7 @@
 -- Titles line by line.
-use Rattle.std.proofs.Common.{◌≡◌, ◌⊎◌, inl, inr, ℕ, zero, suc, ◌+◌, ◌-◌, ◌<◌, ◌≤◌, ◌==◌, ◌&&◌, ◌||◌, not, Bool, true, false, List, [], ◌∷◌, ◌++◌, length, take, drop, slice_index, slice_get, IsUtf8, MatchOption, IsSomeAnd, length-drop, Option, Some, None, refl, sym, ap, subst, ◌∙◌, arith, append_assoc, IsCharBoundary, if◌then◌else◌}
+use Rattle.std.proofs.Common.{◌≡◌, inl, inr, ℕ, zero, suc, ◌+◌, ◌-◌, ◌<◌, ◌≤◌, ◌==◌, ◌&&◌, ◌||◌, Bool, true, false, List, [], ◌∷◌, ◌++◌, length, take, drop, slice_index, slice_get, IsUtf8, MatchOption, IsSomeAnd, length-drop, Option, Some, None, refl, sym, ap, subst, ◌∙◌, arith, append_assoc, IsCharBoundary, if◌then◌else◌}
 use Rattle.std.specs.Bool.{⊤}
-use Rattle.std.proofs.lemmas.Bool.{cases_Bool, eqb-true, and_parts}
+use Rattle.std.proofs.lemmas.Bool.{eqb-true}
 use Rattle.std.proofs.lemmas.Bool.Decides.{nat_tests}
 use Rattle.std.proofs.lemmas.List.{drop-drop, drop_more, append-nil}
 use Rattle.std.specs.Option.{option_map, option_and_then}
@@ -14,7 +14,7 @@ use Rattle.first_pass_links.specs.Escapes.{begins_escape}
 use Rattle.first_pass_links.specs.Destinations.{unescaped_upto}
 use Rattle.first_pass_links.specs.Labels.{joined, bytes_of, offsets_of}
 use Rattle.first_pass_links.specs.Units.{part}
-use Rattle.first_pass_links.proofs.Destinations.{upto-nil, upto-stop, upto-byte, upto-escape, second}
+use Rattle.first_pass_links.proofs.Destinations.{upto-nil, upto-stop, upto-byte, upto-escape}
 use Rattle.std.proofs.lemmas.Str.{IsCharBoundary-after_ascii}
 use Rattle.first_pass_grammar.specs.declared.kind.Container.{Container}
 use Rattle.first_pass_grammar.specs.Definitions.{with_line_feeds, ends_title, title_end, title_text, title_prefix, title_at}
@@ -459,11 +459,13 @@ stop-low close b (inr (inr h)) s = low_41 b (ap (λ c. stops_title c b) (sym h) 
 
 pub stop_place : (close from at : ℕ) (text : List ℕ) → ClosesTitle close → at ≡ from + unescaped_upto (stops_title close) 0 (drop from text) → at ≤ length text → IsCharBoundary text at
 stop_place close from at text c is l =
-    let s : FirstStops close (drop at text) = subst (FirstStops close) (drop-drop (line_upto close (drop from text)) from text ∙ ap (λ n. drop n text) (sym is)) (first_stops close (drop from text)) in
-    (l, λ h k. (
-    let f : stops_title close (slice_index text at) ≡ true = subst (FirstStops close) (drop_more text at 0 h) s in
-    let b = stop-low close (slice_index text at) c f in
-    omega arith))
+    let s : FirstStops close (drop at text) = subst (FirstStops close) (drop-drop (line_upto close (drop from text)) from text ∙ ap (λ n. drop n text) (sym is)) (first_stops close (drop from text)) in (
+      l,
+      λ h k. (
+          let f : stops_title close (slice_index text at) ≡ true = subst (FirstStops close) (drop_more text at 0 h) s in
+          let b = stop-low close (slice_index text at) c f in
+          omega arith),
+    )
 
 -- the title that a line ends
 pub title_found : (prefix : List ℕ → Option ℕ) (close from at : ℕ) (w text : List ℕ) → ClosesTitle close → behind_text w (title_of close (left_of prefix from (drop from text))) ≡ title_text prefix close text

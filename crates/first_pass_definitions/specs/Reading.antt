@@ -1,5 +1,5 @@
 -- How a title is read line by line. Contracts of private functions alone cite this.
-use Rattle.std.specs.Prelude.{ℕ, ◌+◌, ◌==◌, ◌&&◌, ◌||◌, Bool, List, drop, Option, Some, None, false, ⊤, ◌≡◌, ◌⊎◌}
+use Rattle.std.specs.Prelude.{ℕ, ◌+◌, ◌||◌, Bool, List, drop, Option, Some, None, false, ⊤, ◌≡◌, ◌⊎◌}
 use Rattle.std.specs.List.{list_any}
 use Rattle.std.specs.Option.{option_map, option_and_then}
 use Rattle.first_pass_lines.specs.Lines.{is_line_end, eol_len}

@@ -2,6 +2,7 @@
 #![tactic(auto)]
 
 pub mod label;
+pub mod laws;
 pub mod reference;
 pub mod space;
 pub mod target;

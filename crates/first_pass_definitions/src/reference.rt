@@ -83,5 +83,9 @@ fn parse_behind_bracket<'a>(
     let Some((len, definition)) = scan_refdef(alloc, source, tree, start, colon + 1)? else {
         return Ok(None);
     };
-    Ok(Some((label_len + 2 + len, LabelKey::new(alloc, label)?, definition)))
+    Ok(Some((
+        label_len + 2 + len,
+        LabelKey::new(alloc, label)?,
+        definition,
+    )))
 }

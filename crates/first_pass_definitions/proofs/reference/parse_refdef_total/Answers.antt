@@ -1,4 +1,4 @@
-use Rattle.std.proofs.Common.{◌≡◌, ◌+◌, true, false, drop, None, refl, sym, ap, ◌∙◌}
+use Rattle.std.proofs.Common.{◌≡◌, false, drop, refl, sym, ap, ◌∙◌}
 use Rattle.first_pass_lines.specs.Lines.{begins}
 use Rattle.first_pass_tree.specs.Forest.{in_table}
 use Rattle.first_pass_open.specs.Path.{path_of}

@@ -1,7 +1,6 @@
-use Rattle.std.proofs.Common.{◌≡◌, ℕ, ◌+◌, true, false, List, drop, Some, None, is_some, IsUtf8, IsCharBoundary, sym, ap, subst, ◌∙◌}
+use Rattle.std.proofs.Common.{◌≡◌, ℕ, ◌+◌, true, false, List, drop, Some, is_some, IsUtf8, IsCharBoundary, sym, ap, subst, ◌∙◌}
 use Rattle.std.specs.List.{prefix_len}
 use Rattle.first_pass_lines.specs.Lines.{is_white, eol_len, at_line_end}
-use Rattle.first_pass_lines.specs.Rest.{Rest}
 use Rattle.first_pass_open.specs.Path.{path_of}
 use Rattle.first_pass_definitions.proofs.Spaces.{white_behind, eol_behind, place_white, space_plain, space_stops, space_over}
 use Rattle.first_pass_definitions.proofs.space.scan_refdef_space.Goals as goal

@@ -1,4 +1,4 @@
-use Rattle.std.proofs.Common.{◌≡◌, true, false, drop, None, is_some, sym, ap, ◌∙◌}
+use Rattle.std.proofs.Common.{◌≡◌, drop, is_some, sym, ap, ◌∙◌}
 use Rattle.first_pass_lines.specs.Lines.{blank_len}
 use Rattle.first_pass_open.specs.Path.{path_of}
 use Rattle.first_pass_definitions.proofs.Targets.{titled, alone, not_alone}

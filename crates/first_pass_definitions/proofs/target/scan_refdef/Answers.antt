@@ -1,4 +1,4 @@
-use Rattle.std.proofs.Common.{◌≡◌, drop, None, refl, sym, ap, subst, ◌∙◌}
+use Rattle.std.proofs.Common.{refl, sym, subst, ◌∙◌}
 use Rattle.first_pass_open.specs.Path.{path_of}
 use Rattle.first_pass_definitions.specs.Found.{IsUnescaped, HasTitle}
 use Rattle.first_pass_definitions.proofs.Targets.{no_space, no_dest, no_further, target_found, is_target}

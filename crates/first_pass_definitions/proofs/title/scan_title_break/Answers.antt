@@ -1,6 +1,6 @@
-use Rattle.std.proofs.Common.{◌≡◌, ℕ, ◌+◌, ◌<◌, List, length, drop, Some, None, IsCharBoundary, refl, sym, ap, subst, ◌∙◌, arith}
+use Rattle.std.proofs.Common.{◌≡◌, ℕ, ◌+◌, List, drop, None, IsCharBoundary, sym, ap, subst, ◌∙◌}
 use Rattle.std.proofs.lemmas.List.{drop-drop}
-use Rattle.first_pass_lines.specs.Lines.{begins, eol_len, blank_len}
+use Rattle.first_pass_lines.specs.Lines.{eol_len, blank_len}
 use Rattle.first_pass_links.proofs.Labels.{place_behind}
 use Rattle.first_pass_definitions.proofs.Spaces.{eol_behind}
 use Rattle.first_pass_definitions.proofs.Places.{rest_further, no_feed, some_left, later_by}
@@ -27,6 +27,7 @@ pub returns-in-Some-2-clause-place : goal.returns-in-Some-2-clause-place
 returns-in-Some-2-clause-place c =
     let b = line_place (goal.at.returns-in-Some-2-clause-place c).After-rest_of-2 in
     let place = rw c.in-Some-2.is at c.in_ok-prefix.ensures.place in
-    let left = some_left (drop (c.args.at + c.in-Some.line_end + c.in-Some-2.prefix) c.args.bytes.now) (text_is c.args.bytes.now c.rest_of-2.result.now (c.args.at + c.in-Some.line_end) c.in-Some-2.prefix c.rest_of-2.ensures.value (rw c.in-Some-2.is at c.in_ok-prefix.ensures.text)) in
-    (later_by c.args.bytes.now c.args.at c.in-Some.line_end c.in-Some-2.prefix left (ap eol_len (sym c.rest_of.ensures.value) ∙ sym c.scan_eol.ensures.value ∙ c.in-Some.is),
-    place_behind c.args.bytes.now (c.args.at + c.in-Some.line_end) c.in-Some-2.prefix b.0 (subst (λ xs. IsCharBoundary xs c.in-Some-2.prefix) c.rest_of-2.ensures.value place))
+    let left = some_left (drop (c.args.at + c.in-Some.line_end + c.in-Some-2.prefix) c.args.bytes.now) (text_is c.args.bytes.now c.rest_of-2.result.now (c.args.at + c.in-Some.line_end) c.in-Some-2.prefix c.rest_of-2.ensures.value (rw c.in-Some-2.is at c.in_ok-prefix.ensures.text)) in (
+      later_by c.args.bytes.now c.args.at c.in-Some.line_end c.in-Some-2.prefix left (ap eol_len (sym c.rest_of.ensures.value) ∙ sym c.scan_eol.ensures.value ∙ c.in-Some.is),
+      place_behind c.args.bytes.now (c.args.at + c.in-Some.line_end) c.in-Some-2.prefix b.0 (subst (λ xs. IsCharBoundary xs c.in-Some-2.prefix) c.rest_of-2.ensures.value place),
+    )

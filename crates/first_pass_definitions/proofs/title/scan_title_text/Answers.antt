@@ -1,4 +1,4 @@
-use Rattle.std.proofs.Common.{◌≡◌, ℕ, ◌+◌, ◌<◌, false, ◌++◌, ◌∷◌, [], List, length, drop, Some, None, IsCharBoundary, refl, sym, ap, subst, ◌∙◌, arith, append_assoc}
+use Rattle.std.proofs.Common.{◌≡◌, ℕ, ◌+◌, ◌<◌, false, ◌++◌, ◌∷◌, [], length, drop, IsCharBoundary, refl, sym, ap, subst, ◌∙◌, arith}
 use Rattle.std.specs.List.{list_any}
 use Rattle.std.specs.String.{string_bytes}
 use Rattle.std.proofs.lemmas.Str.{encode_ascii, IsCharBoundary-start, IsCharBoundary-after_ascii}
@@ -6,7 +6,7 @@ use Rattle.first_pass_lines.specs.Lines.{is_line_end, begins}
 use Rattle.first_pass_links.specs.Destinations.{unescaped_upto}
 use Rattle.first_pass_links.specs.Units.{part}
 use Rattle.first_pass_links.proofs.Destinations.{first_byte}
-use Rattle.first_pass_grammar.specs.Definitions.{title_prefix, title_text}
+use Rattle.first_pass_grammar.specs.Definitions.{title_prefix}
 use Rattle.first_pass_open.specs.Path.{path_of}
 use Rattle.first_pass_definitions.specs.Reading.{stops_title, goes_on_at}
 use Rattle.first_pass_definitions.proofs.Titles.{behind_nothing, whole_title, stop_place, title_found, no_title, title_further, any_last, closes-low}
@@ -82,5 +82,5 @@ loop-bytes-preserved c =
       nothing = λ h. absurd (omega arith);
       lines = λ l. ap (list_any is_line_end) written ∙ any_last (string_bytes c.loop-bytes.written ++ part text c.loop-bytes.from stop);
       title = title_further (title_prefix (path_of c.args.tree.now)) c.args.close c.loop-bytes.from stop c.in-Some.next (string_bytes c.push.new.self) (string_bytes c.loop-bytes.written) text
-        c.requires.close c.loop-bytes.invariant.title (line_stops at) (omega arith) k plain written;
+          c.requires.close c.loop-bytes.invariant.title (line_stops at) (omega arith) k plain written;
     }
