@@ -43,7 +43,8 @@ rest_from text xs s b e =
     }
 
 -- a place in a line of what is left
-pub rest_place : (text bytes : List ℕ) (s : ℕ) (r : Rest) → s ≤ length text → bytes ≡ drop s text → IsPlaceOf text (place_at s r) → (r.left ≡ drop r.taken bytes) × IsCharBoundary bytes r.taken
+pub rest_place : (text bytes : List ℕ) (s : ℕ) (r : Rest) → s ≤ length text → bytes ≡ drop s text → IsPlaceOf text (place_at s r)
+    → (r.left ≡ drop r.taken bytes) × IsCharBoundary bytes r.taken
 rest_place text bytes s r l e i =
     let d : drop r.taken bytes ≡ drop (s + r.taken) text = ap (drop r.taken) e ∙ drop-drop r.taken s text in
     (i.left ∙ sym d, subst (λ xs. IsCharBoundary xs r.taken) (sym e) (part_boundary text s r.taken l i.boundary))
@@ -84,7 +85,8 @@ later_by bytes at e n l h =
 
 -- an answer about what is left, in the text
 pub label_fits : {X : Type 0} (r : Result (Option (ℕ × X)) AllocError) (text bytes : List ℕ) (s : ℕ) → IsCharBoundary text s → bytes ≡ drop s text
-    → IfOk r (λ answer. IfSome answer (λ (found : ℕ × X). (0 < found.0) × (found.0 ≤ length bytes))) → IfOk r (λ answer. IfSome answer (λ (found : ℕ × X). IsCharBoundary bytes found.0))
+    → IfOk r (λ answer. IfSome answer (λ (found : ℕ × X). (0 < found.0) × (found.0 ≤ length bytes)))
+    → IfOk r (λ answer. IfSome answer (λ (found : ℕ × X). IsCharBoundary bytes found.0))
     → IfOk r (λ answer. IfSome answer (λ (found : ℕ × X). (0 < found.0) × IsCharBoundary text (s + found.0)))
 label_fits (Err e) text bytes s b is within behind = tt
 label_fits (Ok None) text bytes s b is within behind = tt

@@ -29,7 +29,8 @@ eol_behind text s e u b h = elim (cases_lt s (length text)) [
 ]
 
 -- behind the white space behind a place
-pub place_white : (text : List ℕ) (line n : ℕ) (r : Rest) → IsUtf8 text → IsPlaceOf text (place_at line r) → n ≡ prefix_len is_white (drop (line + r.taken) text) → IsCharBoundary text (line + r.taken + n)
+pub place_white : (text : List ℕ) (line n : ℕ) (r : Rest) → IsUtf8 text → IsPlaceOf text (place_at line r)
+    → n ≡ prefix_len is_white (drop (line + r.taken) text) → IsCharBoundary text (line + r.taken + n)
 place_white text line n r u i h =
     let b = white_behind text (line + r.taken) u i.boundary in subst (λ k. IsCharBoundary text (line + r.taken + k)) (sym h) b
 
@@ -37,15 +38,18 @@ place_white text line n r u i h =
 abbrev shifted : ℕ → Option (ℕ × ℕ) → Option (ℕ × ℕ)
 shifted s o = option_map (λ (x : ℕ × ℕ). (s + x.0, x.1)) o
 
-space_is : (path : List Container) (bs : List ℕ) (n : ℕ) (o : Option ℕ) → prefix_len is_white bs ≡ n → eol_len (drop n bs) ≡ o → space_at path bs ≡ space_behind path bs n o
+space_is : (path : List Container) (bs : List ℕ) (n : ℕ) (o : Option ℕ) → prefix_len is_white bs ≡ n → eol_len (drop n bs) ≡ o
+    → space_at path bs ≡ space_behind path bs n o
 unfolding space_at
 space_is path bs n o e f = rw e (rw f refl)
 
-pub space_plain : (path : List Container) (text : List ℕ) (s n : ℕ) → n ≡ prefix_len is_white (drop s text) → eol_len (drop (s + n) text) ≡ None → Some (s + n, 0) ≡ shifted s (space_at path (drop s text))
+pub space_plain : (path : List Container) (text : List ℕ) (s n : ℕ) → n ≡ prefix_len is_white (drop s text) → eol_len (drop (s + n) text) ≡ None
+    → Some (s + n, 0) ≡ shifted s (space_at path (drop s text))
 space_plain path text s n e f = ap (shifted s) (sym (space_is path (drop s text) n None (sym e) (ap eol_len (drop-drop n s text) ∙ f)))
 
 -- behind a line end
-crossed_space : (path : List Container) (text : List ℕ) (s n e : ℕ) (o : Option Rest) → n ≡ prefix_len is_white (drop s text) → eol_len (drop (s + n) text) ≡ Some e → o ≡ crossed false path (line_rest (drop (s + n + e) text))
+crossed_space : (path : List Container) (text : List ℕ) (s n e : ℕ) (o : Option Rest) → n ≡ prefix_len is_white (drop s text)
+    → eol_len (drop (s + n) text) ≡ Some e → o ≡ crossed false path (line_rest (drop (s + n + e) text))
     → space_at path (drop s text) ≡ option_and_then (space_beyond (n + e) (drop (s + n + e) text)) (option_map (λ (r : Rest). r.taken) o)
 crossed_space path text s n e o h f g =
     let i : s + (n + e) ≡ s + n + e = omega arith in
@@ -54,11 +58,13 @@ crossed_space path text s n e o h f g =
     ∙ ap (λ xs. option_and_then (space_beyond (n + e) xs) (prefix_crossed false path xs)) d
     ∙ ap (λ q. option_and_then (space_beyond (n + e) (drop (s + n + e) text)) (option_map (λ (r : Rest). r.taken) q)) (sym g)
 
-pub space_stops : (path : List Container) (text : List ℕ) (s n e : ℕ) → n ≡ prefix_len is_white (drop s text) → eol_len (drop (s + n) text) ≡ Some e → None ≡ crossed false path (line_rest (drop (s + n + e) text))
+pub space_stops : (path : List Container) (text : List ℕ) (s n e : ℕ) → n ≡ prefix_len is_white (drop s text) → eol_len (drop (s + n) text) ≡ Some e
+    → None ≡ crossed false path (line_rest (drop (s + n + e) text))
     → None ≡ shifted s (space_at path (drop s text))
 space_stops path text s n e h f g = ap (shifted s) (sym (crossed_space path text s n e None h f g))
 
-beyond : (t : Bool) (text : List ℕ) (at k m n : ℕ) → m ≡ prefix_len is_white (drop (at + k) text) → at_line_end (drop (at + k + m) text) ≡ t → space_beyond n (drop at text) k ≡ (if t then None else Some (n + (k + m), 1))
+beyond : (t : Bool) (text : List ℕ) (at k m n : ℕ) → m ≡ prefix_len is_white (drop (at + k) text) → at_line_end (drop (at + k + m) text) ≡ t
+    → space_beyond n (drop at text) k ≡ (if t then None else Some (n + (k + m), 1))
 beyond t text at k m n h f =
     let a : prefix_len is_white (drop k (drop at text)) ≡ m = ap (prefix_len is_white) (drop-drop k at text) ∙ sym h in
     let i : at + (k + m) ≡ at + k + m = omega arith in
@@ -69,7 +75,8 @@ over_by : (t : Bool) (s n e m k : ℕ) → (if t then None else Some (s + n + e 
 over_by true s n e m k = refl
 over_by false s n e m k = let i : s + n + e + k + m ≡ s + (n + e + (k + m)) = omega arith in ap (λ j. Some (j, 1)) i
 
-pub space_over : (t : Bool) (path : List Container) (text : List ℕ) (s n e m : ℕ) (r : Rest) → n ≡ prefix_len is_white (drop s text) → eol_len (drop (s + n) text) ≡ Some e → Some r ≡ crossed false path (line_rest (drop (s + n + e) text))
+pub space_over : (t : Bool) (path : List Container) (text : List ℕ) (s n e m : ℕ) (r : Rest) → n ≡ prefix_len is_white (drop s text)
+    → eol_len (drop (s + n) text) ≡ Some e → Some r ≡ crossed false path (line_rest (drop (s + n + e) text))
     → m ≡ prefix_len is_white (drop (s + n + e + r.taken) text) → at_line_end (drop (s + n + e + r.taken + m) text) ≡ t
     → (if t then None else Some (s + n + e + r.taken + m, 1)) ≡ shifted s (space_at path (drop s text))
 space_over t path text s n e m r h f g i j =

@@ -23,11 +23,13 @@ IsTitleBehind at o answer = MatchOption o (answer ≡ None) (λ title. IsSomeAnd
 abbrev pub IsFurther : ℕ → Option (ℕ × Option (List ℕ)) → Option (ℕ × Option CowStr) → Type 0
 IsFurther at o answer = MatchOption o (answer ≡ None) (λ further. IsSomeAnd answer (λ found. (found.0 ≡ at + further.0) × IsReadTitle further.1 found.1))
 
-titled_by : (o : Option (ℕ × List ℕ)) (d : Option (ℕ × Option (List ℕ))) (at e : ℕ) (title : CowStr) → IsTitleBehind at o (Some (e, title)) → IsFurther at (option_map_or (λ (t : ℕ × List ℕ). Some (t.0, Some t.1)) o d) (Some (e, Some title))
+titled_by : (o : Option (ℕ × List ℕ)) (d : Option (ℕ × Option (List ℕ))) (at e : ℕ) (title : CowStr) → IsTitleBehind at o (Some (e, title))
+    → IsFurther at (option_map_or (λ (t : ℕ × List ℕ). Some (t.0, Some t.1)) o d) (Some (e, Some title))
 titled_by None d at e title h = cc
 titled_by (Some t) d at e title h = h
 
-pub titled : (path : List Container) (bs : List ℕ) (at e : ℕ) (title : CowStr) → IsTitleBehind at (title_behind path bs) (Some (e, title)) → IsFurther at (behind_destination path bs) (Some (e, Some title))
+pub titled : (path : List Container) (bs : List ℕ) (at e : ℕ) (title : CowStr) → IsTitleBehind at (title_behind path bs) (Some (e, title))
+    → IsFurther at (behind_destination path bs) (Some (e, Some title))
 unfolding behind_destination
 titled path bs at e title h = titled_by (title_behind path bs) _ at e title h
 
@@ -35,15 +37,18 @@ untitled_by : (o : Option (ℕ × List ℕ)) (at : ℕ) → IsTitleBehind at o N
 untitled_by None at h = refl
 untitled_by (Some t) at h = absurd h
 
-pub alone : (path : List Container) (bs : List ℕ) (at : ℕ) → IsTitleBehind at (title_behind path bs) None → is_some (blank_len bs) ≡ true → IsFurther at (behind_destination path bs) (Some (at, None))
+pub alone : (path : List Container) (bs : List ℕ) (at : ℕ) → IsTitleBehind at (title_behind path bs) None → is_some (blank_len bs) ≡ true
+    → IsFurther at (behind_destination path bs) (Some (at, None))
 unfolding behind_destination
 alone path bs at h k = rw (untitled_by (title_behind path bs) at h) (rw k (omega arith, tt))
 
-pub not_alone : (path : List Container) (bs : List ℕ) (at : ℕ) → IsTitleBehind at (title_behind path bs) None → is_some (blank_len bs) ≡ false → IsFurther at (behind_destination path bs) None
+pub not_alone : (path : List Container) (bs : List ℕ) (at : ℕ) → IsTitleBehind at (title_behind path bs) None → is_some (blank_len bs) ≡ false
+    → IsFurther at (behind_destination path bs) None
 unfolding behind_destination
 not_alone path bs at h k = rw (untitled_by (title_behind path bs) at h) (rw k refl)
 
-further_found : (o : Option (ℕ × Option (List ℕ))) (at e : ℕ) (title : Option CowStr) → IsFurther at o (Some (e, title)) → (f : ℕ × Option (List ℕ)) × (o ≡ Some f) × (e ≡ at + f.0) × IsReadTitle f.1 title
+further_found : (o : Option (ℕ × Option (List ℕ))) (at e : ℕ) (title : Option CowStr) → IsFurther at o (Some (e, title))
+    → (f : ℕ × Option (List ℕ)) × (o ≡ Some f) × (e ≡ at + f.0) × IsReadTitle f.1 title
 further_found None at e title h = cc
 further_found (Some f) at e title h = (f, refl, h.0, h.1)
 
@@ -55,7 +60,8 @@ further_none (Some f) at h = absurd h
 abbrev pub IsDest : Option (ℕ × List ℕ) → Option (ℕ × Bor (List ℕ)) → Type 0
 IsDest o answer = MatchOption o (answer ≡ None) (λ dest. IsSomeAnd answer (λ found. (found.0 ≡ dest.0) × (found.1.now ≡ dest.1)))
 
-dest_found : (o : Option (ℕ × List ℕ)) (n : ℕ) (text : Bor (List ℕ)) → IsDest o (Some (n, text)) → (d : ℕ × List ℕ) × (o ≡ Some d) × (n ≡ d.0) × (text.now ≡ d.1)
+dest_found : (o : Option (ℕ × List ℕ)) (n : ℕ) (text : Bor (List ℕ)) → IsDest o (Some (n, text))
+    → (d : ℕ × List ℕ) × (o ≡ Some d) × (n ≡ d.0) × (text.now ≡ d.1)
 dest_found None n text h = cc
 dest_found (Some d) n text h = (d, refl, h.0, h.1)
 
@@ -76,7 +82,8 @@ space_none None start h = refl
 space_none (Some s) start h = cc
 
 -- the target step by step
-pub no_space : (path : List Container) (text : List ℕ) (start : ℕ) → None ≡ shifted start (space_at path (drop start text)) → target_at path (drop start text) ≡ None
+pub no_space : (path : List Container) (text : List ℕ) (start : ℕ) → None ≡ shifted start (space_at path (drop start text))
+    → target_at path (drop start text) ≡ None
 unfolding target_at
 no_space path text start h = rw (space_none (space_at path (drop start text)) start h) refl
 
@@ -86,23 +93,28 @@ unfolding target_at
 at_dest path text start at s e h =
     rw e (ap (λ xs. option_and_then (target_from path s.0 xs) (destination_at deepest_nesting xs)) (drop-drop s.0 start text ∙ ap (λ k. drop k text) (sym h)))
 
-pub no_dest : (path : List Container) (text : List ℕ) (start at lines : ℕ) → Some (at, lines) ≡ shifted start (space_at path (drop start text)) → IsDest (destination_at deepest_nesting (drop at text)) None → target_at path (drop start text) ≡ None
+pub no_dest : (path : List Container) (text : List ℕ) (start at lines : ℕ) → Some (at, lines) ≡ shifted start (space_at path (drop start text))
+    → IsDest (destination_at deepest_nesting (drop at text)) None → target_at path (drop start text) ≡ None
 no_dest path text start at lines h k =
     let s = space_found (space_at path (drop start text)) start at lines h in
-    at_dest path text start at s.0 s.1 s.2 ∙ ap (option_and_then (target_from path s.0.0 (drop at text))) (dest_none (destination_at deepest_nesting (drop at text)) k)
+    at_dest path text start at s.0 s.1 s.2
+    ∙ ap (option_and_then (target_from path s.0.0 (drop at text))) (dest_none (destination_at deepest_nesting (drop at text)) k)
 
-behind_dest : (path : List Container) (text : List ℕ) (start at n : ℕ) (s : ℕ × ℕ) (d : ℕ × List ℕ) → space_at path (drop start text) ≡ Some s → at ≡ start + s.0 → destination_at deepest_nesting (drop at text) ≡ Some d → n ≡ d.0
+behind_dest : (path : List Container) (text : List ℕ) (start at n : ℕ) (s : ℕ × ℕ) (d : ℕ × List ℕ) → space_at path (drop start text) ≡ Some s
+    → at ≡ start + s.0 → destination_at deepest_nesting (drop at text) ≡ Some d → n ≡ d.0
     → target_at path (drop start text) ≡ option_map (target_of s.0 d) (behind_destination path (drop (at + n) text))
 behind_dest path text start at n s d e h k l =
     at_dest path text start at s e h ∙ ap (option_and_then (target_from path s.0 (drop at text))) k
     ∙ ap (λ xs. option_map (target_of s.0 d) (behind_destination path xs)) (drop-drop d.0 at text ∙ ap (λ m. drop (at + m) text) (sym l))
 
-pub no_further : (path : List Container) (text : List ℕ) (start at lines n : ℕ) (b : Bor (List ℕ)) → Some (at, lines) ≡ shifted start (space_at path (drop start text)) → IsDest (destination_at deepest_nesting (drop at text)) (Some (n, b))
+pub no_further : (path : List Container) (text : List ℕ) (start at lines n : ℕ) (b : Bor (List ℕ))
+    → Some (at, lines) ≡ shifted start (space_at path (drop start text)) → IsDest (destination_at deepest_nesting (drop at text)) (Some (n, b))
     → IsFurther (at + n) (behind_destination path (drop (at + n) text)) None → target_at path (drop start text) ≡ None
 no_further path text start at lines n b h k f =
     let s = space_found (space_at path (drop start text)) start at lines h in
     let d = dest_found (destination_at deepest_nesting (drop at text)) n b k in
-    behind_dest path text start at n s.0 d.0 s.1 s.2 d.1 d.2 ∙ ap (option_map (target_of s.0.0 d.0)) (further_none (behind_destination path (drop (at + n) text)) (at + n) f)
+    behind_dest path text start at n s.0 d.0 s.1 s.2 d.1 d.2
+    ∙ ap (option_map (target_of s.0.0 d.0)) (further_none (behind_destination path (drop (at + n) text)) (at + n) f)
 
 -- a target that is found
 pub record TargetFound (path : List Container) (text : List ℕ) (start e : ℕ) (b : Bor (List ℕ)) (title : Option CowStr) : Type 0 where
@@ -113,8 +125,10 @@ pub record TargetFound (path : List Container) (text : List ℕ) (start e : ℕ)
   pub dest_is : b.now ≡ target.dest
   pub title_is : IsReadTitle target.title title
 
-pub target_found : (path : List Container) (text : List ℕ) (start at lines n e : ℕ) (b : Bor (List ℕ)) (title : Option CowStr) → Some (at, lines) ≡ shifted start (space_at path (drop start text))
-    → IsDest (destination_at deepest_nesting (drop at text)) (Some (n, b)) → IsFurther (at + n) (behind_destination path (drop (at + n) text)) (Some (e, title)) → TargetFound path text start e b title
+pub target_found : (path : List Container) (text : List ℕ) (start at lines n e : ℕ) (b : Bor (List ℕ)) (title : Option CowStr)
+    → Some (at, lines) ≡ shifted start (space_at path (drop start text))
+    → IsDest (destination_at deepest_nesting (drop at text)) (Some (n, b))
+    → IsFurther (at + n) (behind_destination path (drop (at + n) text)) (Some (e, title)) → TargetFound path text start e b title
 target_found path text start at lines n e b title h k f =
     let s = space_found (space_at path (drop start text)) start at lines h in
     let d = dest_found (destination_at deepest_nesting (drop at text)) n b k in
@@ -134,7 +148,8 @@ target_found path text start at lines n e b title h k f =
 abbrev pub IsTargetAnswer : Bool → ℕ → ℕ → Option (ℕ × Target) → Option (ℕ × LinkDef) → Type 0
 IsTargetAnswer in_table from start o answer = MatchOption o (answer ≡ None) (λ target. IsSomeAnd answer (IsTarget in_table from start target))
 
-pub is_target : (path : List Container) (text : List ℕ) (start e from : ℕ) (b : Bor (List ℕ)) (title : Option CowStr) (in_table : Bool) (found : LinkDef) → TargetFound path text start e b title → IsUnescaped in_table b.now found.dest
+pub is_target : (path : List Container) (text : List ℕ) (start e from : ℕ) (b : Bor (List ℕ)) (title : Option CowStr) (in_table : Bool) (found : LinkDef)
+    → TargetFound path text start e b title → IsUnescaped in_table b.now found.dest
     → ((t : Option (List ℕ)) → IsReadTitle t title → HasTitle in_table t found.title) → found.span.start ≡ from → found.span.«end» ≡ e
     → IsTargetAnswer in_table from start (target_at path (drop start text)) (Some (e - start, found))
 is_target path text start e from b title in_table found t dest read h k =
@@ -155,7 +170,9 @@ unfolding reference_at
 no_bracket in_table path bs h = rw h refl
 
 at_label : (in_table : Bool) (path : List Container) (text : List ℕ) (start : ℕ) → begins 91 (drop start text) ≡ true
-    → reference_at in_table path (drop start text) ≡ option_and_then (reference_behind path (drop (start + 1) text)) (label_at (prefix_crossed true path) in_table (drop (start + 1) text))
+   
+    → reference_at in_table path (drop start text) ≡ option_and_then (reference_behind path (drop (start + 1) text))
+    (label_at (prefix_crossed true path) in_table (drop (start + 1) text))
 unfolding reference_at
 at_label in_table path text start h =
     rw h (ap (λ xs. option_and_then (reference_behind path xs) (label_at (prefix_crossed true path) in_table xs)) (drop-drop 1 start text))
@@ -164,7 +181,8 @@ at_label in_table path text start h =
 abbrev pub IsLabelAnswer : Option (ℕ × List ℕ) → Option (ℕ × CowStr) → Type 0
 IsLabelAnswer o answer = MatchOption o (answer ≡ None) (λ label. IsSomeAnd answer (λ found. (found.0 ≡ label.0) × (text_of found.1 ≡ label.1)))
 
-label_found : (o : Option (ℕ × List ℕ)) (n : ℕ) (text : CowStr) → IsLabelAnswer o (Some (n, text)) → (l : ℕ × List ℕ) × (o ≡ Some l) × (n ≡ l.0) × (text_of text ≡ l.1)
+label_found : (o : Option (ℕ × List ℕ)) (n : ℕ) (text : CowStr) → IsLabelAnswer o (Some (n, text))
+    → (l : ℕ × List ℕ) × (o ≡ Some l) × (n ≡ l.0) × (text_of text ≡ l.1)
 label_found None n text h = cc
 label_found (Some l) n text h = (l, refl, h.0, h.1)
 
@@ -172,13 +190,19 @@ label_none : (o : Option (ℕ × List ℕ)) → IsLabelAnswer o None → o ≡ N
 label_none None h = refl
 label_none (Some l) h = absurd h
 
-pub no_label : (in_table : Bool) (path : List Container) (text : List ℕ) (start : ℕ) → begins 91 (drop start text) ≡ true → IsLabelAnswer (label_at (prefix_crossed true path) in_table (drop (start + 1) text)) None
+pub no_label : (in_table : Bool) (path : List Container) (text : List ℕ) (start : ℕ) → begins 91 (drop start text) ≡ true
+    → IsLabelAnswer (label_at (prefix_crossed true path) in_table (drop (start + 1) text)) None
     → reference_at in_table path (drop start text) ≡ None
-no_label in_table path text start h k = at_label in_table path text start h ∙ ap (option_and_then (reference_behind path (drop (start + 1) text))) (label_none (label_at (prefix_crossed true path) in_table (drop (start + 1) text)) k)
+no_label in_table path text start h k =
+    at_label in_table path text start h ∙ ap (option_and_then (reference_behind path (drop (start + 1) text)))
+    (label_none (label_at (prefix_crossed true path) in_table (drop (start + 1) text)) k)
 
-colon_by : (t : Bool) (in_table : Bool) (path : List Container) (text : List ℕ) (start n : ℕ) (l : ℕ × List ℕ) → begins 91 (drop start text) ≡ true → label_at (prefix_crossed true path) in_table (drop (start + 1) text) ≡ Some l → n ≡ l.0
+colon_by : (t : Bool) (in_table : Bool) (path : List Container) (text : List ℕ) (start n : ℕ) (l : ℕ × List ℕ) → begins 91 (drop start text) ≡ true
+    → label_at (prefix_crossed true path) in_table (drop (start + 1) text) ≡ Some l → n ≡ l.0
     → begins 58 (drop (start + 1 + n) text) ≡ t
-    → reference_at in_table path (drop start text) ≡ (if t then option_map (reference_of (l.0 + 2) l.1) (target_at path (drop (start + 1 + n + 1) text)) else None)
+   
+    → reference_at in_table path (drop start text) ≡ (if t then option_map (reference_of (l.0 + 2) l.1) (target_at path (drop (start + 1 + n + 1) text))
+    else None)
 colon_by t in_table path text start n l h k e f =
     let a : drop l.0 (drop (start + 1) text) ≡ drop (start + 1 + n) text = drop-drop l.0 (start + 1) text ∙ ap (λ m. drop (start + 1 + m) text) (sym e) in
     let i : start + 1 + (l.0 + 1) ≡ start + 1 + n + 1 = omega arith in
@@ -186,7 +210,8 @@ colon_by t in_table path text start n l h k e f =
     at_label in_table path text start h ∙ ap (option_and_then (reference_behind path (drop (start + 1) text))) k
     ∙ rw (ap (begins 58) a ∙ f) (rw b refl)
 
-pub no_colon : (in_table : Bool) (path : List Container) (text : List ℕ) (start n : ℕ) (label : CowStr) → begins 91 (drop start text) ≡ true → IsLabelAnswer (label_at (prefix_crossed true path) in_table (drop (start + 1) text)) (Some (n, label))
+pub no_colon : (in_table : Bool) (path : List Container) (text : List ℕ) (start n : ℕ) (label : CowStr) → begins 91 (drop start text) ≡ true
+    → IsLabelAnswer (label_at (prefix_crossed true path) in_table (drop (start + 1) text)) (Some (n, label))
     → begins 58 (drop (start + 1 + n) text) ≡ false → reference_at in_table path (drop start text) ≡ None
 no_colon in_table path text start n label h k f =
     let l = label_found (label_at (prefix_crossed true path) in_table (drop (start + 1) text)) n label k in
@@ -196,16 +221,20 @@ target_none : (in_table : Bool) (from start : ℕ) (o : Option (ℕ × Target)) 
 target_none in_table from start None h = refl
 target_none in_table from start (Some t) h = absurd h
 
-pub no_target : (in_table : Bool) (path : List Container) (text : List ℕ) (start n : ℕ) (label : CowStr) → begins 91 (drop start text) ≡ true → IsLabelAnswer (label_at (prefix_crossed true path) in_table (drop (start + 1) text)) (Some (n, label))
-    → begins 58 (drop (start + 1 + n) text) ≡ true → IsTargetAnswer in_table start (start + 1 + n + 1) (target_at path (drop (start + 1 + n + 1) text)) None → reference_at in_table path (drop start text) ≡ None
+pub no_target : (in_table : Bool) (path : List Container) (text : List ℕ) (start n : ℕ) (label : CowStr) → begins 91 (drop start text) ≡ true
+    → IsLabelAnswer (label_at (prefix_crossed true path) in_table (drop (start + 1) text)) (Some (n, label))
+    → begins 58 (drop (start + 1 + n) text) ≡ true → IsTargetAnswer in_table start (start + 1 + n + 1) (target_at path (drop (start + 1 + n + 1) text)) None
+    → reference_at in_table path (drop start text) ≡ None
 no_target in_table path text start n label h k f t =
     let l = label_found (label_at (prefix_crossed true path) in_table (drop (start + 1) text)) n label k in
-    colon_by true in_table path text start n l.0 h l.1 l.2 f ∙ ap (option_map (reference_of (l.0.0 + 2) l.0.1)) (target_none in_table start (start + 1 + n + 1) (target_at path (drop (start + 1 + n + 1) text)) t)
+    colon_by true in_table path text start n l.0 h l.1 l.2 f
+    ∙ ap (option_map (reference_of (l.0.0 + 2) l.0.1)) (target_none in_table start (start + 1 + n + 1) (target_at path (drop (start + 1 + n + 1) text)) t)
 
 abbrev pub IsReferenceAnswer : Bool → ℕ → Option LinkReference → Option (ℕ × CowStr × LinkDef) → Type 0
 IsReferenceAnswer in_table start o answer = MatchOption o (answer ≡ None) (λ reference. IsSomeAnd answer (IsReference in_table start reference))
 
-reference_by : (in_table : Bool) (start n m : ℕ) (l : ℕ × List ℕ) (label : CowStr) (definition : LinkDef) (o : Option (ℕ × Target)) → n ≡ l.0 → text_of label ≡ l.1 → IsTargetAnswer in_table start (start + 1 + n + 1) o (Some (m, definition))
+reference_by : (in_table : Bool) (start n m : ℕ) (l : ℕ × List ℕ) (label : CowStr) (definition : LinkDef) (o : Option (ℕ × Target)) → n ≡ l.0
+    → text_of label ≡ l.1 → IsTargetAnswer in_table start (start + 1 + n + 1) o (Some (m, definition))
     → IsReferenceAnswer in_table start (option_map (reference_of (l.0 + 2) l.1) o) (Some (n + 2 + m, label, definition))
 reference_by in_table start n m l label definition None e h t = cc
 reference_by in_table start n m l label definition (Some t) e h found =
@@ -217,7 +246,8 @@ reference_by in_table start n m l label definition (Some t) e h found =
       definition = subst (λ to. IsDefinition in_table t.1 start to definition) i found.definition;
     }
 
-pub is_reference : (in_table : Bool) (path : List Container) (text : List ℕ) (start n m : ℕ) (label : CowStr) (definition : LinkDef) → begins 91 (drop start text) ≡ true
+pub is_reference : (in_table : Bool) (path : List Container) (text : List ℕ) (start n m : ℕ) (label : CowStr) (definition : LinkDef)
+    → begins 91 (drop start text) ≡ true
     → IsLabelAnswer (label_at (prefix_crossed true path) in_table (drop (start + 1) text)) (Some (n, label)) → begins 58 (drop (start + 1 + n) text) ≡ true
     → IsTargetAnswer in_table start (start + 1 + n + 1) (target_at path (drop (start + 1 + n + 1) text)) (Some (m, definition))
     → IsReferenceAnswer in_table start (reference_at in_table path (drop start text)) (Some (n + 2 + m, label, definition))

@@ -58,21 +58,25 @@ some_by : (t : Bool) (x : ℕ × List ℕ) (b : List ℕ) → (if t then Some (x
 some_by true x b = refl
 some_by false x b = refl
 
-title-byte : (close o b : ℕ) (cs : List (ℕ × ℕ)) → begins_escape (b ∷ bytes_of cs) ≡ false → ends_title close b ≡ false → title_of close ((o, b) ∷ cs) ≡ behind_text (b ∷ []) (title_of close cs)
+title-byte : (close o b : ℕ) (cs : List (ℕ × ℕ)) → begins_escape (b ∷ bytes_of cs) ≡ false → ends_title close b ≡ false
+    → title_of close ((o, b) ∷ cs) ≡ behind_text (b ∷ []) (title_of close cs)
 unfolding title_of
 title-byte close o b cs e f =
     let n : ℕ = unescaped_upto (ends_title close) 0 (bytes_of cs) in
     let u : unescaped_upto (ends_title close) 0 (b ∷ bytes_of cs) ≡ suc n = (let v = upto-byte (ends_title close) b (bytes_of cs) e f in omega arith) in
     rw u (some_by (begins close (drop n (bytes_of cs))) (slice_index (offsets_of cs) n + 1, take n (bytes_of cs)) (b ∷ []))
 
-title-escape : (close o b u p : ℕ) (cs : List (ℕ × ℕ)) → begins_escape (b ∷ p ∷ bytes_of cs) ≡ true → title_of close ((o, b) ∷ (u, p) ∷ cs) ≡ behind_text (b ∷ p ∷ []) (title_of close cs)
+title-escape : (close o b u p : ℕ) (cs : List (ℕ × ℕ)) → begins_escape (b ∷ p ∷ bytes_of cs) ≡ true
+    → title_of close ((o, b) ∷ (u, p) ∷ cs) ≡ behind_text (b ∷ p ∷ []) (title_of close cs)
 unfolding title_of
 title-escape close o b u p cs e =
     let n : ℕ = unescaped_upto (ends_title close) 0 (bytes_of cs) in
-    let k : unescaped_upto (ends_title close) 0 (b ∷ p ∷ bytes_of cs) ≡ suc (suc n) = (let v = upto-escape (ends_title close) b p (bytes_of cs) e in omega arith) in
+    let k : unescaped_upto (ends_title close) 0 (b ∷ p ∷ bytes_of cs) ≡ suc (suc n) = (let v = upto-escape (ends_title close) b p (bytes_of cs) e in omega
+    arith) in
     rw k (some_by (begins close (drop n (bytes_of cs))) (slice_index (offsets_of cs) n + 1, take n (bytes_of cs)) (b ∷ p ∷ []))
 
-title-stop : (close o b : ℕ) (cs : List (ℕ × ℕ)) → begins_escape (b ∷ bytes_of cs) ≡ false → ends_title close b ≡ true → title_of close ((o, b) ∷ cs) ≡ (if b == close then Some (o + 1, []) else None)
+title-stop : (close o b : ℕ) (cs : List (ℕ × ℕ)) → begins_escape (b ∷ bytes_of cs) ≡ false → ends_title close b ≡ true
+    → title_of close ((o, b) ∷ cs) ≡ (if b == close then Some (o + 1, []) else None)
 unfolding title_of
 title-stop close o b cs e f = let u = upto-stop (ends_title close) b (bytes_of cs) e f in rw u refl
 
@@ -108,7 +112,8 @@ no_escape b bs h = rw h refl
 no_end : (b : ℕ) (bs : List ℕ) → is_line_end b ≡ false → (ends_line b bs ≡ false) × ((b == 13) ≡ false)
 no_end b bs h = (grind (arith, nat_tests, h), grind (arith, nat_tests, h))
 
-pub left-byte : (prefix : List ℕ → Option ℕ) (at b : ℕ) (bs : List ℕ) → is_line_end b ≡ false → left_of prefix at (b ∷ bs) ≡ (at, b) ∷ left_of prefix (at + 1) bs
+pub left-byte : (prefix : List ℕ → Option ℕ) (at b : ℕ) (bs : List ℕ) → is_line_end b ≡ false
+    → left_of prefix at (b ∷ bs) ≡ (at, b) ∷ left_of prefix (at + 1) bs
 unfolding left_of joined with_line_feeds
 left-byte prefix at b bs h = let n = no_end b bs h in rw (n.0, n.1) refl
 
@@ -117,7 +122,8 @@ unfolding left_of joined with_line_feeds
 left-nil prefix at = refl
 
 -- a line feed for a line end
-feed_by : (t u : Bool) (o b : ℕ) (cs : List (ℕ × ℕ)) → (b == 13) ≡ t → begins 10 (bytes_of cs) ≡ u → is_line_end b ≡ true → slice_index (bytes_of (with_line_feeds ((o, b) ∷ cs))) 0 ≡ 10
+feed_by : (t u : Bool) (o b : ℕ) (cs : List (ℕ × ℕ)) → (b == 13) ≡ t → begins 10 (bytes_of cs) ≡ u → is_line_end b ≡ true
+    → slice_index (bytes_of (with_line_feeds ((o, b) ∷ cs))) 0 ≡ 10
 unfolding with_line_feeds
 feed_by false u o b cs h k e = rw h (grind (arith, nat_tests, e, h))
 feed_by true false o b cs h k e = rw h (rw k refl)
@@ -132,7 +138,8 @@ unfolding with_line_feeds
 feeds-nil = refl
 
 -- a line end comes first, or nothing
-end_by : (t : Bool) (o : Option ℕ) (prefix : List ℕ → Option ℕ) (at b : ℕ) (bs : List ℕ) → ends_line b bs ≡ t → prefix bs ≡ o → is_line_end b ≡ true → is_ascii_punctuation (slice_index (bytes_of (left_of prefix at (b ∷ bs))) 0) ≡ false
+end_by : (t : Bool) (o : Option ℕ) (prefix : List ℕ → Option ℕ) (at b : ℕ) (bs : List ℕ) → ends_line b bs ≡ t → prefix bs ≡ o → is_line_end b ≡ true
+    → is_ascii_punctuation (slice_index (bytes_of (left_of prefix at (b ∷ bs))) 0) ≡ false
 unfolding left_of joined
 end_by false o prefix at b bs h k e = rw h (ap is_ascii_punctuation (feed-first at b (joined prefix (at + 1) 0 bs) e))
 end_by true (Some n) prefix at b bs h k e = rw h (rw k (ap is_ascii_punctuation (feed-first at b (joined prefix (at + 1) n bs) e)))
@@ -142,11 +149,13 @@ end_punctuation : (b : ℕ) → is_line_end b ≡ true → is_ascii_punctuation 
 end_punctuation b h = grind (arith, nat_tests, h)
 
 -- what a backslash can escape is the same where lines are joined
-punctuation_by : (t : Bool) (prefix : List ℕ → Option ℕ) (at b : ℕ) (bs : List ℕ) → is_line_end b ≡ t → is_ascii_punctuation (slice_index (bytes_of (left_of prefix at (b ∷ bs))) 0) ≡ is_ascii_punctuation b
+punctuation_by : (t : Bool) (prefix : List ℕ → Option ℕ) (at b : ℕ) (bs : List ℕ) → is_line_end b ≡ t
+    → is_ascii_punctuation (slice_index (bytes_of (left_of prefix at (b ∷ bs))) 0) ≡ is_ascii_punctuation b
 punctuation_by false prefix at b bs h = ap (λ cs. is_ascii_punctuation (slice_index (bytes_of cs) 0)) (left-byte prefix at b bs h)
 punctuation_by true prefix at b bs h = end_by (ends_line b bs) (prefix bs) prefix at b bs refl refl h ∙ sym (end_punctuation b h)
 
-same_punctuation : (prefix : List ℕ → Option ℕ) (at : ℕ) (bs : List ℕ) → is_ascii_punctuation (slice_index (bytes_of (left_of prefix at bs)) 0) ≡ is_ascii_punctuation (slice_index bs 0)
+same_punctuation : (prefix : List ℕ → Option ℕ) (at : ℕ) (bs : List ℕ)
+    → is_ascii_punctuation (slice_index (bytes_of (left_of prefix at bs)) 0) ≡ is_ascii_punctuation (slice_index bs 0)
 same_punctuation prefix at [] = ap (λ cs. is_ascii_punctuation (slice_index (bytes_of cs) 0)) (left-nil prefix at)
 same_punctuation prefix at (b ∷ bs) = punctuation_by (is_line_end b) prefix at b bs refl
 
@@ -167,7 +176,8 @@ line_upto close bs = unescaped_upto (stops_title close) 0 bs
 
 abbrev AsItStands : (List ℕ → Option ℕ) → ℕ → ℕ → List ℕ → Type 0
 AsItStands prefix close at bs =
-    title_of close (left_of prefix at bs) ≡ behind_text (take (line_upto close bs) bs) (title_of close (left_of prefix (at + line_upto close bs) (drop (line_upto close bs) bs)))
+    title_of close (left_of prefix at bs) ≡ behind_text (take (line_upto close bs) bs) (title_of close
+    (left_of prefix (at + line_upto close bs) (drop (line_upto close bs) bs)))
 
 stands_stopped : (prefix : List ℕ → Option ℕ) (close at : ℕ) (bs : List ℕ) → line_upto close bs ≡ 0 → AsItStands prefix close at bs
 stands_stopped prefix close at bs h = let e : at + 0 ≡ at = omega arith in rw h (rw e (sym (behind_nothing (title_of close (left_of prefix at bs)))))
@@ -175,7 +185,8 @@ stands_stopped prefix close at bs h = let e : at + 0 ≡ at = omega arith in rw 
 not_stopped : (close b : ℕ) → stops_title close b ≡ false → (is_line_end b ≡ false) × (ends_title close b ≡ false)
 not_stopped close b h = or_parts (is_line_end b) (ends_title close b) h
 
-stands_byte : (prefix : List ℕ → Option ℕ) (close at b : ℕ) (bs : List ℕ) → begins_escape (b ∷ bs) ≡ false → stops_title close b ≡ false → AsItStands prefix close (at + 1) bs → AsItStands prefix close at (b ∷ bs)
+stands_byte : (prefix : List ℕ → Option ℕ) (close at b : ℕ) (bs : List ℕ) → begins_escape (b ∷ bs) ≡ false → stops_title close b ≡ false
+    → AsItStands prefix close (at + 1) bs → AsItStands prefix close at (b ∷ bs)
 stands_byte prefix close at b bs e s f =
     let p = not_stopped close b s in
     let n : ℕ = line_upto close bs in
@@ -190,7 +201,8 @@ stands_byte prefix close at b bs e s f =
 escape_parts : (b p : ℕ) (bs : List ℕ) → begins_escape (b ∷ p ∷ bs) ≡ true → (is_line_end b ≡ false) × (is_line_end p ≡ false)
 escape_parts b p bs e = (grind (arith, nat_tests, e), grind (arith, nat_tests, e))
 
-stands_escape : (prefix : List ℕ → Option ℕ) (close at b p : ℕ) (bs : List ℕ) → begins_escape (b ∷ p ∷ bs) ≡ true → AsItStands prefix close (at + 1 + 1) bs → AsItStands prefix close at (b ∷ p ∷ bs)
+stands_escape : (prefix : List ℕ → Option ℕ) (close at b p : ℕ) (bs : List ℕ) → begins_escape (b ∷ p ∷ bs) ≡ true → AsItStands prefix close (at + 1 + 1) bs
+    → AsItStands prefix close at (b ∷ p ∷ bs)
 stands_escape prefix close at b p bs e f =
     let q = escape_parts b p bs e in
     let n : ℕ = line_upto close bs in
@@ -202,7 +214,8 @@ stands_escape prefix close at b p bs e f =
     ∙ ap (behind_text (b ∷ p ∷ [])) f
     ∙ behind_behind (b ∷ p ∷ []) (take n bs) (title_of close (left_of prefix (at + 1 + 1 + n) (drop n bs)))))
 
-stands_by : (s e : Bool) (prefix : List ℕ → Option ℕ) (close at b p : ℕ) (bs : List ℕ) → ClosesTitle close → stops_title close b ≡ s → begins_escape (b ∷ p ∷ bs) ≡ e → AsItStands prefix close (at + 1) (p ∷ bs) → AsItStands prefix close (at + 1 + 1) bs
+stands_by : (s e : Bool) (prefix : List ℕ → Option ℕ) (close at b p : ℕ) (bs : List ℕ) → ClosesTitle close → stops_title close b ≡ s
+    → begins_escape (b ∷ p ∷ bs) ≡ e → AsItStands prefix close (at + 1) (p ∷ bs) → AsItStands prefix close (at + 1 + 1) bs
     → AsItStands prefix close at (b ∷ p ∷ bs)
 stands_by s true prefix close at b p bs c h k f g = stands_escape prefix close at b p bs k g
 stands_by false false prefix close at b p bs c h k f g = stands_byte prefix close at b (p ∷ bs) k h f
@@ -211,7 +224,8 @@ stands_by true false prefix close at b p bs c h k f g = stands_stopped prefix cl
 alone : (b : ℕ) → begins_escape (b ∷ []) ≡ false
 alone b = last_by (b == 92)
 
-stands_last : (s : Bool) (prefix : List ℕ → Option ℕ) (close at b : ℕ) → stops_title close b ≡ s → AsItStands prefix close (at + 1) [] → AsItStands prefix close at (b ∷ [])
+stands_last : (s : Bool) (prefix : List ℕ → Option ℕ) (close at b : ℕ) → stops_title close b ≡ s → AsItStands prefix close (at + 1) []
+    → AsItStands prefix close at (b ∷ [])
 stands_last false prefix close at b h f = stands_byte prefix close at b [] (alone b) h f
 stands_last true prefix close at b h f = stands_stopped prefix close at (b ∷ []) (upto-stop (stops_title close) b [] (alone b) h)
 
@@ -219,7 +233,8 @@ pub as_it_stands : (prefix : List ℕ → Option ℕ) (close at : ℕ) (bs : Lis
 as_it_stands prefix close at [] c = stands_stopped prefix close at [] (upto-nil (stops_title close))
 as_it_stands prefix close at (b ∷ []) c = stands_last (stops_title close b) prefix close at b refl (as_it_stands prefix close (at + 1) [] c)
 as_it_stands prefix close at (b ∷ p ∷ bs) c =
-    stands_by (stops_title close b) (begins_escape (b ∷ p ∷ bs)) prefix close at b p bs c refl refl (as_it_stands prefix close (at + 1) (p ∷ bs) c) (as_it_stands prefix close (at + 1 + 1) bs c)
+    stands_by (stops_title close b) (begins_escape (b ∷ p ∷ bs)) prefix close at b p bs c refl refl (as_it_stands prefix close (at + 1) (p ∷ bs) c)
+    (as_it_stands prefix close (at + 1 + 1) bs c)
 
 -- behind a prefix
 joined_behind : (h : List ℕ → Option ℕ) (at n : ℕ) (bs : List ℕ) → joined h at n bs ≡ joined h (at + n) 0 (drop n bs)
@@ -229,7 +244,8 @@ joined_behind h at (suc n) [] = refl
 joined_behind h at (suc n) (b ∷ bs) = let e : at + suc n ≡ at + 1 + n = omega arith in rw e (joined_behind h (at + 1) n bs)
 
 -- no line feed comes first where none is first in the bytes
-no_feed_by : (t : Bool) (o : Option ℕ) (h : List ℕ → Option ℕ) (at b : ℕ) (bs : List ℕ) → ends_line b bs ≡ t → h bs ≡ o → (b == 10) ≡ false → begins 10 (bytes_of (joined h at 0 (b ∷ bs))) ≡ false
+no_feed_by : (t : Bool) (o : Option ℕ) (h : List ℕ → Option ℕ) (at b : ℕ) (bs : List ℕ) → ends_line b bs ≡ t → h bs ≡ o → (b == 10) ≡ false
+    → begins 10 (bytes_of (joined h at 0 (b ∷ bs))) ≡ false
 unfolding joined
 no_feed_by false o h at b bs e f g = rw e g
 no_feed_by true (Some n) h at b bs e f g = rw e (rw f g)
@@ -244,16 +260,19 @@ no_feed h at [] g = refl_nil h at
 no_feed h at (b ∷ bs) g = no_feed_by (ends_line b bs) (h bs) h at b bs refl refl g
 
 -- at a line end
-fed_10 : (prefix : List ℕ → Option ℕ) (at n : ℕ) (bs : List ℕ) → prefix bs ≡ Some n → left_of prefix at (10 ∷ bs) ≡ (at, 10) ∷ left_of prefix (at + 1 + n) (drop n bs)
+fed_10 : (prefix : List ℕ → Option ℕ) (at n : ℕ) (bs : List ℕ) → prefix bs ≡ Some n
+    → left_of prefix at (10 ∷ bs) ≡ (at, 10) ∷ left_of prefix (at + 1 + n) (drop n bs)
 unfolding left_of joined with_line_feeds
 fed_10 prefix at n bs f = rw f (ap (λ cs. (at, 10) ∷ with_line_feeds cs) (joined_behind prefix (at + 1) n bs))
 
-fed_13 : (prefix : List ℕ → Option ℕ) (at n : ℕ) (bs : List ℕ) → begins 10 bs ≡ false → prefix bs ≡ Some n → begins 10 (drop n bs) ≡ false → left_of prefix at (13 ∷ bs) ≡ (at, 10) ∷ left_of prefix (at + 1 + n) (drop n bs)
+fed_13 : (prefix : List ℕ → Option ℕ) (at n : ℕ) (bs : List ℕ) → begins 10 bs ≡ false → prefix bs ≡ Some n → begins 10 (drop n bs) ≡ false
+    → left_of prefix at (13 ∷ bs) ≡ (at, 10) ∷ left_of prefix (at + 1 + n) (drop n bs)
 unfolding left_of joined with_line_feeds
 fed_13 prefix at n bs h f g =
     rw h (rw f (rw (joined_behind prefix (at + 1) n bs) (rw (no_feed prefix (at + 1 + n) (drop n bs) g) refl)))
 
-fed_both : (prefix : List ℕ → Option ℕ) (at n : ℕ) (bs : List ℕ) → prefix bs ≡ Some n → left_of prefix at (13 ∷ 10 ∷ bs) ≡ (at + 1, 10) ∷ left_of prefix (at + 2 + n) (drop n bs)
+fed_both : (prefix : List ℕ → Option ℕ) (at n : ℕ) (bs : List ℕ) → prefix bs ≡ Some n
+    → left_of prefix at (13 ∷ 10 ∷ bs) ≡ (at + 1, 10) ∷ left_of prefix (at + 2 + n) (drop n bs)
 unfolding left_of joined with_line_feeds
 fed_both prefix at n bs f =
     let e : at + 1 + 1 ≡ at + 2 = omega arith in
@@ -267,7 +286,8 @@ GoesOn prefix close at n bs e =
     prefix (drop e bs) ≡ Some n → begins 10 (drop n (drop e bs)) ≡ false
     → title_of close (left_of prefix at bs) ≡ behind_text (10 ∷ []) (title_of close (left_of prefix (at + e + n) (drop n (drop e bs))))
 
-goes_on_by : (t u v : Bool) (prefix : List ℕ → Option ℕ) (close at n e b : ℕ) (bs : List ℕ) → ClosesTitle close → (b == 10) ≡ t → (b == 13) ≡ u → begins 10 bs ≡ v
+goes_on_by : (t u v : Bool) (prefix : List ℕ → Option ℕ) (close at n e b : ℕ) (bs : List ℕ) → ClosesTitle close → (b == 10) ≡ t → (b == 13) ≡ u
+    → begins 10 bs ≡ v
     → (if t then Some 1 else (if u then Some (if v then 2 else 1) else None)) ≡ Some e → GoesOn prefix close at n (b ∷ bs) e
 goes_on_by true u v prefix close at n e b bs c h k l f =
     let d : b ≡ 10 = eqb-true b 10 h in
@@ -285,7 +305,8 @@ goes_on_by false true true prefix close at n e b (x ∷ bs) c h k l f =
     subst (GoesOn prefix close at n (b ∷ x ∷ bs)) i (λ p q. rw d (rw y (fed_title close (at + 1) _ _ c (fed_both prefix at n bs p))))
 goes_on_by false false v prefix close at n e b bs c h k l f = cc
 
-goes_on : (prefix : List ℕ → Option ℕ) (close at n e : ℕ) (bs : List ℕ) → ClosesTitle close → eol_len bs ≡ Some e → 0 < length bs → GoesOn prefix close at n bs e
+goes_on : (prefix : List ℕ → Option ℕ) (close at n e : ℕ) (bs : List ℕ) → ClosesTitle close → eol_len bs ≡ Some e → 0 < length bs
+    → GoesOn prefix close at n bs e
 goes_on prefix close at n e [] c h l = absurd (omega arith)
 goes_on prefix close at n e (b ∷ bs) c h l = goes_on_by (b == 10) (b == 13) (begins 10 bs) prefix close at n e b bs c refl refl refl h
 
@@ -339,7 +360,8 @@ first_last false close b h =
     let k : line_upto close (b ∷ []) ≡ 1 = (let v = upto-byte (stops_title close) b [] (alone b) h in let z = upto-nil (stops_title close) in omega arith) in
     subst (λ n. FirstStops close (drop n (b ∷ []))) (sym k) tt
 
-first_by : (s e : Bool) (close b p : ℕ) (bs : List ℕ) → stops_title close b ≡ s → begins_escape (b ∷ p ∷ bs) ≡ e → FirstStops close (drop (line_upto close (p ∷ bs)) (p ∷ bs)) → FirstStops close (drop (line_upto close bs) bs)
+first_by : (s e : Bool) (close b p : ℕ) (bs : List ℕ) → stops_title close b ≡ s → begins_escape (b ∷ p ∷ bs) ≡ e
+    → FirstStops close (drop (line_upto close (p ∷ bs)) (p ∷ bs)) → FirstStops close (drop (line_upto close bs) bs)
     → FirstStops close (drop (line_upto close (b ∷ p ∷ bs)) (b ∷ p ∷ bs))
 first_by s true close b p bs h k f g =
     let u : line_upto close (b ∷ p ∷ bs) ≡ suc (suc (line_upto close bs)) = (let v = upto-escape (stops_title close) b p bs k in omega arith) in
@@ -353,12 +375,14 @@ first_by true false close b p bs h k f g =
 first_stops : (close : ℕ) (bs : List ℕ) → FirstStops close (drop (line_upto close bs) bs)
 first_stops close [] = subst (λ (n : ℕ). FirstStops close (drop n [])) (sym (upto-nil (stops_title close))) tt
 first_stops close (b ∷ []) = first_last (stops_title close b) close b refl
-first_stops close (b ∷ p ∷ bs) = first_by (stops_title close b) (begins_escape (b ∷ p ∷ bs)) close b p bs refl refl (first_stops close (p ∷ bs)) (first_stops close bs)
+first_stops close (b ∷ p ∷ bs) =
+    first_by (stops_title close b) (begins_escape (b ∷ p ∷ bs)) close b p bs refl refl (first_stops close (p ∷ bs)) (first_stops close bs)
 
 abbrev some_end : ℕ → Option ℕ
 some_end n = Some n
 
-no_eol_by : (t u : Bool) (b : ℕ) (bs : List ℕ) → (b == 10) ≡ t → (b == 13) ≡ u → (if t then some_end 1 else (if u then some_end (if begins 10 bs then 2 else 1) else None)) ≡ None → is_line_end b ≡ false
+no_eol_by : (t u : Bool) (b : ℕ) (bs : List ℕ) → (b == 10) ≡ t → (b == 13) ≡ u
+    → (if t then some_end 1 else (if u then some_end (if begins 10 bs then 2 else 1) else None)) ≡ None → is_line_end b ≡ false
 no_eol_by true u b bs h k f = cc
 no_eol_by false true b bs h k f = cc
 no_eol_by false false b bs h k f = rw h (rw k refl)
@@ -382,57 +406,72 @@ none_mapped None k h = refl
 none_mapped (Some n) k h = cc
 
 -- neither a line end nor what ends the title stands there
-other_stops : (prefix : List ℕ → Option ℕ) (close at : ℕ) (xs : List ℕ) → ClosesTitle close → FirstStops close xs → begins close xs ≡ false → eol_len xs ≡ None → title_of close (left_of prefix at xs) ≡ None
+other_stops : (prefix : List ℕ → Option ℕ) (close at : ℕ) (xs : List ℕ) → ClosesTitle close → FirstStops close xs → begins close xs ≡ false
+    → eol_len xs ≡ None → title_of close (left_of prefix at xs) ≡ None
 other_stops prefix close at [] c f g h = ap (title_of close) (left-nil prefix at) ∙ title-nil close
 other_stops prefix close at (b ∷ bs) c f g h =
     let p = no_eol b bs h in
     let e : ends_title close b ≡ true = or_right (is_line_end b) (ends_title close b) p f in
-    ap (title_of close) (left-byte prefix at b bs p) ∙ title-stop close at b (left_of prefix (at + 1) bs) (no_escape b (bytes_of (left_of prefix (at + 1) bs)) (stop-plain close b c f)) e ∙ (rw g refl)
+    ap (title_of close) (left-byte prefix at b bs p)
+    ∙ title-stop close at b (left_of prefix (at + 1) bs) (no_escape b (bytes_of (left_of prefix (at + 1) bs)) (stop-plain close b c f)) e ∙ (rw g refl)
 
 -- the title ends there
-pub ends_there : (prefix : List ℕ → Option ℕ) (close at : ℕ) (xs : List ℕ) → ClosesTitle close → begins close xs ≡ true → title_of close (left_of prefix at xs) ≡ Some (at + 1, [])
+pub ends_there : (prefix : List ℕ → Option ℕ) (close at : ℕ) (xs : List ℕ) → ClosesTitle close → begins close xs ≡ true
+    → title_of close (left_of prefix at xs) ≡ Some (at + 1, [])
 ends_there prefix close at [] c g = cc
 ends_there prefix close at (b ∷ bs) c g =
     let d : b ≡ close = eqb-true b close g in
     let p : is_line_end b ≡ false = rw d (closes-plain close c) in
     let e : ends_title close b ≡ true = rw g refl in
-    ap (title_of close) (left-byte prefix at b bs p) ∙ title-stop close at b (left_of prefix (at + 1) bs) (no_escape b (bytes_of (left_of prefix (at + 1) bs)) (stop-plain close b c (stops_by_end close b e))) e ∙ (rw g refl)
+    ap (title_of close) (left-byte prefix at b bs p)
+    ∙ title-stop close at b (left_of prefix (at + 1) bs) (no_escape b (bytes_of (left_of prefix (at + 1) bs))
+    (stop-plain close b c (stops_by_end close b e))) e
+    ∙ (rw g refl)
 
-break_by : (o : Option ℕ) (prefix : List ℕ → Option ℕ) (close at : ℕ) (text : List ℕ) → ClosesTitle close → FirstStops close (drop at text) → begins close (drop at text) ≡ false → eol_len (drop at text) ≡ o
+break_by : (o : Option ℕ) (prefix : List ℕ → Option ℕ) (close at : ℕ) (text : List ℕ) → ClosesTitle close → FirstStops close (drop at text)
+    → begins close (drop at text) ≡ false → eol_len (drop at text) ≡ o
     → option_and_then (λ e. option_map (λ n. at + e + n) (prefix (drop (at + e) text))) o ≡ None → title_of close (left_of prefix at (drop at text)) ≡ None
 break_by None prefix close at text c f g h k = other_stops prefix close at (drop at text) c f g h
 break_by (Some e) prefix close at text c f g h k =
     stops_there prefix close at e (drop at text) c h (ap prefix (drop-drop e at text) ∙ none_mapped (prefix (drop (at + e) text)) (at + e) k)
 
-pub no_break : (prefix : List ℕ → Option ℕ) (close from at : ℕ) (text : List ℕ) → ClosesTitle close → at ≡ from + unescaped_upto (stops_title close) 0 (drop from text) → begins close (drop at text) ≡ false → None ≡ goes_on_at prefix text at
+pub no_break : (prefix : List ℕ → Option ℕ) (close from at : ℕ) (text : List ℕ) → ClosesTitle close
+    → at ≡ from + unescaped_upto (stops_title close) 0 (drop from text) → begins close (drop at text) ≡ false → None ≡ goes_on_at prefix text at
     → title_of close (left_of prefix at (drop at text)) ≡ None
 no_break prefix close from at text c is g k =
-    let s : FirstStops close (drop at text) = subst (FirstStops close) (drop-drop (line_upto close (drop from text)) from text ∙ ap (λ n. drop n text) (sym is)) (first_stops close (drop from text)) in
+    let s : FirstStops close (drop at text) = subst (FirstStops close) (drop-drop (line_upto close (drop from text)) from text ∙ ap (λ n. drop n text)
+    (sym is)) (first_stops close (drop from text)) in
     break_by (eol_len (drop at text)) prefix close at text c s g refl (sym k)
 
-some_by_break : (o q : Option ℕ) (prefix : List ℕ → Option ℕ) (close at next e : ℕ) (text : List ℕ) → ClosesTitle close → 0 < length (drop at text) → eol_len (drop at text) ≡ Some e → prefix (drop (at + e) text) ≡ q → option_map (λ n. at + e + n) q ≡ Some next → begins 10 (drop next text) ≡ false
+some_by_break : (o q : Option ℕ) (prefix : List ℕ → Option ℕ) (close at next e : ℕ) (text : List ℕ) → ClosesTitle close → 0 < length (drop at text)
+    → eol_len (drop at text) ≡ Some e → prefix (drop (at + e) text) ≡ q → option_map (λ n. at + e + n) q ≡ Some next → begins 10 (drop next text) ≡ false
     → title_of close (left_of prefix at (drop at text)) ≡ behind_text (10 ∷ []) (title_of close (left_of prefix next (drop next text)))
 some_by_break o None prefix close at next e text c l h p k g = cc
 some_by_break o (Some n) prefix close at next e text c l h p k g =
     let i : at + e + n ≡ next = cc in
     let d : drop n (drop e (drop at text)) ≡ drop (at + e + n) text = ap (drop n) (drop-drop e at text) ∙ drop-drop n (at + e) text in
-    let a = goes_on prefix close at n e (drop at text) c h l (ap prefix (drop-drop e at text) ∙ p) (ap (begins 10) d ∙ ap (λ k. begins 10 (drop k text)) i ∙ g) in
-    a ∙ ap (λ xs. behind_text (10 ∷ []) (title_of close (left_of prefix (at + e + n) xs))) d ∙ ap (λ k. behind_text (10 ∷ []) (title_of close (left_of prefix k (drop k text)))) i
+    let a = goes_on prefix close at n e (drop at text) c h l (ap prefix (drop-drop e at text) ∙ p)
+    (ap (begins 10) d ∙ ap (λ k. begins 10 (drop k text)) i ∙ g) in
+    a ∙ ap (λ xs. behind_text (10 ∷ []) (title_of close (left_of prefix (at + e + n) xs))) d
+    ∙ ap (λ k. behind_text (10 ∷ []) (title_of close (left_of prefix k (drop k text)))) i
 
-some_break_by : (o : Option ℕ) (prefix : List ℕ → Option ℕ) (close at next : ℕ) (text : List ℕ) → ClosesTitle close → 0 < length (drop at text) → eol_len (drop at text) ≡ o
+some_break_by : (o : Option ℕ) (prefix : List ℕ → Option ℕ) (close at next : ℕ) (text : List ℕ) → ClosesTitle close → 0 < length (drop at text)
+    → eol_len (drop at text) ≡ o
     → option_and_then (λ e. option_map (λ n. at + e + n) (prefix (drop (at + e) text))) o ≡ Some next → begins 10 (drop next text) ≡ false
     → title_of close (left_of prefix at (drop at text)) ≡ behind_text (10 ∷ []) (title_of close (left_of prefix next (drop next text)))
 some_break_by None prefix close at next text c l h k g = cc
 some_break_by (Some e) prefix close at next text c l h k g = some_by_break (Some e) (prefix (drop (at + e) text)) prefix close at next e text c l h refl k g
 
-pub some_break : (prefix : List ℕ → Option ℕ) (close at next : ℕ) (text : List ℕ) → ClosesTitle close → at < length text → Some next ≡ goes_on_at prefix text at → begins 10 (drop next text) ≡ false
+pub some_break : (prefix : List ℕ → Option ℕ) (close at next : ℕ) (text : List ℕ) → ClosesTitle close → at < length text
+    → Some next ≡ goes_on_at prefix text at → begins 10 (drop next text) ≡ false
     → title_of close (left_of prefix at (drop at text)) ≡ behind_text (10 ∷ []) (title_of close (left_of prefix next (drop next text)))
 some_break prefix close at next text c l k g =
     let d = length-drop at text in
     some_break_by (eol_len (drop at text)) prefix close at next text c (omega arith) refl (sym k) g
 
 -- the line from one offset up to another
-pub line_is : (prefix : List ℕ → Option ℕ) (close from at : ℕ) (text : List ℕ) → ClosesTitle close → at ≡ from + unescaped_upto (stops_title close) 0 (drop from text)
+pub line_is : (prefix : List ℕ → Option ℕ) (close from at : ℕ) (text : List ℕ) → ClosesTitle close
+    → at ≡ from + unescaped_upto (stops_title close) 0 (drop from text)
     → title_of close (left_of prefix from (drop from text)) ≡ behind_text (part text from at) (title_of close (left_of prefix at (drop at text)))
 line_is prefix close from at text c is =
     let k : ℕ = line_upto close (drop from text) in
@@ -457,9 +496,11 @@ stop-low close b (inl h) s = low_39 b (ap (λ c. stops_title c b) (sym h) ∙ s)
 stop-low close b (inr (inl h)) s = low_34 b (ap (λ c. stops_title c b) (sym h) ∙ s)
 stop-low close b (inr (inr h)) s = low_41 b (ap (λ c. stops_title c b) (sym h) ∙ s)
 
-pub stop_place : (close from at : ℕ) (text : List ℕ) → ClosesTitle close → at ≡ from + unescaped_upto (stops_title close) 0 (drop from text) → at ≤ length text → IsCharBoundary text at
+pub stop_place : (close from at : ℕ) (text : List ℕ) → ClosesTitle close → at ≡ from + unescaped_upto (stops_title close) 0 (drop from text)
+    → at ≤ length text → IsCharBoundary text at
 stop_place close from at text c is l =
-    let s : FirstStops close (drop at text) = subst (FirstStops close) (drop-drop (line_upto close (drop from text)) from text ∙ ap (λ n. drop n text) (sym is)) (first_stops close (drop from text)) in (
+    let s : FirstStops close (drop at text) = subst (FirstStops close) (drop-drop (line_upto close (drop from text)) from text ∙ ap (λ n. drop n text)
+    (sym is)) (first_stops close (drop from text)) in (
       l,
       λ h k. (
           let f : stops_title close (slice_index text at) ≡ true = subst (FirstStops close) (drop_more text at 0 h) s in
@@ -468,26 +509,34 @@ stop_place close from at text c is l =
     )
 
 -- the title that a line ends
-pub title_found : (prefix : List ℕ → Option ℕ) (close from at : ℕ) (w text : List ℕ) → ClosesTitle close → behind_text w (title_of close (left_of prefix from (drop from text))) ≡ title_text prefix close text
-    → at ≡ from + unescaped_upto (stops_title close) 0 (drop from text) → begins close (drop at text) ≡ true → title_text prefix close text ≡ Some (at + 1, w ++ part text from at)
+pub title_found : (prefix : List ℕ → Option ℕ) (close from at : ℕ) (w text : List ℕ) → ClosesTitle close
+    → behind_text w (title_of close (left_of prefix from (drop from text))) ≡ title_text prefix close text
+    → at ≡ from + unescaped_upto (stops_title close) 0 (drop from text) → begins close (drop at text) ≡ true
+    → title_text prefix close text ≡ Some (at + 1, w ++ part text from at)
 title_found prefix close from at w text c so is g =
     sym so ∙ ap (behind_text w) (line_is prefix close from at text c is ∙ ap (behind_text (part text from at)) (ends_there prefix close at (drop at text) c g))
     ∙ ap (λ xs. Some (at + 1, w ++ xs)) (append-nil (part text from at))
 
-pub no_title : (prefix : List ℕ → Option ℕ) (close from at : ℕ) (w text : List ℕ) → ClosesTitle close → behind_text w (title_of close (left_of prefix from (drop from text))) ≡ title_text prefix close text
-    → at ≡ from + unescaped_upto (stops_title close) 0 (drop from text) → begins close (drop at text) ≡ false → None ≡ goes_on_at prefix text at → title_text prefix close text ≡ None
+pub no_title : (prefix : List ℕ → Option ℕ) (close from at : ℕ) (w text : List ℕ) → ClosesTitle close
+    → behind_text w (title_of close (left_of prefix from (drop from text))) ≡ title_text prefix close text
+    → at ≡ from + unescaped_upto (stops_title close) 0 (drop from text) → begins close (drop at text) ≡ false → None ≡ goes_on_at prefix text at
+    → title_text prefix close text ≡ None
 no_title prefix close from at w text c so is g k =
     sym so ∙ ap (behind_text w) (line_is prefix close from at text c is ∙ ap (behind_text (part text from at)) (no_break prefix close from at text c is g k))
 
 -- one more line
-pub title_further : (prefix : List ℕ → Option ℕ) (close from at next : ℕ) (v w text : List ℕ) → ClosesTitle close → behind_text w (title_of close (left_of prefix from (drop from text))) ≡ title_text prefix close text
-    → at ≡ from + unescaped_upto (stops_title close) 0 (drop from text) → at < length text → Some next ≡ goes_on_at prefix text at → begins 10 (drop next text) ≡ false → v ≡ (w ++ part text from at) ++ 10 ∷ []
+pub title_further : (prefix : List ℕ → Option ℕ) (close from at next : ℕ) (v w text : List ℕ) → ClosesTitle close
+    → behind_text w (title_of close (left_of prefix from (drop from text))) ≡ title_text prefix close text
+    → at ≡ from + unescaped_upto (stops_title close) 0 (drop from text) → at < length text → Some next ≡ goes_on_at prefix text at
+    → begins 10 (drop next text) ≡ false → v ≡ (w ++ part text from at) ++ 10 ∷ []
     → behind_text v (title_of close (left_of prefix next (drop next text))) ≡ title_text prefix close text
 title_further prefix close from at next v w text c so is l k g e =
     let x = title_of close (left_of prefix next (drop next text)) in
     ap (λ ys. behind_text ys x) (e ∙ append_assoc w (part text from at) (10 ∷ []))
     ∙ sym (behind_behind w (part text from at ++ 10 ∷ []) x)
-    ∙ ap (behind_text w) (sym (behind_behind (part text from at) (10 ∷ []) x) ∙ sym (line_is prefix close from at text c is ∙ ap (behind_text (part text from at)) (some_break prefix close at next text c l k g)))
+   
+    ∙ ap (behind_text w) (sym (behind_behind (part text from at) (10 ∷ []) x) ∙ sym (line_is prefix close from at text c is ∙ ap
+    (behind_text (part text from at)) (some_break prefix close at next text c l k g)))
     ∙ so
 
 pub any_last : (w : List ℕ) → list_any is_line_end (w ++ 10 ∷ []) ≡ true
@@ -530,6 +579,7 @@ pub answer_none : (o p : Option (ℕ × List ℕ)) → IsAnswer o None → p ≡
 answer_none None p h e = rw e refl
 answer_none (Some t) p h e = absurd h
 
-pub answer_some : (o p : Option (ℕ × List ℕ)) (n : ℕ) (title : CowStr) → IsAnswer o (Some (n, title)) → p ≡ option_map (λ (t : ℕ × List ℕ). (t.0 + 1, t.1)) o → IsAnswer p (Some (n + 1, title))
+pub answer_some : (o p : Option (ℕ × List ℕ)) (n : ℕ) (title : CowStr) → IsAnswer o (Some (n, title)) → p ≡ option_map (λ (t : ℕ × List ℕ). (t.0 + 1, t.1)) o
+    → IsAnswer p (Some (n + 1, title))
 answer_some None p n title h e = cc
 answer_some (Some t) p n title h e = rw e (ap (λ k. k + 1) h.0, h.1)

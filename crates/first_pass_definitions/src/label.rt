@@ -16,13 +16,14 @@ use first_pass_text::interrupt::scan_line_crossed;
 use first_pass_tree::forest::Tree;
 use std::alloc::{AllocError, Global};
 
-/// The label behind the `[` that stands before the offset `start` into the text: how many bytes it has from there on,
-/// its `]` too, and its text, in which each run of white space is one space and backslashes stay; in a table one directly
-/// before a pipe is dropped. It is borrowed where nothing changes. It goes on over the lines that a definition crosses,
-/// without what they have of the prefixes of the open containers, and without up to four columns behind these.
+/// The label behind the `[` that stands before the offset `start` into the text: how many bytes it has from there
+/// on, its `]` too, and its text, in which each run of white space is one space and backslashes stay; in a table one
+/// directly before a pipe is dropped. It is borrowed where nothing changes. It goes on over the lines that a
+/// definition crosses, without what they have of the prefixes of the open containers, and without up to four columns
+/// behind these.
 ///
-/// `None` where there is no label: an unescaped `[`, a line that ends the definition or the text's end comes first, all is
-/// white space, or there are more than 999 characters. The error is want of memory (CommonMark 4.7).
+/// `None` where there is no label: an unescaped `[`, a line that ends the definition or the text's end comes first,
+/// all is white space, or there are more than 999 characters. The error is want of memory (CommonMark 4.7).
 pub fn parse_refdef_label<'a>(
     alloc: Global,
     source: Source<'a>,
@@ -49,8 +50,8 @@ pub fn parse_refdef_label<'a>(
     )
 }
 
-// How many bytes the line that `bytes` begin with, all that the text has from the line on, has before the place where a
-// label goes on in it; `None` where it doesn't.
+// How many bytes the line that `bytes` begin with, all that the text has from the line on, has before the place
+// where a label goes on in it; `None` where it doesn't.
 fn scan_label_prefix(
     alloc: Global,
     source: Source<'_>,

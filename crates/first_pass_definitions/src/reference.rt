@@ -21,9 +21,10 @@ use first_pass_open::source::Source;
 use first_pass_tree::forest::Tree;
 use std::alloc::{AllocError, Global};
 
-/// The link reference definition that begins at the offset `start` into the text: how many bytes it has, up to behind its
-/// destination or title, its label, and what it says, with a span from `start` on. The tree is that of the open blocks: its
-/// containers have prefixes in the lines that the definition crosses, and in a table backslashes before pipes are dropped.
+/// The link reference definition that begins at the offset `start` into the text: how many bytes it has, up to
+/// behind its destination or title, its label, and what it says, with a span from `start` on. The tree is that of
+/// the open blocks: its containers have prefixes in the lines that the definition crosses, and in a table
+/// backslashes before pipes are dropped.
 ///
 /// `None` where none begins. The error is want of memory (CommonMark 4.7).
 #[inline(always)]
@@ -41,7 +42,8 @@ pub fn parse_refdef_total<'a>(
     ensures fits { IfOk result (λ answer. IfSome answer (λ found.
         (0 < found.0) × IsCharBoundary source.entry.text.now (start + found.0))) }
     ensures borrowed { IfOk result (λ answer. IfSome answer (λ found. (n : ℕ)
-        → IsLabelLen (path_of tree.now) (in_table tree.now.nodes tree.now.spine) (drop (start + 1) source.entry.text.now) n
+        → IsLabelLen (path_of tree.now) (in_table tree.now.nodes tree.now.spine)
+        (drop (start + 1) source.entry.text.now) n
         → text_of found.1 ≡ take n (drop (start + 1) source.entry.text.now)
         → Borrows (take n (drop (start + 1) source.entry.text.now)) found.1)) }
 {
@@ -67,7 +69,8 @@ fn parse_behind_bracket<'a>(
     ensures fits { IfOk result (λ answer. IfSome answer (λ found.
         (0 < found.0) × IsCharBoundary source.entry.text.now (start + found.0))) }
     ensures borrowed { IfOk result (λ answer. IfSome answer (λ found. (n : ℕ)
-        → IsLabelLen (path_of tree.now) (in_table tree.now.nodes tree.now.spine) (drop (start + 1) source.entry.text.now) n
+        → IsLabelLen (path_of tree.now) (in_table tree.now.nodes tree.now.spine)
+        (drop (start + 1) source.entry.text.now) n
         → text_of found.1 ≡ take n (drop (start + 1) source.entry.text.now)
         → Borrows (take n (drop (start + 1) source.entry.text.now)) found.1)) }
 {

@@ -16,8 +16,8 @@ use std::alloc::{AllocError, Global};
 /// The white space at the offset `start` into the text, with at most one line end: the offset behind it, and how many
 /// line ends it has, 0 or 1. Behind a line end it goes on where the definition goes on in the next line.
 ///
-/// `None` where a second line end follows, or where no line follows in which the definition goes on. The error is want of
-/// memory (CommonMark 4.7).
+/// `None` where a second line end follows, or where no line follows in which the definition goes on. The error is
+/// want of memory (CommonMark 4.7).
 pub fn scan_refdef_space(
     alloc: Global,
     source: Source<'_>,
@@ -26,7 +26,8 @@ pub fn scan_refdef_space(
 ) -> Result<Option<(usize, usize)>, AllocError>
     requires { IsCharBoundary source.text.now start }
     ensures value { IfOk result (λ answer.
-        answer ≡ option_map (λ s. (start + s.0, s.1)) (space_at (path_of tree.now) (drop start source.entry.text.now))) }
+        answer ≡ option_map (λ s. (start + s.0, s.1))
+        (space_at (path_of tree.now) (drop start source.entry.text.now))) }
     ensures place { IfOk result (λ answer. IfSome answer (λ s. IsCharBoundary source.entry.text.now s.0)) }
 {
     source.is_short();

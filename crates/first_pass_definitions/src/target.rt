@@ -27,12 +27,12 @@ use std::boxed::BoxedStr;
 // How deep parentheses are nested in a destination at most.
 const DEEPEST_NESTING: usize = 32;
 
-/// What a definition has behind its colon, before the offset `start` into the text: white space, a destination, and white
-/// space and a title or none. Answers how many bytes it has from `start` on, and the definition with its destination and
-/// title unescaped, whose span begins at `span_start`.
+/// What a definition has behind its colon, before the offset `start` into the text: white space, a destination, and
+/// white space and a title or none. Answers how many bytes it has from `start` on, and the definition with its
+/// destination and title unescaped, whose span begins at `span_start`.
 ///
-/// `None` where there is no destination, where something touches it, or where behind it neither a title nor a blank rest
-/// of its line stands. The error is want of memory (CommonMark 4.7).
+/// `None` where there is no destination, where something touches it, or where behind it neither a title nor a blank
+/// rest of its line stands. The error is want of memory (CommonMark 4.7).
 pub fn scan_refdef<'a>(
     alloc: Global,
     source: Source<'a>,
@@ -41,7 +41,8 @@ pub fn scan_refdef<'a>(
     start: usize,
 ) -> Result<Option<(usize, LinkDef<'a>)>, AllocError>
     requires { IsCharBoundary source.text.now start }
-    ensures value { IfOk result (λ answer. MatchOption (target_at (path_of tree.now) (drop start source.entry.text.now))
+    ensures value { IfOk result (λ answer. MatchOption
+        (target_at (path_of tree.now) (drop start source.entry.text.now))
         (answer ≡ None)
         (λ target. IsSomeAnd answer
         (IsTarget (in_table tree.now.nodes tree.now.spine) span_start start target))) }
@@ -92,8 +93,8 @@ fn scan_behind_destination<'a>(
     Ok(None)
 }
 
-// The title behind a destination that ends at the offset `at`, which white space parts from it and behind which the rest
-// of its line is blank: the offset behind it, and its text.
+// The title behind a destination that ends at the offset `at`, which white space parts from it and behind which the
+// rest of its line is blank: the offset behind it, and its text.
 fn scan_title_behind<'a>(
     alloc: Global,
     source: Source<'a>,
@@ -101,7 +102,8 @@ fn scan_title_behind<'a>(
     at: usize,
 ) -> Result<Option<(usize, CowStr<'a>)>, AllocError>
     requires { IsCharBoundary source.text.now at }
-    ensures value { IfOk result (λ answer. MatchOption (title_behind (path_of tree.now) (drop at source.entry.text.now))
+    ensures value { IfOk result (λ answer. MatchOption
+        (title_behind (path_of tree.now) (drop at source.entry.text.now))
         (answer ≡ None)
         (λ title. IsSomeAnd answer (λ found. (found.0 ≡ at + title.0) × IsReadText title.1 found.1))) }
     ensures fits { IfOk result (λ answer. IfSome answer (λ found.

@@ -25,13 +25,13 @@ use first_pass_text::interrupt::scan_line_crossed;
 use first_pass_tree::forest::Tree;
 use std::alloc::{AllocError, Global};
 
-/// The title that `text` begins with, all that the whole text has from a place on: how many bytes it has, what begins and
-/// ends it too (`'..'`, `".."` or `(..)`), and what stands between, not yet unescaped. It goes on over the lines that a
-/// definition crosses, each without what stands before its text, and each line end is one `\n`. Where no line is crossed
-/// it is borrowed, and no memory is taken.
+/// The title that `text` begins with, all that the whole text has from a place on: how many bytes it has, what
+/// begins and ends it too (`'..'`, `".."` or `(..)`), and what stands between, not yet unescaped. It goes on over
+/// the lines that a definition crosses, each without what stands before its text, and each line end is one `\n`.
+/// Where no line is crossed it is borrowed, and no memory is taken.
 ///
-/// `None` where there is no title: a blank line, a line that ends the definition or the text's end comes before what ends
-/// it, or in parentheses an unescaped `(`. The error is want of memory (CommonMark 4.7, 6.3).
+/// `None` where there is no title: a blank line, a line that ends the definition or the text's end comes before what
+/// ends it, or in parentheses an unescaped `(`. The error is want of memory (CommonMark 4.7, 6.3).
 pub fn scan_refdef_title<'t>(
     alloc: Global,
     source: Source<'_>,
@@ -124,8 +124,8 @@ fn stops_title(byte: u8, close: u8) -> bool
     is_line_end(byte) || byte == close || close == b')' && byte == b'('
 }
 
-// The offset at which a title goes on behind the line end at the offset `at`; `None` where no line ends there, or where
-// the title doesn't go on.
+// The offset at which a title goes on behind the line end at the offset `at`; `None` where no line ends there, or
+// where the title doesn't go on.
 fn scan_title_break(
     alloc: Global,
     source: Source<'_>,
@@ -150,8 +150,8 @@ fn scan_title_break(
     }
 }
 
-// How many bytes the line that `bytes` begin with, all that the text has from the line on, has before its text, where a
-// title goes on in it.
+// How many bytes the line that `bytes` begin with, all that the text has from the line on, has before its text,
+// where a title goes on in it.
 fn scan_title_prefix(
     alloc: Global,
     source: Source<'_>,
@@ -185,7 +185,8 @@ fn finish<'t>(
     requires order { from ≤ at }
     requires from { IsCharBoundary text.now from }
     requires at { IsCharBoundary text.now at }
-    requires lines { (from ≡ 0 → string_bytes written ≡ []) × (0 < from → list_any is_line_end (string_bytes written) ≡ true) }
+    requires nothing { from ≡ 0 → string_bytes written ≡ [] }
+    requires lines { 0 < from → list_any is_line_end (string_bytes written) ≡ true }
     ensures value { IfOk result (λ title. text_of title ≡ string_bytes written ++ part text.now from at) }
     ensures borrowed { IfOk result (λ title.
         list_any is_line_end (text_of title) ≡ false → Borrows (text_of title) title) }

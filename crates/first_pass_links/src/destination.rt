@@ -102,8 +102,8 @@ fn ends_run(byte: u8) -> bool
     byte.is_ascii_control() || byte == b' '
 }
 
-/// How many bytes stand together at the start of `bytes`, which are not empty: a backslash escape has two, any other byte
-/// stands alone. CommonMark 2.4.
+/// How many bytes stand together at the start of `bytes`, which are not empty: a backslash escape has two, any other
+/// byte stands alone. CommonMark 2.4.
 pub fn unit_len(bytes: &[u8]) -> usize
     requires { 0 < length bytes.now }
     ensures value { result ≡ (if begins_escape bytes.now then 2 else 1) }

@@ -38,7 +38,8 @@ where
     F: Fn(&[u8]) -> Result<Option<usize>, AllocError> + Drop,
     requires callable { F.IsAlwaysCallable linebreak_handler }
     requires places { AnswersPlaces text.now (F.post linebreak_handler) }
-    ensures value { IfOk result (λ answer. (prefix : List ℕ → Option ℕ) → AnswersWith text.now prefix (F.post linebreak_handler)
+    ensures value { IfOk result (λ answer. (prefix : List ℕ → Option ℕ)
+        → AnswersWith text.now prefix (F.post linebreak_handler)
         → MatchOption (label_at prefix is_in_table text.now)
         (answer ≡ None)
         (λ label. IsSomeAnd answer (λ found. (found.0 ≡ label.0) × (text_of found.1 ≡ label.1)))) }

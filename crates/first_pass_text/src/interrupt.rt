@@ -207,8 +207,8 @@ fn scan_front<'a>(source: Source<'a>, tree: &Tree<Item>, start: usize) -> (bool,
     (kept == tree.spine_len(), line_start)
 }
 
-// Whether what is left of a line behind so many columns of indentation, but 4 where there are more, is the underline of
-// a setext heading (CommonMark 4.3).
+// Whether what is left of a line behind so many columns of indentation, but 4 where there are more, is the underline
+// of a setext heading (CommonMark 4.3).
 fn is_underline(bytes: &[u8], columns: usize) -> bool
     ensures { result ≡ (nat_lt columns 4 && is_some (setext_underline bytes.now)) }
 {
@@ -245,10 +245,10 @@ fn scan_definition_end(
     Ok(is_underline(text.left(), columns))
 }
 
-/// What is left of the line that begins at the offset `start` where a link reference definition, or with `in_label` its
-/// label, goes on in it: behind what the line has of the prefixes of the open containers, and behind up to four columns.
-/// `None` where it doesn't: where the line ends a paragraph, or is the underline of a setext heading; to a label a line
-/// is one only where it goes on with all open containers (CommonMark 4.7).
+/// What is left of the line that begins at the offset `start` where a link reference definition, or with `in_label`
+/// its label, goes on in it: behind what the line has of the prefixes of the open containers, and behind up to four
+/// columns. `None` where it doesn't: where the line ends a paragraph, or is the underline of a setext heading; to a
+/// label a line is one only where it goes on with all open containers (CommonMark 4.7).
 #[tactic(auto, unfolding(first_pass_grammar::specs::Definitions::crossed))]
 pub fn scan_line_crossed<'a>(
     alloc: Global,

@@ -27,9 +27,9 @@ pub fn answer_definitions(
     Ok(true)
 }
 
-/// How many bytes a definition has at the place that is given second, its label, destination and title. The first value
-/// is the path of the open containers, the outermost first: a digit 1 is a block quote, any other a list item of so many
-/// columns.
+/// How many bytes a definition has at the place that is given second, its label, destination and title. The first
+/// value is the path of the open containers, the outermost first: a digit 1 is a block quote, any other a list item
+/// of so many columns.
 fn append_reference(
     alloc: Global,
     text: &str,

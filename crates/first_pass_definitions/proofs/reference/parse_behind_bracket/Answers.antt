@@ -7,35 +7,44 @@ use Rattle.first_pass_definitions.proofs.reference.parse_behind_bracket.Goals.{A
 
 pub parse_refdef_label-requires : goal.parse_refdef_label-requires
 parse_refdef_label-requires c =
-    behind_byte 91 c.args.source.text.now c.args.start (omega arith) (subst IsUtf8 c.as_bytes-bytes.ensures.value c.as_bytes-bytes.ensures.utf8) c.requires.bracket
+    behind_byte 91 c.args.source.text.now c.args.start (omega arith) (subst IsUtf8 c.as_bytes-bytes.ensures.value c.as_bytes-bytes.ensures.utf8)
+    c.requires.bracket
 
 -- whether a colon stands behind the label
 colon_is : (c : After-begins) → begins 58 (drop (c.args.start + 1 + c.in-Some.label_len) c.args.source.text.now) ≡ c.begins.result
-colon_is c = ap (begins 58) (sym (c.rest_of.ensures.value ∙ ap (drop (c.args.start + 1 + c.in-Some.label_len)) c.as_bytes-bytes.ensures.value)) ∙ sym c.begins.ensures.value
+colon_is c =
+    ap (begins 58) (sym (c.rest_of.ensures.value ∙ ap (drop (c.args.start + 1 + c.in-Some.label_len)) c.as_bytes-bytes.ensures.value)) ∙ sym
+    c.begins.ensures.value
 
 pub returns-in_default-clause-value : goal.returns-in_default-clause-value
 returns-in_default-clause-value c =
-    let e = no_label _ (path_of c.args.tree.now) c.args.source.text.now c.args.start c.requires.bracket (rw c.in_default.is at c.in_ok-label_len.ensures.value) in
+    let e = no_label _ (path_of c.args.tree.now) c.args.source.text.now c.args.start c.requires.bracket
+    (rw c.in_default.is at c.in_ok-label_len.ensures.value) in
     rw e refl
 
 pub returns-then-not-begins-clause-value : goal.returns-then-not-begins-clause-value
 returns-then-not-begins-clause-value c =
-    let e = no_colon _ (path_of c.args.tree.now) c.args.source.text.now c.args.start c.in-Some.label_len c.in-Some.label c.requires.bracket (rw c.in-Some.is at c.in_ok-label_len.ensures.value)
+    let e = no_colon _ (path_of c.args.tree.now) c.args.source.text.now c.args.start c.in-Some.label_len c.in-Some.label c.requires.bracket
+    (rw c.in-Some.is at c.in_ok-label_len.ensures.value)
     (colon_is (goal.at.returns-then-not-begins-clause-value c).After-begins ∙ c.if-not-begins.true) in
     rw e refl
 
 pub scan_refdef-requires : goal.scan_refdef-requires
 scan_refdef-requires c =
-    behind_byte 58 c.args.source.text.now (c.args.start + 1 + c.in-Some.label_len) (omega arith) (subst IsUtf8 c.as_bytes-bytes.ensures.value c.as_bytes-bytes.ensures.utf8)
+    behind_byte 58 c.args.source.text.now (c.args.start + 1 + c.in-Some.label_len) (omega arith)
+    (subst IsUtf8 c.as_bytes-bytes.ensures.value c.as_bytes-bytes.ensures.utf8)
     (colon_is (goal.at.scan_refdef-requires c).After-begins ∙ c.if-not-begins.false)
 
 pub returns-in_default-2-clause-value : goal.returns-in_default-2-clause-value
 returns-in_default-2-clause-value c =
-    let e = no_target _ (path_of c.args.tree.now) c.args.source.text.now c.args.start c.in-Some.label_len c.in-Some.label c.requires.bracket (rw c.in-Some.is at c.in_ok-label_len.ensures.value)
+    let e = no_target _ (path_of c.args.tree.now) c.args.source.text.now c.args.start c.in-Some.label_len c.in-Some.label c.requires.bracket
+    (rw c.in-Some.is at c.in_ok-label_len.ensures.value)
     (colon_is (goal.at.returns-in_default-2-clause-value c).After-begins ∙ c.if-not-begins.false) (rw c.in_default-2.is at c.in_ok-len.ensures.value) in
     rw e refl
 
 pub returns-clause-value : goal.returns-clause-value
 returns-clause-value c =
-    rw c.in_ok-new.ensures (is_reference _ (path_of c.args.tree.now) c.args.source.text.now c.args.start c.in-Some.label_len c.in-Some-2.len c.in-Some.label c.in-Some-2.definition c.requires.bracket
-    (rw c.in-Some.is at c.in_ok-label_len.ensures.value) (colon_is (goal.at.returns-clause-value c).After-begins ∙ c.if-not-begins.false) (rw c.in-Some-2.is at c.in_ok-len.ensures.value))
+    rw c.in_ok-new.ensures (is_reference _ (path_of c.args.tree.now) c.args.source.text.now c.args.start c.in-Some.label_len c.in-Some-2.len c.in-Some.label
+    c.in-Some-2.definition c.requires.bracket
+    (rw c.in-Some.is at c.in_ok-label_len.ensures.value) (colon_is (goal.at.returns-clause-value c).After-begins ∙ c.if-not-begins.false)
+    (rw c.in-Some-2.is at c.in_ok-len.ensures.value))

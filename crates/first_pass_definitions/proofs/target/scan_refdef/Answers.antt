@@ -11,20 +11,26 @@ returns-in_default-clause-value c =
 
 pub returns-in_default-scan_link_dest-clause-value : goal.returns-in_default-scan_link_dest-clause-value
 returns-in_default-scan_link_dest-clause-value c =
-    let e = no_dest (path_of c.args.tree.now) c.args.source.text.now c.args.start c.in-Some.dest_start c.in-Some.field-0-1 (sym c.in-Some.is ∙ c.in_ok-dest_start.ensures.value) c.in_default-scan_link_dest.ensures.value in
+    let e = no_dest (path_of c.args.tree.now) c.args.source.text.now c.args.start c.in-Some.dest_start c.in-Some.field-0-1
+    (sym c.in-Some.is ∙ c.in_ok-dest_start.ensures.value) c.in_default-scan_link_dest.ensures.value in
     rw e refl
 
 pub returns-in_default-2-clause-value : goal.returns-in_default-2-clause-value
 returns-in_default-2-clause-value c =
-    let e = no_further (path_of c.args.tree.now) c.args.source.text.now c.args.start c.in-Some.dest_start c.in-Some.field-0-1 c.in-Some-scan_link_dest.dest_len c.in-Some-scan_link_dest.dest
+    let e = no_further (path_of c.args.tree.now) c.args.source.text.now c.args.start c.in-Some.dest_start c.in-Some.field-0-1
+    c.in-Some-scan_link_dest.dest_len c.in-Some-scan_link_dest.dest
     (sym c.in-Some.is ∙ c.in_ok-dest_start.ensures.value) c.in-Some-scan_link_dest.ensures.value (rw c.in_default-2.is at c.in_ok-end.ensures.value) in
     rw e refl
 
 pub returns-clause-value : goal.returns-clause-value
 returns-clause-value c =
-    let t = target_found (path_of c.args.tree.now) c.args.source.text.now c.args.start c.in-Some.dest_start c.in-Some.field-0-1 c.in-Some-scan_link_dest.dest_len c.in-Some-2.end c.in-Some-scan_link_dest.dest c.in-Some-2.title
+    let t = target_found (path_of c.args.tree.now) c.args.source.text.now c.args.start c.in-Some.dest_start c.in-Some.field-0-1
+    c.in-Some-scan_link_dest.dest_len c.in-Some-2.end c.in-Some-scan_link_dest.dest c.in-Some-2.title
     (sym c.in-Some.is ∙ c.in_ok-dest_start.ensures.value) c.in-Some-scan_link_dest.ensures.value (rw c.in-Some-2.is at c.in_ok-end.ensures.value) in
-    is_target (path_of c.args.tree.now) c.args.source.text.now c.args.start c.in-Some-2.end c.args.span_start c.in-Some-scan_link_dest.dest c.in-Some-2.title _ _ t
-    (subst (λ nested. IsUnescaped nested c.in-Some-scan_link_dest.dest.now c.in_ok-unescape.field-0) c.is_in_table-in_table.ensures (record { value = c.in_ok-unescape.ensures.value; borrowed = c.in_ok-unescape.ensures.borrowed }))
-    (λ text read. subst (λ nested. HasTitle nested text c.in_ok-unescape_title.field-0) c.is_in_table-in_table.ensures (c.in_ok-unescape_title.ensures text read))
+    is_target (path_of c.args.tree.now) c.args.source.text.now c.args.start c.in-Some-2.end c.args.span_start c.in-Some-scan_link_dest.dest
+    c.in-Some-2.title _ _ t
+    (subst (λ nested. IsUnescaped nested c.in-Some-scan_link_dest.dest.now c.in_ok-unescape.field-0) c.is_in_table-in_table.ensures
+    (record { value = c.in_ok-unescape.ensures.value; borrowed = c.in_ok-unescape.ensures.borrowed }))
+    (λ text read. subst (λ nested. HasTitle nested text c.in_ok-unescape_title.field-0) c.is_in_table-in_table.ensures
+    (c.in_ok-unescape_title.ensures text read))
     refl refl

@@ -9,11 +9,14 @@ use Rattle.first_pass_definitions.proofs.title.scan_title_break.Goals.{After-res
 
 -- behind the line end
 line_place : (c : After-rest_of-2) → IsCharBoundary c.args.bytes.now (c.args.at + c.in-Some.line_end)
-line_place c = eol_behind c.args.bytes.now c.args.at c.in-Some.line_end c.requires.utf8 c.requires.at (ap eol_len (sym c.rest_of.ensures.value) ∙ sym c.scan_eol.ensures.value ∙ c.in-Some.is)
+line_place c =
+    eol_behind c.args.bytes.now c.args.at c.in-Some.line_end c.requires.utf8 c.requires.at
+    (ap eol_len (sym c.rest_of.ensures.value) ∙ sym c.scan_eol.ensures.value ∙ c.in-Some.is)
 
 pub scan_title_prefix-requires : goal.scan_title_prefix-requires
 scan_title_prefix-requires c =
-    rest_further c.args.source.text.now c.args.bytes.now c.rest_of-2.result.now (c.args.at + c.in-Some.line_end) c.requires.rest c.rest_of-2.ensures.value (line_place (goal.at.scan_title_prefix-requires c).After-rest_of-2)
+    rest_further c.args.source.text.now c.args.bytes.now c.rest_of-2.result.now (c.args.at + c.in-Some.line_end) c.requires.rest c.rest_of-2.ensures.value
+    (line_place (goal.at.scan_title_prefix-requires c).After-rest_of-2)
 
 -- what is left there isn't blank
 text_is : (bytes rest : List ℕ) (k n : ℕ) → rest ≡ drop k bytes → blank_len (drop n rest) ≡ None → blank_len (drop (k + n) bytes) ≡ None
@@ -21,13 +24,18 @@ text_is bytes rest k n e h = ap blank_len (sym (drop-drop n k bytes) ∙ ap (dro
 
 pub returns-in-Some-2-clause-texts : goal.returns-in-Some-2-clause-texts
 returns-in-Some-2-clause-texts c =
-    no_feed (drop (c.args.at + c.in-Some.line_end + c.in-Some-2.prefix) c.args.bytes.now) (text_is c.args.bytes.now c.rest_of-2.result.now (c.args.at + c.in-Some.line_end) c.in-Some-2.prefix c.rest_of-2.ensures.value (rw c.in-Some-2.is at c.in_ok-prefix.ensures.text))
+    no_feed (drop (c.args.at + c.in-Some.line_end + c.in-Some-2.prefix) c.args.bytes.now) (text_is c.args.bytes.now c.rest_of-2.result.now
+    (c.args.at + c.in-Some.line_end) c.in-Some-2.prefix c.rest_of-2.ensures.value (rw c.in-Some-2.is at c.in_ok-prefix.ensures.text))
 
 pub returns-in-Some-2-clause-place : goal.returns-in-Some-2-clause-place
 returns-in-Some-2-clause-place c =
     let b = line_place (goal.at.returns-in-Some-2-clause-place c).After-rest_of-2 in
     let place = rw c.in-Some-2.is at c.in_ok-prefix.ensures.place in
-    let left = some_left (drop (c.args.at + c.in-Some.line_end + c.in-Some-2.prefix) c.args.bytes.now) (text_is c.args.bytes.now c.rest_of-2.result.now (c.args.at + c.in-Some.line_end) c.in-Some-2.prefix c.rest_of-2.ensures.value (rw c.in-Some-2.is at c.in_ok-prefix.ensures.text)) in (
-      later_by c.args.bytes.now c.args.at c.in-Some.line_end c.in-Some-2.prefix left (ap eol_len (sym c.rest_of.ensures.value) ∙ sym c.scan_eol.ensures.value ∙ c.in-Some.is),
-      place_behind c.args.bytes.now (c.args.at + c.in-Some.line_end) c.in-Some-2.prefix b.0 (subst (λ xs. IsCharBoundary xs c.in-Some-2.prefix) c.rest_of-2.ensures.value place),
+    let left = some_left (drop (c.args.at + c.in-Some.line_end + c.in-Some-2.prefix) c.args.bytes.now)
+    (text_is c.args.bytes.now c.rest_of-2.result.now (c.args.at + c.in-Some.line_end) c.in-Some-2.prefix c.rest_of-2.ensures.value
+    (rw c.in-Some-2.is at c.in_ok-prefix.ensures.text)) in (
+      later_by c.args.bytes.now c.args.at c.in-Some.line_end c.in-Some-2.prefix left (ap eol_len (sym c.rest_of.ensures.value) ∙ sym
+      c.scan_eol.ensures.value ∙ c.in-Some.is),
+      place_behind c.args.bytes.now (c.args.at + c.in-Some.line_end) c.in-Some-2.prefix b.0
+      (subst (λ xs. IsCharBoundary xs c.in-Some-2.prefix) c.rest_of-2.ensures.value place),
     )

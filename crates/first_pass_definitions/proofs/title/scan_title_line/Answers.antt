@@ -9,7 +9,8 @@ pub loop-at-preserved : goal.loop-at-preserved
 loop-at-preserved c =
     let bs = c.args.bytes.now in
     let e = c.unit_len-at.ensures.value ∙ ap (λ xs. if begins_escape xs then 2 else 1) c.rest_of.ensures.value in
-    let u = upto_unit (stops_title c.args.close) bs c.loop-at.at c.unit_len-at.result c.loop-at-test.true e (sym c.stops_title.ensures ∙ c.if-not-stops_title.true) in
+    let u = upto_unit (stops_title c.args.close) bs c.loop-at.at c.unit_len-at.result c.loop-at-test.true e
+    (sym c.stops_title.ensures ∙ c.if-not-stops_title.true) in
     let within = c.unit_len-at.ensures.within in
     let whole = c.rest_of.ensures.whole in
     let passed = c.loop-at.invariant.passed in

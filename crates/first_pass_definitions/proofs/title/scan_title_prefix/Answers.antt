@@ -13,7 +13,9 @@ none_is None h = refl
 none_is (Some x) h = cc
 
 -- behind the columns of the line
-text_place : (c : After-bytes_scanned) → ((all_taken c.in-Some.rest).left ≡ drop (all_taken c.in-Some.rest).taken c.args.bytes.now) × IsCharBoundary c.args.bytes.now (all_taken c.in-Some.rest).taken
+text_place : (c : After-bytes_scanned)
+    → ((all_taken c.in-Some.rest).left ≡ drop (all_taken c.in-Some.rest).taken c.args.bytes.now) × IsCharBoundary c.args.bytes.now
+    (all_taken c.in-Some.rest).taken
 text_place c =
     let text = c.args.source.text.now in
     let s : ℕ = length text - length c.args.bytes.now in

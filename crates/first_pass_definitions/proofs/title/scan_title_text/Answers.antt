@@ -23,14 +23,17 @@ loop-bytes-init c =
     }
 
 -- where the line stops
-line_stops : (c : After-begins) → c.loop-bytes.from + c.scan_title_line.result ≡ c.loop-bytes.from + unescaped_upto (stops_title c.args.close) 0 (drop c.loop-bytes.from c.args.text.now)
+line_stops : (c : After-begins)
+    → c.loop-bytes.from + c.scan_title_line.result ≡ c.loop-bytes.from + unescaped_upto (stops_title c.args.close) 0 (drop c.loop-bytes.from c.args.text.now)
 line_stops c =
     ap (λ k. c.loop-bytes.from + k) (c.scan_title_line.ensures.value
     ∙ ap (unescaped_upto (stops_title c.args.close) 0) (c.rest_of.ensures.value ∙ ap (drop c.loop-bytes.from) c.as_bytes-bytes.ensures.value))
 
 stop_is : (c : After-begins) → c.begins.result ≡ begins c.args.close (drop (c.loop-bytes.from + c.scan_title_line.result) c.args.text.now)
 stop_is c =
-    c.begins.ensures.value ∙ ap (begins c.args.close) (c.rest_of-in-loop-bytes.ensures.value ∙ ap (drop (c.loop-bytes.from + c.scan_title_line.result)) c.as_bytes-bytes.ensures.value)
+    c.begins.ensures.value
+    ∙ ap (begins c.args.close) (c.rest_of-in-loop-bytes.ensures.value ∙ ap (drop (c.loop-bytes.from + c.scan_title_line.result))
+    c.as_bytes-bytes.ensures.value)
 
 stop_at : (c : After-begins) → IsCharBoundary c.args.text.now (c.loop-bytes.from + c.scan_title_line.result)
 stop_at c =
@@ -42,25 +45,30 @@ stop_at c =
 pub returns-then-begins-clause-value : goal.returns-then-begins-clause-value
 returns-then-begins-clause-value c =
     let at = (goal.at.returns-then-begins-clause-value c).After-begins in
-    let e = title_found (title_prefix (path_of c.args.tree.now)) c.args.close c.loop-bytes.from (c.loop-bytes.from + c.scan_title_line.result) (string_bytes c.loop-bytes.written) c.args.text.now
+    let e = title_found (title_prefix (path_of c.args.tree.now)) c.args.close c.loop-bytes.from (c.loop-bytes.from + c.scan_title_line.result)
+    (string_bytes c.loop-bytes.written) c.args.text.now
     c.requires.close c.loop-bytes.invariant.title (line_stops at) (sym (stop_is at) ∙ c.if-begins.true) in
     rw e (refl, c.in_ok-finish.ensures.value)
 
 pub returns-then-begins-clause-fits : goal.returns-then-begins-clause-fits
 returns-then-begins-clause-fits c =
-    let there = first_byte c.args.close c.args.text.now (c.loop-bytes.from + c.scan_title_line.result) (sym (stop_is (goal.at.returns-then-begins-clause-fits c).After-begins) ∙ c.if-begins.true) in
+    let there = first_byte c.args.close c.args.text.now (c.loop-bytes.from + c.scan_title_line.result)
+    (sym (stop_is (goal.at.returns-then-begins-clause-fits c).After-begins) ∙ c.if-begins.true) in
     let low = closes-low c.args.close c.requires.close in
     (omega arith, IsCharBoundary-after_ascii c.args.text.now (c.loop-bytes.from + c.scan_title_line.result) c.utf8.text there.0 (omega (arith, there.1, low)))
 
 pub scan_title_break-requires-clause-at : goal.scan_title_break-requires-clause-at
 scan_title_break-requires-clause-at c =
-    subst (λ xs. IsCharBoundary xs (c.loop-bytes.from + c.scan_title_line.result)) (sym c.as_bytes-bytes.ensures.value) (stop_at (goal.at.scan_title_break-requires-clause-at c).After-begins)
+    subst (λ xs. IsCharBoundary xs (c.loop-bytes.from + c.scan_title_line.result)) (sym c.as_bytes-bytes.ensures.value)
+    (stop_at (goal.at.scan_title_break-requires-clause-at c).After-begins)
 
 pub returns-in_default-clause-value : goal.returns-in_default-clause-value
 returns-in_default-clause-value c =
     let at = (goal.at.returns-in_default-clause-value c).After-begins in
-    let k = sym c.in_default.is ∙ c.in_ok-next.ensures.value ∙ ap (λ xs. goes_on_at (title_prefix (path_of c.args.tree.now)) xs (c.loop-bytes.from + c.scan_title_line.result)) c.as_bytes-bytes.ensures.value in
-    let e = no_title (title_prefix (path_of c.args.tree.now)) c.args.close c.loop-bytes.from (c.loop-bytes.from + c.scan_title_line.result) (string_bytes c.loop-bytes.written) c.args.text.now
+    let k = sym c.in_default.is ∙ c.in_ok-next.ensures.value ∙ ap (λ xs. goes_on_at (title_prefix (path_of c.args.tree.now)) xs
+    (c.loop-bytes.from + c.scan_title_line.result)) c.as_bytes-bytes.ensures.value in
+    let e = no_title (title_prefix (path_of c.args.tree.now)) c.args.close c.loop-bytes.from (c.loop-bytes.from + c.scan_title_line.result)
+    (string_bytes c.loop-bytes.written) c.args.text.now
     c.requires.close c.loop-bytes.invariant.title (line_stops at) (sym (stop_is at) ∙ c.if-begins.false) k in
     rw e refl
 
@@ -69,18 +77,23 @@ loop-bytes-preserved c =
     let at = (goal.at.loop-bytes-preserved c).After-begins in
     let text = c.args.text.now in
     let stop : ℕ = c.loop-bytes.from + c.scan_title_line.result in
-    let place : (stop < c.in-Some.next) × IsCharBoundary text c.in-Some.next = subst (λ xs. (stop < c.in-Some.next) × IsCharBoundary xs c.in-Some.next) c.as_bytes-bytes.ensures.value (rw c.in-Some.is at c.in_ok-next.ensures.place) in
+    let place : (stop < c.in-Some.next) × IsCharBoundary text c.in-Some.next = subst (λ xs. (stop < c.in-Some.next) × IsCharBoundary xs c.in-Some.next)
+    c.as_bytes-bytes.ensures.value (rw c.in-Some.is at c.in_ok-next.ensures.place) in
     let inside = place.1.0 in
     let further = place.0 in
-    let plain : begins 10 (drop c.in-Some.next text) ≡ false = ap (λ xs. begins 10 (drop c.in-Some.next xs)) (sym c.as_bytes-bytes.ensures.value) ∙ (rw c.in-Some.is at c.in_ok-next.ensures.texts) in
-    let k = sym c.in-Some.is ∙ c.in_ok-next.ensures.value ∙ ap (λ xs. goes_on_at (title_prefix (path_of c.args.tree.now)) xs stop) c.as_bytes-bytes.ensures.value in
+    let plain : begins 10 (drop c.in-Some.next text) ≡ false = ap (λ xs. begins 10 (drop c.in-Some.next xs)) (sym c.as_bytes-bytes.ensures.value) ∙
+    (rw c.in-Some.is at c.in_ok-next.ensures.texts) in
+    let k = sym c.in-Some.is ∙ c.in_ok-next.ensures.value ∙ ap (λ xs. goes_on_at (title_prefix (path_of c.args.tree.now)) xs stop)
+    c.as_bytes-bytes.ensures.value in
     let written : string_bytes c.push.new.self ≡ (string_bytes c.loop-bytes.written ++ part text c.loop-bytes.from stop) ++ 10 ∷ [] =
-    c.in_ok-push.ensures.bytes ∙ ap (λ xs. string_bytes c.push_str.new.self ++ xs) (encode_ascii 10 (omega arith)) ∙ ap (λ xs. xs ++ 10 ∷ []) (c.in_ok-push_str.ensures.bytes ∙ ap (λ xs. string_bytes c.loop-bytes.written ++ xs) c.range.ensures.value)
+    c.in_ok-push.ensures.bytes ∙ ap (λ xs. string_bytes c.push_str.new.self ++ xs) (encode_ascii 10 (omega arith))
+    ∙ ap (λ xs. xs ++ 10 ∷ []) (c.in_ok-push_str.ensures.bytes ∙ ap (λ xs. string_bytes c.loop-bytes.written ++ xs) c.range.ensures.value)
     in
     record {
       boundary = place.1;
       nothing = λ h. absurd (omega arith);
       lines = λ l. ap (list_any is_line_end) written ∙ any_last (string_bytes c.loop-bytes.written ++ part text c.loop-bytes.from stop);
-      title = title_further (title_prefix (path_of c.args.tree.now)) c.args.close c.loop-bytes.from stop c.in-Some.next (string_bytes c.push.new.self) (string_bytes c.loop-bytes.written) text
+      title = title_further (title_prefix (path_of c.args.tree.now)) c.args.close c.loop-bytes.from stop c.in-Some.next (string_bytes c.push.new.self)
+      (string_bytes c.loop-bytes.written) text
           c.requires.close c.loop-bytes.invariant.title (line_stops at) (omega arith) k plain written;
     }

@@ -13,7 +13,8 @@ invariant-loop-bytes l = record {
   boundary : IsCharBoundary l.text l.from;
   nothing : (l.from ≡ 0) → (string_bytes l.written ≡ []);
   lines : (0 < l.from) → (list_any is_line_end (string_bytes l.written) ≡ true);
-  title : behind_text (string_bytes l.written) (title_of l.close (left_of (title_prefix (path_of l.tree)) l.from (drop l.from l.text))) ≡ title_text (title_prefix (path_of l.tree)) l.close l.text;
+  title : behind_text (string_bytes l.written) (title_of l.close (left_of (title_prefix (path_of l.tree)) l.from (drop l.from l.text))) ≡ title_text
+      (title_prefix (path_of l.tree)) l.close l.text;
 }
 
 abbrev pub decreases-loop-bytes : goal.decreases-loop-bytes

@@ -13,11 +13,13 @@ use Rattle.first_pass_text.proofs.interrupt.scan_definition_end.Goals.{After-byt
 few : (n m : ℕ) → n ≡ min 4 m → nat_lt n 4 ≡ nat_lt m 4
 few n m e = grind (arith, nat_tests, e)
 
-interrupts_at : (whole : Bool) (r : Rest) (columns : ℕ) (bs : List ℕ) → columns ≡ min 4 (indent r) → bs ≡ (all_taken r).left → (if nat_lt columns 4 then interrupts_with whole bs else at_line_end bs) ≡ interrupts whole r
+interrupts_at : (whole : Bool) (r : Rest) (columns : ℕ) (bs : List ℕ) → columns ≡ min 4 (indent r) → bs ≡ (all_taken r).left →
+    (if nat_lt columns 4 then interrupts_with whole bs else at_line_end bs) ≡ interrupts whole r
 unfolding interrupts
 interrupts_at whole r columns bs e f = let t : nat_lt columns 4 ≡ nat_lt (indent r) 4 = few columns (indent r) e in rw (t, f) refl
 
-underline_at : (r : Rest) (columns : ℕ) (bs : List ℕ) → columns ≡ min 4 (indent r) → bs ≡ (all_taken r).left → (nat_lt columns 4 && is_some (setext_underline bs)) ≡ is_underline r
+underline_at : (r : Rest) (columns : ℕ) (bs : List ℕ) → columns ≡ min 4 (indent r) → bs ≡ (all_taken r).left →
+    (nat_lt columns 4 && is_some (setext_underline bs)) ≡ is_underline r
 underline_at r columns bs e f = let t : nat_lt columns 4 ≡ nat_lt (indent r) 4 = few columns (indent r) e in rw (t, f) refl
 
 none_by : (t : Bool) → false ≡ t && false
@@ -33,13 +35,15 @@ ended_by : (said by_text by_line last : Bool) → said ≡ by_text → by_text �
 ended_by said by_text by_line last e f g = let z : by_line ≡ true = sym f ∙ sym e ∙ g in rw z refl
 
 -- it doesn't, and an underline of it is none to a label in a line that doesn't go on with all containers
-lazy_by : (said by_text by_line last in_label whole : Bool) → said ≡ by_text → by_text ≡ by_line → said ≡ false → (in_label && not whole) ≡ true → false ≡ by_line || (last && (not in_label || whole))
+lazy_by : (said by_text by_line last in_label whole : Bool) → said ≡ by_text → by_text ≡ by_line → said ≡ false → (in_label && not whole) ≡ true → false ≡
+    by_line || (last && (not in_label || whole))
 lazy_by said by_text by_line last true false e f g h = let z : by_line ≡ false = sym f ∙ sym e ∙ g in rw z (none_by last)
 lazy_by said by_text by_line last true true e f g h = cc
 lazy_by said by_text by_line last false whole e f g h = cc
 
 -- it doesn't, and an underline of it is one
-whole_by : (said by_text by_line last found in_label whole : Bool) → said ≡ by_text → by_text ≡ by_line → said ≡ false → (in_label && not whole) ≡ false → found ≡ last → found ≡ by_line || (last && (not in_label || whole))
+whole_by : (said by_text by_line last found in_label whole : Bool) → said ≡ by_text → by_text ≡ by_line → said ≡ false → (in_label && not whole) ≡ false →
+    found ≡ last → found ≡ by_line || (last && (not in_label || whole))
 whole_by said by_text by_line last found true true e f g h k = let z : by_line ≡ false = sym f ∙ sym e ∙ g in rw z (k ∙ all_by last)
 whole_by said by_text by_line last found true false e f g h k = cc
 whole_by said by_text by_line last found false whole e f g h k = let z : by_line ≡ false = sym f ∙ sym e ∙ g in rw z (k ∙ all_by last)
@@ -53,7 +57,9 @@ text_at c = all_keep c.args.source.text.now c.args.start c.args.rest.now c.requi
 offset_is : (c : After-bytes_scanned) → c.args.start + c.bytes_scanned.result ≡ c.args.start + (all_taken c.args.rest.now).taken
 offset_is c = ap (λ n. c.args.start + n) (c.bytes_scanned.ensures ∙ ap (λ (r : Rest). r.taken) (text_is c))
 
-ends_is : (c : After-bytes_scanned) → (if nat_lt c.scan_indentation-columns.result 4 then interrupts_with c.args.whole (drop (c.args.start + c.bytes_scanned.result) c.args.source.text.now) else at_line_end (drop (c.args.start + c.bytes_scanned.result) c.args.source.text.now))
+ends_is : (c : After-bytes_scanned) → (if nat_lt c.scan_indentation-columns.result 4 then interrupts_with c.args.whole
+    (drop (c.args.start + c.bytes_scanned.result) c.args.source.text.now) else at_line_end
+    (drop (c.args.start + c.bytes_scanned.result) c.args.source.text.now))
     ≡ interrupts c.args.whole c.args.rest.now
 ends_is c = interrupts_at c.args.whole c.args.rest.now c.scan_indentation-columns.result (drop (c.args.start + c.bytes_scanned.result) c.args.source.text.now)
     (c.scan_indentation-columns.ensures.columns ∙ ap (λ r. min 4 (indent r)) c.copy-text.ensures)
@@ -79,4 +85,5 @@ pub returns : goal.returns
 returns c =
     let at = (goal.at.returns c).After-bytes_scanned in
     whole_by _ _ _ _ _ _ _ c.in_ok-scan_paragraph_end.ensures (ends_is at) c.if-branch.false c.if-is_over.false
-    (c.is_underline.ensures ∙ underline_at c.args.rest.now _ _ (c.scan_indentation-columns.ensures.columns ∙ ap (λ r. min 4 (indent r)) c.copy-text.ensures) (c.left.ensures ∙ ap (λ (r : Rest). r.left) (text_is at)))
+    (c.is_underline.ensures ∙ underline_at c.args.rest.now _ _ (c.scan_indentation-columns.ensures.columns ∙ ap (λ r. min 4 (indent r)) c.copy-text.ensures)
+    (c.left.ensures ∙ ap (λ (r : Rest). r.left) (text_is at)))
