@@ -1,19 +1,19 @@
 -- Where definitions end.
-use Rattle.std.proofs.Common.{◌≡◌, ◌⊎◌, inl, inr, ℕ, zero, suc, ◌+◌, ◌-◌, ◌<◌, ◌==◌, nat_lt, Bool, true, false, List, [], ◌∷◌, take, drop, slice_index, Option, Some, None, is_some, refl, sym, ap, ◌∙◌, arith, if◌then◌else◌}
+use Rattle.std.proofs.Common.{◌≡◌, ◌⊎◌, inl, inr, ℕ, zero, suc, ◌+◌, ◌-◌, ◌<◌, ◌==◌, nat_lt, Bool, true, false, List, [], ◌∷◌, take, drop, slice_index, Option, Some, None, is_some, refl, sym, ap, subst, ◌∙◌, arith, if◌then◌else◌}
 use Rattle.std.specs.Bool.{⊤}
 use Rattle.std.specs.Char.{is_ascii_punctuation}
-use Rattle.std.proofs.lemmas.Bool.{and_parts}
+use Rattle.std.proofs.lemmas.Bool.{and_parts, eqb-true}
 use Rattle.std.proofs.lemmas.Bool.Decides.{nat_tests}
 use Rattle.std.specs.Option.{option_map, option_and_then, option_map_or}
-use Rattle.std.proofs.lemmas.List.{drop-drop}
+use Rattle.std.proofs.lemmas.List.{drop-drop, get_or-drop}
 use Rattle.std.proofs.lemmas.Option.{cond_some}
-use Rattle.first_pass_lines.specs.Lines.{is_line_end, begins, blank_len}
+use Rattle.first_pass_lines.specs.Lines.{is_line_end, ends_line, begins, blank_len}
 use Rattle.first_pass_links.specs.Destinations.{unescaped_upto, ends_brackets, bracketed_at, ends_run, longer, if_closed, closes_none, nesting_behind, run_len, unbracketed, destination_at}
 use Rattle.first_pass_links.specs.Escapes.{begins_escape}
 use Rattle.first_pass_links.proofs.Destinations.{first_byte}
-use Rattle.first_pass_links.specs.Labels.{label_at}
+use Rattle.first_pass_links.specs.Labels.{joined, bytes_of, offsets_of, label_at}
 use Rattle.first_pass_grammar.specs.declared.kind.Container.{Container}
-use Rattle.first_pass_grammar.specs.Definitions.{prefix_crossed, space_at, title_at, alone_behind, title_beyond, title_behind, behind_destination, deepest_nesting, Target, target_of, target_from, target_beyond, target_at, LinkReference, reference_of, reference_behind, reference_at}
+use Rattle.first_pass_grammar.specs.Definitions.{prefix_crossed, space_at, with_line_feeds, ends_title, title_end, title_text, title_prefix, title_at, alone_behind, title_beyond, title_behind, behind_destination, deepest_nesting, Target, target_of, target_from, target_beyond, target_at, LinkReference, reference_of, reference_behind, reference_at}
 
 -- what an answer was made of
 and_some : {A B : Type 0} (k : A → Option B) (o : Option A) (r : B) → option_and_then k o ≡ Some r → (a : A) × (o ≡ Some a) × (k a ≡ Some r)
@@ -185,3 +185,186 @@ dest_by false deepest bs d z h =
 dest_last : (deepest : ℕ) (bs : List ℕ) (d : ℕ × List ℕ) → destination_at deepest bs ≡ Some d → (0 < d.0) × Plain bs (d.0 - 1)
 unfolding destination_at
 dest_last deepest bs d h = dest_by (begins 60 bs) deepest bs d refl h
+
+-- each byte stands at its offset, line feeds aside
+abbrev EachOf : (ℕ × ℕ → Type 0) → List (ℕ × ℕ) → Type 0
+EachOf p [] = ⊤
+EachOf p (c ∷ cs) = p c × EachOf p cs
+
+abbrev StandsAt : List ℕ → ℕ × ℕ → Type 0
+StandsAt text c = slice_index text c.0 ≡ c.1
+
+abbrev FedAt : List ℕ → ℕ × ℕ → Type 0
+FedAt text c = (c.1 ≡ 10) ⊎ (slice_index text c.0 ≡ c.1)
+
+first_at : (text : List ℕ) (at b : ℕ) (bs : List ℕ) → drop at text ≡ b ∷ bs → slice_index text at ≡ b
+first_at text at b bs e =
+    let z : at + 0 ≡ at = omega arith in
+    ap (slice_index text) (sym z) ∙ sym (get_or-drop at text 0 0) ∙ ap (λ xs. slice_index xs 0) e
+
+rest_at : (text : List ℕ) (at b : ℕ) (bs : List ℕ) → drop at text ≡ b ∷ bs → drop (at + 1) text ≡ bs
+rest_at text at b bs e = sym (drop-drop 1 at text) ∙ ap (drop 1) e
+
+joined_by : (t : Bool) (o : Option ℕ) (prefix : List ℕ → Option ℕ) (text : List ℕ) (at b : ℕ) (bs : List ℕ) → ends_line b bs ≡ t → prefix bs ≡ o
+    → slice_index text at ≡ b
+    → ((n : ℕ) → EachOf (StandsAt text) (joined prefix (at + 1) n bs)) → EachOf (StandsAt text) (joined prefix at 0 (b ∷ bs))
+unfolding joined
+joined_by false o prefix text at b bs h k e f = rw h (e, f 0)
+joined_by true (Some n) prefix text at b bs h k e f = rw h (rw k (e, f n))
+joined_by true None prefix text at b bs h k e f = rw h (rw k tt)
+
+joined_nothing : (prefix : List ℕ → Option ℕ) (text : List ℕ) (at n : ℕ) → EachOf (StandsAt text) (joined prefix at n [])
+unfolding joined
+joined_nothing prefix text at n = tt
+
+joined_skips : (prefix : List ℕ → Option ℕ) (text : List ℕ) (at n b : ℕ) (bs : List ℕ) → EachOf (StandsAt text) (joined prefix (at + 1) n bs)
+    → EachOf (StandsAt text) (joined prefix at (suc n) (b ∷ bs))
+unfolding joined
+joined_skips prefix text at n b bs e = e
+
+joined_stands : (prefix : List ℕ → Option ℕ) (text : List ℕ) (at n : ℕ) (bs : List ℕ) → drop at text ≡ bs → EachOf (StandsAt text) (joined prefix at n bs)
+joined_stands prefix text at n [] e = joined_nothing prefix text at n
+joined_stands prefix text at zero (b ∷ bs) e =
+    joined_by (ends_line b bs) (prefix bs) prefix text at b bs refl refl (first_at text at b bs e)
+    (λ n. joined_stands prefix text (at + 1) n bs (rest_at text at b bs e))
+joined_stands prefix text at (suc n) (b ∷ bs) e = joined_skips prefix text at n b bs (joined_stands prefix text (at + 1) n bs (rest_at text at b bs e))
+
+fed_by : (t u : Bool) (text : List ℕ) (c : ℕ × ℕ) (cs : List (ℕ × ℕ)) → (c.1 == 13) ≡ t → begins 10 (bytes_of cs) ≡ u → StandsAt text c
+    → EachOf (FedAt text) (with_line_feeds cs) → EachOf (FedAt text) (with_line_feeds (c ∷ cs))
+unfolding with_line_feeds
+fed_by false u text c cs h k e f = rw h (inr e, f)
+fed_by true true text c cs h k e f = rw h (rw k f)
+fed_by true false text c cs h k e f = rw h (rw k (inl refl, f))
+
+fed_nothing : (text : List ℕ) → EachOf (FedAt text) (with_line_feeds [])
+unfolding with_line_feeds
+fed_nothing text = tt
+
+fed : (text : List ℕ) (cs : List (ℕ × ℕ)) → EachOf (StandsAt text) cs → EachOf (FedAt text) (with_line_feeds cs)
+fed text [] e = fed_nothing text
+fed text (c ∷ cs) e = fed_by (c.1 == 13) (begins 10 (bytes_of cs)) text c cs refl refl e.0 (fed text cs e.1)
+
+close_at : (text : List ℕ) (close : ℕ) (cs : List (ℕ × ℕ)) (n : ℕ) → EachOf (FedAt text) cs → (close ≡ 10 → ⊥) → begins close (drop n (bytes_of cs)) ≡ true
+    → slice_index text (slice_index (offsets_of cs) n) ≡ close
+close_at text close [] zero e f h = cc
+close_at text close [] (suc n) e f h = cc
+close_at text close (c ∷ cs) zero e f h = elim e.0 [ inl k ↦ absurd (f (sym (eqb-true c.1 close h) ∙ k)) | inr k ↦ k ∙ eqb-true c.1 close h ]
+close_at text close (c ∷ cs) (suc n) e f h = close_at text close cs n e.1 f h
+
+text_last : (prefix : List ℕ → Option ℕ) (close : ℕ) (bs : List ℕ) (t : ℕ × List ℕ) → (close ≡ 10 → ⊥) → title_text prefix close bs ≡ Some t
+    → (0 < t.0) × (slice_index bs (t.0 - 1) ≡ close)
+unfolding title_text
+text_last prefix close bs t f h =
+    let whole = with_line_feeds (joined prefix 0 0 bs) in
+    let n = unescaped_upto (ends_title close) 0 (bytes_of whole) in
+    let p = cond_some (begins close (drop n (bytes_of whole))) (slice_index (offsets_of whole) n + 1, take n (bytes_of whole)) t h in
+    let e : slice_index (offsets_of whole) n + 1 ≡ t.0 = ap (λ (q : ℕ × List ℕ). q.0) p.1 in
+    let i : slice_index (offsets_of whole) n ≡ t.0 - 1 = omega arith in
+    (omega arith, ap (slice_index bs) (sym i) ∙ close_at bs close whole n (fed bs (joined prefix 0 0 bs) (joined_stands prefix bs 0 0 bs refl)) f p.0)
+
+close_plain_by : (t u v : Bool) (b close : ℕ) → (b == 39) ≡ t → (b == 34) ≡ u → (b == 40) ≡ v → title_end b ≡ Some close → is_line_end close ≡ false
+close_plain_by true u v b close h k l f =
+    let e = eqb-true b 39 h in let z : title_end b ≡ Some b = rw h refl in let i = some_same b close (sym z ∙ f) in rw (sym i ∙ e) refl
+close_plain_by false true v b close h k l f =
+    let e = eqb-true b 34 k in let z : title_end b ≡ Some b = rw h (rw k refl) in let i = some_same b close (sym z ∙ f) in rw (sym i ∙ e) refl
+close_plain_by false false true b close h k l f =
+    let z : title_end b ≡ Some 41 = rw h (rw k (rw l refl)) in let i = some_same 41 close (sym z ∙ f) in rw (sym i) refl
+close_plain_by false false false b close h k l f = let z : title_end b ≡ None = rw h (rw k (rw l refl)) in let y : None ≡ Some close = sym z ∙ f in cc
+
+close_plain : (b close : ℕ) → title_end b ≡ Some close → is_line_end close ≡ false
+close_plain b close f = close_plain_by (b == 39) (b == 34) (b == 40) b close refl refl refl f
+
+no_feed_close : (close : ℕ) → is_line_end close ≡ false → close ≡ 10 → ⊥
+no_feed_close close h e = let z : is_line_end 10 ≡ false = ap is_line_end (sym e) ∙ h in cc
+
+title_last : (path : List Container) (bs : List ℕ) (t : ℕ × List ℕ) → title_at path bs ≡ Some t → (0 < t.0) × Plain bs (t.0 - 1)
+unfolding title_at
+title_last path [] t h = cc
+title_last path (b ∷ bs) t h =
+    let c = and_some (λ close. option_map (λ (x : ℕ × List ℕ). (x.0 + 1, x.1)) (title_text (title_prefix path) close bs)) (title_end b) t h in
+    let x = map_some (λ (x : ℕ × List ℕ). (x.0 + 1, x.1)) (title_text (title_prefix path) c.0 bs) t c.2 in
+    let p = close_plain b c.0 c.1 in
+    let l = text_last (title_prefix path) c.0 bs x.0 (no_feed_close c.0 p) x.1 in
+    let e : x.0.0 + 1 ≡ t.0 = ap (λ (q : ℕ × List ℕ). q.0) x.2 in
+    let s = l.0 in
+    let i : t.0 - 1 ≡ suc (x.0.0 - 1) = omega arith in
+    (omega arith, rw i (ap is_line_end l.1 ∙ p))
+
+-- the last byte of what stands behind a destination, if anything does
+part_plain : (bs : List ℕ) (n k m : ℕ) → m ≡ n + k → (0 < k) × Plain (drop n bs) (k - 1) → Plain bs (m - 1)
+part_plain bs n k m e p =
+    let l = p.0 in
+    let i : n + (k - 1) ≡ m - 1 = omega arith in
+    ap is_line_end (ap (slice_index bs) (sym i) ∙ sym (get_or-drop n bs (k - 1) 0)) ∙ p.1
+
+titled_last_by : (t : Bool) (path : List Container) (bs : List ℕ) (n : ℕ) (r : ℕ × List ℕ)
+    → (if t then None else option_and_then (alone_behind n bs) (title_at path (drop n bs))) ≡ Some r → (0 < r.0) × Plain bs (r.0 - 1)
+titled_last_by true path bs n r h = cc
+titled_last_by false path bs n r h =
+    let t = and_some (alone_behind n bs) (title_at path (drop n bs)) r h in
+    let p = cond_some (is_some (blank_len (drop (n + t.0.0) bs))) (n + t.0.0, t.0.1) r t.2 in
+    let e : n + t.0.0 ≡ r.0 = ap (λ (q : ℕ × List ℕ). q.0) p.1 in
+    let l = title_last path (drop n bs) t.0 t.1 in
+    let s = l.0 in
+    (omega arith, part_plain bs n t.0.0 r.0 (sym e) l)
+
+further_last_by : (o : Option (ℕ × List ℕ)) (bs : List ℕ) (f : ℕ × Option (List ℕ)) → ((r : ℕ × List ℕ) → o ≡ Some r → (0 < r.0) × Plain bs (r.0 - 1))
+    → option_map_or (λ (t : ℕ × List ℕ). Some (t.0, Some t.1)) o (if is_some (blank_len bs) then Some (0, None) else None) ≡ Some f
+    → (f.0 ≡ 0) ⊎ ((0 < f.0) × Plain bs (f.0 - 1))
+further_last_by None bs f g h = let p = cond_some (is_some (blank_len bs)) (nothing_further) f h in inl (ap (λ (q : ℕ × Option (List ℕ)). q.0) (sym p.1))
+further_last_by (Some t) bs f g h =
+    let e : t.0 ≡ f.0 = ap (λ (q : ℕ × Option (List ℕ)). q.0) (some_same (t.0, Some t.1) f h) in
+    inr (subst (λ k. (0 < k) × Plain bs (k - 1)) e (g t refl))
+
+further_last : (path : List Container) (bs : List ℕ) (f : ℕ × Option (List ℕ)) → behind_destination path bs ≡ Some f
+    → (f.0 ≡ 0) ⊎ ((0 < f.0) × Plain bs (f.0 - 1))
+unfolding behind_destination
+further_last path bs f h =
+    further_last_by (title_behind path bs) bs f (λ r e. (let s = and_some (title_beyond path bs) (space_at path bs) r e in titled_last_by (s.0.0 == 0) path
+    bs s.0.0 r s.2)) h
+
+target_last : (path : List Container) (bs : List ℕ) (t : ℕ × Target) → target_at path bs ≡ Some t → (0 < t.0) × Plain bs (t.0 - 1)
+unfolding target_at
+target_last path bs t h =
+    let s = and_some (target_beyond path bs) (space_at path bs) t h in
+    let d = and_some (target_from path s.0.0 (drop s.0.0 bs)) (destination_at deepest_nesting (drop s.0.0 bs)) t s.2 in
+    let f = map_some (target_of s.0.0 d.0) (behind_destination path (drop d.0.0 (drop s.0.0 bs))) t d.2 in
+    let e : s.0.0 + d.0.0 + f.0.0 ≡ t.0 = ap (λ (q : ℕ × Target). q.0) f.2 in
+    let l = dest_last deepest_nesting (drop s.0.0 bs) d.0 d.1 in
+    let some = l.0 in (
+      omega arith,
+      elim (further_last path (drop d.0.0 (drop s.0.0 bs)) f.0 f.1) [
+        | inl none ↦ part_plain bs s.0.0 d.0.0 t.0 (omega arith) l
+        | inr more ↦ part_plain bs (s.0.0 + d.0.0) f.0.0 t.0 (sym e) (
+          more.0,
+          ap (λ xs. is_line_end (slice_index xs (f.0.0 - 1)))
+              (sym (drop-drop d.0.0 s.0.0 bs)) ∙ more.1,
+        )
+      ],
+    )
+
+behind_last_by : (t : Bool) (path : List Container) (bs : List ℕ) (l : ℕ × List ℕ) (r : LinkReference)
+    → (if t then option_map (reference_of (l.0 + 2) l.1) (target_at path (drop (l.0 + 1) bs)) else None) ≡ Some r → (cs : List ℕ)
+    → bs ≡ drop 1 cs → (0 < r.size) × Plain cs (r.size - 1)
+behind_last_by false path bs l r h cs e = cc
+behind_last_by true path bs l r h cs e =
+    let t = map_some (reference_of (l.0 + 2) l.1) (target_at path (drop (l.0 + 1) bs)) r h in
+    let s : l.0 + 2 + t.0.0 ≡ r.size = ap (λ (q : LinkReference). q.size) t.2 in
+    let i : 1 + (l.0 + 1) ≡ l.0 + 2 = omega arith in
+    let d : drop (l.0 + 1) bs ≡ drop (l.0 + 2) cs = ap (drop (l.0 + 1)) e ∙ drop-drop (l.0 + 1) 1 cs ∙ ap (λ n. drop n cs) i in
+    let b = target_last path (drop (l.0 + 1) bs) t.0 t.1 in
+    (omega arith, part_plain cs (l.0 + 2) t.0.0 r.size (sym s) (b.0, ap (λ xs. is_line_end (slice_index xs (t.0.0 - 1))) (sym d) ∙ b.1))
+
+reference_last_by : (t : Bool) (in_table : Bool) (path : List Container) (bs : List ℕ) (r : LinkReference)
+    → (if t then option_and_then (reference_behind path (drop 1 bs)) (label_at (prefix_crossed true path) in_table (drop 1 bs)) else None) ≡ Some r
+    → (0 < r.size) × Plain bs (r.size - 1)
+reference_last_by false in_table path bs r h = cc
+reference_last_by true in_table path bs r h =
+    let l = and_some (reference_behind path (drop 1 bs)) (label_at (prefix_crossed true path) in_table (drop 1 bs)) r h in
+    behind_last_by (begins 58 (drop l.0.0 (drop 1 bs))) path (drop 1 bs) l.0 r l.2 bs refl
+
+-- A definition has a byte, and its last one ends no line (CommonMark 4.7).
+pub reference_last : (in_table : Bool) (path : List Container) (bs : List ℕ) (r : LinkReference) → reference_at in_table path bs ≡ Some r
+    → (0 < r.size) × (is_line_end (slice_index bs (r.size - 1)) ≡ false)
+unfolding reference_at
+reference_last in_table path bs r h = reference_last_by (begins 91 bs) in_table path bs r h

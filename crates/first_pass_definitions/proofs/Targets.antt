@@ -170,7 +170,6 @@ unfolding reference_at
 no_bracket in_table path bs h = rw h refl
 
 at_label : (in_table : Bool) (path : List Container) (text : List ℕ) (start : ℕ) → begins 91 (drop start text) ≡ true
-   
     → reference_at in_table path (drop start text) ≡ option_and_then (reference_behind path (drop (start + 1) text))
     (label_at (prefix_crossed true path) in_table (drop (start + 1) text))
 unfolding reference_at
@@ -200,7 +199,6 @@ no_label in_table path text start h k =
 colon_by : (t : Bool) (in_table : Bool) (path : List Container) (text : List ℕ) (start n : ℕ) (l : ℕ × List ℕ) → begins 91 (drop start text) ≡ true
     → label_at (prefix_crossed true path) in_table (drop (start + 1) text) ≡ Some l → n ≡ l.0
     → begins 58 (drop (start + 1 + n) text) ≡ t
-   
     → reference_at in_table path (drop start text) ≡ (if t then option_map (reference_of (l.0 + 2) l.1) (target_at path (drop (start + 1 + n + 1) text))
     else None)
 colon_by t in_table path text start n l h k e f =

@@ -534,7 +534,6 @@ title_further prefix close from at next v w text c so is l k g e =
     let x = title_of close (left_of prefix next (drop next text)) in
     ap (λ ys. behind_text ys x) (e ∙ append_assoc w (part text from at) (10 ∷ []))
     ∙ sym (behind_behind w (part text from at ++ 10 ∷ []) x)
-   
     ∙ ap (behind_text w) (sym (behind_behind (part text from at) (10 ∷ []) x) ∙ sym (line_is prefix close from at text c is ∙ ap
     (behind_text (part text from at)) (some_break prefix close at next text c l k g)))
     ∙ so

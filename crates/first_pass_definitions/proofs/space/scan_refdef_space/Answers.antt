@@ -63,7 +63,6 @@ module _ (g : After-is_some) where
   behind_is =
       of_text (prefix_len is_white) g.args.source.text.now _ _ _ _ g.scan_whitespace_no_nl-2.ensures.value g.rest_of-3.ensures.value
       g.as_bytes-bytes.ensures.value
-     
       ∙ ap (λ k. prefix_len is_white (drop (g.args.start + g.scan_whitespace_no_nl.result + g.in-Some.line_end + k) g.args.source.text.now))
       g.bytes_scanned.ensures
 
@@ -71,7 +70,6 @@ module _ (g : After-is_some) where
       g.scan_whitespace_no_nl-2.result) g.args.source.text.now)
   ends_is =
       ap is_some (of_text eol_len g.args.source.text.now _ _ _ _ g.scan_eol-2.ensures.value g.rest_of-4.ensures.value g.as_bytes-bytes.ensures.value)
-     
       ∙ ap (λ k. at_line_end (drop (g.args.start + g.scan_whitespace_no_nl.result + g.in-Some.line_end + k + g.scan_whitespace_no_nl-2.result)
       g.args.source.text.now)) g.bytes_scanned.ensures
 
@@ -91,7 +89,6 @@ returns-clause-value c =
     let at = (goal.at.returns-clause-value c).After-scan_eol in
     let last = (goal.at.returns-clause-value c).After-is_some in
     ap (λ k. Some (c.args.start + c.scan_whitespace_no_nl.result + c.in-Some.line_end + k + c.scan_whitespace_no_nl-2.result, 1)) c.bytes_scanned.ensures
-   
     ∙ space_over false (path_of c.args.tree.now) c.args.source.text.now c.args.start c.scan_whitespace_no_nl.result c.in-Some.line_end
     c.scan_whitespace_no_nl-2.result c.in-Some-2.rest
     (white_is at) (sym (eol_is at) ∙ c.in-Some.is) (sym c.in-Some-2.is ∙ c.in_ok-rest.ensures.value) (behind_is last)

@@ -35,7 +35,7 @@ returns-in-Some-2-clause-place c =
     (text_is c.args.bytes.now c.rest_of-2.result.now (c.args.at + c.in-Some.line_end) c.in-Some-2.prefix c.rest_of-2.ensures.value
     (rw c.in-Some-2.is at c.in_ok-prefix.ensures.text)) in (
       later_by c.args.bytes.now c.args.at c.in-Some.line_end c.in-Some-2.prefix left (ap eol_len (sym c.rest_of.ensures.value) ∙ sym
-      c.scan_eol.ensures.value ∙ c.in-Some.is),
+          c.scan_eol.ensures.value ∙ c.in-Some.is),
       place_behind c.args.bytes.now (c.args.at + c.in-Some.line_end) c.in-Some-2.prefix b.0
-      (subst (λ xs. IsCharBoundary xs c.in-Some-2.prefix) c.rest_of-2.ensures.value place),
+          (subst (λ xs. IsCharBoundary xs c.in-Some-2.prefix) c.rest_of-2.ensures.value place),
     )

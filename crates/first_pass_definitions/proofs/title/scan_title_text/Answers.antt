@@ -94,6 +94,6 @@ loop-bytes-preserved c =
       nothing = λ h. absurd (omega arith);
       lines = λ l. ap (list_any is_line_end) written ∙ any_last (string_bytes c.loop-bytes.written ++ part text c.loop-bytes.from stop);
       title = title_further (title_prefix (path_of c.args.tree.now)) c.args.close c.loop-bytes.from stop c.in-Some.next (string_bytes c.push.new.self)
-      (string_bytes c.loop-bytes.written) text
+          (string_bytes c.loop-bytes.written) text
           c.requires.close c.loop-bytes.invariant.title (line_stops at) (omega arith) k plain written;
     }
