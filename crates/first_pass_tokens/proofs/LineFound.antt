@@ -1,30 +1,21 @@
 -- Each line has tokens.
-use Rattle.std.proofs.Common.{◌≡◌, ◌⊎◌, inl, inr, ℕ, zero, suc, ◌+◌, ◌<◌, ◌≤◌, Bool, true, false, List, [], ◌∷◌, length, Option, refl, arith, slice_index, if◌then◌else◌, ◌==◌}
-use Rattle.std.specs.Char.{is_ascii_punctuation}
+use Rattle.std.proofs.Common.{◌≡◌, ◌⊎◌, inl, inr, ℕ, zero, suc, ◌+◌, ◌<◌, ◌≤◌, Bool, true, false, List, [], ◌∷◌, length, Option, refl, arith}
 use Rattle.std.proofs.lemmas.Bool.{cases_lt, or_left, le-leb}
 use Rattle.first_pass_items.specs.declared.item.Item.{Item}
-use Rattle.first_pass_walk.specs.Walk.{is_special}
 use Rattle.first_pass_tokens.specs.declared.pieces.Piece.{Piece}
-use Rattle.first_pass_tokens.specs.declared.pieces.Piece.TheVariants.{Left, Begins}
-use Rattle.first_pass_tokens.specs.Pieces.{Source, piece_at, special_piece, backslash_piece, size}
+use Rattle.first_pass_tokens.specs.declared.pieces.Piece.TheVariants.{Left, Begins, Token}
+use Rattle.first_pass_tokens.specs.Pieces.{Source, piece_at, size}
+use Rattle.first_pass_tokens.proofs.PieceFacts.{IsPieceAt, piece_facts}
 use Rattle.first_pass_tokens.specs.LineTokens.{ends_at, ArePieces, text_end, add_pieces, line_end_len, line_break, IsLine}
 
 -- a piece has bytes
-if_sized : (t : Bool) (p q : Piece) → 0 < size p → 0 < size q → 0 < size (if t then p else q)
-if_sized true p q h k = h
-if_sized false p q h k = k
-
-backslash_sized : (text : List ℕ) (at : ℕ) → 0 < size (backslash_piece text at)
-unfolding backslash_piece
-backslash_sized text at = if_sized (is_ascii_punctuation (slice_index text (at + 1))) (Begins 1 true) (Left 1) (omega arith) (omega arith)
-
-special_sized : (text : List ℕ) (at : ℕ) → 0 < size (special_piece text at)
-unfolding special_piece
-special_sized text at = if_sized (slice_index text at == 92) (backslash_piece text at) (Left 1) (backslash_sized text at) (omega arith)
+sized_by : (text : List ℕ) (at : ℕ) (p : Piece) → IsPieceAt text at p → 0 < size p
+sized_by text at (Left n) facts = let one = facts.0 in omega arith
+sized_by text at (Begins dropped escaped) facts = omega arith
+sized_by text at (Token dropped n body) facts = let some = facts.some in omega arith
 
 piece_sized : (s : Source) (at : ℕ) → at < length s.text → 0 < size (piece_at s at)
-unfolding piece_at
-piece_sized s at within = if_sized (is_special s.options (slice_index s.text at)) (special_piece s.text at) (Left 1) (special_sized s.text at) (omega arith)
+piece_sized s at within = sized_by s.text at (piece_at s at) (piece_facts s at within)
 
 -- the pieces of a content from a place on
 record Division (s : Source) (at : ℕ) : Type 0 where
