@@ -39,7 +39,7 @@ abbrev pub AlikeLeaf : Names → Names → Leaf → Leaf → Type 0
 AlikeLeaf m n BlankLine BlankLine = Unit {0}
 AlikeLeaf m n BlankLine (Block b) = ⊥
 AlikeLeaf m n (Block b) BlankLine = ⊥
-AlikeLeaf m n (Block b) (Block b') = (stands b ≡ stands b') × AlikeNodes m n b.items b'.items × (b.gap ≡ b'.gap)
+AlikeLeaf m n (Block b) (Block b') = (stands b ≡ stands b') × AlikeNodes m n b.items b'.items × (b.gap ≡ b'.gap) × (b.definitions ≡ b'.definitions)
 
 -- where blocks go on stands no item that has an index
 abbrev pub HoldsNoIndex : From → Type 0

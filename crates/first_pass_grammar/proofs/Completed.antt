@@ -10,7 +10,7 @@ use Rattle.first_pass_grammar.specs.Containers.{after}
 use Rattle.first_pass_grammar.specs.Leaves.{Document, document}
 use Rattle.first_pass_grammar.specs.Skeleton.{From, Line, Ends, end_before, IsSequence}
 use Rattle.first_pass_grammar.specs.Rows.{Rows, any_gap, rows_of}
-use Rattle.first_pass_grammar.specs.Derivation.{Tables, Derives, tables_of, root_of, items_of}
+use Rattle.first_pass_grammar.specs.Derivation.{Tables, Derives, told, definitions_of, tables_of, root_of, items_of}
 use Rattle.first_pass_grammar.specs.Completion.{OneList, Standing, Further, AreFurther, rows_on, rows_beyond, rendered, Frame, InContainer, InList, containers_of, is_quote, loosened, container_closed, Becomes, Completes, CanGoOn, Completion}
 use Rattle.first_pass_grammar.proofs.Found.{Found}
 use Rattle.first_pass_grammar.proofs.MoreNames.{extends_none, extends_both}
@@ -61,12 +61,12 @@ becomes_some : (d : Document) (frames : List Frame) (places : List ℕ) (w : Sta
     → (forest : List (ℕ × Item)) × (tables : Tables) × Becomes frames places w further forest tables
 unfolding AreFurther Becomes
 becomes_some d [] [] w [] from lines size are = absurd are
-becomes_some d [] [] w (f ∷ []) from lines size are = (rendered 1 f.«end» w.nodes w.list (rows_on false w f), tables_of f.blocks, (refl, refl))
+becomes_some d [] [] w (f ∷ []) from lines size are = (rendered 1 f.«end» w.nodes w.list (rows_on false w f), told w.defined (definitions_of f.blocks), (refl, refl))
 becomes_some d [] [] w (f ∷ g ∷ more) from lines size are = absurd are
 becomes_some d [] (place ∷ places) w further from lines size are = absurd (omega arith)
 becomes_some d (frame ∷ frames) [] w further from lines size are = absurd (omega arith)
 becomes_some d (InList byte loose ∷ frames) (place ∷ places) w further from lines size are =
-    becomes_some d frames places (record { nodes = w.nodes; list = OneList place byte loose; run = w.run }) further from lines (omega arith) are
+    becomes_some d frames places (record { nodes = w.nodes; list = OneList place byte loose; run = w.run; defined = w.defined }) further from lines (omega arith) are
 becomes_some d (InContainer c ∷ frames) (place ∷ places) w [] from lines size are = absurd are
 becomes_some d (InContainer c ∷ frames) (place ∷ places) w (f ∷ further) from lines size (left, sequence, ends, are) =
     let rows : Rows = rows_on (is_quote c) w f in

@@ -17,7 +17,8 @@ use Rattle.first_pass_grammar.specs.Leaves.{Document}
 use Rattle.first_pass_grammar.specs.Skeleton.{Leaf, LeafBlock, BlankLine, Block, block_at, Head, Opener, QuoteMarker, ItemMarker, From, Line, Inside, Blanks, At, TextOf, MarkAlone, behind_marker, Opening, OpensLeaf, OpensNode, OpensParagraph, Opens, Skeleton, Nil, Then, Node, Begins, Ends, behind_first, end_after, end_before, IsFirst, IsSequence}
 use Rattle.first_pass_grammar.specs.Kinds.{Kind, Paragraph}
 use Rattle.first_pass_grammar.specs.Rows.{ALeaf, AList, Row, Rows, End, OneOf, behind, ends_in_gap, any_gap, is_loose, is_paragraph, closing_place, list_until, items_behind, list_behind, what_of, row_of, container_row, begins_blank, rows_of}
-use Rattle.first_pass_grammar.specs.Derivation.{Tables, Derives, node_of, tables_of, root_of, list_flags, tight_body, tightened, block_items, items_of}
+use Rattle.first_pass_grammar.specs.LinkTables.{LinkEntry, with_link, with_links}
+use Rattle.first_pass_grammar.specs.Derivation.{Tables, Derives, no_tables, told, definitions_of, node_of, root_of, list_flags, tight_body, tightened, block_items, items_of}
 use Rattle.first_pass_grammar.specs.Completion.{ended, flagged, list_closed, Pending, NoList, OneList, rows_beyond, rendered, Frame, InContainer, InList, containers_of, is_quote, loosened, AreBelow, IsPlain, IsShaped}
 use Rattle.first_pass_grammar.proofs.Tightening.{eqb-same, modify-append, length-modify, list_closed-append, length-closed, list_closed-mid, closed_item}
 use Rattle.first_pass_grammar.proofs.Alike.{AlikeOpening}
@@ -43,11 +44,11 @@ counts_with quoted (OneList place byte loose) run = true
 counts_with quoted NoList run = run || not quoted
 
 -- what is equal comes about alike
-finish_moved : (d : Document) (run run' : Bool) (frames frames' : List Frame) (nodes nodes' : List (ℕ × Item)) (os : List ℕ) (lines : List Place) (forest : List (ℕ × Item)) (tables : Tables)
-    → run ≡ run' → frames ≡ frames' → nodes ≡ nodes' → Finish d NoList run frames nodes os Line lines forest tables → Finish d NoList run' frames' nodes' os Line lines forest tables
-finish_moved d run run' frames frames' nodes nodes' os lines forest tables runs same alike fin =
-    subst (λ z. Finish d NoList run' frames' z os Line lines forest tables) alike
-    (subst (λ z. Finish d NoList run' z nodes os Line lines forest tables) same (subst (λ z. Finish d NoList z frames nodes os Line lines forest tables) runs fin))
+finish_moved : (d : Document) (defined : Tables) (run run' : Bool) (frames frames' : List Frame) (nodes nodes' : List (ℕ × Item)) (os : List ℕ) (lines : List Place) (forest : List (ℕ × Item)) (tables : Tables)
+    → run ≡ run' → frames ≡ frames' → nodes ≡ nodes' → Finish d defined NoList run frames nodes os Line lines forest tables → Finish d defined NoList run' frames' nodes' os Line lines forest tables
+finish_moved d defined run run' frames frames' nodes nodes' os lines forest tables runs same alike fin =
+    subst (λ z. Finish d defined NoList run' frames' z os Line lines forest tables) alike
+    (subst (λ z. Finish d defined NoList run' z nodes os Line lines forest tables) same (subst (λ z. Finish d defined NoList z frames nodes os Line lines forest tables) runs fin))
 
 -- the nodes once the list at a place is said to be loose or not
 unfoldable pub reflagged : List (ℕ × Item) → ℕ → Bool → List (ℕ × Item)
@@ -114,17 +115,34 @@ abbrev pub EndsAlike : ℕ → From → From → Type 0
 EndsAlike n from there = (path : List Container) (mid : List Place) → end_before n path from mid ≡ end_before n path there mid
 
 -- What adds blocks in front of a sequence leads to the same forests.
-pub extend : (d : Document) (frames : List Frame) (list list' : Pending) (run run' gap : Bool) (nodes nodes' : List (ℕ × Item)) (os : List ℕ) (from there : From) (lines left : List Place) (forest : List (ℕ × Item)) (tables : Tables) (f : Skeleton → Skeleton)
+-- what is told with more definitions, one list behind the other
+told_links : (links a b : List LinkEntry) → with_links links (a ++ b) ≡ with_links (with_links links a) b
+unfolding with_links
+told_links links [] b = refl
+told_links links (x ∷ a) b = told_links (with_link x links) a b
+
+abbrev told_by : List (List ℕ) → List LinkEntry → Tables
+told_by footnotes links = record { links = links; footnotes = footnotes }
+
+pub told-append : (defined : Tables) (a b : List LinkEntry) → told (told defined a) b ≡ told defined (a ++ b)
+told-append defined a b = ap (told_by defined.footnotes) (sym (told_links defined.links a b))
+
+finish_told : (d : Document) (defined defined' : Tables) (list : Pending) (run : Bool) (frames : List Frame) (nodes : List (ℕ × Item)) (os : List ℕ) (from : From) (lines : List Place) (forest : List (ℕ × Item)) (tables : Tables)
+    → defined ≡ defined' → Finish d defined list run frames nodes os from lines forest tables → Finish d defined' list run frames nodes os from lines forest tables
+finish_told d defined defined' list run frames nodes os from lines forest tables is fin = subst (λ z. Finish d z list run frames nodes os from lines forest tables) is fin
+
+pub extend : (d : Document) (defined defined' : Tables) (frames : List Frame) (list list' : Pending) (run run' gap : Bool) (nodes nodes' : List (ℕ × Item)) (os : List ℕ) (from there : From) (lines left : List Place) (forest : List (ℕ × Item)) (tables : Tables) (f : Skeleton → Skeleton)
     → IsPlain frames → EndsAlike (length d.text) from there
     → ((s : Skeleton) (mid : List Place) → IsSequence d s (containers_of frames) there left mid → Adds d (in_quote frames) (suc (length os)) (containers_of frames) list list' run run' gap nodes nodes' from lines s (f s) mid)
-    → Finish d list' run' (loosened_in gap frames) nodes' os there left forest tables → Finish d list run frames nodes os from lines forest tables
+    → ((s : Skeleton) → told defined' (definitions_of s) ≡ told defined (definitions_of (f s)))
+    → Finish d defined' list' run' (loosened_in gap frames) nodes' os there left forest tables → Finish d defined list run frames nodes os from lines forest tables
 unfolding Finish
-extend d [] list list' run run' gap nodes nodes' [] from there lines left forest tables f plain ends adds (s, seq, is, tables_are) =
-    let a = adds s [] seq in (f s, a.seq, is ∙ sym (a.items (length d.text)), tables_are)
-extend d [] list list' run run' gap nodes nodes' (o ∷ os) from there lines left forest tables f plain ends adds fin = fin
-extend d (InContainer c ∷ frames) list list' run run' gap nodes nodes' [] from there lines left forest tables f plain ends adds fin = fin
-extend d (InList byte loose ∷ frames) list list' run run' gap nodes nodes' os from there lines left forest tables f plain ends adds fin = absurd plain
-extend d (InContainer c ∷ frames) list list' run run' gap nodes nodes' (o ∷ os) from there lines left forest tables f plain ends adds (s, mid, seq, fin) =
+extend d defined defined' [] list list' run run' gap nodes nodes' [] from there lines left forest tables f plain ends adds tells (s, seq, is, tables_are) =
+    let a = adds s [] seq in (f s, a.seq, is ∙ sym (a.items (length d.text)), tables_are ∙ tells s)
+extend d defined defined' [] list list' run run' gap nodes nodes' (o ∷ os) from there lines left forest tables f plain ends adds tells fin = fin
+extend d defined defined' (InContainer c ∷ frames) list list' run run' gap nodes nodes' [] from there lines left forest tables f plain ends adds tells fin = fin
+extend d defined defined' (InList byte loose ∷ frames) list list' run run' gap nodes nodes' os from there lines left forest tables f plain ends adds tells fin = absurd plain
+extend d defined defined' (InContainer c ∷ frames) list list' run run' gap nodes nodes' (o ∷ os) from there lines left forest tables f plain ends adds tells (s, mid, seq, fin) =
     let path : List Container = containers_of frames in
     let a = adds s mid (subst (λ p. IsSequence d s (c ∷ p) there left mid) (containers-loosened gap frames) seq) in
     let same : end_before (length d.text) (containers_of (loosened gap frames)) there mid ≡ end_before (length d.text) path from mid =
@@ -138,9 +156,10 @@ extend d (InContainer c ∷ frames) list list' run run' gap nodes nodes' (o ∷ 
       f s,
       mid,
       a.seq,
-      finish_moved d _ _ _ _ _ _ os mid forest tables (sym (a.runs e)) g (ap (λ z. ended z o e) (sym (a.items e)))
-          (subst (λ z. Finish d NoList (ends_in_gap (rows_next q z list' run' s)) (loosened (any_gap (rows_beyond list' (rows_next q z list' run' s))) (loosened gap frames))
-          (ended (rendered depth z nodes' list' (rows_next q z list' run' s)) o z) os Line mid forest tables) same fin),
+      finish_moved d _ _ _ _ _ _ _ os mid forest tables (sym (a.runs e)) g (ap (λ z. ended z o e) (sym (a.items e)))
+          (finish_told d _ _ _ _ _ _ os Line mid forest tables (tells s)
+          (subst (λ z. Finish d (told defined' (definitions_of s)) NoList (ends_in_gap (rows_next q z list' run' s)) (loosened (any_gap (rows_beyond list' (rows_next q z list' run' s))) (loosened gap frames))
+          (ended (rendered depth z nodes' list' (rows_next q z list' run' s)) o z) os Line mid forest tables) same fin)),
     )
 
 -- What begins inside a line begins at the line.
@@ -157,38 +176,39 @@ enter_seq d (Then leaf next) path line q lines left is (there, mid, first, seq) 
 enter_seq d (Node head e kids next) path line q lines left is (inside, behind, mid, first, inner, ends, seq) =
     (inside, behind, mid, enter_first d path line q lines (OpensNode head inside behind) is first, inner, ends, seq)
 
-enter_step : (d : Document) (frames : List Frame) (list : Pending) (run : Bool) (nodes : List (ℕ × Item)) (os : List ℕ) (line q : Place) (lines : List Place) (forest : List (ℕ × Item)) (tables : Tables)
+enter_step : (d : Document) (defined : Tables) (frames : List Frame) (list : Pending) (run : Bool) (nodes : List (ℕ × Item)) (os : List ℕ) (line q : Place) (lines : List Place) (forest : List (ℕ × Item)) (tables : Tables)
     → taken (containers_of frames) line ≡ Some q
-    → Finish d list run frames nodes os (Inside q) lines forest tables → Finish d list run frames nodes os Line (line ∷ lines) forest tables
+    → Finish d defined list run frames nodes os (Inside q) lines forest tables → Finish d defined list run frames nodes os Line (line ∷ lines) forest tables
 unfolding Finish
-enter_step d [] list run nodes [] line q lines forest tables is (s, seq, forest_is, tables_are) = (s, enter_seq d s [] line q lines [] is seq, forest_is, tables_are)
-enter_step d [] list run nodes (o ∷ os) line q lines forest tables is fin = fin
-enter_step d (InContainer c ∷ frames) list run nodes [] line q lines forest tables is fin = fin
-enter_step d (InList byte loose ∷ frames) list run nodes [] line q lines forest tables is fin = fin
-enter_step d (InList byte loose ∷ frames) list run nodes (o ∷ os) line q lines forest tables is fin = enter_step d frames (OneList o byte loose) run nodes os line q lines forest tables is fin
-enter_step d (InContainer c ∷ frames) list run nodes (o ∷ os) line q lines forest tables is (s, mid, seq, fin) =
+enter_step d defined [] list run nodes [] line q lines forest tables is (s, seq, forest_is, tables_are) = (s, enter_seq d s [] line q lines [] is seq, forest_is, tables_are)
+enter_step d defined [] list run nodes (o ∷ os) line q lines forest tables is fin = fin
+enter_step d defined (InContainer c ∷ frames) list run nodes [] line q lines forest tables is fin = fin
+enter_step d defined (InList byte loose ∷ frames) list run nodes [] line q lines forest tables is fin = fin
+enter_step d defined (InList byte loose ∷ frames) list run nodes (o ∷ os) line q lines forest tables is fin = enter_step d defined frames (OneList o byte loose) run nodes os line q lines forest tables is fin
+enter_step d defined (InContainer c ∷ frames) list run nodes (o ∷ os) line q lines forest tables is (s, mid, seq, fin) =
     (s, mid, enter_seq d s (c ∷ containers_of frames) line q lines mid is seq, fin)
 
 first_here : (d : Document) (path : List Container) (p : Place) (lines : List Place) (opening : Opening) → Opens d path p lines opening → IsFirst d path (Inside p) lines opening
 first_here d path p lines opening opens = record { place = p; behind = lines; begins = (refl, refl); opens = opens }
 
 -- a block with no blocks in it, before which no gap is to be noted
-block_step : (d : Document) (frames : List Frame) (nodes : List (ℕ × Item)) (os : List ℕ) (from : From) (lines left : List Place) (b : LeafBlock) (forest : List (ℕ × Item)) (tables : Tables)
+block_step : (d : Document) (defined : Tables) (frames : List Frame) (nodes : List (ℕ × Item)) (os : List ℕ) (from : From) (lines left : List Place) (b : LeafBlock) (forest : List (ℕ × Item)) (tables : Tables)
     → IsPlain frames → EndsAlike (length d.text) from (behind_first from Line) → IsFirst d (containers_of frames) from lines (OpensLeaf (Block b) Line left)
-    → Finish d NoList b.gap frames (nodes ++ block_items (suc (length os)) false b) os (behind_first from Line) left forest tables → Finish d NoList false frames nodes os from lines forest tables
-unfolding IsSequence items_of rows_of ends_in_gap any_gap rendered
-block_step d frames nodes os from lines left b forest tables plain alike first fin =
+    → Finish d (told defined b.definitions) NoList b.gap frames (nodes ++ block_items (suc (length os)) false b) os (behind_first from Line) left forest tables → Finish d defined NoList false frames nodes os from lines forest tables
+unfolding IsSequence items_of rows_of ends_in_gap any_gap rendered definitions_of
+block_step d defined frames nodes os from lines left b forest tables plain alike first fin =
     let k : ℕ = suc (length os) in
     let q : Bool = in_quote frames in
     let added : List (ℕ × Item) = block_items k false b in
-    extend d frames NoList NoList false b.gap false nodes (nodes ++ added) os from (behind_first from Line) lines left forest tables (λ s. Then (Block b) s) plain alike
+    extend d defined (told defined b.definitions) frames NoList NoList false b.gap false nodes (nodes ++ added) os from (behind_first from Line) lines left forest tables (λ s. Then (Block b) s) plain alike
     (λ s mid seq. record {
       seq = (Line, left, first, seq);
       items = λ last. sym (ap (λ z. (nodes ++ added) ++ items_of k false (behind z (rows_of q last s))) (or-none b.gap) ∙ append_assoc nodes added (items_of k false (behind b.gap (rows_of q last s))));
       runs = λ last. ap (λ z. ends_in_gap (behind z (rows_of q last s))) (sym (or-none b.gap));
       gaps = λ last. ap (λ z. any_gap (behind z (rows_of q last s))) (sym (or-none b.gap));
     })
-    (subst (λ z. Finish d NoList b.gap z (nodes ++ added) os (behind_first from Line) left forest tables) (sym (loosened_in-false frames)) fin)
+    (λ s. told-append defined b.definitions (definitions_of s))
+    (subst (λ z. Finish d (told defined b.definitions) NoList b.gap z (nodes ++ added) os (behind_first from Line) left forest tables) (sym (loosened_in-false frames)) fin)
 
 -- a blank line more
 blank_noted : (quoted : Bool) (list : Pending) (run : Bool) (last : ℕ) (s : Skeleton) → rows_next quoted last list run (Then BlankLine s) ≡ rows_next quoted last list (counts_with quoted list run) s
@@ -200,33 +220,34 @@ blank_noted quoted (OneList place byte loose) run last s =
     let r : Rows = rows_of quoted last s in behind-twice (run || true) (not quoted) r ∙ ap (λ z. behind (z || not quoted) r) (or-some run)
 
 -- a blank line, where a list may go on
-blank_step : (d : Document) (frames : List Frame) (list : Pending) (run : Bool) (nodes : List (ℕ × Item)) (os : List ℕ) (from : From) (lines left : List Place) (forest : List (ℕ × Item)) (tables : Tables)
+blank_step : (d : Document) (defined : Tables) (frames : List Frame) (list : Pending) (run : Bool) (nodes : List (ℕ × Item)) (os : List ℕ) (from : From) (lines left : List Place) (forest : List (ℕ × Item)) (tables : Tables)
     → IsPlain frames → EndsAlike (length d.text) from (behind_first from Line) → IsFirst d (containers_of frames) from lines (OpensLeaf BlankLine Line left)
-    → Finish d list (counts_with (in_quote frames) list run) frames nodes os (behind_first from Line) left forest tables → Finish d list run frames nodes os from lines forest tables
-unfolding IsSequence
-blank_step d frames list run nodes os from lines left forest tables plain alike first fin =
+    → Finish d defined list (counts_with (in_quote frames) list run) frames nodes os (behind_first from Line) left forest tables → Finish d defined list run frames nodes os from lines forest tables
+unfolding IsSequence definitions_of
+blank_step d defined frames list run nodes os from lines left forest tables plain alike first fin =
     let q : Bool = in_quote frames in
     let counts : Bool = counts_with q list run in
-    extend d frames list list run counts false nodes nodes os from (behind_first from Line) lines left forest tables (λ s. Then BlankLine s) plain alike
+    extend d defined defined frames list list run counts false nodes nodes os from (behind_first from Line) lines left forest tables (λ s. Then BlankLine s) plain alike
     (λ s mid seq. record {
       seq = (Line, left, first, seq);
       items = λ last. ap (rendered (suc (length os)) last nodes list) (blank_noted q list run last s);
       runs = λ last. ap ends_in_gap (blank_noted q list run last s);
       gaps = λ last. ap (λ z. any_gap (rows_beyond list z)) (blank_noted q list run last s);
     })
-    (subst (λ z. Finish d list counts z nodes os (behind_first from Line) left forest tables) (sym (loosened_in-false frames)) fin)
+    (λ s. refl)
+    (subst (λ z. Finish d defined list counts z nodes os (behind_first from Line) left forest tables) (sym (loosened_in-false frames)) fin)
 
 ended-mid : (nodes more : List (ℕ × Item)) (k e : ℕ) (x : Item) → ended (nodes ++ (k, x) ∷ more) (length nodes) e ≡ nodes ++ (k, record { start = x.start; «end» = e; body = x.body }) ∷ more
 unfolding ended
 ended-mid nodes more k e x = modify-at nodes more (k, x) (length nodes) (λ y. record { start = y.start; «end» = e; body = y.body }) refl
 
 -- a block quote opened, before which no gap is to be noted
-quote_step : (d : Document) (frames : List Frame) (nodes : List (ℕ × Item)) (os : List ℕ) (p : Place) (lines behind : List Place) (kind : Option BlockQuoteKind) (start line some_end : ℕ) (inside : From) (forest : List (ℕ × Item)) (tables : Tables)
+quote_step : (d : Document) (defined : Tables) (frames : List Frame) (nodes : List (ℕ × Item)) (os : List ℕ) (p : Place) (lines behind : List Place) (kind : Option BlockQuoteKind) (start line some_end : ℕ) (inside : From) (forest : List (ℕ × Item)) (tables : Tables)
     → IsPlain frames → Opens d (containers_of frames) p lines (OpensNode (record { opener = QuoteMarker kind; start = start; line = line }) inside behind)
-    → Finish d NoList false (InContainer (BlockQuote kind) ∷ frames) (nodes ++ (suc (length os), node_of start some_end (BlockQuoteBody kind)) ∷ []) (length nodes ∷ os) inside behind forest tables
-    → Finish d NoList false frames nodes os (Inside p) lines forest tables
-unfolding Finish IsSequence rows_of items_of ends_in_gap any_gap rendered
-quote_step d frames nodes os p lines behind kind start line some_end inside forest tables plain opens (kids, mid, inner, fin) =
+    → Finish d defined NoList false (InContainer (BlockQuote kind) ∷ frames) (nodes ++ (suc (length os), node_of start some_end (BlockQuoteBody kind)) ∷ []) (length nodes ∷ os) inside behind forest tables
+    → Finish d defined NoList false frames nodes os (Inside p) lines forest tables
+unfolding Finish IsSequence rows_of items_of ends_in_gap any_gap rendered definitions_of
+quote_step d defined frames nodes os p lines behind kind start line some_end inside forest tables plain opens (kids, mid, inner, fin) =
     let n : ℕ = length d.text in
     let path : List Container = containers_of frames in
     let k : ℕ = suc (length os) in
@@ -240,15 +261,16 @@ quote_step d frames nodes os p lines behind kind start line some_end inside fore
     let same : ended ((nodes ++ x ∷ []) ++ items) (length nodes) e ≡ later =
     ap (λ z. ended z (length nodes) e) (append_assoc nodes (x ∷ []) items) ∙ ended-mid nodes items k e (node_of start some_end (BlockQuoteBody kind)) in
     let run : Bool = ends_in_gap rows in
-    extend d frames NoList NoList false run false nodes later os (Inside p) Line lines mid forest tables (λ s. Node head e kids s) plain (λ path mid. refl)
+    extend d defined (told defined (definitions_of kids)) frames NoList NoList false run false nodes later os (Inside p) Line lines mid forest tables (λ s. Node head e kids s) plain (λ path mid. refl)
     (λ s left seq. record {
       seq = (inside, behind, mid, first_here d path p lines (OpensNode head inside behind) opens, inner, refl, seq);
       items = λ last. sym (append_assoc nodes (y ∷ items) _);
       runs = λ last. refl;
       gaps = λ last. refl;
     })
-    (finish_moved d run run _ _ _ later os mid forest tables refl (plain_loosened (any_gap rows) frames plain ∙ sym (loosened_in-false frames)) same
-    (subst (λ r. Finish d NoList (ends_in_gap r) (loosened (any_gap r) frames) (ended (rendered (suc k) e (nodes ++ x ∷ []) NoList r) (length nodes) e) os Line mid forest tables) (behind-none rows) fin))
+    (λ s. told-append defined (definitions_of kids) (definitions_of s))
+    (finish_moved d _ run run _ _ _ later os mid forest tables refl (plain_loosened (any_gap rows) frames plain ∙ sym (loosened_in-false frames)) same
+    (subst (λ r. Finish d (told defined (definitions_of kids)) NoList (ends_in_gap r) (loosened (any_gap r) frames) (ended (rendered (suc k) e (nodes ++ x ∷ []) NoList r) (length nodes) e) os Line mid forest tables) (behind-none rows) fin))
 
 ended-second : (nodes more : List (ℕ × Item)) (y : ℕ × Item) (k e : ℕ) (x : Item)
     → ended (nodes ++ y ∷ (k, x) ∷ more) (suc (length nodes)) e ≡ nodes ++ y ∷ (k, record { start = x.start; «end» = e; body = x.body }) ∷ more
@@ -279,13 +301,13 @@ list_items quoted d last e start some_end byte number columns line flags nodes k
     ∙ ap (λ z. nodes ++ list ∷ entry ∷ z) (sym (append_assoc a b c)))
 
 -- a list opened with its first item, before which no gap is to be noted
-list_step : (d : Document) (frames : List Frame) (nodes : List (ℕ × Item)) (os : List ℕ) (p : Place) (lines behind : List Place) (byte number columns start line some_end other_end : ℕ) (flags : ListFlags) (inside : From) (forest : List (ℕ × Item)) (tables : Tables)
+list_step : (d : Document) (defined : Tables) (frames : List Frame) (nodes : List (ℕ × Item)) (os : List ℕ) (p : Place) (lines behind : List Place) (byte number columns start line some_end other_end : ℕ) (flags : ListFlags) (inside : From) (forest : List (ℕ × Item)) (tables : Tables)
     → IsPlain frames → Opens d (containers_of frames) p lines (OpensNode (record { opener = ItemMarker byte number columns; start = start; line = line }) inside behind)
-    → Finish d NoList false (InContainer (ListItem columns) ∷ InList byte false ∷ frames)
+    → Finish d defined NoList false (InContainer (ListItem columns) ∷ InList byte false ∷ frames)
     (nodes ++ (suc (length os), node_of start some_end (ListBody flags byte number)) ∷ (suc (suc (length os)), node_of start other_end (ListItemBody columns)) ∷ []) (suc (length nodes) ∷ length nodes ∷ os) inside behind forest tables
-    → Finish d NoList false frames nodes os (Inside p) lines forest tables
-unfolding Finish IsSequence rows_of items_of ends_in_gap any_gap rendered
-list_step d frames nodes os p lines behind byte number columns start line some_end other_end flags inside forest tables plain opens (kids, mid, inner, fin) =
+    → Finish d defined NoList false frames nodes os (Inside p) lines forest tables
+unfolding Finish IsSequence rows_of items_of ends_in_gap any_gap rendered definitions_of
+list_step d defined frames nodes os p lines behind byte number columns start line some_end other_end flags inside forest tables plain opens (kids, mid, inner, fin) =
     let n : ℕ = length d.text in
     let path : List Container = containers_of frames in
     let k : ℕ = suc (length os) in
@@ -300,16 +322,17 @@ list_step d frames nodes os p lines behind byte number columns start line some_e
     ap (λ z. ended z (suc (length nodes)) e) (append_assoc nodes (y ∷ x ∷ []) items) ∙ ended-second nodes items y (suc k) e (node_of start other_end (ListItemBody columns)) in
     let run : Bool = ends_in_gap rows in
     let list : Pending = OneList (length nodes) byte (any_gap rows) in
-    extend d frames NoList list false run false nodes later os (Inside p) Line lines mid forest tables (λ s. Node head e kids s) plain (λ path mid. refl)
+    extend d defined (told defined (definitions_of kids)) frames NoList list false run false nodes later os (Inside p) Line lines mid forest tables (λ s. Node head e kids s) plain (λ path mid. refl)
     (λ s left seq. record {
       seq = (inside, behind, mid, first_here d path p lines (OpensNode head inside behind) opens, inner, refl, seq);
       items = λ last. list_items (in_quote frames) k last e start some_end byte number columns line flags nodes kids s;
       runs = λ last. ends-behind byte (rows_next (in_quote frames) last list run s);
       gaps = λ last. refl;
     })
-    (subst (λ z. Finish d list run z later os Line mid forest tables) (sym (loosened_in-false frames))
-    (subst (λ z. Finish d list run frames z os Line mid forest tables) same
-    (subst (λ r. Finish d (OneList (length nodes) byte (any_gap r)) (ends_in_gap r) frames (ended (rendered (suc (suc k)) e (nodes ++ y ∷ x ∷ []) NoList r) (suc (length nodes)) e) os Line mid forest tables)
+    (λ s. told-append defined (definitions_of kids) (definitions_of s))
+    (subst (λ z. Finish d (told defined (definitions_of kids)) list run z later os Line mid forest tables) (sym (loosened_in-false frames))
+    (subst (λ z. Finish d (told defined (definitions_of kids)) list run frames z os Line mid forest tables) same
+    (subst (λ r. Finish d (told defined (definitions_of kids)) (OneList (length nodes) byte (any_gap r)) (ends_in_gap r) frames (ended (rendered (suc (suc k)) e (nodes ++ y ∷ x ∷ []) NoList r) (suc (length nodes)) e) os Line mid forest tables)
     (behind-none rows) fin)))
 
 or_four : (a b c e : Bool) → (a || (b || (c || e))) ≡ (((a || b) || c) || e)
@@ -364,13 +387,13 @@ joined_items quoted d last e start byte number columns line o run loose nodes ki
     )
 
 -- an item opened in a list that goes on
-item_step : (d : Document) (frames : List Frame) (run loose : Bool) (nodes : List (ℕ × Item)) (o : ℕ) (os : List ℕ) (p : Place) (lines behind : List Place) (byte number columns start line some_end : ℕ) (inside : From) (forest : List (ℕ × Item)) (tables : Tables)
+item_step : (d : Document) (defined : Tables) (frames : List Frame) (run loose : Bool) (nodes : List (ℕ × Item)) (o : ℕ) (os : List ℕ) (p : Place) (lines behind : List Place) (byte number columns start line some_end : ℕ) (inside : From) (forest : List (ℕ × Item)) (tables : Tables)
     → IsPlain frames → o < length nodes → Opens d (containers_of frames) p lines (OpensNode (record { opener = ItemMarker byte number columns; start = start; line = line }) inside behind)
-    → Finish d NoList false (InContainer (ListItem columns) ∷ InList byte (loose || run) ∷ frames)
+    → Finish d defined NoList false (InContainer (ListItem columns) ∷ InList byte (loose || run) ∷ frames)
     (nodes ++ (suc (suc (length os)), node_of start some_end (ListItemBody columns)) ∷ []) (length nodes ∷ o ∷ os) inside behind forest tables
-    → Finish d NoList run (InList byte loose ∷ frames) nodes (o ∷ os) (Inside p) lines forest tables
-unfolding Finish IsSequence any_gap rendered
-item_step d frames run loose nodes o os p lines behind byte number columns start line some_end inside forest tables plain below opens (kids, mid, inner, fin) =
+    → Finish d defined NoList run (InList byte loose ∷ frames) nodes (o ∷ os) (Inside p) lines forest tables
+unfolding Finish IsSequence any_gap rendered definitions_of
+item_step d defined frames run loose nodes o os p lines behind byte number columns start line some_end inside forest tables plain below opens (kids, mid, inner, fin) =
     let n : ℕ = length d.text in
     let path : List Container = containers_of frames in
     let k : ℕ = suc (length os) in
@@ -385,16 +408,17 @@ item_step d frames run loose nodes o os p lines behind byte number columns start
     ap (λ z. ended z (length nodes) e) (append_assoc nodes (x ∷ []) items) ∙ ended-mid nodes items (suc k) e (node_of start some_end (ListItemBody columns)) in
     let next : Bool = ends_in_gap rows in
     let list : Pending = OneList o byte ((loose || run) || any_gap rows) in
-    extend d frames (OneList o byte loose) list run next false nodes later os (Inside p) Line lines mid forest tables (λ s. Node head e kids s) plain (λ path mid. refl)
+    extend d defined (told defined (definitions_of kids)) frames (OneList o byte loose) list run next false nodes later os (Inside p) Line lines mid forest tables (λ s. Node head e kids s) plain (λ path mid. refl)
     (λ s left seq. record {
       seq = (inside, behind, mid, first_here d path p lines (OpensNode head inside behind) opens, inner, refl, seq);
       items = λ last. (joined_items q k last e start byte number columns line o run loose nodes kids s below).0;
       runs = λ last. (joined_items q k last e start byte number columns line o run loose nodes kids s below).1;
       gaps = λ last. (joined_items q k last e start byte number columns line o run loose nodes kids s below).2;
     })
-    (subst (λ z. Finish d list next z later os Line mid forest tables) (sym (loosened_in-false frames))
-    (subst (λ z. Finish d list next frames z os Line mid forest tables) same
-    (subst (λ r. Finish d (OneList o byte ((loose || run) || any_gap r)) (ends_in_gap r) frames (ended (rendered (suc (suc k)) e (nodes ++ x ∷ []) NoList r) (length nodes) e) os Line mid forest tables)
+    (λ s. told-append defined (definitions_of kids) (definitions_of s))
+    (subst (λ z. Finish d (told defined (definitions_of kids)) list next z later os Line mid forest tables) (sym (loosened_in-false frames))
+    (subst (λ z. Finish d (told defined (definitions_of kids)) list next frames z os Line mid forest tables) same
+    (subst (λ r. Finish d (told defined (definitions_of kids)) (OneList o byte ((loose || run) || any_gap r)) (ends_in_gap r) frames (ended (rendered (suc (suc k)) e (nodes ++ x ∷ []) NoList r) (length nodes) e) os Line mid forest tables)
     (behind-none rows) fin)))
 
 -- what opens ends a list of this byte, at an offset
@@ -454,16 +478,16 @@ rows_away quoted byte at last run (Then (Block b) next) u = (refl, record { none
 rows_away quoted byte at last run (Node head e kids next) u = (refl, container_away byte at last (run || false) head.opener head.line head.start e _ _ u.0 u.1)
 
 -- a list closed before a block that ends it
-close_step : (d : Document) (frames : List Frame) (run loose : Bool) (nodes : List (ℕ × Item)) (o : ℕ) (os : List ℕ) (p : Place) (lines : List Place) (byte at : ℕ) (opening : Opening) (forest : List (ℕ × Item)) (tables : Tables)
+close_step : (d : Document) (defined : Tables) (frames : List Frame) (run loose : Bool) (nodes : List (ℕ × Item)) (o : ℕ) (os : List ℕ) (p : Place) (lines : List Place) (byte at : ℕ) (opening : Opening) (forest : List (ℕ × Item)) (tables : Tables)
     → IsPlain frames → Opens d (containers_of frames) p lines opening → OpensAway byte at opening
-    → Finish d NoList run frames (list_closed nodes o (suc (suc (suc (length os)))) loose at) os (Inside p) lines forest tables
-    → Finish d NoList run (InList byte loose ∷ frames) nodes (o ∷ os) (Inside p) lines forest tables
+    → Finish d defined NoList run frames (list_closed nodes o (suc (suc (suc (length os)))) loose at) os (Inside p) lines forest tables
+    → Finish d defined NoList run (InList byte loose ∷ frames) nodes (o ∷ os) (Inside p) lines forest tables
 unfolding Finish items_of is_loose rendered
-close_step d frames run loose nodes o os p lines byte at opening forest tables plain opens away fin =
+close_step d defined frames run loose nodes o os p lines byte at opening forest tables plain opens away fin =
     let k : ℕ = suc (length os) in
     let q : Bool = in_quote frames in
     let closed : List (ℕ × Item) = list_closed nodes o (suc (suc k)) loose at in
-    extend d frames (OneList o byte loose) NoList run run false nodes closed os (Inside p) (Inside p) lines lines forest tables (λ s. s) plain (λ path mid. refl)
+    extend d defined defined frames (OneList o byte loose) NoList run run false nodes closed os (Inside p) (Inside p) lines lines forest tables (λ s. s) plain (λ path mid. refl)
     (λ s mid seq. let u = ends_list d (containers_of frames) p lines mid byte at opening s opens away seq in
     let r : ℕ → Rows = λ last. rows_next q last NoList run s in
     let w = λ (last : ℕ). (rows_away q byte at last run s u).1 in
@@ -478,7 +502,8 @@ close_step d frames run loose nodes o os p lines byte at opening forest tables p
       runs = λ last. ap ends_in_gap (same last);
       gaps = λ last. ap (λ z. any_gap (list_behind byte z)) (same last) ∙ ap any_gap (w last).past;
     })
-    (subst (λ z. Finish d NoList run z closed os (Inside p) lines forest tables) (sym (loosened_in-false frames)) fin)
+    (λ s. refl)
+    (subst (λ z. Finish d defined NoList run z closed os (Inside p) lines forest tables) (sym (loosened_in-false frames)) fin)
 
 -- what opens is a block, not a blank line
 abbrev pub OpensBlock : Opening → Type 0
@@ -532,12 +557,12 @@ gap_noted d path p lines mid o quoted last run (Then leaf next) opens block (the
 gap_noted d path p lines mid o quoted last run (Node head e kids next) opens block seq = node_noted quoted last run head e kids next
 
 -- a gap noted before a block
-note_step : (d : Document) (frames : List Frame) (run : Bool) (nodes : List (ℕ × Item)) (os : List ℕ) (p : Place) (lines : List Place) (opening : Opening) (forest : List (ℕ × Item)) (tables : Tables)
+note_step : (d : Document) (defined : Tables) (frames : List Frame) (run : Bool) (nodes : List (ℕ × Item)) (os : List ℕ) (p : Place) (lines : List Place) (opening : Opening) (forest : List (ℕ × Item)) (tables : Tables)
     → IsPlain frames → Opens d (containers_of frames) p lines opening → OpensBlock opening
-    → Finish d NoList false (loosened_in run frames) nodes os (Inside p) lines forest tables → Finish d NoList run frames nodes os (Inside p) lines forest tables
+    → Finish d defined NoList false (loosened_in run frames) nodes os (Inside p) lines forest tables → Finish d defined NoList run frames nodes os (Inside p) lines forest tables
 unfolding rendered
-note_step d frames run nodes os p lines opening forest tables plain opens block fin =
-    extend d frames NoList NoList run false run nodes nodes os (Inside p) (Inside p) lines lines forest tables (λ s. s) plain (λ path mid. refl)
+note_step d defined frames run nodes os p lines opening forest tables plain opens block fin =
+    extend d defined defined frames NoList NoList run false run nodes nodes os (Inside p) (Inside p) lines lines forest tables (λ s. s) plain (λ path mid. refl)
     (λ s mid seq. let g = λ (last : ℕ). gap_noted d (containers_of frames) p lines mid opening (in_quote frames) last run s opens block seq in
     record {
       seq = seq;
@@ -545,21 +570,22 @@ note_step d frames run nodes os p lines opening forest tables plain opens block 
       runs = λ last. (g last).0;
       gaps = λ last. (g last).1;
     })
+    (λ s. refl)
     fin
 
 -- the innermost container closed
-pop_step : (d : Document) (c : Container) (frames : List Frame) (run : Bool) (nodes : List (ℕ × Item)) (o : ℕ) (os : List ℕ) (from : From) (lines : List Place) (forest : List (ℕ × Item)) (tables : Tables)
+pop_step : (d : Document) (defined : Tables) (c : Container) (frames : List Frame) (run : Bool) (nodes : List (ℕ × Item)) (o : ℕ) (os : List ℕ) (from : From) (lines : List Place) (forest : List (ℕ × Item)) (tables : Tables)
     → Ends (c ∷ containers_of frames) from lines
-    → (let e : ℕ = end_before (length d.text) (containers_of frames) from lines in Finish d NoList run frames (ended nodes o e) os Line lines forest tables)
-    → Finish d NoList run (InContainer c ∷ frames) nodes (o ∷ os) from lines forest tables
-unfolding Finish IsSequence items_of rows_of ends_in_gap any_gap rendered
-pop_step d c frames run nodes o os from lines forest tables ends fin =
+    → (let e : ℕ = end_before (length d.text) (containers_of frames) from lines in Finish d defined NoList run frames (ended nodes o e) os Line lines forest tables)
+    → Finish d defined NoList run (InContainer c ∷ frames) nodes (o ∷ os) from lines forest tables
+unfolding Finish IsSequence items_of rows_of ends_in_gap any_gap rendered definitions_of with_links
+pop_step d defined c frames run nodes o os from lines forest tables ends fin =
     let e : ℕ = end_before (length d.text) (containers_of frames) from lines in (
       Nil,
       lines,
       (ends, refl),
-      finish_moved d run _ frames _ (ended nodes o e) _ os lines forest tables (sym (or-none (run || false) ∙ or-none run)) (sym (loosened-false frames))
-          (ap (λ z. ended z o e) (sym (append-nil nodes))) fin,
+      finish_moved d defined run _ frames _ (ended nodes o e) _ os lines forest tables (sym (or-none (run || false) ∙ or-none run)) (sym (loosened-false frames))
+          (ap (λ z. ended z o e) (sym (append-nil nodes))) (finish_told d defined (told defined (definitions_of Nil)) NoList run frames (ended nodes o e) os Line lines forest tables refl fin),
     )
 
 closed_at_end : (quoted : Bool) (depth last : ℕ) (nodes : List (ℕ × Item)) (o byte : ℕ) (loose run : Bool)
@@ -574,12 +600,12 @@ unfolding rows_of ends_in_gap any_gap
 runs_at_end quoted last o byte loose run = (refl, refl)
 
 -- a list closed with what is around it
-pop_list_step : (d : Document) (frames : List Frame) (byte : ℕ) (loose run : Bool) (nodes : List (ℕ × Item)) (o : ℕ) (os : List ℕ) (lines : List Place) (forest : List (ℕ × Item)) (tables : Tables)
+pop_list_step : (d : Document) (defined : Tables) (frames : List Frame) (byte : ℕ) (loose run : Bool) (nodes : List (ℕ × Item)) (o : ℕ) (os : List ℕ) (lines : List Place) (forest : List (ℕ × Item)) (tables : Tables)
     → IsPlain frames → Ends (containers_of frames) Line lines
-    → Finish d NoList run frames (list_closed nodes o (suc (suc (suc (length os)))) loose (start_of (length d.text) lines)) os Line lines forest tables
-    → Finish d (OneList o byte loose) run frames nodes os Line lines forest tables
+    → Finish d defined NoList run frames (list_closed nodes o (suc (suc (suc (length os)))) loose (start_of (length d.text) lines)) os Line lines forest tables
+    → Finish d defined (OneList o byte loose) run frames nodes os Line lines forest tables
 unfolding Finish
-pop_list_step d [] byte loose run nodes o [] lines forest tables plain ends (s, seq, is, tables_are) =
+pop_list_step d defined [] byte loose run nodes o [] lines forest tables plain ends (s, seq, is, tables_are) =
     let n : ℕ = length d.text in
     let over = ends_at_once d s [] Line lines [] ends seq in
     let last : start_of n lines ≡ n = ap (start_of n) (sym over.1) in (
@@ -592,10 +618,10 @@ pop_list_step d [] byte loose run nodes o [] lines forest tables plain ends (s, 
           ∙ ap (λ z. rendered 1 n nodes (OneList o byte loose) (rows_next false n (OneList o byte loose) run z)) (sym over.0),
       tables_are,
     )
-pop_list_step d [] byte loose run nodes o (x ∷ os) lines forest tables plain ends fin = fin
-pop_list_step d (InContainer c ∷ frames) byte loose run nodes o [] lines forest tables plain ends fin = fin
-pop_list_step d (InList b l ∷ frames) byte loose run nodes o os lines forest tables plain ends fin = absurd plain
-pop_list_step d (InContainer c ∷ frames) byte loose run nodes o (x ∷ os) lines forest tables plain ends (s, mid, seq, fin) =
+pop_list_step d defined [] byte loose run nodes o (x ∷ os) lines forest tables plain ends fin = fin
+pop_list_step d defined (InContainer c ∷ frames) byte loose run nodes o [] lines forest tables plain ends fin = fin
+pop_list_step d defined (InList b l ∷ frames) byte loose run nodes o os lines forest tables plain ends fin = absurd plain
+pop_list_step d defined (InContainer c ∷ frames) byte loose run nodes o (x ∷ os) lines forest tables plain ends (s, mid, seq, fin) =
     let n : ℕ = length d.text in
     let over = ends_at_once d s (c ∷ containers_of frames) Line lines mid ends seq in
     let k : ℕ = suc (length (x ∷ os)) in
@@ -612,7 +638,7 @@ pop_list_step d (InContainer c ∷ frames) byte loose run nodes o (x ∷ os) lin
     ap (λ z. ends_in_gap (rows_next q e NoList run z)) over.0 ∙ (runs_at_end q e o byte loose run).0 ∙ ap (λ z. ends_in_gap (rows_next q e list run z)) (sym over.0) in
     let gaps : any_gap (rows_next q e NoList run s) ≡ any_gap (list_behind byte (rows_next q e list run s)) =
     ap (λ z. any_gap (rows_next q e NoList run z)) over.0 ∙ (runs_at_end q e o byte loose run).1 ∙ ap (λ z. any_gap (list_behind byte (rows_next q e list run z))) (sym over.0) in
-    (s, mid, seq, finish_moved d _ _ _ _ _ _ os mid forest tables runs (ap (λ z. loosened z frames) gaps) (ap (λ z. ended z x e) items) fin)
+    (s, mid, seq, finish_moved d _ _ _ _ _ _ _ os mid forest tables runs (ap (λ z. loosened z frames) gaps) (ap (λ z. ended z x e) items) fin)
 
 -- What a list's flags were doesn't matter once it is closed.
 absorbed : (nodes : List (ℕ × Item)) (o : ℕ) (g f : Item → Item) → ((x : Item) → f (g x) ≡ f x) → modify (modify nodes o g) o f ≡ modify nodes o f
@@ -668,32 +694,32 @@ unfolding reflagged
 length-reflagged nodes o l = length-modify nodes o _
 
 -- the flags of a list that may go on
-reflag_list : (d : Document) (frames : List Frame) (byte : ℕ) (loose run l : Bool) (nodes : List (ℕ × Item)) (o : ℕ) (os : List ℕ) (from : From) (lines : List Place) (forest : List (ℕ × Item)) (tables : Tables)
-    → IsPlain frames → Finish d (OneList o byte loose) run frames (reflagged nodes o l) os from lines forest tables → Finish d (OneList o byte loose) run frames nodes os from lines forest tables
+reflag_list : (d : Document) (defined : Tables) (frames : List Frame) (byte : ℕ) (loose run l : Bool) (nodes : List (ℕ × Item)) (o : ℕ) (os : List ℕ) (from : From) (lines : List Place) (forest : List (ℕ × Item)) (tables : Tables)
+    → IsPlain frames → Finish d defined (OneList o byte loose) run frames (reflagged nodes o l) os from lines forest tables → Finish d defined (OneList o byte loose) run frames nodes os from lines forest tables
 unfolding Finish rendered
-reflag_list d [] byte loose run l nodes o [] from lines forest tables plain (s, seq, is, tables_are) =
+reflag_list d defined [] byte loose run l nodes o [] from lines forest tables plain (s, seq, is, tables_are) =
     let n : ℕ = length d.text in
     let rows : Rows = rows_next false n (OneList o byte loose) run s in
     let now : Bool = loose || is_loose (items_behind byte rows) in
     let further : List (ℕ × Item) = items_of 2 (not now) (items_behind byte rows) ++ items_of 1 false (list_behind byte rows) in
     (s, seq, is ∙ ap (λ z. z ++ further) (closed-reflagged nodes o 3 l now (list_until byte n rows)), tables_are)
-reflag_list d [] byte loose run l nodes o (x ∷ os) from lines forest tables plain fin = fin
-reflag_list d (InContainer c ∷ frames) byte loose run l nodes o [] from lines forest tables plain fin = fin
-reflag_list d (InList b k ∷ frames) byte loose run l nodes o os from lines forest tables plain fin = absurd plain
-reflag_list d (InContainer c ∷ frames) byte loose run l nodes o (x ∷ os) from lines forest tables plain (s, mid, seq, fin) =
+reflag_list d defined [] byte loose run l nodes o (x ∷ os) from lines forest tables plain fin = fin
+reflag_list d defined (InContainer c ∷ frames) byte loose run l nodes o [] from lines forest tables plain fin = fin
+reflag_list d defined (InList b k ∷ frames) byte loose run l nodes o os from lines forest tables plain fin = absurd plain
+reflag_list d defined (InContainer c ∷ frames) byte loose run l nodes o (x ∷ os) from lines forest tables plain (s, mid, seq, fin) =
     let k : ℕ = suc (length (x ∷ os)) in
     let e : ℕ = end_before (length d.text) (containers_of frames) from mid in
     let rows : Rows = rows_next (is_quote c) e (OneList o byte loose) run s in
     let now : Bool = loose || is_loose (items_behind byte rows) in
     let further : List (ℕ × Item) = items_of (suc k) (not now) (items_behind byte rows) ++ items_of k false (list_behind byte rows) in
-    (s, mid, seq, finish_moved d _ _ _ _ _ _ os mid forest tables refl refl (ap (λ z. ended (z ++ further) x e) (closed-reflagged nodes o (suc (suc k)) l now (list_until byte e rows))) fin)
+    (s, mid, seq, finish_moved d _ _ _ _ _ _ _ os mid forest tables refl refl (ap (λ z. ended (z ++ further) x e) (closed-reflagged nodes o (suc (suc k)) l now (list_until byte e rows))) fin)
 
 -- the flags of the list in whose item blocks go on
-reflag_outer : (d : Document) (c : Container) (frames : List Frame) (byte : ℕ) (loose run l : Bool) (nodes : List (ℕ × Item)) (x o : ℕ) (os : List ℕ) (from : From) (lines : List Place) (forest : List (ℕ × Item)) (tables : Tables)
+reflag_outer : (d : Document) (defined : Tables) (c : Container) (frames : List Frame) (byte : ℕ) (loose run l : Bool) (nodes : List (ℕ × Item)) (x o : ℕ) (os : List ℕ) (from : From) (lines : List Place) (forest : List (ℕ × Item)) (tables : Tables)
     → IsPlain frames → o < length nodes
-    → Finish d NoList run (InContainer c ∷ InList byte loose ∷ frames) (reflagged nodes o l) (x ∷ o ∷ os) from lines forest tables → Finish d NoList run (InContainer c ∷ InList byte loose ∷ frames) nodes (x ∷ o ∷ os) from lines forest tables
+    → Finish d defined NoList run (InContainer c ∷ InList byte loose ∷ frames) (reflagged nodes o l) (x ∷ o ∷ os) from lines forest tables → Finish d defined NoList run (InContainer c ∷ InList byte loose ∷ frames) nodes (x ∷ o ∷ os) from lines forest tables
 unfolding Finish rendered
-reflag_outer d c frames byte loose run l nodes x o os from lines forest tables plain below (s, mid, seq, fin) =
+reflag_outer d defined c frames byte loose run l nodes x o os from lines forest tables plain below (s, mid, seq, fin) =
     let k : ℕ = suc (length (x ∷ o ∷ os)) in
     let e : ℕ = end_before (length d.text) (containers_of frames) from mid in
     let rows : Rows = rows_next (is_quote c) e NoList run s in
@@ -703,17 +729,17 @@ reflag_outer d c frames byte loose run l nodes x o os from lines forest tables p
       s,
       mid,
       seq,
-      reflag_list d frames byte loose' run' l (ended (nodes ++ items) x e) o os Line mid forest tables plain
-          (subst (λ z. Finish d (OneList o byte loose') run' frames z os Line mid forest tables) (ended-reflagged nodes items o x e l below) fin),
+      reflag_list d (told defined (definitions_of s)) frames byte loose' run' l (ended (nodes ++ items) x e) o os Line mid forest tables plain
+          (subst (λ z. Finish d (told defined (definitions_of s)) (OneList o byte loose') run' frames z os Line mid forest tables) (ended-reflagged nodes items o x e l below) fin),
     )
 
 -- before the first line
-pub completes-first : (d : Document) → CompletesAt d false [] (root_of (length d.text) ∷ []) [] Line (lines_at 0 d.text)
+pub completes-first : (d : Document) → CompletesAt d no_tables false [] (root_of (length d.text) ∷ []) [] Line (lines_at 0 d.text)
 unfolding Finish rendered
 completes-first d = record {
   below = tt;
   shape = tt;
-  whole = whole_by _ _ _ _ _ _ _ (λ forest tables fin. record {
+  whole = whole_by _ _ _ _ _ _ _ _ (λ forest tables fin. record {
     skeleton = fin.0;
     sequence = fin.1;
     forest_is = fin.2 ∙ ap (λ z. root_of (length d.text) ∷ z) (items-run 1 false false (rows_of false (length d.text) fin.0));
@@ -722,50 +748,51 @@ completes-first d = record {
 }
 
 -- inside a line that the whole path goes on with
-pub completes-enter : (d : Document) (run : Bool) (frames : List Frame) (nodes : List (ℕ × Item)) (os : List ℕ) (line q : Place) (lines : List Place)
-    → taken (containers_of frames) line ≡ Some q → CompletesAt d run frames nodes os Line (line ∷ lines) → CompletesAt d run frames nodes os (Inside q) lines
-completes-enter d run frames nodes os line q lines is c = record {
+pub completes-enter : (d : Document) (defined : Tables) (run : Bool) (frames : List Frame) (nodes : List (ℕ × Item)) (os : List ℕ) (line q : Place) (lines : List Place)
+    → taken (containers_of frames) line ≡ Some q → CompletesAt d defined run frames nodes os Line (line ∷ lines) → CompletesAt d defined run frames nodes os (Inside q) lines
+completes-enter d defined run frames nodes os line q lines is c = record {
   below = c.below;
   shape = c.shape;
-  whole = whole_by _ _ _ _ _ _ _ (λ forest tables fin. finish_derives _ _ _ _ _ _ _ c forest tables (enter_step d frames NoList run nodes os line q lines forest tables is fin));
+  whole = whole_by _ _ _ _ _ _ _ _ (λ forest tables fin. finish_derives _ _ _ _ _ _ _ _ c forest tables (enter_step d defined frames NoList run nodes os line q lines forest tables is fin));
 }
 
 -- behind a block with no blocks in it, wherever it begins
-pub completes-leaf : (d : Document) (frames : List Frame) (nodes : List (ℕ × Item)) (os : List ℕ) (from : From) (lines left : List Place) (b : LeafBlock)
+pub completes-leaf : (d : Document) (defined : Tables) (frames : List Frame) (nodes : List (ℕ × Item)) (os : List ℕ) (from : From) (lines left : List Place) (b : LeafBlock)
     → IsPlain frames → EndsAlike (length d.text) from (behind_first from Line) → IsFirst d (containers_of frames) from lines (OpensLeaf (Block b) Line left)
-    → CompletesAt d false frames nodes os from lines → CompletesAt d b.gap frames (nodes ++ block_items (suc (length os)) false b) os (behind_first from Line) left
-completes-leaf d frames nodes os from lines left b plain alike first c = record {
+    → CompletesAt d defined false frames nodes os from lines → CompletesAt d (told defined b.definitions) b.gap frames (nodes ++ block_items (suc (length os)) false b) os (behind_first from Line) left
+completes-leaf d defined frames nodes os from lines left b plain alike first c = record {
   below = AreBelow-more _ _ os (let k = length-append nodes (block_items (suc (length os)) false b) in omega arith) c.below;
   shape = c.shape;
-  whole = whole_by _ _ _ _ _ _ _ (λ forest tables fin. finish_derives _ _ _ _ _ _ _ c forest tables (block_step d frames nodes os from lines left b forest tables plain alike first fin));
+  whole = whole_by _ _ _ _ _ _ _ _ (λ forest tables fin. finish_derives _ _ _ _ _ _ _ _ c forest tables (block_step d defined frames nodes os from lines left b forest tables plain alike first fin));
 }
 
 -- behind a block with no blocks in it, which begins inside a line
-pub completes-block : (d : Document) (frames : List Frame) (nodes : List (ℕ × Item)) (os : List ℕ) (p : Place) (lines left : List Place) (b : LeafBlock)
+pub completes-block : (d : Document) (defined : Tables) (frames : List Frame) (nodes : List (ℕ × Item)) (os : List ℕ) (p : Place) (lines left : List Place) (b : LeafBlock)
     → IsPlain frames → Opens d (containers_of frames) p lines (OpensLeaf (Block b) Line left)
-    → CompletesAt d false frames nodes os (Inside p) lines → CompletesAt d b.gap frames (nodes ++ block_items (suc (length os)) false b) os Line left
-completes-block d frames nodes os p lines left b plain opens c =
-    completes-leaf d frames nodes os (Inside p) lines left b plain (λ path mid. refl) (first_here d (containers_of frames) p lines (OpensLeaf (Block b) Line left) opens) c
+    → CompletesAt d defined false frames nodes os (Inside p) lines → CompletesAt d (told defined b.definitions) b.gap frames (nodes ++ block_items (suc (length os)) false b) os Line left
+completes-block d defined frames nodes os p lines left b plain opens c =
+    completes-leaf d defined frames nodes os (Inside p) lines left b plain (λ path mid. refl) (first_here d (containers_of frames) p lines (OpensLeaf (Block b) Line left) opens) c
 
 -- behind the paragraph of a task list item marker
-pub completes-text : (d : Document) (frames : List Frame) (nodes : List (ℕ × Item)) (os : List ℕ) (marker : Item) (p : Place) (lines left : List Place) (b : LeafBlock)
+pub completes-text : (d : Document) (defined : Tables) (frames : List Frame) (nodes : List (ℕ × Item)) (os : List ℕ) (marker : Item) (p : Place) (lines left : List Place) (b : LeafBlock)
     → IsPlain frames → OpensParagraph d (containers_of frames) p lines (Some marker) (OpensLeaf (Block b) Line left)
-    → CompletesAt d false frames nodes os (At p (TextOf marker)) lines → CompletesAt d b.gap frames (nodes ++ block_items (suc (length os)) false b) os Line left
-completes-text d frames nodes os marker p lines left b plain opens c =
-    completes-leaf d frames nodes os (At p (TextOf marker)) lines left b plain (λ path mid. refl) (record { place = p; behind = lines; begins = (refl, refl); opens = opens }) c
+    → CompletesAt d defined false frames nodes os (At p (TextOf marker)) lines → CompletesAt d (told defined b.definitions) b.gap frames (nodes ++ block_items (suc (length os)) false b) os Line left
+completes-text d defined frames nodes os marker p lines left b plain opens c =
+    completes-leaf d defined frames nodes os (At p (TextOf marker)) lines left b plain (λ path mid. refl) (record { place = p; behind = lines; begins = (refl, refl); opens = opens }) c
 
 mark_alike : (n : ℕ) (blanks : Option ℕ) (path : List Container) (mid : List Place) → end_after n path blanks mid ≡ end_before n path (behind_marker blanks) mid
 mark_alike n None path mid = refl
 mark_alike n (Some e) path mid = refl
 
 -- behind a task list item marker with nothing behind it on its line
-pub completes-mark : (d : Document) (frames : List Frame) (nodes : List (ℕ × Item)) (os : List ℕ) (marker : Item) (p : Place) (blanks : Option ℕ) (lines : List Place)
-    → IsPlain frames → CompletesAt d false frames nodes os (At p (MarkAlone marker blanks)) lines
-    → CompletesAt d false frames (nodes ++ (suc (length os), marker) ∷ []) os (behind_marker blanks) lines
-completes-mark d frames nodes os marker p blanks lines plain c =
+pub completes-mark : (d : Document) (defined : Tables) (frames : List Frame) (nodes : List (ℕ × Item)) (os : List ℕ) (marker : Item) (p : Place) (blanks : Option ℕ) (lines : List Place)
+    → IsPlain frames → CompletesAt d defined false frames nodes os (At p (MarkAlone marker blanks)) lines
+    → CompletesAt d defined false frames (nodes ++ (suc (length os), marker) ∷ []) os (behind_marker blanks) lines
+unfolding with_links
+completes-mark d defined frames nodes os marker p blanks lines plain c =
     let deep : suc (length os) + 0 ≡ suc (length os) = omega arith in
-    subst (λ depth. CompletesAt d false frames (nodes ++ (depth, marker) ∷ []) os (behind_marker blanks) lines) deep
-    (completes-leaf d frames nodes os (At p (MarkAlone marker blanks)) lines lines (block_at Paragraph p ((0, marker) ∷ []) false) plain (mark_alike (length d.text) blanks)
+    subst (λ depth. CompletesAt d defined false frames (nodes ++ (depth, marker) ∷ []) os (behind_marker blanks) lines) deep
+    (completes-leaf d defined frames nodes os (At p (MarkAlone marker blanks)) lines lines (block_at Paragraph p ((0, marker) ∷ []) false) plain (mark_alike (length d.text) blanks)
     (record { place = p; behind = lines; begins = (refl, refl); opens = refl }) c)
 
 -- whether a run of blank lines counts with one more, inside what is open
@@ -774,80 +801,80 @@ counts_in [] run = counts_with false NoList run
 counts_in (InContainer c ∷ frames) run = counts_with (is_quote c) NoList run
 counts_in (InList byte loose ∷ frames) run = true
 
-blank_any : (d : Document) (frames : List Frame) (run : Bool) (nodes : List (ℕ × Item)) (os : List ℕ) (from : From) (lines left : List Place) (forest : List (ℕ × Item)) (tables : Tables)
+blank_any : (d : Document) (defined : Tables) (frames : List Frame) (run : Bool) (nodes : List (ℕ × Item)) (os : List ℕ) (from : From) (lines left : List Place) (forest : List (ℕ × Item)) (tables : Tables)
     → IsShaped frames → EndsAlike (length d.text) from (behind_first from Line) → IsFirst d (containers_of frames) from lines (OpensLeaf BlankLine Line left)
-    → Finish d NoList (counts_in frames run) frames nodes os (behind_first from Line) left forest tables → Finish d NoList run frames nodes os from lines forest tables
+    → Finish d defined NoList (counts_in frames run) frames nodes os (behind_first from Line) left forest tables → Finish d defined NoList run frames nodes os from lines forest tables
 unfolding Finish
-blank_any d [] run nodes os from lines left forest tables shape alike first fin = blank_step d [] NoList run nodes os from lines left forest tables tt alike first fin
-blank_any d (InContainer c ∷ frames) run nodes os from lines left forest tables shape alike first fin = blank_step d (InContainer c ∷ frames) NoList run nodes os from lines left forest tables tt alike first fin
-blank_any d (InList byte loose ∷ frames) run nodes [] from lines left forest tables shape alike first fin = fin
-blank_any d (InList byte loose ∷ frames) run nodes (o ∷ os) from lines left forest tables shape alike first fin = blank_step d frames (OneList o byte loose) run nodes os from lines left forest tables shape.0 alike first fin
+blank_any d defined [] run nodes os from lines left forest tables shape alike first fin = blank_step d defined [] NoList run nodes os from lines left forest tables tt alike first fin
+blank_any d defined (InContainer c ∷ frames) run nodes os from lines left forest tables shape alike first fin = blank_step d defined (InContainer c ∷ frames) NoList run nodes os from lines left forest tables tt alike first fin
+blank_any d defined (InList byte loose ∷ frames) run nodes [] from lines left forest tables shape alike first fin = fin
+blank_any d defined (InList byte loose ∷ frames) run nodes (o ∷ os) from lines left forest tables shape alike first fin = blank_step d defined frames (OneList o byte loose) run nodes os from lines left forest tables shape.0 alike first fin
 
 -- behind a blank line, wherever it begins
-pub completes-blank : (d : Document) (run : Bool) (frames : List Frame) (nodes : List (ℕ × Item)) (os : List ℕ) (from : From) (lines left : List Place)
+pub completes-blank : (d : Document) (defined : Tables) (run : Bool) (frames : List Frame) (nodes : List (ℕ × Item)) (os : List ℕ) (from : From) (lines left : List Place)
     → EndsAlike (length d.text) from (behind_first from Line) → IsFirst d (containers_of frames) from lines (OpensLeaf BlankLine Line left)
-    → CompletesAt d run frames nodes os from lines → CompletesAt d (counts_in frames run) frames nodes os (behind_first from Line) left
-completes-blank d run frames nodes os from lines left alike first c = record {
+    → CompletesAt d defined run frames nodes os from lines → CompletesAt d defined (counts_in frames run) frames nodes os (behind_first from Line) left
+completes-blank d defined run frames nodes os from lines left alike first c = record {
   below = c.below;
   shape = c.shape;
-  whole = whole_by _ _ _ _ _ _ _ (λ forest tables fin. finish_derives _ _ _ _ _ _ _ c forest tables (blank_any d frames run nodes os from lines left forest tables c.shape alike first fin));
+  whole = whole_by _ _ _ _ _ _ _ _ (λ forest tables fin. finish_derives _ _ _ _ _ _ _ _ c forest tables (blank_any d defined frames run nodes os from lines left forest tables c.shape alike first fin));
 }
 
 -- behind a blank line that begins inside a line
-pub completes-blank_line : (d : Document) (run : Bool) (frames : List Frame) (nodes : List (ℕ × Item)) (os : List ℕ) (p : Place) (lines left : List Place)
+pub completes-blank_line : (d : Document) (defined : Tables) (run : Bool) (frames : List Frame) (nodes : List (ℕ × Item)) (os : List ℕ) (p : Place) (lines left : List Place)
     → Opens d (containers_of frames) p lines (OpensLeaf BlankLine Line left)
-    → CompletesAt d run frames nodes os (Inside p) lines → CompletesAt d (counts_in frames run) frames nodes os Line left
-completes-blank_line d run frames nodes os p lines left opens c = completes-blank d run frames nodes os (Inside p) lines left (λ path mid. refl) (first_here d (containers_of frames) p lines (OpensLeaf BlankLine Line left) opens) c
+    → CompletesAt d defined run frames nodes os (Inside p) lines → CompletesAt d defined (counts_in frames run) frames nodes os Line left
+completes-blank_line d defined run frames nodes os p lines left opens c = completes-blank d defined run frames nodes os (Inside p) lines left (λ path mid. refl) (first_here d (containers_of frames) p lines (OpensLeaf BlankLine Line left) opens) c
 
 -- behind a blank line in an item that takes blank lines alone
-pub completes-only_blank : (d : Document) (run : Bool) (columns : ℕ) (frames : List Frame) (nodes : List (ℕ × Item)) (os : List ℕ) (e : ℕ) (line p : Place) (lines : List Place)
+pub completes-only_blank : (d : Document) (defined : Tables) (run : Bool) (columns : ℕ) (frames : List Frame) (nodes : List (ℕ × Item)) (os : List ℕ) (e : ℕ) (line p : Place) (lines : List Place)
     → Begins (ListItem columns ∷ containers_of frames) (Blanks e) (line ∷ lines) p lines → Opens d (ListItem columns ∷ containers_of frames) p lines (OpensLeaf BlankLine Line lines)
-    → CompletesAt d run (InContainer (ListItem columns) ∷ frames) nodes os (Blanks e) (line ∷ lines) → CompletesAt d true (InContainer (ListItem columns) ∷ frames) nodes os (Blanks e) lines
-completes-only_blank d run columns frames nodes os e line p lines begins opens c =
-    subst (λ z. CompletesAt d z (InContainer (ListItem columns) ∷ frames) nodes os (Blanks e) lines) (or-some run)
-    (completes-blank d run (InContainer (ListItem columns) ∷ frames) nodes os (Blanks e) (line ∷ lines) lines (λ path mid. refl) (record { place = p; behind = lines; begins = begins; opens = opens }) c)
+    → CompletesAt d defined run (InContainer (ListItem columns) ∷ frames) nodes os (Blanks e) (line ∷ lines) → CompletesAt d defined true (InContainer (ListItem columns) ∷ frames) nodes os (Blanks e) lines
+completes-only_blank d defined run columns frames nodes os e line p lines begins opens c =
+    subst (λ z. CompletesAt d defined z (InContainer (ListItem columns) ∷ frames) nodes os (Blanks e) lines) (or-some run)
+    (completes-blank d defined run (InContainer (ListItem columns) ∷ frames) nodes os (Blanks e) (line ∷ lines) lines (λ path mid. refl) (record { place = p; behind = lines; begins = begins; opens = opens }) c)
 
 -- At the text's end, with nothing open, the nodes are the forest.
-pub completes-end : (d : Document) (run : Bool) (nodes : List (ℕ × Item)) → CompletesAt d run [] nodes [] Line [] → Derives d nodes (tables_of Nil)
-unfolding Finish IsSequence rows_of items_of rendered
-completes-end d run nodes c = finish_derives _ _ _ _ _ _ _ c nodes (tables_of Nil) (Nil, (tt, refl), sym (append-nil nodes), refl)
+pub completes-end : (d : Document) (defined : Tables) (run : Bool) (nodes : List (ℕ × Item)) → CompletesAt d defined run [] nodes [] Line [] → Derives d nodes defined
+unfolding Finish IsSequence rows_of items_of rendered definitions_of with_links
+completes-end d defined run nodes c = finish_derives _ _ _ _ _ _ _ _ c nodes defined (Nil, (tt, refl), sym (append-nil nodes), refl)
 
 -- the innermost container closed
-pub completes-pop : (d : Document) (run : Bool) (c : Container) (frames : List Frame) (nodes : List (ℕ × Item)) (o : ℕ) (os : List ℕ) (from : From) (lines : List Place)
-    → Ends (c ∷ containers_of frames) from lines → CompletesAt d run (InContainer c ∷ frames) nodes (o ∷ os) from lines
-    → CompletesAt d run frames (ended nodes o (end_before (length d.text) (containers_of frames) from lines)) os Line lines
-completes-pop d run c frames nodes o os from lines ends k = record {
+pub completes-pop : (d : Document) (defined : Tables) (run : Bool) (c : Container) (frames : List Frame) (nodes : List (ℕ × Item)) (o : ℕ) (os : List ℕ) (from : From) (lines : List Place)
+    → Ends (c ∷ containers_of frames) from lines → CompletesAt d defined run (InContainer c ∷ frames) nodes (o ∷ os) from lines
+    → CompletesAt d defined run frames (ended nodes o (end_before (length d.text) (containers_of frames) from lines)) os Line lines
+completes-pop d defined run c frames nodes o os from lines ends k = record {
   below = AreBelow-more o _ os (let l = length-ended nodes o (end_before (length d.text) (containers_of frames) from lines) in let b : o < length nodes = k.below.0 in omega arith) k.below.1;
   shape = k.shape;
-  whole = whole_by _ _ _ _ _ _ _ (λ forest tables fin. finish_derives _ _ _ _ _ _ _ k forest tables (pop_step d c frames run nodes o os from lines forest tables ends fin));
+  whole = whole_by _ _ _ _ _ _ _ _ (λ forest tables fin. finish_derives _ _ _ _ _ _ _ _ k forest tables (pop_step d defined c frames run nodes o os from lines forest tables ends fin));
 }
 
-pop_list_whole : (d : Document) (frames : List Frame) (byte : ℕ) (loose run : Bool) (nodes : List (ℕ × Item)) (o : ℕ) (os : List ℕ) (lines : List Place) (forest : List (ℕ × Item)) (tables : Tables)
+pop_list_whole : (d : Document) (defined : Tables) (frames : List Frame) (byte : ℕ) (loose run : Bool) (nodes : List (ℕ × Item)) (o : ℕ) (os : List ℕ) (lines : List Place) (forest : List (ℕ × Item)) (tables : Tables)
     → IsPlain frames → Ends (containers_of frames) Line lines
-    → Finish d NoList run frames (list_closed nodes o (suc (suc (suc (length os)))) loose (start_of (length d.text) lines)) os Line lines forest tables
-    → Finish d NoList run (InList byte loose ∷ frames) nodes (o ∷ os) Line lines forest tables
+    → Finish d defined NoList run frames (list_closed nodes o (suc (suc (suc (length os)))) loose (start_of (length d.text) lines)) os Line lines forest tables
+    → Finish d defined NoList run (InList byte loose ∷ frames) nodes (o ∷ os) Line lines forest tables
 unfolding Finish
-pop_list_whole d frames byte loose run nodes o os lines forest tables plain ends fin = pop_list_step d frames byte loose run nodes o os lines forest tables plain ends fin
+pop_list_whole d defined frames byte loose run nodes o os lines forest tables plain ends fin = pop_list_step d defined frames byte loose run nodes o os lines forest tables plain ends fin
 
 -- a list closed with what is around it
-pub completes-pop_list : (d : Document) (run : Bool) (byte : ℕ) (loose : Bool) (frames : List Frame) (nodes : List (ℕ × Item)) (o : ℕ) (os : List ℕ) (lines : List Place)
-    → Ends (containers_of frames) Line lines → CompletesAt d run (InList byte loose ∷ frames) nodes (o ∷ os) Line lines
-    → CompletesAt d run frames (list_closed nodes o (suc (suc (suc (length os)))) loose (start_of (length d.text) lines)) os Line lines
-completes-pop_list d run byte loose frames nodes o os lines ends k = record {
+pub completes-pop_list : (d : Document) (defined : Tables) (run : Bool) (byte : ℕ) (loose : Bool) (frames : List Frame) (nodes : List (ℕ × Item)) (o : ℕ) (os : List ℕ) (lines : List Place)
+    → Ends (containers_of frames) Line lines → CompletesAt d defined run (InList byte loose ∷ frames) nodes (o ∷ os) Line lines
+    → CompletesAt d defined run frames (list_closed nodes o (suc (suc (suc (length os)))) loose (start_of (length d.text) lines)) os Line lines
+completes-pop_list d defined run byte loose frames nodes o os lines ends k = record {
   below = AreBelow-more o _ os (let l = length-closed nodes o (suc (suc (suc (length os)))) loose (start_of (length d.text) lines) in let b : o < length nodes = k.below.0 in omega arith) k.below.1;
   shape = k.shape.1;
-  whole = whole_by _ _ _ _ _ _ _ (λ forest tables fin. finish_derives _ _ _ _ _ _ _ k forest tables (pop_list_whole d frames byte loose run nodes o os lines forest tables k.shape.0 ends fin));
+  whole = whole_by _ _ _ _ _ _ _ _ (λ forest tables fin. finish_derives _ _ _ _ _ _ _ _ k forest tables (pop_list_whole d defined frames byte loose run nodes o os lines forest tables k.shape.0 ends fin));
 }
 
 -- a list closed before a block that ends it
-pub completes-close : (d : Document) (run : Bool) (byte : ℕ) (loose : Bool) (frames : List Frame) (nodes : List (ℕ × Item)) (o : ℕ) (os : List ℕ) (p : Place) (lines : List Place) (at : ℕ) (opening : Opening)
+pub completes-close : (d : Document) (defined : Tables) (run : Bool) (byte : ℕ) (loose : Bool) (frames : List Frame) (nodes : List (ℕ × Item)) (o : ℕ) (os : List ℕ) (p : Place) (lines : List Place) (at : ℕ) (opening : Opening)
     → Opens d (containers_of frames) p lines opening → OpensAway byte at opening
-    → CompletesAt d run (InList byte loose ∷ frames) nodes (o ∷ os) (Inside p) lines
-    → CompletesAt d run frames (list_closed nodes o (suc (suc (suc (length os)))) loose at) os (Inside p) lines
-completes-close d run byte loose frames nodes o os p lines at opening opens away k = record {
+    → CompletesAt d defined run (InList byte loose ∷ frames) nodes (o ∷ os) (Inside p) lines
+    → CompletesAt d defined run frames (list_closed nodes o (suc (suc (suc (length os)))) loose at) os (Inside p) lines
+completes-close d defined run byte loose frames nodes o os p lines at opening opens away k = record {
   below = AreBelow-more o _ os (let l = length-closed nodes o (suc (suc (suc (length os)))) loose at in let b : o < length nodes = k.below.0 in omega arith) k.below.1;
   shape = k.shape.1;
-  whole = whole_by _ _ _ _ _ _ _ (λ forest tables fin. finish_derives _ _ _ _ _ _ _ k forest tables (close_step d frames run loose nodes o os p lines byte at opening forest tables k.shape.0 opens away fin));
+  whole = whole_by _ _ _ _ _ _ _ _ (λ forest tables fin. finish_derives _ _ _ _ _ _ _ _ k forest tables (close_step d defined frames run loose nodes o os p lines byte at opening forest tables k.shape.0 opens away fin));
 }
 
 plain-loosened : (gap : Bool) (frames : List Frame) → IsPlain frames → IsPlain (loosened gap frames)
@@ -866,76 +893,76 @@ shaped-loosened_in gap (InContainer c ∷ frames) h = shaped-loosened gap frames
 shaped-loosened_in gap (InList byte loose ∷ frames) h = (plain-loosened gap frames h.0, shaped-loosened gap frames h.1)
 
 -- a gap noted before a block
-pub completes-note : (d : Document) (run : Bool) (frames : List Frame) (nodes : List (ℕ × Item)) (os : List ℕ) (p : Place) (lines : List Place) (opening : Opening)
+pub completes-note : (d : Document) (defined : Tables) (run : Bool) (frames : List Frame) (nodes : List (ℕ × Item)) (os : List ℕ) (p : Place) (lines : List Place) (opening : Opening)
     → IsPlain frames → Opens d (containers_of frames) p lines opening → OpensBlock opening
-    → CompletesAt d run frames nodes os (Inside p) lines → CompletesAt d false (loosened_in run frames) nodes os (Inside p) lines
-completes-note d run frames nodes os p lines opening plain opens block k = record {
+    → CompletesAt d defined run frames nodes os (Inside p) lines → CompletesAt d defined false (loosened_in run frames) nodes os (Inside p) lines
+completes-note d defined run frames nodes os p lines opening plain opens block k = record {
   below = k.below;
   shape = shaped-loosened_in run frames k.shape;
-  whole = whole_by _ _ _ _ _ _ _ (λ forest tables fin. finish_derives _ _ _ _ _ _ _ k forest tables (note_step d frames run nodes os p lines opening forest tables plain opens block fin));
+  whole = whole_by _ _ _ _ _ _ _ _ (λ forest tables fin. finish_derives _ _ _ _ _ _ _ _ k forest tables (note_step d defined frames run nodes os p lines opening forest tables plain opens block fin));
 }
 
 -- the flags of the list in whose item blocks go on
-pub completes-reflag : (d : Document) (run : Bool) (c : Container) (byte : ℕ) (loose l : Bool) (frames : List Frame) (nodes : List (ℕ × Item)) (x o : ℕ) (os : List ℕ) (from : From) (lines : List Place)
-    → CompletesAt d run (InContainer c ∷ InList byte loose ∷ frames) nodes (x ∷ o ∷ os) from lines → CompletesAt d run (InContainer c ∷ InList byte loose ∷ frames) (reflagged nodes o l) (x ∷ o ∷ os) from lines
-completes-reflag d run c byte loose l frames nodes x o os from lines k = record {
+pub completes-reflag : (d : Document) (defined : Tables) (run : Bool) (c : Container) (byte : ℕ) (loose l : Bool) (frames : List Frame) (nodes : List (ℕ × Item)) (x o : ℕ) (os : List ℕ) (from : From) (lines : List Place)
+    → CompletesAt d defined run (InContainer c ∷ InList byte loose ∷ frames) nodes (x ∷ o ∷ os) from lines → CompletesAt d defined run (InContainer c ∷ InList byte loose ∷ frames) (reflagged nodes o l) (x ∷ o ∷ os) from lines
+completes-reflag d defined run c byte loose l frames nodes x o os from lines k = record {
   below = AreBelow-more _ _ (x ∷ o ∷ os) (let n = length-reflagged nodes o l in omega arith) k.below;
   shape = k.shape;
-  whole = whole_by _ _ _ _ _ _ _ (λ forest tables fin. finish_derives _ _ _ _ _ _ _ k forest tables
-      (reflag_outer d c frames byte loose run l nodes x o os from lines forest tables k.shape.0 (let a : x < length nodes = k.below.0 in let b : o < x = k.below.1.0 in omega arith) fin));
+  whole = whole_by _ _ _ _ _ _ _ _ (λ forest tables fin. finish_derives _ _ _ _ _ _ _ _ k forest tables
+      (reflag_outer d defined c frames byte loose run l nodes x o os from lines forest tables k.shape.0 (let a : x < length nodes = k.below.0 in let b : o < x = k.below.1.0 in omega arith) fin));
 }
 
-reflag_whole : (d : Document) (frames : List Frame) (byte : ℕ) (loose run l : Bool) (nodes : List (ℕ × Item)) (o : ℕ) (os : List ℕ) (from : From) (lines : List Place) (forest : List (ℕ × Item)) (tables : Tables)
-    → IsPlain frames → Finish d NoList run (InList byte loose ∷ frames) (reflagged nodes o l) (o ∷ os) from lines forest tables → Finish d NoList run (InList byte loose ∷ frames) nodes (o ∷ os) from lines forest tables
+reflag_whole : (d : Document) (defined : Tables) (frames : List Frame) (byte : ℕ) (loose run l : Bool) (nodes : List (ℕ × Item)) (o : ℕ) (os : List ℕ) (from : From) (lines : List Place) (forest : List (ℕ × Item)) (tables : Tables)
+    → IsPlain frames → Finish d defined NoList run (InList byte loose ∷ frames) (reflagged nodes o l) (o ∷ os) from lines forest tables → Finish d defined NoList run (InList byte loose ∷ frames) nodes (o ∷ os) from lines forest tables
 unfolding Finish
-reflag_whole d frames byte loose run l nodes o os from lines forest tables plain fin = reflag_list d frames byte loose run l nodes o os from lines forest tables plain fin
+reflag_whole d defined frames byte loose run l nodes o os from lines forest tables plain fin = reflag_list d defined frames byte loose run l nodes o os from lines forest tables plain fin
 
 -- the flags of a list that may go on
-pub completes-reflag_list : (d : Document) (run : Bool) (byte : ℕ) (loose l : Bool) (frames : List Frame) (nodes : List (ℕ × Item)) (o : ℕ) (os : List ℕ) (from : From) (lines : List Place)
-    → CompletesAt d run (InList byte loose ∷ frames) nodes (o ∷ os) from lines → CompletesAt d run (InList byte loose ∷ frames) (reflagged nodes o l) (o ∷ os) from lines
-completes-reflag_list d run byte loose l frames nodes o os from lines k = record {
+pub completes-reflag_list : (d : Document) (defined : Tables) (run : Bool) (byte : ℕ) (loose l : Bool) (frames : List Frame) (nodes : List (ℕ × Item)) (o : ℕ) (os : List ℕ) (from : From) (lines : List Place)
+    → CompletesAt d defined run (InList byte loose ∷ frames) nodes (o ∷ os) from lines → CompletesAt d defined run (InList byte loose ∷ frames) (reflagged nodes o l) (o ∷ os) from lines
+completes-reflag_list d defined run byte loose l frames nodes o os from lines k = record {
   below = AreBelow-more _ _ (o ∷ os) (let n = length-reflagged nodes o l in omega arith) k.below;
   shape = k.shape;
-  whole = whole_by _ _ _ _ _ _ _ (λ forest tables fin. finish_derives _ _ _ _ _ _ _ k forest tables (reflag_whole d frames byte loose run l nodes o os from lines forest tables k.shape.0 fin));
+  whole = whole_by _ _ _ _ _ _ _ _ (λ forest tables fin. finish_derives _ _ _ _ _ _ _ _ k forest tables (reflag_whole d defined frames byte loose run l nodes o os from lines forest tables k.shape.0 fin));
 }
 
 -- a block quote opened
-pub completes-quote : (d : Document) (frames : List Frame) (nodes : List (ℕ × Item)) (os : List ℕ) (p : Place) (lines behind : List Place) (kind : Option BlockQuoteKind) (start line some_end : ℕ) (inside : From)
+pub completes-quote : (d : Document) (defined : Tables) (frames : List Frame) (nodes : List (ℕ × Item)) (os : List ℕ) (p : Place) (lines behind : List Place) (kind : Option BlockQuoteKind) (start line some_end : ℕ) (inside : From)
     → IsPlain frames → Opens d (containers_of frames) p lines (OpensNode (record { opener = QuoteMarker kind; start = start; line = line }) inside behind)
-    → CompletesAt d false frames nodes os (Inside p) lines
-    → CompletesAt d false (InContainer (BlockQuote kind) ∷ frames) (nodes ++ (suc (length os), node_of start some_end (BlockQuoteBody kind)) ∷ []) (length nodes ∷ os) inside behind
-completes-quote d frames nodes os p lines behind kind start line some_end inside plain opens k =
+    → CompletesAt d defined false frames nodes os (Inside p) lines
+    → CompletesAt d defined false (InContainer (BlockQuote kind) ∷ frames) (nodes ++ (suc (length os), node_of start some_end (BlockQuoteBody kind)) ∷ []) (length nodes ∷ os) inside behind
+completes-quote d defined frames nodes os p lines behind kind start line some_end inside plain opens k =
     let l : length (nodes ++ (suc (length os), node_of start some_end (BlockQuoteBody kind)) ∷ []) ≡ length nodes + 1 = length-append nodes ((suc (length os), node_of start some_end (BlockQuoteBody kind)) ∷ []) in
     record {
       below = (omega arith, k.below);
       shape = k.shape;
-      whole = whole_by _ _ _ _ _ _ _ (λ forest tables fin. finish_derives _ _ _ _ _ _ _ k forest tables (quote_step d frames nodes os p lines behind kind start line some_end inside forest tables plain opens fin));
+      whole = whole_by _ _ _ _ _ _ _ _ (λ forest tables fin. finish_derives _ _ _ _ _ _ _ _ k forest tables (quote_step d defined frames nodes os p lines behind kind start line some_end inside forest tables plain opens fin));
     }
 
 -- a list opened, with its first item
-pub completes-list : (d : Document) (frames : List Frame) (nodes : List (ℕ × Item)) (os : List ℕ) (p : Place) (lines behind : List Place) (byte number columns start line some_end other_end : ℕ) (flags : ListFlags) (inside : From)
+pub completes-list : (d : Document) (defined : Tables) (frames : List Frame) (nodes : List (ℕ × Item)) (os : List ℕ) (p : Place) (lines behind : List Place) (byte number columns start line some_end other_end : ℕ) (flags : ListFlags) (inside : From)
     → IsPlain frames → Opens d (containers_of frames) p lines (OpensNode (record { opener = ItemMarker byte number columns; start = start; line = line }) inside behind)
-    → CompletesAt d false frames nodes os (Inside p) lines
-    → CompletesAt d false (InContainer (ListItem columns) ∷ InList byte false ∷ frames)
+    → CompletesAt d defined false frames nodes os (Inside p) lines
+    → CompletesAt d defined false (InContainer (ListItem columns) ∷ InList byte false ∷ frames)
     (nodes ++ (suc (length os), node_of start some_end (ListBody flags byte number)) ∷ (suc (suc (length os)), node_of start other_end (ListItemBody columns)) ∷ []) (suc (length nodes) ∷ length nodes ∷ os) inside behind
-completes-list d frames nodes os p lines behind byte number columns start line some_end other_end flags inside plain opens k =
+completes-list d defined frames nodes os p lines behind byte number columns start line some_end other_end flags inside plain opens k =
     let more : List (ℕ × Item) = (suc (length os), node_of start some_end (ListBody flags byte number)) ∷ (suc (suc (length os)), node_of start other_end (ListItemBody columns)) ∷ [] in
     let l : length (nodes ++ more) ≡ length nodes + 2 = length-append nodes more in
     record {
       below = (omega arith, (omega arith, k.below));
       shape = (plain, k.shape);
-      whole = whole_by _ _ _ _ _ _ _ (λ forest tables fin. finish_derives _ _ _ _ _ _ _ k forest tables (list_step d frames nodes os p lines behind byte number columns start line some_end other_end flags inside forest tables plain opens fin));
+      whole = whole_by _ _ _ _ _ _ _ _ (λ forest tables fin. finish_derives _ _ _ _ _ _ _ _ k forest tables (list_step d defined frames nodes os p lines behind byte number columns start line some_end other_end flags inside forest tables plain opens fin));
     }
 
 -- an item opened in a list that goes on
-pub completes-item : (d : Document) (run loose : Bool) (frames : List Frame) (nodes : List (ℕ × Item)) (o : ℕ) (os : List ℕ) (p : Place) (lines behind : List Place) (byte number columns start line some_end : ℕ) (inside : From)
+pub completes-item : (d : Document) (defined : Tables) (run loose : Bool) (frames : List Frame) (nodes : List (ℕ × Item)) (o : ℕ) (os : List ℕ) (p : Place) (lines behind : List Place) (byte number columns start line some_end : ℕ) (inside : From)
     → Opens d (containers_of frames) p lines (OpensNode (record { opener = ItemMarker byte number columns; start = start; line = line }) inside behind)
-    → CompletesAt d run (InList byte loose ∷ frames) nodes (o ∷ os) (Inside p) lines
-    → CompletesAt d false (InContainer (ListItem columns) ∷ InList byte (loose || run) ∷ frames) (nodes ++ (suc (suc (length os)), node_of start some_end (ListItemBody columns)) ∷ []) (length nodes ∷ o ∷ os) inside behind
-completes-item d run loose frames nodes o os p lines behind byte number columns start line some_end inside opens k =
+    → CompletesAt d defined run (InList byte loose ∷ frames) nodes (o ∷ os) (Inside p) lines
+    → CompletesAt d defined false (InContainer (ListItem columns) ∷ InList byte (loose || run) ∷ frames) (nodes ++ (suc (suc (length os)), node_of start some_end (ListItemBody columns)) ∷ []) (length nodes ∷ o ∷ os) inside behind
+completes-item d defined run loose frames nodes o os p lines behind byte number columns start line some_end inside opens k =
     let l : length (nodes ++ (suc (suc (length os)), node_of start some_end (ListItemBody columns)) ∷ []) ≡ length nodes + 1 = length-append nodes ((suc (suc (length os)), node_of start some_end (ListItemBody columns)) ∷ []) in
     record {
       below = (omega arith, k.below);
       shape = k.shape;
-      whole = whole_by _ _ _ _ _ _ _ (λ forest tables fin. finish_derives _ _ _ _ _ _ _ k forest tables (item_step d frames run loose nodes o os p lines behind byte number columns start line some_end inside forest tables k.shape.0 k.below.0 opens fin));
+      whole = whole_by _ _ _ _ _ _ _ _ (λ forest tables fin. finish_derives _ _ _ _ _ _ _ _ k forest tables (item_step d defined frames run loose nodes o os p lines behind byte number columns start line some_end inside forest tables k.shape.0 k.below.0 opens fin));
     }

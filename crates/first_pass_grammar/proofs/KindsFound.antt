@@ -16,13 +16,16 @@ use Rattle.first_pass_html.specs.Tags.{BeginsTagLine}
 use Rattle.first_pass_html.proofs.TagDecisions.{tag_line_decided}
 use Rattle.first_pass_grammar.specs.declared.kind.Container.{Container}
 use Rattle.first_pass_grammar.specs.Names.{Names, Extends}
-use Rattle.first_pass_grammar.specs.Kinds.{Kind, Blank, IndentedCode, Metadata, HtmlToEnd, HtmlToBlank, ThematicBreak, AtxHeading, FencedCode, Paragraph, all_taken, unindented, is_blank_rest, heading_or, rule_or, fence_or, metadata_or, metadata_at, begins_html_to_end, begins_html_to_blank, html_kind, first_kind, last_kind, IsKindBy, IsKind}
+use Rattle.first_pass_grammar.specs.Kinds.{Kind, Blank, IndentedCode, Metadata, HtmlToEnd, HtmlToBlank, ThematicBreak, AtxHeading, FencedCode, LinkDefinitions, Paragraph, all_taken, unindented, is_blank_rest, heading_or, rule_or, fence_or, metadata_or, metadata_at, begins_html_to_end, begins_html_to_blank, html_kind, first_kind, last_kind, IsKindBy, IsKind}
 use Rattle.first_pass_grammar.specs.Leaves.{document, block_with, heading_text_at, heading_block, paragraph_block, rule_block, marker_items}
 use Rattle.first_pass_grammar.specs.RawLines.{range_text, range_html}
 use Rattle.first_pass_grammar.specs.CodeBlocks.{code_place, code_by, code_lines, without_blanks, last_is_blank, last_end, IsIndentedCode, metadata_lines, metadata_kind, IsMetadata, fenced_lines, info_string, IsFencedCode}
 use Rattle.first_pass_grammar.specs.HtmlBlocks.{until_end, until_blank, first_owing, IsHtml}
+use Rattle.first_pass_grammar.specs.LinkTables.{LinkEntry}
+use Rattle.first_pass_grammar.specs.LinkRuns.{definition_at, kind_in, Beyond, Ended, FlowsOn}
+use Rattle.first_pass_grammar.proofs.RunsFound.{left_beyond, run_found}
 use Rattle.first_pass_grammar.specs.Extents.{Extent, Verdict, GoesOn, IsLast, Closes, Stops, extent_by, extent}
-use Rattle.first_pass_grammar.specs.Skeleton.{Leaf, leaf_block, BlankLine, From, Line, Blanks, At, blanks_alone, Opening, OpensLeaf, OpensNode, OpensParagraph, OpensExtent, OpensAs, OpensBlockAt}
+use Rattle.first_pass_grammar.specs.Skeleton.{Leaf, Block, leaf_block, run_block, flowing_block, OpensBeyond, OpensRun, BlankLine, From, Line, Blanks, At, blanks_alone, Opening, OpensLeaf, OpensNode, OpensParagraph, OpensExtent, OpensAs, OpensBlockAt}
 use Rattle.first_pass_grammar.proofs.Found.{Found, named_info, raw_lines_found}
 use Rattle.first_pass_grammar.proofs.MoreNames.{extends_none, extends_both}
 use Rattle.first_pass_grammar.proofs.LinesFound.{paragraph_found, heading_found}
@@ -273,6 +276,22 @@ leads_paragraph text options names most path p lines marker =
     let items : List (ℕ × Item) = paragraph_block start (start_of (length text) found.left) (marker_items marker ++ found.whole) in
     leads_leaf (leaf_block Paragraph p items false) found.left (λ later. (found.whole, found.left, found.is later, refl)) found.shorter
 
+leads_beyond : (text : List ℕ) (options : Options) (names : Names) (most : ℕ) (path : List Container) (lines : List Place) (definitions : List LinkEntry) (beyond : Beyond)
+    → length (left_beyond beyond) ≤ length lines → Leads names most lines (λ later o. OpensBeyond (document text options later) path definitions beyond o)
+leads_beyond text options names most path lines definitions (Ended q left) less = leads_leaf (Block (run_block q definitions)) left (λ later. refl) less
+leads_beyond text options names most path lines definitions (FlowsOn q further) less =
+    let found = paragraph_found text options path further (offset q) [] in
+    let items : List (ℕ × Item) = paragraph_block (offset q) (start_of (length text) found.left) found.whole in
+    let low = found.shorter in
+    leads_leaf (Block (flowing_block q definitions items)) found.left (λ later. (found.whole, found.left, found.is later, refl)) (omega arith)
+
+leads_run : (text : List ℕ) (options : Options) (names : Names) (most : ℕ) (path : List Container) (p : Place) (lines : List Place)
+    → Leads names most lines (λ later o. OpensAs (document text options later) path p lines LinkDefinitions o)
+unfolding OpensAs OpensRun
+leads_run text options names most path p lines =
+    let found = run_found path (unindented p) lines in
+    leads_also (leads_beyond text options names most path lines found.definitions found.beyond found.shorter) (λ later o opens. (found.definitions, found.beyond, found.run, opens))
+
 leads_kind : (text : List ℕ) (options : Options) (names : Names) (most : ℕ) (path : List Container) (p : Place) (lines : List Place) (kind : Kind)
     → HasEnd (all_taken p.rest).left kind → Leads names most lines (λ later o. OpensAs (document text options later) path p lines kind o)
 unfolding OpensAs
@@ -294,11 +313,21 @@ leads_kind text options names most path p lines (FencedCode count byte) ends =
     let e : Extent = fenced_lines (length text) path (indent p.rest) byte count lines in
     leads_extent names most lines (FencedCode count byte) p e (λ later. IsFencedCode (document text options later) start count e.places e.«end»)
     (fence_found text options names start count e.places e.«end») (extent_left _ (length text) lines)
+leads_kind text options names most path p lines LinkDefinitions ends = leads_run text options names most path p lines
 leads_kind text options names most path p lines Paragraph ends = leads_paragraph text options names most path p lines None
+
+-- what ends an HTML block is known, whatever begins where a paragraph would
+ends_text : (bs : List ℕ) (t : Bool) → HasEnd bs (if t then LinkDefinitions else Paragraph)
+ends_text bs true = tt
+ends_text bs false = tt
+
+ends_in : (path : List Container) (p : Place) (bs : List ℕ) (kind : Kind) → HasEnd bs kind → HasEnd bs (kind_in path p kind)
+ends_in path p bs Paragraph ends = ends_text bs (is_some (definition_at path (unindented p)))
+ends_in path p bs kind ends = ends
 
 -- where no container may begin
 pub leads_block : (text : List ℕ) (options : Options) (names : Names) (most : ℕ) (path : List Container) (p : Place) (lines : List Place)
     → Leads names most lines (λ later o. OpensBlockAt (document text options later) path p lines o)
 leads_block text options names most path p lines =
     let kind = kind_found options p.rest in
-    leads_also (leads_kind text options names most path p lines kind.0 kind.2) (λ later o opens. (kind.0, kind.1, opens))
+    leads_also (leads_kind text options names most path p lines (kind_in path p kind.0) (ends_in path p (all_taken p.rest).left kind.0 kind.2)) (λ later o opens. (kind.0, kind.1, opens))

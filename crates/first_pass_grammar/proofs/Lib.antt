@@ -2,6 +2,7 @@ pub mod Alike
 pub mod Completed
 pub mod Completions
 pub mod Finishes
+pub mod FirstLinks
 pub mod Found
 pub mod KindsFound
 pub mod LinesFound
@@ -12,6 +13,7 @@ pub mod OpeningsFound
 pub mod Orders
 pub mod RowLemmas
 pub mod RowsAlike
+pub mod RunsFound
 pub mod SequencesFound
 pub mod Tightening
 pub mod Unique

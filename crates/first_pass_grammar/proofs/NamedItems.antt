@@ -10,10 +10,11 @@ use Rattle.first_pass_tokens.specs.Chains.{text_token, touches, add_token, add_t
 use Rattle.first_pass_tokens.specs.TreeTokens.{leaves}
 use Rattle.first_pass_grammar.specs.declared.kind.Container.{Container}
 use Rattle.first_pass_grammar.specs.Names.{Names, Extends, index_of, NamesEntry, AreNamed}
-use Rattle.first_pass_grammar.specs.Kinds.{Kind, Blank, IndentedCode, Metadata, HtmlToEnd, HtmlToBlank, ThematicBreak, AtxHeading, FencedCode, Paragraph}
+use Rattle.first_pass_grammar.specs.Kinds.{Kind, Blank, IndentedCode, Metadata, HtmlToEnd, HtmlToBlank, ThematicBreak, AtxHeading, FencedCode, LinkDefinitions, Paragraph}
+use Rattle.first_pass_grammar.specs.LinkRuns.{Ended, FlowsOn}
 use Rattle.first_pass_grammar.specs.Leaves.{Document, block_with, paragraph_block, marker_items}
 use Rattle.first_pass_grammar.specs.RawLines.{AreColumns, Ranges, range_text, range_html, ends_with_both, raw_items, IsRawLine, AreRawLines}
-use Rattle.first_pass_grammar.specs.Skeleton.{Block, Line, Opening, OpensLeaf, leaf_block, OpensAs, OpensParagraph}
+use Rattle.first_pass_grammar.specs.Skeleton.{Block, Line, Opening, OpensLeaf, leaf_block, OpensAs, OpensRun, OpensParagraph}
 use Rattle.first_pass_grammar.proofs.NoIndex.{HasNoIndex, HaveNoIndex, paragraph_free, heading_free, marked_free}
 
 -- an item is read in no node whose index names no entry
@@ -134,7 +135,7 @@ items_of_leaf o = []
 
 -- Each index that a leaf block's items keep names an entry.
 pub opens_named : (d : Document) (path : List Container) (p : Place) (lines : List Place) (kind : Kind) (items : List (ℕ × Item)) (gap : Bool) (left : List Place) → OpensAs d path p lines kind (OpensLeaf (leaf_block kind p items gap) Line left) → AreNamed d.names items
-unfolding OpensAs OpensParagraph items_of_leaf AreNamed
+unfolding OpensAs OpensRun OpensParagraph items_of_leaf AreNamed
 opens_named d path p lines Blank items gap left h = cc
 opens_named d path p lines IndentedCode items gap left (own, is, opens) =
     subst (AreNamed d.names) (sym (ap items_of_leaf opens))
@@ -155,6 +156,10 @@ opens_named d path p lines (AtxHeading level) items gap left (chain, stop, is, o
 opens_named d path p lines (FencedCode count byte) items gap left (own, is, opens) =
     subst (AreNamed d.names) (sym (ap items_of_leaf opens))
     (block_named d.names _ _ _ is.chain own is.items_are (slice_get_within d.names.texts is.info.0 is.names.named is.names.at) (lines_named range_text d [] _ is.chain text_is_free tt is.lines))
+opens_named d path p lines LinkDefinitions items gap left (xs, Ended q more, run, opens) =
+    subst (AreNamed d.names) (sym (ap items_of_leaf opens)) tt
+opens_named d path p lines LinkDefinitions items gap left (xs, FlowsOn q more, run, (chain, behind, is, opens)) =
+    subst (AreNamed d.names) (sym (ap items_of_leaf opens)) (tt, named_deeper d.names 1 (leaves chain) (free_named d.names chain (paragraph_free d path _ [] more chain behind tt is)))
 opens_named d path p lines Paragraph items gap left (chain, behind, is, opens) =
     subst (AreNamed d.names) (sym (ap items_of_leaf opens)) (tt, named_deeper d.names 1 (leaves chain) (free_named d.names chain (paragraph_free d path _ [] lines chain behind tt is)))
 

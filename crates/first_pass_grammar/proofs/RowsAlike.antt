@@ -1,5 +1,5 @@
 -- Rows of skeletons that are alike: they are alike too, and what stands in them reads alike.
-use Rattle.std.proofs.Common.{◌≡◌, ℕ, suc, ◌||◌, not, Bool, true, false, List, [], ◌∷◌, map, Option, None, refl, sym, ap, ◌∙◌, subst, if◌then◌else◌}
+use Rattle.std.proofs.Common.{◌≡◌, ℕ, suc, ◌||◌, not, Bool, true, false, List, [], ◌∷◌, ◌++◌, map, Option, None, refl, sym, ap, ◌∙◌, subst, if◌then◌else◌}
 use Rattle.first_pass_items.specs.declared.item.Item.{Item}
 use Rattle.first_pass_items.specs.declared.item.ItemBody.TheVariants.{BlockQuote as BlockQuoteBody, List as ListBody, ListItem as ListItemBody}
 use Rattle.first_pass_tree.specs.Forest.{at_depth}
@@ -7,12 +7,12 @@ use Rattle.first_pass_grammar.specs.Names.{Names, read_nodes}
 use Rattle.first_pass_grammar.specs.Kinds.{Kind}
 use Rattle.first_pass_grammar.specs.Skeleton.{LeafBlock, BlankLine, Block, Head, Opener, QuoteMarker, ItemMarker, Skeleton, Nil, Then, Node}
 use Rattle.first_pass_grammar.specs.Rows.{What, ALeaf, AQuote, AList, AnItem, Row, Rows, End, OneOf, behind, ends_in_gap, any_gap, is_loose, closing_place, is_list_of, end_of, list_until, items_behind, list_behind, row_of, container_row, is_quote_marker, begins_blank, counts_behind, rows_of}
-use Rattle.first_pass_grammar.specs.Derivation.{node_of, list_flags, row_items, tight_in, items_of}
+use Rattle.first_pass_grammar.specs.Derivation.{definitions_of, node_of, list_flags, row_items, tight_in, items_of}
 use Rattle.first_pass_grammar.proofs.Alike.{AlikeNodes, stands, Alike, nodes_append, tight_read, read_tight, read_at_depth}
 
 -- a row without the items of its leaf block, and these
 abbrev bare_what : What → What
-bare_what (ALeaf b) = ALeaf (record { kind = b.kind; line = b.line; start = b.start; items = []; gap = b.gap })
+bare_what (ALeaf b) = ALeaf (record { kind = b.kind; line = b.line; start = b.start; items = []; gap = b.gap; definitions = [] })
 bare_what w = w
 
 abbrev inside : What → List (ℕ × Item)
@@ -140,8 +140,8 @@ counts_alike m n (ItemMarker byte number columns) s t a = blank_alike m n s t a
 leaf_row : (b b' : LeafBlock) → stands b ≡ stands b' → b.gap ≡ b'.gap
     → (let row : LeafBlock → Row = λ x. record { what = ALeaf x; line = x.line; start = x.start; gap = false } in bare (row b) ≡ bare (row b'))
 leaf_row b b' is gap =
-    ap (λ (z : Kind × ℕ × ℕ). record { what = ALeaf (record { kind = z.0; line = z.1; start = z.2; items = []; gap = b.gap }); line = z.1; start = z.2; gap = false }) is
-    ∙ ap (λ g. record { what = ALeaf (record { kind = b'.kind; line = b'.line; start = b'.start; items = []; gap = g }); line = b'.line; start = b'.start; gap = false }) gap
+    ap (λ (z : Kind × ℕ × ℕ). record { what = ALeaf (record { kind = z.0; line = z.1; start = z.2; items = []; gap = b.gap; definitions = [] }); line = z.1; start = z.2; gap = false }) is
+    ∙ ap (λ g. record { what = ALeaf (record { kind = b'.kind; line = b'.line; start = b'.start; items = []; gap = g; definitions = [] }); line = b'.line; start = b'.start; gap = false }) gap
 
 -- the rows of alike skeletons
 rows_alike : (m n : Names) (quoted : Bool) (last : ℕ) (s t : Skeleton) → Alike m n s t → AlikeRows m n (rows_of quoted last s) (rows_of quoted last t)
@@ -211,3 +211,21 @@ rows_read m n depth tight (OneOf row inner next) (OneOf row' inner' next') a =
 pub forest_alike : (m n : Names) (quoted : Bool) (depth last : ℕ) (s t : Skeleton) → Alike m n s t
     → AlikeNodes m n (items_of depth false (rows_of quoted last s)) (items_of depth false (rows_of quoted last t))
 forest_alike m n quoted depth last s t a = rows_read m n depth false (rows_of quoted last s) (rows_of quoted last t) (rows_alike m n quoted last s t a)
+
+-- alike skeletons define the same
+pub definitions_alike : (m n : Names) (s t : Skeleton) → Alike m n s t → definitions_of s ≡ definitions_of t
+unfolding definitions_of
+definitions_alike m n Nil Nil a = refl
+definitions_alike m n Nil (Then leaf' next') a = absurd a
+definitions_alike m n Nil (Node head' e' kids' next') a = absurd a
+definitions_alike m n (Then leaf next) Nil a = absurd a
+definitions_alike m n (Then leaf next) (Node head' e' kids' next') a = absurd a
+definitions_alike m n (Node head e kids next) Nil a = absurd a
+definitions_alike m n (Node head e kids next) (Then leaf' next') a = absurd a
+definitions_alike m n (Then BlankLine next) (Then BlankLine next') a = definitions_alike m n next next' a.1
+definitions_alike m n (Then BlankLine next) (Then (Block b') next') a = absurd a.0
+definitions_alike m n (Then (Block b) next) (Then BlankLine next') a = absurd a.0
+definitions_alike m n (Then (Block b) next) (Then (Block b') next') a =
+    ap (λ z. z ++ definitions_of next) a.0.3 ∙ ap (λ z. b'.definitions ++ z) (definitions_alike m n next next' a.1)
+definitions_alike m n (Node head e kids next) (Node head' e' kids' next') a =
+    ap (λ z. z ++ definitions_of next) (definitions_alike m n kids kids' a.2) ∙ ap (λ z. definitions_of kids' ++ z) (definitions_alike m n next next' a.3)

@@ -17,17 +17,21 @@ use Rattle.first_pass_grammar.specs.declared.kind.Container.{Container}
 use Rattle.first_pass_grammar.specs.declared.kind.Container.TheVariants.{BlockQuote, ListItem}
 use Rattle.first_pass_grammar.specs.Names.{Names, read_nodes}
 use Rattle.first_pass_grammar.specs.Containers.{at_rest, after, front}
-use Rattle.first_pass_grammar.specs.Kinds.{Kind, Blank, IndentedCode, Metadata, HtmlToEnd, HtmlToBlank, ThematicBreak, AtxHeading, FencedCode, Paragraph, unindented, is_blank_rest, quote_inside, item_at, first_kind, IsKindBy, IsKind, ends_tag}
+use Rattle.first_pass_grammar.specs.Kinds.{Kind, Blank, IndentedCode, Metadata, HtmlToEnd, HtmlToBlank, ThematicBreak, AtxHeading, FencedCode, LinkDefinitions, Paragraph, unindented, is_blank_rest, quote_inside, item_at, first_kind, IsKindBy, IsKind, ends_tag}
 use Rattle.first_pass_grammar.specs.Leaves.{Document, document, add_break, IsParagraph, IsHeading, heading_text_at, heading_block, paragraph_block, marker_items}
 use Rattle.first_pass_grammar.specs.CodeBlocks.{code_lines, without_blanks, last_end, IsIndentedCode, metadata_lines, metadata_kind, IsMetadata, fenced_lines, info_string, IsFencedCode}
 use Rattle.first_pass_grammar.specs.HtmlBlocks.{until_end, until_blank, first_owing, IsHtml}
 use Rattle.first_pass_grammar.specs.Extents.{Extent}
-use Rattle.first_pass_grammar.specs.Skeleton.{leaf_block, Head, opened, From, Line, Blanks, At, Anything, ALeafAlone, TextOf, MarkAlone, behind_marker, Opening, OpensLeaf, OpensNode, OpensParagraph, OpensExtent, OpensAs, OpensBlockAt, is_blank_behind, next_is_blank, item_head, task_by, task_behind, behind_task, task_alone, item_opening, tag_behind, behind_tag, quote_opening, OpensQuote, OpensFrom, Opens, OpensAt, Skeleton, Nil, Then, Node, Begins, Ends, behind_first, end_before, IsFirst, IsSequence}
-use Rattle.first_pass_grammar.specs.Derivation.{Tables, node_of, Derives}
+use Rattle.first_pass_grammar.specs.LinkTables.{LinkEntry}
+use Rattle.first_pass_grammar.specs.LinkRuns.{kind_in, lines_beyond, ends_run, Beyond, Ended, FlowsOn, IsRun}
+use Rattle.std.proofs.lemmas.Bool.{true≢false}
+use Rattle.std.proofs.lemmas.Option.{none-some, same_Some}
+use Rattle.first_pass_grammar.specs.Skeleton.{Block, leaf_block, flowing_block, OpensBeyond, OpensRun, Head, opened, From, Line, Blanks, At, Anything, ALeafAlone, TextOf, MarkAlone, behind_marker, Opening, OpensLeaf, OpensNode, OpensParagraph, OpensExtent, OpensAs, OpensBlockAt, is_blank_behind, next_is_blank, item_head, task_by, task_behind, behind_task, task_alone, item_opening, tag_behind, behind_tag, quote_opening, OpensQuote, OpensFrom, Opens, OpensAt, Skeleton, Nil, Then, Node, Begins, Ends, behind_first, end_before, IsFirst, IsSequence}
+use Rattle.first_pass_grammar.specs.Derivation.{Tables, no_tables, told, node_of, Derives}
 use Rattle.first_pass_grammar.proofs.NoIndex.{HasNoIndex, read_alone, paragraph_free, heading_free, marked_free}
 use Rattle.first_pass_grammar.specs.RawLines.{range_text, range_html}
 use Rattle.first_pass_grammar.proofs.Alike.{with_names, AlikeNodes, HoldsNoIndex, AlikeOpening, Alike, text_free, html_free, raw_alike, block_alike, fence_alike}
-use Rattle.first_pass_grammar.proofs.RowsAlike.{forest_alike}
+use Rattle.first_pass_grammar.proofs.RowsAlike.{forest_alike, definitions_alike}
 
 -- a paragraph has one chain and leaves one list of lines
 one_paragraph : (d : Document) (n : Names) (path : List Container) (start : ℕ) (chain : List Item) (lines : List Place) (w w' : List Item) (l l' : List Place)
@@ -90,7 +94,7 @@ one_paragraph_opening d n path p lines marker o o' free (c, l, h, f) (c', l', h'
     f' ∙ ap (λ z. OpensLeaf (leaf_block Paragraph p (paragraph_block start (start_of (length d.text) l') (marker_items marker ++ z)) false) Line l') (sym s.0)
     ∙ ap (λ z. OpensLeaf (leaf_block Paragraph p (paragraph_block start (start_of (length d.text) z) chain) false) Line z) (sym s.1) in
     alike_by d.names n o o' _ _ f same
-    ((refl, block_alike d.names n start (start_of (length d.text) l) ParagraphBody ParagraphBody chain chain refl (read_alone d.names n chain (marked_free marker c free (paragraph_free d path start [] lines c l tt h))), refl), refl, tt, refl)
+    ((refl, block_alike d.names n start (start_of (length d.text) l) ParagraphBody ParagraphBody chain chain refl (read_alone d.names n chain (marked_free marker c free (paragraph_free d path start [] lines c l tt h))), refl, refl), refl, tt, refl)
 
 -- a leaf block's items read alike where they are of alike chains
 one_code : (d : Document) (n : Names) (p : Place) (further : List Place) (xs ys : List (ℕ × Item)) → IsIndentedCode d p further xs → IsIndentedCode (with_names d n) p further ys → AlikeNodes d.names n xs ys
@@ -121,14 +125,62 @@ one_html d n start columns places end xs ys h k =
     ∙ sym (ap (read_nodes n) k.items_are)
 
 one_extent : (m n : Names) (kind : Kind) (p : Place) (e : Extent) (A B : List (ℕ × Item) → Type 0) (o o' : Opening) → ((xs ys : List (ℕ × Item)) → A xs → B ys → AlikeNodes m n xs ys) → OpensExtent kind p e A o → OpensExtent kind p e B o' → AlikeOpening m n o o'
-one_extent m n kind p e A B o o' one (xs, a, f) (ys, b, g) = alike_by m n o o' _ _ f g ((refl, one xs ys a b, refl), refl, tt, refl)
+one_extent m n kind p e A B o o' one (xs, a, f) (ys, b, g) = alike_by m n o o' _ _ f g ((refl, one xs ys a b, refl, refl), refl, tt, refl)
+
+-- a place begins one run, with one thing behind it
+head_of : (line line' : Place) (left left' : List Place) → line ∷ left ≡ line' ∷ left' → line ≡ line'
+head_of line line' left left' e = cc
+
+tail_of : (line line' : Place) (left left' : List Place) → line ∷ left ≡ line' ∷ left' → left ≡ left'
+tail_of line line' left left' e = cc
+
+ends_not : (path : List Container) (a b : List Place) → ends_run path a ≡ true → a ≡ b → ends_run path b ≡ false → ⊥
+ends_not path a b stops is on = true≢false (sym stops ∙ ap (ends_run path) is ∙ on)
+
+one_run : (path : List Container) (p : Place) (lines : List Place) (xs ys : List LinkEntry) (b c : Beyond) → IsRun path p lines xs b → IsRun path p lines ys c → (xs ≡ ys) × (b ≡ c)
+unfolding IsRun
+one_run path p lines [] [] b c (h, e) (k, f) = (refl, e ∙ sym f)
+one_run path p lines [] (y ∷ ys) b c (h, e) (k, f) = absurd (none-some y (sym h ∙ k))
+one_run path p lines (x ∷ xs) [] b c (h, e) (k, f) = absurd (none-some x (sym k ∙ h))
+one_run path p lines (x ∷ xs) (y ∷ ys) b c (h, inl (stops, m, e)) (k, inl (stops', m', f)) =
+    let s : x ≡ y = same_Some x y (sym h ∙ k) in
+    (ap (λ z. z ∷ xs) s ∙ ap (λ z. y ∷ z) (m ∙ sym m'), e ∙ ap (λ (z : LinkEntry). Ended p (lines_beyond z.«end» lines)) s ∙ sym f)
+one_run path p lines (x ∷ xs) (y ∷ ys) b c (h, inl (stops, m, e)) (k, inr (line, left, is, on, more)) =
+    let s : x ≡ y = same_Some x y (sym h ∙ k) in absurd (ends_not path _ _ stops (ap (λ (z : LinkEntry). lines_beyond z.«end» lines) s ∙ is) on)
+one_run path p lines (x ∷ xs) (y ∷ ys) b c (h, inr (line, left, is, on, more)) (k, inl (stops, m, e)) =
+    let s : y ≡ x = same_Some y x (sym k ∙ h) in absurd (ends_not path _ _ stops (ap (λ (z : LinkEntry). lines_beyond z.«end» lines) s ∙ is) on)
+one_run path p lines (x ∷ xs) (y ∷ ys) b c (h, inr (line, left, is, on, more)) (k, inr (line', left', is', on', more')) =
+    let s : x ≡ y = same_Some x y (sym h ∙ k) in
+    let both : line' ∷ left' ≡ line ∷ left = sym is' ∙ ap (λ (z : LinkEntry). lines_beyond z.«end» lines) (sym s) ∙ is in
+    let r = one_run path (unindented (at_rest line (front path line.rest))) left xs ys b c more
+    (subst (λ (z : Place). IsRun path (unindented (at_rest z (front path z.rest))) left ys c) (head_of line' line left' left both)
+    (subst (λ z. IsRun path (unindented (at_rest line' (front path line'.rest))) z ys c) (tail_of line' line left' left both) more')) in
+    (ap (λ z. z ∷ xs) s ∙ ap (λ z. y ∷ z) r.0, r.1)
+
+-- what stands behind a run reads alike
+one_beyond : (d : Document) (n : Names) (path : List Container) (xs : List LinkEntry) (b : Beyond) (o o' : Opening) → OpensBeyond d path xs b o → OpensBeyond (with_names d n) path xs b o' → AlikeOpening d.names n o o'
+one_beyond d n path xs (Ended p left) o o' e f = alike_by d.names n o o' _ _ e f ((refl, refl, refl, refl), refl, tt, refl)
+one_beyond d n path xs (FlowsOn p lines) o o' (c, l, h, f) (c', l', h', f') =
+    let s = one_paragraph d n path (offset p) [] lines c c' l l' h h' in
+    let same : o' ≡ OpensLeaf (Block (flowing_block p xs (paragraph_block (offset p) (start_of (length d.text) l) c))) Line l =
+    f' ∙ ap (λ z. OpensLeaf (Block (flowing_block p xs (paragraph_block (offset p) (start_of (length d.text) l') z))) Line l') (sym s.0)
+    ∙ ap (λ z. OpensLeaf (Block (flowing_block p xs (paragraph_block (offset p) (start_of (length d.text) z) c))) Line z) (sym s.1) in
+    alike_by d.names n o o' _ _ f same
+    ((refl, block_alike d.names n (offset p) (start_of (length d.text) l) ParagraphBody ParagraphBody c c refl (read_alone d.names n c (paragraph_free d path (offset p) [] lines c l tt h)), refl, refl), refl, tt, refl)
+
+one_run_opening : (d : Document) (n : Names) (path : List Container) (p : Place) (lines : List Place) (o o' : Opening) → OpensRun d path p lines o → OpensRun (with_names d n) path p lines o' → AlikeOpening d.names n o o'
+unfolding OpensRun
+one_run_opening d n path p lines o o' (xs, b, run, e) (ys, c, run', f) =
+    let s = one_run path (unindented p) lines xs ys b c run run' in
+    one_beyond d n path xs b o o' e
+    (subst (λ z. OpensBeyond (with_names d n) path z b o') (sym s.0) (subst (λ z. OpensBeyond (with_names d n) path ys z o') (sym s.1) f))
 
 -- what begins at a place that is of a kind reads alike
 opens_once : (d : Document) (n : Names) (path : List Container) (p : Place) (lines : List Place) (k : Kind) (o o' : Opening) → OpensAs d path p lines k o → OpensAs (with_names d n) path p lines k o' → AlikeOpening d.names n o o'
 unfolding OpensAs
 opens_once d n path p lines Blank o o' e f = alike_by d.names n o o' _ _ e f (tt, refl, tt, refl)
 opens_once d n path p lines IndentedCode o o' (xs, h, e) (ys, k, f) =
-    alike_by d.names n o o' _ _ e f ((refl, one_code d n (moved_columns 4 p) (code_lines path lines).0 xs ys h k, refl), refl, tt, refl)
+    alike_by d.names n o o' _ _ e f ((refl, one_code d n (moved_columns 4 p) (code_lines path lines).0 xs ys h k, refl, refl), refl, tt, refl)
 opens_once d n path p lines (Metadata byte) o o' e f =
     let x : Extent = metadata_lines (length d.text) path byte lines in
     one_extent d.names n (Metadata byte) p x (IsMetadata d (offset (unindented p)) byte x.places x.«end») (IsMetadata (with_names d n) (offset (unindented p)) byte x.places x.«end») o o'
@@ -146,23 +198,24 @@ opens_once d n path p lines HtmlToBlank o o' e f =
     (one_html d n (offset (unindented p)) (indent p.rest) x.places x.«end») e f
 opens_once d n path p lines (ThematicBreak size) o o' e f =
     let start : ℕ = offset (unindented p) in
-    alike_by d.names n o o' _ _ e f ((refl, block_alike d.names n start (start + size) Rule Rule [] [] refl refl, refl), refl, tt, refl)
+    alike_by d.names n o o' _ _ e f ((refl, block_alike d.names n start (start + size) Rule Rule [] [] refl refl, refl, refl), refl, tt, refl)
 opens_once d n path p lines (AtxHeading level) o o' (c, e, h, f) (c', e', h', f') =
     let text : ℕ = heading_text_at d.text (offset (unindented p)) (level_number level) in
     let s = one_heading d n text c c' e e' h h' in
     let start : ℕ = offset (unindented p) in
     let same : o' ≡ OpensLeaf (leaf_block (AtxHeading level) p (heading_block start e level c) false) Line lines =
     f' ∙ ap (λ z. OpensLeaf (leaf_block (AtxHeading level) p (heading_block start e' level z) false) Line lines) (sym s.0) ∙ ap (λ z. OpensLeaf (leaf_block (AtxHeading level) p (heading_block start z level c) false) Line lines) (sym s.1) in
-    alike_by d.names n o o' _ _ f same ((refl, block_alike d.names n start e (HeadingBody level None) (HeadingBody level None) c c refl (read_alone d.names n c (heading_free d text c e h)), refl), refl, tt, refl)
+    alike_by d.names n o o' _ _ f same ((refl, block_alike d.names n start e (HeadingBody level None) (HeadingBody level None) c c refl (read_alone d.names n c (heading_free d text c e h)), refl, refl), refl, tt, refl)
 opens_once d n path p lines (FencedCode count byte) o o' e f =
     let x : Extent = fenced_lines (length d.text) path (indent p.rest) byte count lines in
     one_extent d.names n (FencedCode count byte) p x (IsFencedCode d (offset (unindented p)) count x.places x.«end») (IsFencedCode (with_names d n) (offset (unindented p)) count x.places x.«end») o o'
     (one_fence d n (offset (unindented p)) count x.places x.«end») e f
+opens_once d n path p lines LinkDefinitions o o' e f = one_run_opening d n path p lines o o' e f
 opens_once d n path p lines Paragraph o o' e f = one_paragraph_opening d n path p lines None o o' tt e f
 
 opens_block : (d : Document) (n : Names) (path : List Container) (p : Place) (lines : List Place) (o o' : Opening) → OpensBlockAt d path p lines o → OpensBlockAt (with_names d n) path p lines o' → AlikeOpening d.names n o o'
 opens_block d n path p lines o o' (k, is, e) (k', is', f) =
-    opens_once d n path p lines k o o' e (subst (λ z. OpensAs (with_names d n) path p lines z o') (one_kind d.options p.rest k' k is' is) f)
+    opens_once d n path p lines (kind_in path p k) o o' e (subst (λ z. OpensAs (with_names d n) path p lines (kind_in path p z) o') (one_kind d.options p.rest k' k is' is) f)
 
 -- a container that opens, in which blocks go on where no item with an index stands
 abbrev OpensFree : Opening → Type 0
@@ -238,7 +291,7 @@ opens_at d n path (At q ALeafAlone) p lines o o' h e f = opens_block d n path p 
 opens_at d n path (Blanks x) p lines o o' h e f = one_opening d n path p lines o o' e f
 opens_at d n path (At q (TextOf marker)) p lines o o' h e f = one_paragraph_opening d n path p lines (Some marker) o o' h e f
 opens_at d n path (At q (MarkAlone marker blanks)) p lines o o' h e f =
-    alike_by d.names n o o' _ _ e f ((refl, ap (λ (z : List (Item × Option (List ℕ))). map (λ (r : Item × Option (List ℕ)). (0, r)) z) (read_alone d.names n (marker ∷ []) (h, tt)), refl), refl, tt, refl)
+    alike_by d.names n o o' _ _ e f ((refl, ap (λ (z : List (Item × Option (List ℕ))). map (λ (r : Item × Option (List ℕ)). (0, r)) z) (read_alone d.names n (marker ∷ []) (h, tt)), refl, refl), refl, tt, refl)
 
 -- a block begins at one place
 begins_once : (path : List Container) (from : From) (lines : List Place) (p q : Place) (a b : List Place) → Begins path from lines p a → Begins path from lines q b → (p ≡ q) × (a ≡ b)
@@ -321,5 +374,5 @@ one_forest text options m n f g t u x y =
       ap (read_nodes m) x.forest_is
           ∙ ap (λ z. root ∷ z) (forest_alike m n false 1 (length text) x.skeleton y.skeleton s)
           ∙ sym (ap (read_nodes n) y.forest_is),
-      x.tables_are ∙ sym y.tables_are,
+      x.tables_are ∙ ap (told no_tables) (definitions_alike m n x.skeleton y.skeleton s) ∙ sym y.tables_are,
     )

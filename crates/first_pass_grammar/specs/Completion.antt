@@ -11,7 +11,7 @@ use Rattle.first_pass_grammar.specs.Leaves.{Document, document}
 use Rattle.first_pass_grammar.specs.Names.{Names, Extends}
 use Rattle.first_pass_grammar.specs.Skeleton.{From, Line, blanks_alone, end_before, Skeleton, IsSequence}
 use Rattle.first_pass_grammar.specs.Rows.{Rows, behind, ends_in_gap, any_gap, is_loose, list_until, items_behind, list_behind, begins_blank, rows_of}
-use Rattle.first_pass_grammar.specs.Derivation.{Tables, Derives, tables_of, list_flags, tightened, items_of}
+use Rattle.first_pass_grammar.specs.Derivation.{Tables, Derives, told, definitions_of, list_flags, tightened, items_of}
 
 -- the lines of a text from an offset on, which is a line's start
 abbrev pub lines_from : List ℕ → ℕ → List Place
@@ -37,11 +37,12 @@ pub data Pending : Type 0 where
   NoList : Pending
   OneList : ℕ → ℕ → Bool → Pending
 
--- what stands so far: nodes, a list that may go on, and whether the run of blank lines behind them holds one that counts
+-- what stands so far: nodes, a list that may go on, whether the run of blank lines behind them holds one that counts, and what is defined
 pub record Standing : Type 0 where
   pub nodes : List (ℕ × Item)
   pub list : Pending
   pub run : Bool
+  pub defined : Tables
 
 -- what a container takes further: blocks, and where it ends behind them
 pub record Further : Type 0 where
@@ -103,14 +104,14 @@ loosened gap (InList byte loose ∷ frames) = InList byte (loose || gap) ∷ fra
 -- what stands once a container, whose node is at a place, is closed behind these rows: those of what it took further
 abbrev pub container_closed : ℕ → ℕ → Standing → Further → Rows → Standing
 container_closed depth place w f rows =
-    record { nodes = ended (rendered depth f.«end» w.nodes w.list rows) place f.«end»; list = NoList; run = ends_in_gap rows }
+    record { nodes = ended (rendered depth f.«end» w.nodes w.list rows) place f.«end»; list = NoList; run = ends_in_gap rows; defined = told w.defined (definitions_of f.blocks) }
 
 -- What stands becomes this forest, and these tables are told then, where the nodes at these places are not closed and are what the frames say, both listed
 -- from the innermost on: each container ends behind what it takes further, and so on outwards; a list ends with what goes on with it.
 unfoldable pub Becomes : List Frame → List ℕ → Standing → List Further → List (ℕ × Item) → Tables → Type 0
-Becomes [] [] w (f ∷ []) forest tables = (forest ≡ rendered 1 f.«end» w.nodes w.list (rows_on false w f)) × (tables ≡ tables_of f.blocks)
+Becomes [] [] w (f ∷ []) forest tables = (forest ≡ rendered 1 f.«end» w.nodes w.list (rows_on false w f)) × (tables ≡ told w.defined (definitions_of f.blocks))
 Becomes (InList byte loose ∷ frames) (place ∷ places) w further forest tables =
-    Becomes frames places (record { nodes = w.nodes; list = OneList place byte loose; run = w.run }) further forest tables
+    Becomes frames places (record { nodes = w.nodes; list = OneList place byte loose; run = w.run; defined = w.defined }) further forest tables
 Becomes (InContainer c ∷ frames) (place ∷ places) w (f ∷ further) forest tables =
     let rows : Rows = rows_on (is_quote c) w f in
     Becomes (loosened (any_gap (rows_beyond w.list rows)) frames) places (container_closed (suc (length (place ∷ places))) place w f rows) further forest tables

@@ -1,5 +1,5 @@
 -- The tree that the grammar derives from a text, and what the text defines.
-use Rattle.std.specs.Prelude.{◌≡◌, ℕ, suc, ◌==◌, not, Bool, false, Option, List, [], ◌∷◌, ◌++◌, length, map, if◌then◌else◌}
+use Rattle.std.specs.Prelude.{◌≡◌, ℕ, suc, ◌==◌, not, Bool, false, List, [], ◌∷◌, ◌++◌, length, map, if◌then◌else◌}
 use Rattle.first_pass_items.specs.declared.item.Item.{Item}
 use Rattle.first_pass_items.specs.declared.item.ItemBody.{ItemBody}
 use Rattle.first_pass_items.specs.declared.item.ItemBody.TheVariants.{Root, Paragraph, TightParagraph, BlockQuote as BlockQuoteBody, List as ListBody, ListItem as ListItemBody}
@@ -7,7 +7,8 @@ use Rattle.first_pass_items.specs.declared.item.ListFlags.{ListFlags}
 use Rattle.first_pass_tree.specs.Forest.{at_depth}
 use Rattle.first_pass_lines.specs.Places.{lines_at}
 use Rattle.first_pass_grammar.specs.Leaves.{Document}
-use Rattle.first_pass_grammar.specs.Skeleton.{LeafBlock, Line, Skeleton, IsSequence}
+use Rattle.first_pass_grammar.specs.LinkTables.{LinkEntry, with_links}
+use Rattle.first_pass_grammar.specs.Skeleton.{BlankLine, Block, LeafBlock, Line, Skeleton, Nil, Then, Node, IsSequence}
 use Rattle.first_pass_grammar.specs.Rows.{What, ALeaf, AQuote, AList, AnItem, Rows, End, OneOf, is_loose, rows_of}
 
 abbrev pub node_of : ℕ → ℕ → ItemBody → Item
@@ -50,22 +51,29 @@ items_of depth tight (End gap) = []
 items_of depth tight (OneOf row inner next) =
     row_items depth tight (is_loose inner) row.start row.what ++ (items_of (suc depth) (tight_in tight (is_loose inner) row.what) inner ++ items_of depth tight next)
 
--- A link reference definition: its label, destination and title as bytes, and its range (CommonMark 4.7).
-pub record LinkEntry : Type 0 where
-  pub label : List ℕ
-  pub dest : List ℕ
-  pub title : Option (List ℕ)
-  pub start : ℕ
-  pub «end» : ℕ
-
 -- what a text defines: its link labels, and the labels of its footnotes
 pub record Tables : Type 0 where
   pub links : List LinkEntry
   pub footnotes : List (List ℕ)
 
--- No block that the grammar knows so far defines a label.
+-- nothing is defined
+abbrev pub no_tables : Tables
+no_tables = record { links = []; footnotes = [] }
+
+-- what is defined with these link definitions too, in the order of the text
+abbrev pub told : Tables → List LinkEntry → Tables
+told tables definitions = record { links = with_links tables.links definitions; footnotes = tables.footnotes }
+
+-- the link definitions in a sequence of blocks, in the order of the text (CommonMark 4.7)
+unfoldable pub definitions_of : Skeleton → List LinkEntry
+definitions_of Nil = []
+definitions_of (Then BlankLine next) = definitions_of next
+definitions_of (Then (Block block) next) = block.definitions ++ definitions_of next
+definitions_of (Node head e kids next) = definitions_of kids ++ definitions_of next
+
+-- what a sequence of blocks defines
 abbrev pub tables_of : Skeleton → Tables
-tables_of s = record { links = []; footnotes = [] }
+tables_of s = told no_tables (definitions_of s)
 
 -- the root, around a text of n bytes
 abbrev pub root_of : ℕ → ℕ × Item

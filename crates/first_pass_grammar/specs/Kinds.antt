@@ -34,6 +34,8 @@ pub data Kind : Type 0 where
   AtxHeading : HeadingLevel → Kind
   -- a fenced code block, with how many bytes its fence has, and which (CommonMark 4.5)
   FencedCode : ℕ → ℕ → Kind
+  -- link reference definitions (CommonMark 4.7)
+  LinkDefinitions : Kind
   -- a paragraph (CommonMark 4.8)
   Paragraph : Kind
 

@@ -7,6 +7,8 @@ pub mod Extents
 pub mod HtmlBlocks
 pub mod Kinds
 pub mod Leaves
+pub mod LinkRuns
+pub mod LinkTables
 pub mod Names
 pub mod OpenOrder
 pub mod Order

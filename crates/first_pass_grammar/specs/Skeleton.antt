@@ -12,22 +12,25 @@ use Rattle.first_pass_lines.specs.Places.{Place, place_at, offset, start_of, mov
 use Rattle.first_pass_grammar.specs.declared.kind.Container.{Container}
 use Rattle.first_pass_grammar.specs.declared.kind.Container.TheVariants.{BlockQuote, ListItem}
 use Rattle.first_pass_grammar.specs.Containers.{at_rest, after, front, taken, next_goes_on}
-use Rattle.first_pass_grammar.specs.Kinds.{Kind, Blank, IndentedCode, Metadata, HtmlToEnd, HtmlToBlank, ThematicBreak, AtxHeading, FencedCode, Paragraph, all_taken, unindented, is_blank_rest, quote_inside, quote_start, item_at, IsKind, ends_tag}
+use Rattle.first_pass_grammar.specs.Kinds.{Kind, Blank, IndentedCode, Metadata, HtmlToEnd, HtmlToBlank, ThematicBreak, AtxHeading, FencedCode, LinkDefinitions, Paragraph, all_taken, unindented, is_blank_rest, quote_inside, quote_start, item_at, IsKind, ends_tag}
 use Rattle.std.specs.Option.{option_map}
 use Rattle.first_pass_html.specs.Starts.{html_end}
 use Rattle.first_pass_grammar.specs.CodeBlocks.{code_lines, last_is_blank, IsIndentedCode, metadata_lines, IsMetadata, fenced_lines, IsFencedCode}
 use Rattle.first_pass_grammar.specs.Extents.{Extent}
+use Rattle.first_pass_grammar.specs.LinkTables.{LinkEntry}
+use Rattle.first_pass_grammar.specs.LinkRuns.{kind_in, Beyond, Ended, FlowsOn, IsRun}
 use Rattle.first_pass_grammar.specs.HtmlBlocks.{until_end, until_blank, IsHtml}
 use Rattle.first_pass_grammar.specs.Leaves.{Document, IsParagraph, IsHeading, heading_text_at, rule_block, heading_block, paragraph_block, marker_items}
 
 -- A block with no blocks in it (CommonMark 4): what begins at its place, where its line starts and its first byte that is no space or tab stands, its
--- items with their depths below it, and whether blank lines that count are at the end of what it takes.
+-- items with their depths below it, whether blank lines that count are at the end of what it takes, and the link definitions that it has.
 pub record LeafBlock : Type 0 where
   pub kind : Kind
   pub line : ℕ
   pub start : ℕ
   pub items : List (ℕ × Item)
   pub gap : Bool
+  pub definitions : List LinkEntry
 
 -- a blank line, or a leaf block
 pub data Leaf : Type 0 where
@@ -36,7 +39,7 @@ pub data Leaf : Type 0 where
 
 -- the leaf block of a kind that begins at a place
 abbrev pub block_at : Kind → Place → List (ℕ × Item) → Bool → LeafBlock
-block_at kind p items gap = record { kind = kind; line = p.line; start = offset (unindented p); items = items; gap = gap }
+block_at kind p items gap = record { kind = kind; line = p.line; start = offset (unindented p); items = items; gap = gap; definitions = [] }
 
 abbrev pub leaf_block : Kind → Place → List (ℕ × Item) → Bool → Leaf
 leaf_block kind p items gap = Block (block_at kind p items gap)
@@ -97,6 +100,25 @@ OpensParagraph d path p lines marker opening =
 abbrev pub OpensExtent : Kind → Place → Extent → (List (ℕ × Item) → Type 0) → Opening → Type 0
 OpensExtent kind p e Are opening = (items : List (ℕ × Item)) × Are items × (opening ≡ OpensLeaf (leaf_block kind p items false) Line e.left)
 
+-- a run of link reference definitions, the last of which begins at a place, with no paragraph behind them
+abbrev pub run_block : Place → List LinkEntry → LeafBlock
+run_block p definitions = record { kind = LinkDefinitions; line = p.line; start = offset p; items = []; gap = false; definitions = definitions }
+
+-- a paragraph whose text begins at a place, behind link reference definitions
+abbrev pub flowing_block : Place → List LinkEntry → List (ℕ × Item) → LeafBlock
+flowing_block p definitions items = record { kind = Paragraph; line = p.line; start = offset p; items = items; gap = false; definitions = definitions }
+
+-- What link reference definitions open: a block with no items; or a paragraph, where one flows on behind them (CommonMark 4.7).
+abbrev pub OpensBeyond : Document → List Container → List LinkEntry → Beyond → Opening → Type 0
+OpensBeyond d path definitions (Ended p left) opening = opening ≡ OpensLeaf (Block (run_block p definitions)) Line left
+OpensBeyond d path definitions (FlowsOn p lines) opening =
+    (chain : List Item) × (left : List Place) × IsParagraph d path (offset p) [] lines chain left
+    × (opening ≡ OpensLeaf (Block (flowing_block p definitions (paragraph_block (offset p) (start_of (length d.text) left) chain))) Line left)
+
+unfoldable pub OpensRun : Document → List Container → Place → List Place → Opening → Type 0
+OpensRun d path p lines opening =
+    (definitions : List LinkEntry) × (beyond : Beyond) × IsRun path (unindented p) lines definitions beyond × OpensBeyond d path definitions beyond opening
+
 -- What a kind opens at a place that has these lines behind it, inside the containers of the path. The blank lines at the end of indented code count
 -- (CommonMark 4.4, and this project).
 unfoldable pub OpensAs : Document → List Container → Place → List Place → Kind → Opening → Type 0
@@ -118,11 +140,12 @@ OpensAs d path p lines (AtxHeading level) opening =
 OpensAs d path p lines (FencedCode count byte) opening =
     let e = fenced_lines (length d.text) path (indent p.rest) byte count lines in
     OpensExtent (FencedCode count byte) p e (IsFencedCode d (offset (unindented p)) count e.places e.«end») opening
+OpensAs d path p lines LinkDefinitions opening = OpensRun d path p lines opening
 OpensAs d path p lines Paragraph opening = OpensParagraph d path p lines None opening
 
--- What a leaf opens at a place: what its kind says.
+-- What a leaf opens at a place: what its kind says there.
 abbrev pub OpensBlockAt : Document → List Container → Place → List Place → Opening → Type 0
-OpensBlockAt d path p lines opening = (kind : Kind) × IsKind d.options p.rest kind × OpensAs d path p lines kind opening
+OpensBlockAt d path p lines opening = (kind : Kind) × IsKind d.options p.rest kind × OpensAs d path p lines (kind_in path p kind) opening
 
 -- the next line goes on with the path, and is blank behind what the path takes of it
 abbrev pub is_blank_behind : Option Rest → Bool

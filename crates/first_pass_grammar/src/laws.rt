@@ -1,6 +1,6 @@
 //! Laws of the grammar.
 
-ghost use Rattle.std.specs.Prelude.{◌≡◌, ℕ, List, length};
+ghost use Rattle.std.specs.Prelude.{◌≡◌, [], ℕ, List, length};
 ghost use Rattle.first_pass_items.specs.declared.item.Item.{Item};
 ghost use Rattle.first_pass_items.specs.declared.option_set.Options.{Options};
 ghost use Rattle.first_pass_lines.specs.Places.{Place};
@@ -8,6 +8,7 @@ ghost use Rattle.first_pass_grammar.specs.Names.{Names, Extends, read_nodes};
 ghost use Rattle.first_pass_grammar.specs.Leaves.{Document, document};
 ghost use Rattle.first_pass_grammar.specs.Skeleton.{From};
 ghost use Rattle.first_pass_grammar.specs.Derivation.{Derives, Tables};
+ghost use Rattle.first_pass_grammar.specs.LinkTables.{LinkEntry, with_links, link_under, IsInFoldedOrder};
 ghost use Rattle.first_pass_grammar.specs.Completion.{Standing, Frame, containers_of, Completes, CanGoOn, Completion};
 
 /// A text has one derived tree, read through what its indices name, and one pair of tables.
@@ -47,4 +48,14 @@ pub fn some_completion_derives()
         → Completes (document d.text d.options more) frames places w from lines)
         → (c : Completion d frames places w from lines)
         × Derives (document d.text d.options c.names) c.forest c.tables }
+{}
+
+/// The table of a text's link reference definitions has under each folding of a label, in bytes, the first
+/// definition of it in the order of the text, and nothing where no definition has it, since the first of several
+/// matching definitions takes precedence (CommonMark 4.7); and its labels are in the byte order of their foldings,
+/// each folding once.
+pub fn law_of_links()
+    ensures first { (folding : List ℕ) (definitions : List LinkEntry)
+        → link_under folding (with_links [] definitions) ≡ link_under folding definitions }
+    ensures order { (definitions : List LinkEntry) → IsInFoldedOrder (with_links [] definitions) }
 {}

@@ -12,7 +12,7 @@ use Rattle.first_pass_lines.specs.Places.{place_at, offset, IsPlaceOf}
 use Rattle.first_pass_open.proofs.PlaceLemmas.{all_keep}
 use Rattle.first_pass_scan.proofs.MetadataFacts.{metadata_plain}
 use Rattle.first_pass_html.specs.Tags.{BeginsTagLine}
-use Rattle.first_pass_grammar.specs.Kinds.{Kind, Blank, IndentedCode, Metadata, HtmlToEnd, HtmlToBlank, ThematicBreak, AtxHeading, FencedCode, Paragraph, all_taken, is_blank_rest, heading_or, rule_or, fence_or, metadata_or, metadata_at, begins_html_to_end, begins_html_to_blank, html_kind, first_kind, last_kind, IsKindBy, IsKind}
+use Rattle.first_pass_grammar.specs.Kinds.{Kind, Blank, IndentedCode, Metadata, HtmlToEnd, HtmlToBlank, ThematicBreak, AtxHeading, FencedCode, LinkDefinitions, Paragraph, all_taken, is_blank_rest, heading_or, rule_or, fence_or, metadata_or, metadata_at, begins_html_to_end, begins_html_to_blank, html_kind, first_kind, last_kind, IsKindBy, IsKind}
 use Rattle.first_pass_text.specs.Found.{kind_of, IsFoundWith}
 use Rattle.first_pass_text.specs.declared.kinds.Found.{Found}
 
@@ -33,6 +33,7 @@ Says r HtmlToBlank = nat_lt (indent r) 4 ≡ true
 Says r (ThematicBreak size) = hrule_len (all_taken r).left ≡ Some size
 Says r (AtxHeading level) = atx_level (all_taken r).left ≡ Some level
 Says r (FencedCode count byte) = (code_fence (all_taken r).left ≡ Some (count, byte)) × (nat_lt (indent r) 4 ≡ true)
+Says r LinkDefinitions = Unit {0}
 Says r Paragraph = Unit {0}
 
 last_by : (r : Rest) (rule : Option ℕ) (level : Option HeadingLevel) (fence : Option (ℕ × ℕ)) → hrule_len (all_taken r).left ≡ rule → atx_level (all_taken r).left ≡ level → code_fence (all_taken r).left ≡ fence → nat_lt (indent r) 4 ≡ true

@@ -1,0 +1,63 @@
+-- From each place on there is a run of link definitions, of none or more.
+use Rattle.std.proofs.Common.{◌≡◌, inl, inr, ℕ, zero, suc, ◌≤◌, Bool, true, false, nat_lt, List, [], ◌∷◌, length, Option, Some, None, refl, ap, ◌∙◌, arith, if◌then◌else◌}
+use Rattle.std.proofs.lemmas.Bool.{true≢false}
+use Rattle.first_pass_lines.specs.Places.{Place}
+use Rattle.first_pass_grammar.specs.declared.kind.Container.{Container}
+use Rattle.first_pass_grammar.specs.Containers.{at_rest, front}
+use Rattle.first_pass_grammar.specs.Kinds.{unindented}
+use Rattle.first_pass_grammar.specs.LinkTables.{LinkEntry}
+use Rattle.first_pass_grammar.specs.LinkRuns.{definition_at, lines_beyond, ends_run, Beyond, Ended, FlowsOn, IsRun}
+
+shorter_by : (e : ℕ) (line : Place) (lines : List Place) (t : Bool) → length (lines_beyond e lines) ≤ length lines → length (if t then lines_beyond e lines else line ∷ lines) ≤ length (line ∷ lines)
+shorter_by e line lines true less = omega arith
+shorter_by e line lines false less = omega arith
+
+beyond_shorter : (e : ℕ) (lines : List Place) → length (lines_beyond e lines) ≤ length lines
+unfolding lines_beyond
+beyond_shorter e [] = omega arith
+beyond_shorter e (line ∷ lines) = shorter_by e line lines (nat_lt line.line e) (beyond_shorter e lines)
+
+-- how many lines are left behind a run
+abbrev pub left_beyond : Beyond → List Place
+left_beyond (Ended q left) = left
+left_beyond (FlowsOn q lines) = lines
+
+pub record RunFound (path : List Container) (p : Place) (lines : List Place) : Type 0 where
+  pub definitions : List LinkEntry
+  pub beyond : Beyond
+  pub run : IsRun path p lines definitions beyond
+  pub shorter : length (left_beyond beyond) ≤ length lines
+
+further_by : (path : List Container) (p : Place) (lines rest : List Place) (x : LinkEntry) (t : Bool) → definition_at path p ≡ Some x → lines_beyond x.«end» lines ≡ rest → ends_run path rest ≡ t → length rest ≤ length lines
+    → ((q : Place) (left : List Place) → suc (length left) ≤ length lines → RunFound path q left) → RunFound path p lines
+unfolding IsRun
+further_by path p lines rest x true here is ends less further = record {
+  definitions = x ∷ [];
+  beyond = Ended p (lines_beyond x.«end» lines);
+  run = (here, inl (ap (ends_run path) is ∙ ends, refl, refl));
+  shorter = (let same = ap length is in omega arith);
+}
+further_by path p lines [] x false here is ends less further = absurd (true≢false ends)
+further_by path p lines (line ∷ left) x false here is ends less further =
+    let r = further (unindented (at_rest line (front path line.rest))) left less in
+    let low = r.shorter in
+    record {
+      definitions = x ∷ r.definitions;
+      beyond = r.beyond;
+      run = (here, inr (line, left, is, ends, r.run));
+      shorter = omega arith;
+    }
+
+found_by : (path : List Container) (p : Place) (lines : List Place) (o : Option LinkEntry) → definition_at path p ≡ o
+    → ((q : Place) (left : List Place) → suc (length left) ≤ length lines → RunFound path q left) → RunFound path p lines
+unfolding IsRun
+found_by path p lines None is further = record { definitions = []; beyond = FlowsOn p lines; run = (is, refl); shorter = omega arith }
+found_by path p lines (Some x) is further =
+    further_by path p lines (lines_beyond x.«end» lines) x (ends_run path (lines_beyond x.«end» lines)) is refl refl (beyond_shorter x.«end» lines) further
+
+run_within : (fuel : ℕ) (path : List Container) (p : Place) (lines : List Place) → length lines ≤ fuel → RunFound path p lines
+run_within zero path p lines few = found_by path p lines (definition_at path p) refl (λ q left less. absurd (omega arith))
+run_within (suc fuel) path p lines few = found_by path p lines (definition_at path p) refl (λ q left less. run_within fuel path q left (omega arith))
+
+pub run_found : (path : List Container) (p : Place) (lines : List Place) → RunFound path p lines
+run_found path p lines = run_within (length lines) path p lines (omega arith)

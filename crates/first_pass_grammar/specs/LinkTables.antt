@@ -1,0 +1,39 @@
+-- What link reference definitions say, and the table of the first of each label (CommonMark 4.7).
+use Rattle.std.specs.Prelude.{ℕ, List, [], ◌∷◌, map, Option, None, Some, cond, nat_eq}
+use Rattle.std.specs.declared.cmp.Ordering.{Ordering}
+use Rattle.std.specs.Ordering.{nat_cmp, match_ordering}
+use Rattle.std.specs.Cmp.Lexicographic.{pointwise, slice_cmp}
+use Rattle.std.specs.List.Sorted.{IsStrictlySortedBy}
+use Rattle.first_pass_labels.specs.Foldings.{folded}
+
+-- A link reference definition: its label, destination and title as bytes, and its range (CommonMark 4.7).
+pub record LinkEntry : Type 0 where
+  pub label : List ℕ
+  pub dest : List ℕ
+  pub title : Option (List ℕ)
+  pub start : ℕ
+  pub «end» : ℕ
+
+-- labels are ordered by the bytes of their foldings, and are the same where these are
+abbrev pub folded_cmp : List ℕ → List ℕ → Ordering
+folded_cmp x y = slice_cmp nat_cmp (folded x) (folded y)
+
+-- The table with a definition more, at its place in the order of the foldings: where one of its label stands there already, that one stays, since the first of
+-- several matching definitions takes precedence (CommonMark 4.7).
+unfoldable pub with_link : LinkEntry → List LinkEntry → List LinkEntry
+with_link x [] = x ∷ []
+with_link x (y ∷ links) = match_ordering (folded_cmp x.label y.label) (x ∷ y ∷ links) (y ∷ links) (y ∷ with_link x links)
+
+-- the table with these definitions too, in the order of the text
+unfoldable pub with_links : List LinkEntry → List LinkEntry → List LinkEntry
+with_links links [] = links
+with_links links (x ∷ definitions) = with_links (with_link x links) definitions
+
+-- the first definition whose label has this folding (CommonMark 4.7, on matching labels)
+unfoldable pub link_under : List ℕ → List LinkEntry → Option LinkEntry
+link_under folding [] = None
+link_under folding (x ∷ links) = cond (pointwise nat_eq folding (folded x.label)) (Some x) (link_under folding links)
+
+-- the labels are in the byte order of their foldings, each folding once (this project)
+abbrev pub IsInFoldedOrder : List LinkEntry → Type 0
+IsInFoldedOrder links = IsStrictlySortedBy folded_cmp (map (λ x. x.label) links)
