@@ -91,6 +91,7 @@ impl<'a, T> LabelTable<'a, T> {
     where
         T: Drop,
         ensures first { OnOk result (self.new ≡ with_first self.old label.entry definition) }
+        ensures order { IsInOrder self.old }
         ensures refused { OnErr result (self.new ≡ self.old) }
     {
         self.entries.entry(label)?.or_insert(definition);

@@ -1,1 +1,2 @@
+pub mod LinkLemmas
 pub mod NameLemmas

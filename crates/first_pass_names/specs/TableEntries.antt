@@ -4,7 +4,8 @@ use Rattle.std.specs.Option.{option_map}
 use Rattle.first_pass_items.specs.declared.cow_str.CowStr.{CowStr}
 use Rattle.first_pass_items.specs.CowText.{text_of}
 use Rattle.first_pass_grammar.specs.Names.{Names}
-use Rattle.first_pass_grammar.specs.Derivation.{LinkEntry, Tables}
+use Rattle.first_pass_grammar.specs.LinkTables.{LinkEntry}
+use Rattle.first_pass_grammar.specs.Derivation.{Tables}
 use Rattle.first_pass_labels.specs.declared.label_table.LinkDef.{LinkDef}
 use Rattle.first_pass_labels.specs.declared.label_table.FootnoteDef.{FootnoteDef}
 use Rattle.first_pass_names.specs.declared.items.Allocations.{Allocations}
@@ -23,10 +24,6 @@ refdefs_of a = a.refdefs
 
 abbrev pub footdefs_of : Allocations → List (CowStr × FootnoteDef)
 footdefs_of a = a.footdefs
-
--- nothing
-abbrev pub no_tables : Tables
-no_tables = record { links = []; footnotes = [] }
 
 -- the texts that nodes name by an index
 abbrev pub names_of : Allocations → Names

@@ -3,11 +3,13 @@
 ghost use Rattle.std.specs.Prelude.{◌≡◌, ◌<◌, ◌∷◌, ◌++◌, [], length, slice_get, Some, IfOk, OnOk, OnErr};
 ghost use Rattle.first_pass_grammar.specs.Names.{NamesText, Extends};
 ghost use Rattle.first_pass_items.specs.CowText.{text_of};
-ghost use Rattle.first_pass_names.specs.TableEntries.{tables, no_tables, names_of, no_names, with_named, refdefs_of, footdefs_of};
+ghost use Rattle.first_pass_names.specs.TableEntries.{tables, names_of, no_names, with_named, link_entry, refdefs_of, footdefs_of};
 ghost use Rattle.first_pass_grammar.specs.Names.{text_named};
+ghost use Rattle.first_pass_grammar.specs.Derivation.{no_tables, told};
 
 use first_pass_items::cow_str::CowStr;
 use first_pass_items::item::CowIndex;
+use first_pass_labels::label_key::LabelKey;
 use first_pass_labels::label_table::LabelTable;
 pub use first_pass_labels::label_table::{FootDefs, FootnoteDef, LinkDef, RefDefs};
 use std::alloc::{AllocError, Global};
@@ -34,7 +36,7 @@ impl<'a> Allocations<'a> {
         }
     }
 
-    /// The link definitions. No block that the pass reads so far makes one.
+    /// The link definitions: of each label the first.
     pub fn refdefs(&self) -> &RefDefs<'a>
         ensures { result.now ≡ refdefs_of self.now }
     {
@@ -59,6 +61,23 @@ impl<'a> Allocations<'a> {
         let ix = CowIndex(self.texts.len());
         self.texts.push(cow)?;
         Ok(ix)
+    }
+
+    /// Puts a link definition into the table of them, unless one of its label stands there: the first of several
+    /// matching definitions stays (CommonMark 4.7). The one error is that a request for memory was refused; then
+    /// nothing changes.
+    pub fn define_link(
+        &mut self,
+        label: LabelKey<'a>,
+        definition: LinkDef<'a>,
+    ) -> Result<(), AllocError>
+        ensures tables { OnOk result
+            (tables self.new ≡ told (tables self.old) (link_entry (label.entry, definition.entry) ∷ [])) }
+        ensures names { names_of self.new ≡ names_of self.old }
+        ensures refused { OnErr result (tables self.new ≡ tables self.old) }
+    {
+        self.refdefs.insert_first(label, definition)?;
+        Ok(())
     }
 
     /// The text that a node names by this index; an empty one where the index names none.
