@@ -19,7 +19,7 @@ use Rattle.first_pass_grammar.specs.Containers.{at_rest, has_columns, prefix, af
 use Rattle.first_pass_grammar.specs.Kinds.{Blank, all_taken, is_blank_rest, item_at}
 use Rattle.first_pass_grammar.specs.Leaves.{Document}
 use Rattle.first_pass_grammar.specs.Skeleton.{BlankLine, From, Line, Inside, Blanks, OpensLeaf, OpensAs, OpensQuote, OpensFrom, Opens, is_blank_behind, next_is_blank, end_before}
-use Rattle.first_pass_grammar.specs.Derivation.{node_of}
+use Rattle.first_pass_grammar.specs.Derivation.{Tables, node_of}
 use Rattle.first_pass_grammar.specs.Completion.{Frame, InContainer, InList, containers_of, AreBelow}
 use Rattle.first_pass_grammar.proofs.Finishes.{CompletesAt}
 use Rattle.first_pass_text.proofs.KindLemmas.{blank_kind}
@@ -144,13 +144,13 @@ opens_blank d path p lines h =
     (Blank, blank_kind d.options p.rest h, refl))
 
 -- inside a line that all open containers go on with
-pub ready_enter : (d : Document) (f : Forest Item) (run : Bool) (line : Place) (lines : List Place) (r : Rest) → after (path_of f) line.rest ≡ Some r → ReadyAt d f run Line (line ∷ lines) → ReadyAt d f run (Inside (at_rest line r)) lines
-ready_enter d f run line lines r is ready =
+pub ready_enter : (d : Document) (defined : Tables) (f : Forest Item) (run : Bool) (line : Place) (lines : List Place) (r : Rest) → after (path_of f) line.rest ≡ Some r → ReadyAt d defined f run Line (line ∷ lines) → ReadyAt d defined f run (Inside (at_rest line r)) lines
+ready_enter d defined f run line lines r is ready =
     let path = open_path f.nodes f.spine ready.frames ready.are_open in
     record {
       frames = ready.frames;
       are_open = ready.are_open;
-      completes = completes-enter d run ready.frames f.nodes (map (λ i. i.0) f.spine) line (at_rest line r) lines (ap (option_map (at_rest line)) (ap (λ z. after z line.rest) (sym path) ∙ is)) ready.completes;
+      completes = completes-enter d defined run ready.frames f.nodes (map (λ i. i.0) f.spine) line (at_rest line r) lines (ap (option_map (at_rest line)) (ap (λ z. after z line.rest) (sym path) ∙ is)) ready.completes;
     }
 
 or_true : (a : Bool) → (a || true) ≡ true
@@ -179,7 +179,7 @@ counts_by r (Some (ListBody flags list number)) (InContainer c) frames h = absur
 counts_by r (Some (ListBody flags list number)) (InList byte loose) frames h = refl
 counts_by r (Some b) frame frames h = cc
 
-module _ (d : Document) (r : Reading) (p : Place) (lines : List Place) (blank : is_blank_rest p.rest ≡ true) where
+module _ (d : Document) (defined : Tables) (r : Reading) (p : Place) (lines : List Place) (blank : is_blank_rest p.rest ≡ true) where
   blank_at : (frames : List Frame) (s : List TreeIndex) → r.tree.spine ≡ s → AreOpen r.tree.nodes s frames → counts_in frames r.blank ≡ (blank_read_by r (option_and_then (λ (ix : TreeIndex). body_at r.tree.nodes ix.0) (slice_get s 0))).blank
   blank_at [] [] is o = or_true r.blank
   blank_at (frame ∷ frames) [] is o = absurd o
@@ -199,49 +199,49 @@ module _ (d : Document) (r : Reading) (p : Place) (lines : List Place) (blank : 
   same_none (Some b) = refl
 
   -- a blank line read where no item is empty
-  pub ready_blank : r.empty_item ≡ None → ReadyAt d r.tree r.blank (Inside p) lines → Ready d (blank_read r) lines
+  pub ready_blank : r.empty_item ≡ None → ReadyAt d defined r.tree r.blank (Inside p) lines → Ready d defined (blank_read r) lines
   unfolding blank_read
   ready_blank none ready =
       let path = open_path r.tree.nodes r.tree.spine ready.frames ready.are_open in
       let b : Option ItemBody = top_body r.tree in
       let counts : counts_in ready.frames r.blank ≡ (blank_read_by r b).blank = blank_at ready.frames r.tree.spine refl ready.are_open in
-      let now : ReadyAt d r.tree (counts_in ready.frames r.blank) Line lines = record {
+      let now : ReadyAt d defined r.tree (counts_in ready.frames r.blank) Line lines = record {
         frames = ready.frames;
         are_open = ready.are_open;
-        completes = completes-blank_line d r.blank ready.frames r.tree.nodes (map (λ i. i.0) r.tree.spine) p lines lines (opens_blank d (containers_of ready.frames) p lines blank) ready.completes;
+        completes = completes-blank_line d defined r.blank ready.frames r.tree.nodes (map (λ i. i.0) r.tree.spine) p lines lines (opens_blank d (containers_of ready.frames) p lines blank) ready.completes;
       } in
-      ready_plain d (blank_read_by r b) lines (same_none b ∙ none)
-      (subst (λ t. ReadyAt d t (blank_read_by r b).blank Line lines) (sym (same_tree b none)) (subst (λ t. ReadyAt d r.tree t Line lines) counts now))
+      ready_plain d defined (blank_read_by r b) lines (same_none b ∙ none)
+      (subst (λ t. ReadyAt d defined t (blank_read_by r b).blank Line lines) (sym (same_tree b none)) (subst (λ t. ReadyAt d defined r.tree t Line lines) counts now))
 
 blank_place : (line : Place) (o : Option Rest) → is_blank_behind o ≡ true → (q : Rest) × (o ≡ Some q) × (is_blank_rest q ≡ true)
 blank_place line None h = cc
 blank_place line (Some q) h = (q, refl, h)
 
-only_blank_by : (d : Document) (f : Forest Item) (run : Bool) (e : ℕ) (ix : TreeIndex) (rest : List TreeIndex) (line : Place) (lines : List Place) (frames : List Frame) → frame_at f.nodes ix.0 ≡ Some (InContainer (ListItem 0))
-    → is_blank_behind (after (ListItem 0 ∷ path_in f.nodes rest) line.rest) ≡ true → AreOpen f.nodes (ix ∷ rest) frames → CompletesAt d run frames f.nodes (ix.0 ∷ map (λ i. i.0) rest) (Blanks e) (line ∷ lines)
-    → CompletesAt d true frames f.nodes (ix.0 ∷ map (λ i. i.0) rest) (Blanks e) lines
-only_blank_by d f run e ix rest line lines [] is blank o k = absurd o
-only_blank_by d f run e ix rest line lines (InList byte loose ∷ frames) is blank o k = (let x : Some (InContainer (ListItem 0)) ≡ Some (InList byte loose) = sym is ∙ o.0 in cc)
-only_blank_by d f run e ix rest line lines (InContainer c ∷ frames) is blank o k =
+only_blank_by : (d : Document) (defined : Tables) (f : Forest Item) (run : Bool) (e : ℕ) (ix : TreeIndex) (rest : List TreeIndex) (line : Place) (lines : List Place) (frames : List Frame) → frame_at f.nodes ix.0 ≡ Some (InContainer (ListItem 0))
+    → is_blank_behind (after (ListItem 0 ∷ path_in f.nodes rest) line.rest) ≡ true → AreOpen f.nodes (ix ∷ rest) frames → CompletesAt d defined run frames f.nodes (ix.0 ∷ map (λ i. i.0) rest) (Blanks e) (line ∷ lines)
+    → CompletesAt d defined true frames f.nodes (ix.0 ∷ map (λ i. i.0) rest) (Blanks e) lines
+only_blank_by d defined f run e ix rest line lines [] is blank o k = absurd o
+only_blank_by d defined f run e ix rest line lines (InList byte loose ∷ frames) is blank o k = (let x : Some (InContainer (ListItem 0)) ≡ Some (InList byte loose) = sym is ∙ o.0 in cc)
+only_blank_by d defined f run e ix rest line lines (InContainer c ∷ frames) is blank o k =
     let x : Some (InContainer (ListItem 0)) ≡ Some (InContainer c) = sym is ∙ o.0 in
     let same : ListItem 0 ≡ c = cc in
     let path : path_in f.nodes rest ≡ containers_of frames = open_path f.nodes rest frames o.1 in
     let b = blank_place line (after (ListItem 0 ∷ containers_of frames) line.rest) (subst (λ z. is_blank_behind (after (ListItem 0 ∷ z) line.rest) ≡ true) path blank) in
-    let k' : CompletesAt d run (InContainer (ListItem 0) ∷ frames) f.nodes (ix.0 ∷ map (λ i. i.0) rest) (Blanks e) (line ∷ lines) = subst (λ z. CompletesAt d run (InContainer z ∷ frames) f.nodes (ix.0 ∷ map (λ i. i.0) rest) (Blanks e) (line ∷ lines)) (sym same) k in
-    subst (λ z. CompletesAt d true (InContainer z ∷ frames) f.nodes (ix.0 ∷ map (λ i. i.0) rest) (Blanks e) lines) same
-    (completes-only_blank d run 0 frames f.nodes (ix.0 ∷ map (λ i. i.0) rest) e line (at_rest line b.0) lines (ap (option_map (at_rest line)) b.1, refl, b.2)
+    let k' : CompletesAt d defined run (InContainer (ListItem 0) ∷ frames) f.nodes (ix.0 ∷ map (λ i. i.0) rest) (Blanks e) (line ∷ lines) = subst (λ z. CompletesAt d defined run (InContainer z ∷ frames) f.nodes (ix.0 ∷ map (λ i. i.0) rest) (Blanks e) (line ∷ lines)) (sym same) k in
+    subst (λ z. CompletesAt d defined true (InContainer z ∷ frames) f.nodes (ix.0 ∷ map (λ i. i.0) rest) (Blanks e) lines) same
+    (completes-only_blank d defined run 0 frames f.nodes (ix.0 ∷ map (λ i. i.0) rest) e line (at_rest line b.0) lines (ap (option_map (at_rest line)) b.1, refl, b.2)
     (opens_blank d (ListItem 0 ∷ containers_of frames) (at_rest line b.0) lines b.2) k')
 
 -- a blank line in an item that takes blank lines alone
-only_blank : (d : Document) (f : Forest Item) (run : Bool) (e : ℕ) (ix : TreeIndex) (rest : List TreeIndex) (line : Place) (lines : List Place) → f.spine ≡ ix ∷ rest → body_at f.nodes ix.0 ≡ Some (ListItemBody 0)
-    → is_blank_behind (after (ListItem 0 ∷ path_in f.nodes rest) line.rest) ≡ true → ReadyAt d f run (Blanks e) (line ∷ lines) → ReadyAt d f true (Blanks e) lines
-only_blank d f run e ix rest line lines spine item blank ready =
+only_blank : (d : Document) (defined : Tables) (f : Forest Item) (run : Bool) (e : ℕ) (ix : TreeIndex) (rest : List TreeIndex) (line : Place) (lines : List Place) → f.spine ≡ ix ∷ rest → body_at f.nodes ix.0 ≡ Some (ListItemBody 0)
+    → is_blank_behind (after (ListItem 0 ∷ path_in f.nodes rest) line.rest) ≡ true → ReadyAt d defined f run (Blanks e) (line ∷ lines) → ReadyAt d defined f true (Blanks e) lines
+only_blank d defined f run e ix rest line lines spine item blank ready =
     let o : AreOpen f.nodes (ix ∷ rest) ready.frames = subst (λ s. AreOpen f.nodes s ready.frames) spine ready.are_open in
-    let k : CompletesAt d run ready.frames f.nodes (ix.0 ∷ map (λ i. i.0) rest) (Blanks e) (line ∷ lines) = subst (λ s. CompletesAt d run ready.frames f.nodes (map (λ i. i.0) s) (Blanks e) (line ∷ lines)) spine ready.completes in
+    let k : CompletesAt d defined run ready.frames f.nodes (ix.0 ∷ map (λ i. i.0) rest) (Blanks e) (line ∷ lines) = subst (λ s. CompletesAt d defined run ready.frames f.nodes (map (λ i. i.0) s) (Blanks e) (line ∷ lines)) spine ready.completes in
     record {
       frames = ready.frames;
       are_open = ready.are_open;
-      completes = subst (λ s. CompletesAt d true ready.frames f.nodes (map (λ i. i.0) s) (Blanks e) lines) (sym spine) (only_blank_by d f run e ix rest line lines ready.frames (ap (option_and_then frame_of) item) blank o k);
+      completes = subst (λ s. CompletesAt d defined true ready.frames f.nodes (map (λ i. i.0) s) (Blanks e) lines) (sym spine) (only_blank_by d defined f run e ix rest line lines ready.frames (ap (option_and_then frame_of) item) blank o k);
     }
 
 -- what is below a place alone counts
@@ -255,13 +255,13 @@ and_true : (a : Bool) → (a && true) ≡ a
 and_true true = refl
 and_true false = refl
 
-module _ (d : Document) (r : Reading) (line : Place) (lines : List Place) (rest : Rest) (goes : after (path_of r.tree) line.rest ≡ Some rest) where
+module _ (d : Document) (defined : Tables) (r : Reading) (line : Place) (lines : List Place) (rest : Rest) (goes : after (path_of r.tree) line.rest ≡ Some rest) where
   -- the item that is empty
   item_path : (ix : TreeIndex) (outer : List TreeIndex) (columns : ℕ) → r.tree.spine ≡ ix ∷ outer → body_at r.tree.nodes ix.0 ≡ Some (ListItemBody columns) → after (ListItem columns ∷ path_in r.tree.nodes outer) line.rest ≡ Some rest
   item_path ix outer columns spine item =
       sym (ap (λ s. after (path_in r.tree.nodes s) line.rest) spine ∙ ap (λ o. after (with_container (option_and_then container_of o) (path_in r.tree.nodes outer)) line.rest) item) ∙ goes
 
-  module _ (e : ℕ) (empty : ReadyEmpty d r e (line ∷ lines)) where
+  module _ (e : ℕ) (empty : ReadyEmpty d defined r e (line ∷ lines)) where
     blank_item : is_blank_rest rest ≡ true → is_blank_behind (after (ListItem 0 ∷ path_in r.tree.nodes empty.outer) line.rest) ≡ true
     blank_item blank = blank_behind empty.columns (path_in r.tree.nodes empty.outer) line.rest (ap is_blank_behind (item_path empty.place empty.outer empty.columns empty.spine empty.item) ∙ blank)
 
@@ -276,21 +276,21 @@ module _ (d : Document) (r : Reading) (line : Place) (lines : List Place) (rest 
         (not_changed r.tree.nodes empty.place.0 (λ x. record { start = x.start; «end» = x.«end»; body = ListItemBody 0 }) (ListItemBody 0) (empty.item ∙ ap (λ n. Some (ListItemBody n)) none) (λ x h. ap (λ b. node_of x.start x.«end» b) (sym h)))
 
     -- the nodes around the item stay
-    outer_path : (run : Bool) (from : From) (ls : List Place) → ReadyAt d (with_body_at r.tree empty.place (ListItemBody 0)) run from ls → path_in (with_body_at r.tree empty.place (ListItemBody 0)).nodes empty.outer ≡ path_in r.tree.nodes empty.outer
+    outer_path : (run : Bool) (from : From) (ls : List Place) → ReadyAt d defined (with_body_at r.tree empty.place (ListItemBody 0)) run from ls → path_in (with_body_at r.tree empty.place (ListItemBody 0)).nodes empty.outer ≡ path_in r.tree.nodes empty.outer
     outer_path run from ls ready =
         let b = subst (λ s. AreBelow (length (with_body_at r.tree empty.place (ListItemBody 0)).nodes) (map (λ (i : TreeIndex). i.0) s)) empty.spine ready.completes.below in
         path_below r.tree.nodes (with_body_at r.tree empty.place (ListItemBody 0)).nodes empty.place.0 empty.outer
         (λ i h. body-other r.tree.nodes empty.place.0 i (λ x. record { start = x.start; «end» = x.«end»; body = ListItemBody 0 }) h) b.1
 
-    emptied_blank : (blank : Bool) → is_blank_rest rest ≡ true → ReadyInItem d r.tree e empty.columns (line ∷ lines) blank → ReadyAt d (with_body_at r.tree empty.place (ListItemBody 0)) true (Blanks e) lines
+    emptied_blank : (blank : Bool) → is_blank_rest rest ≡ true → ReadyInItem d defined r.tree e empty.columns (line ∷ lines) blank → ReadyAt d defined (with_body_at r.tree empty.place (ListItemBody 0)) true (Blanks e) lines
     emptied_blank true h (none, ready) =
         let item : body_at r.tree.nodes empty.place.0 ≡ Some (ListItemBody 0) = empty.item ∙ ap (λ n. Some (ListItemBody n)) none in
-        subst (λ f. ReadyAt d f true (Blanks e) lines) (sym (zero_same none)) (only_blank d r.tree true e empty.place empty.outer line lines empty.spine item (blank_item h) ready)
+        subst (λ f. ReadyAt d defined f true (Blanks e) lines) (sym (zero_same none)) (only_blank d defined r.tree true e empty.place empty.outer line lines empty.spine item (blank_item h) ready)
     emptied_blank false h ready =
         let test : next_is_blank (path_of r.tree) (line ∷ lines) ≡ true = ap is_blank_behind goes ∙ h in
-        let now : ReadyAt d (emptied r.tree r.tree.spine) false (Blanks e) (line ∷ lines) = subst (ReadyBeforeLine d r.tree e (line ∷ lines)) test ready in
-        let zero : ReadyAt d (with_body_at r.tree empty.place (ListItemBody 0)) false (Blanks e) (line ∷ lines) = subst (λ f. ReadyAt d f false (Blanks e) (line ∷ lines)) zero_is now in
-        only_blank d (with_body_at r.tree empty.place (ListItemBody 0)) false e empty.place empty.outer line lines empty.spine zero_body
+        let now : ReadyAt d defined (emptied r.tree r.tree.spine) false (Blanks e) (line ∷ lines) = subst (ReadyBeforeLine d defined r.tree e (line ∷ lines)) test ready in
+        let zero : ReadyAt d defined (with_body_at r.tree empty.place (ListItemBody 0)) false (Blanks e) (line ∷ lines) = subst (λ f. ReadyAt d defined f false (Blanks e) (line ∷ lines)) zero_is now in
+        only_blank d defined (with_body_at r.tree empty.place (ListItemBody 0)) false e empty.place empty.outer line lines empty.spine zero_body
         (subst (λ z. is_blank_behind (after (ListItem 0 ∷ z) line.rest) ≡ true) (sym (outer_path false (Blanks e) (line ∷ lines) zero)) (blank_item h)) zero
 
     top_item : top_body r.tree ≡ Some (ListItemBody empty.columns)
@@ -301,30 +301,30 @@ module _ (d : Document) (r : Reading) (line : Place) (lines : List Place) (rest 
     unfolding blank_read
     read_is some = ap (blank_read_by r) top_item ∙ ap (λ o. record r { tree = if is_some o then emptied r.tree r.tree.spine else r.tree; blank = true }) some ∙ ap (λ f. record r { tree = f; blank = true }) zero_is
 
-    ready_emptied : r.empty_item ≡ Some e → is_blank_rest rest ≡ true → Ready d (blank_read r) lines
+    ready_emptied : r.empty_item ≡ Some e → is_blank_rest rest ≡ true → Ready d defined (blank_read r) lines
     unfolding Ready
     ready_emptied some h =
         let now : Reading = record r { tree = with_body_at r.tree empty.place (ListItemBody 0); blank = true } in
-        let ready : ReadyEmpty d now e lines = record { place = empty.place; outer = empty.outer; columns = 0; spine = empty.spine; item = zero_body; ready = (refl, emptied_blank r.blank h empty.ready) } in
-        subst (λ q. ReadyWith d q lines q.empty_item) (sym (read_is some)) (subst (λ o. ReadyWith d now lines o) (sym some) ready)
+        let ready : ReadyEmpty d defined now e lines = record { place = empty.place; outer = empty.outer; columns = 0; spine = empty.spine; item = zero_body; ready = (refl, emptied_blank r.blank h empty.ready) } in
+        subst (λ q. ReadyWith d defined q lines q.empty_item) (sym (read_is some)) (subst (λ o. ReadyWith d defined now lines o) (sym some) ready)
 
-  blank_with : (o : Option ℕ) → r.empty_item ≡ o → is_blank_rest rest ≡ true → ReadyWith d r (line ∷ lines) o → Ready d (blank_read r) lines
-  blank_with None none h ready = ready_blank d r (at_rest line rest) lines h none (ready_enter d r.tree r.blank line lines rest goes ready)
+  blank_with : (o : Option ℕ) → r.empty_item ≡ o → is_blank_rest rest ≡ true → ReadyWith d defined r (line ∷ lines) o → Ready d defined (blank_read r) lines
+  blank_with None none h ready = ready_blank d defined r (at_rest line rest) lines h none (ready_enter d defined r.tree r.blank line lines rest goes ready)
   blank_with (Some e) some h ready = ready_emptied e ready some h
 
   -- a blank line read that all open containers go on with
-  pub ready_blank_line : is_blank_rest rest ≡ true → Ready d r (line ∷ lines) → Ready d (blank_read r) lines
+  pub ready_blank_line : is_blank_rest rest ≡ true → Ready d defined r (line ∷ lines) → Ready d defined (blank_read r) lines
   unfolding Ready
   ready_blank_line h ready = blank_with r.empty_item refl h ready
 
-  module _ (e : ℕ) (empty : ReadyEmpty d r e (line ∷ lines)) where
+  module _ (e : ℕ) (empty : ReadyEmpty d defined r e (line ∷ lines)) where
     finished_is : (blank : Bool) → r.blank ≡ blank → item_finished_by r (Some e) ≡ record (if blank then popped e r else r) { empty_item = None }
     finished_is blank is =
         ap (λ o. record (if r.blank && is_item o then popped e r else r) { empty_item = None }) (top_item e empty) ∙ ap (λ t. record (if t then popped e r else r) { empty_item = None }) (and_true r.blank ∙ is)
 
     -- the item ends before a line that isn't blank
-    emptied_ends : (blank : Bool) → r.blank ≡ blank → is_blank_rest rest ≡ false → ReadyInItem d r.tree e empty.columns (line ∷ lines) blank
-        → (let q : Reading = record (if blank then popped e r else r) { empty_item = None } in ReadyAt d q.tree q.blank (Inside (at_rest line rest)) lines)
+    emptied_ends : (blank : Bool) → r.blank ≡ blank → is_blank_rest rest ≡ false → ReadyInItem d defined r.tree e empty.columns (line ∷ lines) blank
+        → (let q : Reading = record (if blank then popped e r else r) { empty_item = None } in ReadyAt d defined q.tree q.blank (Inside (at_rest line rest)) lines)
     emptied_ends true is h (none, ready) =
         let path : List Container = path_in r.tree.nodes empty.outer in
         let g : Forest Item = closed_by r.tree e (empty.place ∷ empty.outer) in
@@ -332,22 +332,22 @@ module _ (d : Document) (r : Reading) (line : Place) (lines : List Place) (rest 
         let on : after (ListItem 0 ∷ path) line.rest ≡ Some rest = item_path empty.place empty.outer 0 empty.spine item in
         let outer : after path line.rest ≡ Some rest = sym (after_zero path line.rest) ∙ on in
         let last : e ≡ end_before (length d.text) path (Blanks e) (line ∷ lines) = sym (ap (λ t. if t then e else line.line) (ap is_some outer)) in
-        let closed : ReadyAt d g true Line (line ∷ lines) =
-        pop_container d r.tree true (Blanks e) (line ∷ lines) e empty.place empty.outer (ListItem 0) empty.spine (ap (option_and_then frame_of) item) (ap is_blank_behind on ∙ h) last ready in
+        let closed : ReadyAt d defined g true Line (line ∷ lines) =
+        pop_container d defined r.tree true (Blanks e) (line ∷ lines) e empty.place empty.outer (ListItem 0) empty.spine (ap (option_and_then frame_of) item) (ap is_blank_behind on ∙ h) last ready in
         let now : popped e r ≡ record r { tree = g; empty_item = None } = popped_is e r empty.place empty.outer empty.spine ∙ ap (popped_by r g empty.place) item in
         let same : path_of g ≡ path = same_path r.tree.nodes g.nodes (closed_containers e r empty.place empty.outer) empty.outer in
-        let inside : ReadyAt d g true (Inside (at_rest line rest)) lines = ready_enter d g true line lines rest (ap (λ z. after z line.rest) same ∙ outer) closed in
-        subst (λ (q : Reading). ReadyAt d q.tree q.blank (Inside (at_rest line rest)) lines) (sym now) (subst (λ t. ReadyAt d g t (Inside (at_rest line rest)) lines) (sym is) inside)
+        let inside : ReadyAt d defined g true (Inside (at_rest line rest)) lines = ready_enter d defined g true line lines rest (ap (λ z. after z line.rest) same ∙ outer) closed in
+        subst (λ (q : Reading). ReadyAt d defined q.tree q.blank (Inside (at_rest line rest)) lines) (sym now) (subst (λ t. ReadyAt d defined g t (Inside (at_rest line rest)) lines) (sym is) inside)
     emptied_ends false is h ready =
         let test : next_is_blank (path_of r.tree) (line ∷ lines) ≡ false = ap is_blank_behind goes ∙ h in
-        let now : ReadyAt d r.tree false Line (line ∷ lines) = subst (ReadyBeforeLine d r.tree e (line ∷ lines)) test ready in
-        subst (λ t. ReadyAt d r.tree t (Inside (at_rest line rest)) lines) (sym is) (ready_enter d r.tree false line lines rest goes now)
+        let now : ReadyAt d defined r.tree false Line (line ∷ lines) = subst (ReadyBeforeLine d defined r.tree e (line ∷ lines)) test ready in
+        subst (λ t. ReadyAt d defined r.tree t (Inside (at_rest line rest)) lines) (sym is) (ready_enter d defined r.tree false line lines rest goes now)
 
-  entered_with : (o : Option ℕ) → is_blank_rest rest ≡ false → ReadyWith d r (line ∷ lines) o → (let q : Reading = item_finished_by r o in ReadyAt d q.tree q.blank (Inside (at_rest line rest)) lines)
-  entered_with None h ready = ready_enter d r.tree r.blank line lines rest goes ready
-  entered_with (Some e) h ready = subst (λ (q : Reading). ReadyAt d q.tree q.blank (Inside (at_rest line rest)) lines) (sym (finished_is e ready r.blank refl)) (emptied_ends e ready r.blank refl h ready.ready)
+  entered_with : (o : Option ℕ) → is_blank_rest rest ≡ false → ReadyWith d defined r (line ∷ lines) o → (let q : Reading = item_finished_by r o in ReadyAt d defined q.tree q.blank (Inside (at_rest line rest)) lines)
+  entered_with None h ready = ready_enter d defined r.tree r.blank line lines rest goes ready
+  entered_with (Some e) h ready = subst (λ (q : Reading). ReadyAt d defined q.tree q.blank (Inside (at_rest line rest)) lines) (sym (finished_is e ready r.blank refl)) (emptied_ends e ready r.blank refl h ready.ready)
 
   -- the place in a line that isn't blank, where all open containers go on with it
-  pub ready_line : is_blank_rest rest ≡ false → Ready d r (line ∷ lines) → ReadyAt d (item_finished r).tree (item_finished r).blank (Inside (at_rest line rest)) lines
+  pub ready_line : is_blank_rest rest ≡ false → Ready d defined r (line ∷ lines) → ReadyAt d defined (item_finished r).tree (item_finished r).blank (Inside (at_rest line rest)) lines
   unfolding Ready item_finished
   ready_line h ready = entered_with r.empty_item h ready

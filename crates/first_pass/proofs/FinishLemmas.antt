@@ -11,7 +11,7 @@ use Rattle.first_pass_lines.specs.Places.{Place}
 use Rattle.first_pass_grammar.specs.declared.kind.Container.{Container}
 use Rattle.first_pass_grammar.specs.Leaves.{Document}
 use Rattle.first_pass_grammar.specs.Skeleton.{Inside, Opening, Opens}
-use Rattle.first_pass_grammar.specs.Derivation.{node_of, list_flags}
+use Rattle.first_pass_grammar.specs.Derivation.{Tables, node_of, list_flags}
 use Rattle.first_pass_grammar.specs.Completion.{flagged, Frame, InContainer, InList, IsPlain}
 use Rattle.first_pass_grammar.proofs.Finishes.{CompletesAt}
 use Rattle.first_pass_grammar.proofs.Completions.{reflagged, loosened_in, OpensAway, OpensBlock, completes-note, completes-reflag}
@@ -27,8 +27,8 @@ use Rattle.first_pass.proofs.PopLemmas.{list_popped, leave_list}
 use Rattle.first_pass.proofs.StateLemmas.{popped_is, popped_paths, popped_spine, same_path}
 
 -- the nodes go on at a place in a line, and no list is innermost
-abbrev pub ReadyPlain : Document → Forest Item → Bool → Place → List Place → Type 0
-ReadyPlain d f run p lines = (q : ReadyAt d f run (Inside p) lines) × IsPlain q.frames
+abbrev pub ReadyPlain : Document → Tables → Forest Item → Bool → Place → List Place → Type 0
+ReadyPlain d defined f run p lines = (q : ReadyAt d defined f run (Inside p) lines) × IsPlain q.frames
 
 -- what opens at a place ends the list that is innermost, at an offset
 abbrev pub EndsListAt : ℕ → Option ItemBody → Opening → Type 0
@@ -58,9 +58,9 @@ path_left r at (ix ∷ rest) (Some (ListBody flags list number)) spine is =
     ∙ sym (ap (path_in r.tree.nodes) spine ∙ ap (λ o. with_container (option_and_then container_of o) (path_in r.tree.nodes rest)) is)
 path_left r at (ix ∷ rest) (Some b) spine is = refl
 
-module _ (d : Document) (r : Reading) (p : Place) (lines : List Place) (at : ℕ) (opening : Opening) (forest : IsForest r.tree) (opens : Opens d (path_of r.tree) p lines opening) where
-  left_by : (s : List TreeIndex) (b : Option ItemBody) → r.tree.spine ≡ s → option_and_then (λ (ix : TreeIndex). body_at r.tree.nodes ix.0) (slice_get s 0) ≡ b → EndsListAt at b opening → ReadyAt d r.tree r.blank (Inside p) lines
-      → ReadyPlain d (if is_list b then popped at r else r).tree r.blank p lines
+module _ (d : Document) (defined : Tables) (r : Reading) (p : Place) (lines : List Place) (at : ℕ) (opening : Opening) (forest : IsForest r.tree) (opens : Opens d (path_of r.tree) p lines opening) where
+  left_by : (s : List TreeIndex) (b : Option ItemBody) → r.tree.spine ≡ s → option_and_then (λ (ix : TreeIndex). body_at r.tree.nodes ix.0) (slice_get s 0) ≡ b → EndsListAt at b opening → ReadyAt d defined r.tree r.blank (Inside p) lines
+      → ReadyPlain d defined (if is_list b then popped at r else r).tree r.blank p lines
   left_by [] None spine is away ready = (ready, plain_by r.tree.nodes r.tree.spine ready.frames ready.are_open (ap (λ (s : List TreeIndex). is_list (option_and_then (λ (ix : TreeIndex). body_at r.tree.nodes ix.0) (slice_get s 0))) spine))
   left_by [] (Some b) spine is away ready = cc
   left_by (ix ∷ rest) None spine is away ready =
@@ -68,14 +68,14 @@ module _ (d : Document) (r : Reading) (p : Place) (lines : List Place) (at : ℕ
   left_by (ix ∷ rest) (Some (ListBody flags list number)) spine is away ready =
       let path : path_of r.tree ≡ path_in r.tree.nodes rest =
       ap (path_in r.tree.nodes) spine ∙ ap (λ o. with_container (option_and_then container_of o) (path_in r.tree.nodes rest)) is in
-      let q = leave_list d r.tree r.blank lines at ix rest flags list number forest spine is p opening (subst (λ z. Opens d z p lines opening) path opens) away ready in
+      let q = leave_list d defined r.tree r.blank lines at ix rest flags list number forest spine is p opening (subst (λ z. Opens d z p lines opening) path opens) away ready in
       let now : (popped at r).tree ≡ list_popped r.tree at ix rest flags = ap (λ (q : Reading). q.tree) (popped_is at r ix rest spine ∙ ap (popped_by r (closed_by r.tree at (ix ∷ rest)) ix) is) in
-      subst (λ f. ReadyPlain d f r.blank p lines) (sym now) q
+      subst (λ f. ReadyPlain d defined f r.blank p lines) (sym now) q
   left_by (ix ∷ rest) (Some b) spine is away ready =
       (ready, plain_by r.tree.nodes r.tree.spine ready.frames ready.are_open (ap (λ (s : List TreeIndex). is_list (option_and_then (λ (ix : TreeIndex). body_at r.tree.nodes ix.0) (slice_get s 0))) spine ∙ ap is_list is))
 
   -- the list that is innermost, if one is, closed
-  ready_left : EndsListAt at (top_body r.tree) opening → ReadyAt d r.tree r.blank (Inside p) lines → ReadyPlain d (list_left at r).tree r.blank p lines
+  ready_left : EndsListAt at (top_body r.tree) opening → ReadyAt d defined r.tree r.blank (Inside p) lines → ReadyPlain d defined (list_left at r).tree r.blank p lines
   ready_left away ready = left_by r.tree.spine (top_body r.tree) refl refl away ready
 
   kept_left : (s : List TreeIndex) (b : Option ItemBody) → r.tree.spine ≡ s → option_and_then (λ (ix : TreeIndex). body_at r.tree.nodes ix.0) (slice_get s 0) ≡ b
@@ -134,11 +134,11 @@ loose_frame f ix flags list number byte loose is framed =
     ap (λ b. body_at (loosened_by f ix b).nodes ix.0) is ∙ body-changed f.nodes ix.0 _ (ListBody flags list number) (ListBody (list_flags false) list number) is (λ x h. refl) in
     ap (option_and_then frame_of) now ∙ ap (λ b. Some (InList b true)) set.0 ∙ ap (λ l. Some (InList byte l)) (sym (or_true loose))
 
-module _ (d : Document) (f : Forest Item) (p : Place) (lines : List Place) (opening : Opening) (opens : Opens d (path_of f) p lines opening) (block : OpensBlock opening) where
-  noted_at : (frames : List Frame) (run : Bool) → IsPlain frames → AreOpen f.nodes f.spine frames → CompletesAt d run frames f.nodes (map (λ i. i.0) f.spine) (Inside p) lines
-      → CompletesAt d false (loosened_in run frames) f.nodes (map (λ i. i.0) f.spine) (Inside p) lines
+module _ (d : Document) (defined : Tables) (f : Forest Item) (p : Place) (lines : List Place) (opening : Opening) (opens : Opens d (path_of f) p lines opening) (block : OpensBlock opening) where
+  noted_at : (frames : List Frame) (run : Bool) → IsPlain frames → AreOpen f.nodes f.spine frames → CompletesAt d defined run frames f.nodes (map (λ i. i.0) f.spine) (Inside p) lines
+      → CompletesAt d defined false (loosened_in run frames) f.nodes (map (λ i. i.0) f.spine) (Inside p) lines
   noted_at frames run plain o k =
-      completes-note d run frames f.nodes (map (λ i. i.0) f.spine) p lines opening plain (subst (λ z. Opens d z p lines opening) (open_path f.nodes f.spine frames o) opens) block k
+      completes-note d defined run frames f.nodes (map (λ i. i.0) f.spine) p lines opening plain (subst (λ z. Opens d z p lines opening) (open_path f.nodes f.spine frames o) opens) block k
 
   plain_in : (run : Bool) (frames : List Frame) → IsPlain frames → IsPlain (loosened_in run frames)
   plain_in run [] h = tt
@@ -146,12 +146,12 @@ module _ (d : Document) (f : Forest Item) (p : Place) (lines : List Place) (open
   plain_in run (InList byte loose ∷ frames) h = absurd h
 
   -- where no list is around what is innermost
-  noted_still : (frames : List Frame) → loosened_in true frames ≡ frames → IsPlain frames → AreOpen f.nodes f.spine frames → CompletesAt d true frames f.nodes (map (λ i. i.0) f.spine) (Inside p) lines → ReadyPlain d f false p lines
+  noted_still : (frames : List Frame) → loosened_in true frames ≡ frames → IsPlain frames → AreOpen f.nodes f.spine frames → CompletesAt d defined true frames f.nodes (map (λ i. i.0) f.spine) (Inside p) lines → ReadyPlain d defined f false p lines
   noted_still frames same plain o k =
-      let q : ReadyAt d f false (Inside p) lines = record {
+      let q : ReadyAt d defined f false (Inside p) lines = record {
         frames = frames;
         are_open = o;
-        completes = subst (λ z. CompletesAt d false z f.nodes (map (λ i. i.0) f.spine) (Inside p) lines) same (noted_at frames true plain o k);
+        completes = subst (λ z. CompletesAt d defined false z f.nodes (map (λ i. i.0) f.spine) (Inside p) lines) same (noted_at frames true plain o k);
       } in
       (q, plain)
 
@@ -165,20 +165,20 @@ module _ (d : Document) (f : Forest Item) (p : Place) (lines : List Place) (open
   list_at (Some (ListBody flags list number)) byte loose h = (flags, list, number, refl)
   list_at (Some b) byte loose h = cc
 
-  noted_by : (s : List TreeIndex) (frames : List Frame) → f.spine ≡ s → IsPlain frames → AreOpen f.nodes s frames → CompletesAt d true frames f.nodes (map (λ i. i.0) s) (Inside p) lines → ReadyPlain d (gap_tree f s) false p lines
-  noted_by [] [] spine plain o k = noted_still [] refl tt (subst (λ z. AreOpen f.nodes z []) (sym spine) o) (subst (λ z. CompletesAt d true [] f.nodes (map (λ i. i.0) z) (Inside p) lines) (sym spine) k)
+  noted_by : (s : List TreeIndex) (frames : List Frame) → f.spine ≡ s → IsPlain frames → AreOpen f.nodes s frames → CompletesAt d defined true frames f.nodes (map (λ i. i.0) s) (Inside p) lines → ReadyPlain d defined (gap_tree f s) false p lines
+  noted_by [] [] spine plain o k = noted_still [] refl tt (subst (λ z. AreOpen f.nodes z []) (sym spine) o) (subst (λ z. CompletesAt d defined true [] f.nodes (map (λ i. i.0) z) (Inside p) lines) (sym spine) k)
   noted_by [] (frame ∷ frames) spine plain o k = absurd o
   noted_by (ix ∷ s) [] spine plain o k = absurd o
   noted_by (ix ∷ s) (InList byte loose ∷ frames) spine plain o k = absurd plain
   noted_by (ix ∷ []) (InContainer c ∷ []) spine plain o k =
-      noted_still (InContainer c ∷ []) refl tt (subst (λ z. AreOpen f.nodes z (InContainer c ∷ [])) (sym spine) o) (subst (λ z. CompletesAt d true (InContainer c ∷ []) f.nodes (map (λ i. i.0) z) (Inside p) lines) (sym spine) k)
+      noted_still (InContainer c ∷ []) refl tt (subst (λ z. AreOpen f.nodes z (InContainer c ∷ [])) (sym spine) o) (subst (λ z. CompletesAt d defined true (InContainer c ∷ []) f.nodes (map (λ i. i.0) z) (Inside p) lines) (sym spine) k)
   noted_by (ix ∷ []) (InContainer c ∷ frame ∷ frames) spine plain o k = absurd o.1
   noted_by (ix ∷ jx ∷ s) (InContainer c ∷ []) spine plain o k = absurd o.1
   noted_by (ix ∷ jx ∷ s) (InContainer c ∷ InContainer b ∷ frames) spine plain o k =
       let same : loosened_at f jx ≡ f = no_list_at (body_at f.nodes jx.0) b o.1.0 jx in
-      subst (λ g. ReadyPlain d g false p lines) (sym same)
+      subst (λ g. ReadyPlain d defined g false p lines) (sym same)
       (noted_still (InContainer c ∷ InContainer b ∷ frames) refl tt (subst (λ z. AreOpen f.nodes z (InContainer c ∷ InContainer b ∷ frames)) (sym spine) o)
-      (subst (λ z. CompletesAt d true (InContainer c ∷ InContainer b ∷ frames) f.nodes (map (λ i. i.0) z) (Inside p) lines) (sym spine) k))
+      (subst (λ z. CompletesAt d defined true (InContainer c ∷ InContainer b ∷ frames) f.nodes (map (λ i. i.0) z) (Inside p) lines) (sym spine) k))
   noted_by (ix ∷ jx ∷ s) (InContainer c ∷ InList byte loose ∷ frames) spine plain o k =
       let b = list_at (body_at f.nodes jx.0) byte loose o.1.0 in
       let g : Forest Item = loosened_at f jx in
@@ -191,22 +191,22 @@ module _ (d : Document) (f : Forest Item) (p : Place) (lines : List Place) (open
       let outer : AreOpen g.nodes s frames =
       subst (λ (z : Forest Item). AreOpen z.nodes s frames) (sym named)
       (open_below f.nodes now.nodes jx.0 s frames (λ i h. ap (option_and_then frame_of) (body-other f.nodes jx.0 i (λ x. record { start = x.start; «end» = x.«end»; body = ListBody (list_flags false) b.1 b.2 }) h)) k.below.1.1 o.1.1) in
-      let noted : CompletesAt d false (InContainer c ∷ InList byte (loose || true) ∷ frames) f.nodes (ix.0 ∷ jx.0 ∷ map (λ i. i.0) s) (Inside p) lines =
-      subst (λ z. CompletesAt d false (InContainer c ∷ InList byte (loose || true) ∷ frames) f.nodes (map (λ i. i.0) z) (Inside p) lines) spine
+      let noted : CompletesAt d defined false (InContainer c ∷ InList byte (loose || true) ∷ frames) f.nodes (ix.0 ∷ jx.0 ∷ map (λ i. i.0) s) (Inside p) lines =
+      subst (λ z. CompletesAt d defined false (InContainer c ∷ InList byte (loose || true) ∷ frames) f.nodes (map (λ i. i.0) z) (Inside p) lines) spine
       (noted_at (InContainer c ∷ InList byte loose ∷ frames) true tt (subst (λ z. AreOpen f.nodes z (InContainer c ∷ InList byte loose ∷ frames)) (sym spine) o)
-      (subst (λ z. CompletesAt d true (InContainer c ∷ InList byte loose ∷ frames) f.nodes (map (λ i. i.0) z) (Inside p) lines) (sym spine) k)) in
-      let flagged_now = completes-reflag d false c byte (loose || true) true frames f.nodes ix.0 jx.0 (map (λ i. i.0) s) (Inside p) lines noted in
-      let done : CompletesAt d false (InContainer c ∷ InList byte (loose || true) ∷ frames) g.nodes (ix.0 ∷ jx.0 ∷ map (λ i. i.0) s) (Inside p) lines =
-      subst (λ z. CompletesAt d false (InContainer c ∷ InList byte (loose || true) ∷ frames) z (ix.0 ∷ jx.0 ∷ map (λ i. i.0) s) (Inside p) lines) (sym nodes) flagged_now in
-      let q : ReadyAt d g false (Inside p) lines = record {
+      (subst (λ z. CompletesAt d defined true (InContainer c ∷ InList byte loose ∷ frames) f.nodes (map (λ i. i.0) z) (Inside p) lines) (sym spine) k)) in
+      let flagged_now = completes-reflag d defined false c byte (loose || true) true frames f.nodes ix.0 jx.0 (map (λ i. i.0) s) (Inside p) lines noted in
+      let done : CompletesAt d defined false (InContainer c ∷ InList byte (loose || true) ∷ frames) g.nodes (ix.0 ∷ jx.0 ∷ map (λ i. i.0) s) (Inside p) lines =
+      subst (λ z. CompletesAt d defined false (InContainer c ∷ InList byte (loose || true) ∷ frames) z (ix.0 ∷ jx.0 ∷ map (λ i. i.0) s) (Inside p) lines) (sym nodes) flagged_now in
+      let q : ReadyAt d defined g false (Inside p) lines = record {
         frames = InContainer c ∷ InList byte (loose || true) ∷ frames;
         are_open = subst (λ z. AreOpen g.nodes z (InContainer c ∷ InList byte (loose || true) ∷ frames)) (sym same) (top, (loose_frame f jx b.0 b.1 b.2 byte loose b.3 o.1.0, outer));
-        completes = subst (λ z. CompletesAt d false (InContainer c ∷ InList byte (loose || true) ∷ frames) g.nodes (map (λ i. i.0) z) (Inside p) lines) (sym same) done;
+        completes = subst (λ z. CompletesAt d defined false (InContainer c ∷ InList byte (loose || true) ∷ frames) g.nodes (map (λ i. i.0) z) (Inside p) lines) (sym same) done;
       } in
       (q, tt)
 
   -- a blank line before a block noted
-  ready_noted : (run : Bool) → ReadyPlain d f run p lines → ReadyPlain d (if run then gap_tree f f.spine else f) false p lines
+  ready_noted : (run : Bool) → ReadyPlain d defined f run p lines → ReadyPlain d defined (if run then gap_tree f f.spine else f) false p lines
   ready_noted true (q, plain) = noted_by f.spine q.frames refl plain q.are_open q.completes
   ready_noted false q = q
 
@@ -224,32 +224,32 @@ gap_path : (f : Forest Item) (spine : List TreeIndex) → path_of (gap_tree f sp
 gap_path f spine = ap (path_in (gap_tree f spine).nodes) (gap_spine f spine) ∙ gap_paths f spine f.spine
 
 -- what is remembered once a new block has ended what it ends
-pub record Finished (d : Document) (old new : Reading) (p : Place) (lines : List Place) : Type 0 where
-  pub ready : ReadyPlain d new.tree false p lines
+pub record Finished (d : Document) (defined : Tables) (old new : Reading) (p : Place) (lines : List Place) : Type 0 where
+  pub ready : ReadyPlain d defined new.tree false p lines
   pub path : path_of new.tree ≡ path_of old.tree
   pub blank : new.blank ≡ false
   pub none : new.empty_item ≡ None
 
-noted_as : (d : Document) (r : Reading) (p : Place) (lines : List Place) (run : Bool) → r.blank ≡ run → r.empty_item ≡ None → ReadyPlain d (if run then gap_tree r.tree r.tree.spine else r.tree) false p lines
+noted_as : (d : Document) (defined : Tables) (r : Reading) (p : Place) (lines : List Place) (run : Bool) → r.blank ≡ run → r.empty_item ≡ None → ReadyPlain d defined (if run then gap_tree r.tree r.tree.spine else r.tree) false p lines
     → (let q : Reading = if run then record r { tree = gap_tree r.tree r.tree.spine; blank = false } else r in
-    ReadyPlain d q.tree false p lines × (path_of q.tree ≡ path_of r.tree) × (q.blank ≡ false) × (q.empty_item ≡ None))
-noted_as d r p lines true is none ready = (ready, gap_path r.tree r.tree.spine, refl, none)
-noted_as d r p lines false is none ready = (ready, refl, is, none)
+    ReadyPlain d defined q.tree false p lines × (path_of q.tree ≡ path_of r.tree) × (q.blank ≡ false) × (q.empty_item ≡ None))
+noted_as d defined r p lines true is none ready = (ready, gap_path r.tree r.tree.spine, refl, none)
+noted_as d defined r p lines false is none ready = (ready, refl, is, none)
 
 -- a new block ends the list that is innermost, and a blank line before it is noted
-pub ready_finished : (d : Document) (r : Reading) (p : Place) (lines : List Place) (at : ℕ) (opening : Opening) → IsForest r.tree → Opens d (path_of r.tree) p lines opening → OpensBlock opening → EndsListAt at (top_body r.tree) opening
-    → r.empty_item ≡ None → ReadyAt d r.tree r.blank (Inside p) lines → Finished d r (list_finished at r) p lines
+pub ready_finished : (d : Document) (defined : Tables) (r : Reading) (p : Place) (lines : List Place) (at : ℕ) (opening : Opening) → IsForest r.tree → Opens d (path_of r.tree) p lines opening → OpensBlock opening → EndsListAt at (top_body r.tree) opening
+    → r.empty_item ≡ None → ReadyAt d defined r.tree r.blank (Inside p) lines → Finished d defined r (list_finished at r) p lines
 unfolding list_finished item_finished
-ready_finished d r p lines at opening forest opens block away none ready =
+ready_finished d defined r p lines at opening forest opens block away none ready =
     let l : Reading = list_left at r in
-    let kept = kept_left d r p lines at opening forest opens r.tree.spine (top_body r.tree) refl refl in
+    let kept = kept_left d defined r p lines at opening forest opens r.tree.spine (top_body r.tree) refl refl in
     let path : path_of l.tree ≡ path_of r.tree = path_left r at r.tree.spine (top_body r.tree) refl refl in
-    let left : ReadyPlain d l.tree r.blank p lines = ready_left d r p lines at opening forest opens away ready in
-    let left' : ReadyPlain d l.tree l.blank p lines = subst (λ t. ReadyPlain d l.tree t p lines) (sym kept.0) left in
-    let noted : ReadyPlain d (if l.blank then gap_tree l.tree l.tree.spine else l.tree) false p lines = ready_noted d l.tree p lines opening (subst (λ z. Opens d z p lines opening) (sym path) opens) block l.blank left' in
-    let done = noted_as d l p lines l.blank refl (kept.1 ∙ none) noted in
+    let left : ReadyPlain d defined l.tree r.blank p lines = ready_left d defined r p lines at opening forest opens away ready in
+    let left' : ReadyPlain d defined l.tree l.blank p lines = subst (λ t. ReadyPlain d defined l.tree t p lines) (sym kept.0) left in
+    let noted : ReadyPlain d defined (if l.blank then gap_tree l.tree l.tree.spine else l.tree) false p lines = ready_noted d defined l.tree p lines opening (subst (λ z. Opens d z p lines opening) (sym path) opens) block l.blank left' in
+    let done = noted_as d defined l p lines l.blank refl (kept.1 ∙ none) noted in
     let same : item_finished_by r r.empty_item ≡ r = ap (item_finished_by r) none in
-    subst (λ q. Finished d r (gap_noted (list_left at q)) p lines) (sym same) (record { ready = done.0; path = done.1 ∙ path; blank = done.2; none = done.3 })
+    subst (λ q. Finished d defined r (gap_noted (list_left at q)) p lines) (sym same) (record { ready = done.0; path = done.1 ∙ path; blank = done.2; none = done.3 })
 
 path_noted : (t : Bool) (r : Reading) → path_of (if t then record r { tree = gap_tree r.tree r.tree.spine; blank = false } else r).tree ≡ path_of r.tree
 path_noted true r = gap_path r.tree r.tree.spine

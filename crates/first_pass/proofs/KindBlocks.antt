@@ -10,6 +10,7 @@ use Rattle.first_pass_lines.specs.Rest.{indent}
 use Rattle.first_pass_lines.specs.Places.{Place, offset, line_end, moved_columns, IsPlaceOf}
 use Rattle.first_pass_lines.proofs.PlaceFacts.{columns_line_end}
 use Rattle.first_pass_html.specs.Starts.{html_end}
+use Rattle.first_pass_grammar.specs.Derivation.{Tables}
 use Rattle.first_pass_grammar.specs.declared.kind.Container.{Container}
 use Rattle.first_pass_grammar.specs.Names.{Names, Extends}
 use Rattle.first_pass_tokens.specs.Chains.{add_tokens}
@@ -20,7 +21,7 @@ use Rattle.first_pass_grammar.specs.Extents.{Extent}
 use Rattle.first_pass_grammar.specs.CodeBlocks.{code_lines, last_is_blank, IsIndentedCode, metadata_lines, IsMetadata, fenced_lines, IsFencedCode}
 use Rattle.first_pass_grammar.specs.HtmlBlocks.{until_end, until_blank, IsHtml}
 use Rattle.first_pass_grammar.specs.Rows.{is_paragraph}
-use Rattle.first_pass_grammar.specs.Skeleton.{block_at, leaf_block, Line, OpensLeaf, OpensAs}
+use Rattle.first_pass_grammar.specs.Skeleton.{block_at, leaf_block, Line, Opening, OpensLeaf, OpensAs}
 use Rattle.first_pass_grammar.specs.Completion.{lines_from}
 use Rattle.first_pass_open.specs.Path.{path_of}
 use Rattle.first_pass_names.specs.TableEntries.{no_names}
@@ -35,7 +36,7 @@ use Rattle.first_pass_lists.specs.declared.reading.Reading.{Reading}
 use Rattle.first_pass.specs.Opening.{ReadyLeaf}
 use Rattle.first_pass.specs.State.{Ready}
 use Rattle.first_pass.proofs.FinishLemmas.{path_finished}
-use Rattle.first_pass.proofs.LeafLemmas.{line_end_of, opens_heading, opens_rule, ready_added}
+use Rattle.first_pass.proofs.LeafLemmas.{told_none, kind_in_other, line_end_of, opens_heading, opens_rule, ready_added}
 
 -- indented code
 pub code_added : (text : List ℕ) (options : Options) (names : Names) (p : Place) (old new : Forest Item) (next : ℕ) (blank : Bool) → IsPlaceOf text (moved_columns 4 p) → AddsIndented text options names (moved_columns 4 p) old new next blank
@@ -189,15 +190,18 @@ paragraph_named text options m n start marker old new next a = record {
 }
 
 -- behind a leaf block of a kind
-pub ready_kind : (text : List ℕ) (options : Options) (own names : Names) (r : Reading) (new : Forest Item) (p : Place) (kind : Kind) (gap : Bool) (next : ℕ) → IsForest r.tree → IsKind options p.rest kind → is_paragraph kind ≡ false → Extends names own
-    → AddsKind text options own p kind gap (list_finished p.line r).tree new next → r.empty_item ≡ None → ReadyLeaf (document text options names) r p (lines_from text (line_end p))
-    → (empty : Option ℕ) (blank : Bool) → empty ≡ None → blank ≡ gap → Ready (document text options names) (remembered new empty blank) (lines_from text next)
-ready_kind text options own names r new p kind gap next forest is other extends a none ready empty blank e b =
+pub ready_kind : (text : List ℕ) (options : Options) (defined : Tables) (own names : Names) (r : Reading) (new : Forest Item) (p : Place) (kind : Kind) (gap : Bool) (next : ℕ) → IsForest r.tree → IsKind options p.rest kind → is_paragraph kind ≡ false → Extends names own
+    → AddsKind text options own p kind gap (list_finished p.line r).tree new next → r.empty_item ≡ None → ReadyLeaf (document text options names) defined r p (lines_from text (line_end p))
+    → (empty : Option ℕ) (blank : Bool) → empty ≡ None → blank ≡ gap → Ready (document text options names) defined (remembered new empty blank) (lines_from text next)
+ready_kind text options defined own names r new p kind gap next forest is other extends a none ready empty blank e b =
     let d : Document = document text options names in
     let lines : List Place = lines_from text (line_end p) in
     let left : List Place = lines_from text next in
-    ready_added d r new p lines left p.line (block_at kind p a.items gap) (ap (λ t. if t then offset (unindented p) else p.line) other) kind forest is
-    (subst (λ path. OpensAs d path p lines kind (OpensLeaf (leaf_block kind p a.items gap) Line left)) (path_finished p.line r none) (a.opens names extends)) a.tree_is none ready empty blank e b
+    let o : Opening = OpensLeaf (leaf_block kind p a.items gap) Line left in
+    let opens = subst (λ path. OpensAs d path p lines kind o) (path_finished p.line r none) (a.opens names extends) in
+    subst (λ z. Ready d z (remembered new empty blank) left) (told_none defined)
+    (ready_added d defined r new p lines left p.line (block_at kind p a.items gap) (ap (λ t. if t then offset (unindented p) else p.line) other) kind forest is
+    (subst (λ k. OpensAs d (path_of r.tree) p lines k o) (sym (kind_in_other (path_of r.tree) p kind other)) opens) a.tree_is none ready empty blank e b)
 
 -- the same of a kind that is this one, and blank lines or none at its end
 pub adds_so : (text : List ℕ) (options : Options) (names : Names) (p : Place) (k kind : Kind) (gap blank : Bool) (old new : Forest Item) (next : ℕ) → kind ≡ k → blank ≡ gap → AddsKind text options names p k gap old new next → AddsKind text options names p kind blank old new next

@@ -1,5 +1,5 @@
 -- A leaf block read at a place where no container begins.
-use Rattle.std.proofs.Common.{◌≡◌, inl, inr, ℕ, suc, ◌+◌, Bool, false, List, [], ◌++◌, length, map, Option, Some, None, refl, sym, ap, subst, ◌∙◌, arith}
+use Rattle.std.proofs.Common.{◌≡◌, inl, inr, ℕ, suc, ◌+◌, Bool, false, is_some, if◌then◌else◌, List, [], ◌∷◌, ◌++◌, append-nil, length, map, Option, Some, None, refl, sym, ap, subst, ◌∙◌, arith}
 use Rattle.std.specs.Option.{option_map}
 use Rattle.first_pass_items.specs.declared.item.Item.{Item}
 use Rattle.first_pass_items.specs.declared.item.ItemBody.{ItemBody}
@@ -12,12 +12,17 @@ use Rattle.first_pass_scan.specs.LeafLines.{hrule_len}
 use Rattle.first_pass_lines.specs.Rest.{Rest, indent}
 use Rattle.first_pass_lines.specs.Places.{Place, offset, line_end, start_of, IsPlaceOf}
 use Rattle.first_pass_lines.proofs.PlaceFacts.{start_of-lines, columns_line_end}
+use Rattle.first_pass_grammar.specs.Derivation.{Tables, told}
+use Rattle.first_pass_grammar.specs.LinkTables.{LinkEntry, with_links}
+use Rattle.first_pass_grammar.specs.LinkRuns.{definition_at, kind_in, Beyond, Ended, FlowsOn, IsRun}
+use Rattle.first_pass_grammar.specs.Rows.{is_paragraph}
+use Rattle.std.proofs.lemmas.Bool.{true≢false}
 use Rattle.first_pass_grammar.specs.declared.kind.Container.{Container}
 use Rattle.first_pass_grammar.specs.declared.kind.Container.TheVariants.{BlockQuote}
 use Rattle.first_pass_grammar.specs.Containers.{at_rest, prefix}
-use Rattle.first_pass_grammar.specs.Kinds.{Kind, Blank, ThematicBreak, AtxHeading, Paragraph, unindented, item_at, IsKind}
+use Rattle.first_pass_grammar.specs.Kinds.{Kind, Blank, ThematicBreak, AtxHeading, LinkDefinitions, Paragraph, unindented, item_at, IsKind}
 use Rattle.first_pass_grammar.specs.Leaves.{Document, IsParagraph, IsHeading, heading_text_at, rule_block, heading_block, paragraph_block, marker_items}
-use Rattle.first_pass_grammar.specs.Skeleton.{BlankLine, LeafBlock, Block, block_at, leaf_block, Line, Inside, At, ALeafAlone, IsFirst, Opening, OpensLeaf, OpensParagraph, OpensAs, OpensBlockAt, OpensQuote, OpensFrom, Opens}
+use Rattle.first_pass_grammar.specs.Skeleton.{BlankLine, LeafBlock, Block, run_block, flowing_block, OpensBeyond, OpensRun, block_at, leaf_block, Line, Inside, At, ALeafAlone, IsFirst, Opening, OpensLeaf, OpensParagraph, OpensAs, OpensBlockAt, OpensQuote, OpensFrom, Opens}
 use Rattle.first_pass_grammar.specs.Completion.{lines_from, Frame, containers_of, AreBelow}
 use Rattle.first_pass_grammar.proofs.Finishes.{CompletesAt}
 use Rattle.first_pass_grammar.proofs.Completions.{leaf_closes, completes-leaf, completes-blank, completes-block, completes-text, counts_in}
@@ -27,6 +32,8 @@ use Rattle.first_pass_lists.specs.declared.reading.Reading.{Reading}
 use Rattle.first_pass_open.specs.Path.{path_of}
 use Rattle.first_pass.specs.State.{AreOpen, ReadyAt, Ready}
 use Rattle.first_pass.specs.Opening.{ReadyText, ReadyLazy, ReadyLeaf}
+use Rattle.first_pass.proofs.LineLemmas.{list_finished_none}
+use Rattle.first_pass.proofs.HandedOn.{list_finished_blank}
 use Rattle.first_pass.proofs.OpenLemmas.{open_path, open_below, frame-append}
 use Rattle.first_pass_text.proofs.KindLemmas.{kind_says}
 use Rattle.first_pass.proofs.RuleLemmas.{rule_line}
@@ -45,7 +52,7 @@ line_end_of text p i =
     omega arith
 
 -- where no container begins, what the kind of the place says
-no_container : (d : Document) (path : List Container) (p : Place) (lines : List Place) (k : Kind) (o : Opening) → item_at p.rest ≡ None → prefix (BlockQuote None) p.rest ≡ None → IsKind d.options p.rest k → OpensAs d path p lines k o → Opens d path p lines o
+no_container : (d : Document) (path : List Container) (p : Place) (lines : List Place) (k : Kind) (o : Opening) → item_at p.rest ≡ None → prefix (BlockQuote None) p.rest ≡ None → IsKind d.options p.rest k → OpensAs d path p lines (kind_in path p k) o → Opens d path p lines o
 unfolding OpensFrom
 no_container d path p lines k o no_item none kind opens =
     subst (λ i. OpensFrom d path p lines i o) (sym no_item)
@@ -58,37 +65,37 @@ block_away (Some (ListBody flags list number)) at block left closes = closes
 block_away (Some b) at block left closes = tt
 
 -- the items of a block behind the nodes
-with_block : (d : Document) (f : Forest Item) (frames : List Frame) (items : List (ℕ × Item)) (gap : Bool) (left : List Place) → AreOpen f.nodes f.spine frames
-    → (let os : List ℕ = map (λ (i : TreeIndex). i.0) f.spine in AreBelow (length f.nodes) os → CompletesAt d gap frames (f.nodes ++ at_depth (suc (length os)) items) os Line left → ReadyAt d (added f items) gap Line left)
-with_block d f frames items gap left o below k =
+with_block : (d : Document) (defined : Tables) (f : Forest Item) (frames : List Frame) (items : List (ℕ × Item)) (gap : Bool) (left : List Place) → AreOpen f.nodes f.spine frames
+    → (let os : List ℕ = map (λ (i : TreeIndex). i.0) f.spine in AreBelow (length f.nodes) os → CompletesAt d defined gap frames (f.nodes ++ at_depth (suc (length os)) items) os Line left → ReadyAt d defined (added f items) gap Line left)
+with_block d defined f frames items gap left o below k =
     let os : List ℕ = map (λ (i : TreeIndex). i.0) f.spine in
     record {
       frames = frames;
       are_open = open_below f.nodes (f.nodes ++ at_depth (length f.spine + 1) items) (length f.nodes) f.spine frames (λ i h. frame-append f.nodes (at_depth (length f.spine + 1) items) i h) below o;
-      completes = subst (λ z. CompletesAt d gap frames (f.nodes ++ at_depth z items) os Line left) (depth_of f.spine) k;
+      completes = subst (λ z. CompletesAt d defined gap frames (f.nodes ++ at_depth z items) os Line left) (depth_of f.spine) k;
     }
 
 -- what is remembered then, with no empty item
-remembered_so : (d : Document) (new : Forest Item) (empty : Option ℕ) (blank gap : Bool) (left : List Place) → empty ≡ None → blank ≡ gap → ReadyAt d new gap Line left → Ready d (remembered new empty blank) left
-remembered_so d new empty blank gap left none same ready = ready_plain d (remembered new empty blank) left none (subst (λ t. ReadyAt d new t Line left) (sym same) ready)
+remembered_so : (d : Document) (defined : Tables) (new : Forest Item) (empty : Option ℕ) (blank gap : Bool) (left : List Place) → empty ≡ None → blank ≡ gap → ReadyAt d defined new gap Line left → Ready d defined (remembered new empty blank) left
+remembered_so d defined new empty blank gap left none same ready = ready_plain d defined (remembered new empty blank) left none (subst (λ t. ReadyAt d defined new t Line left) (sym same) ready)
 
 -- a block is added once a new block has ended what it ends
-added_block : (d : Document) (r : Reading) (new : Forest Item) (p : Place) (lines left : List Place) (at : ℕ) (block : LeafBlock) → leaf_closes block ≡ at → IsForest r.tree → Opens d (path_of r.tree) p lines (OpensLeaf (Block block) Line left)
-    → new ≡ added (list_finished at r).tree block.items → r.empty_item ≡ None → ReadyAt d r.tree r.blank (Inside p) lines → ReadyAt d new block.gap Line left
-added_block d r new p lines left at block closes forest opens new_is none ready =
+added_block : (d : Document) (defined : Tables) (r : Reading) (new : Forest Item) (p : Place) (lines left : List Place) (at : ℕ) (block : LeafBlock) → leaf_closes block ≡ at → IsForest r.tree → Opens d (path_of r.tree) p lines (OpensLeaf (Block block) Line left)
+    → new ≡ added (list_finished at r).tree block.items → r.empty_item ≡ None → ReadyAt d defined r.tree r.blank (Inside p) lines → ReadyAt d (told defined block.definitions) new block.gap Line left
+added_block d defined r new p lines left at block closes forest opens new_is none ready =
     let opening : Opening = OpensLeaf (Block block) Line left in
-    let done = ready_finished d r p lines at opening forest opens tt (block_away (top_body r.tree) at block left closes) none ready in
+    let done = ready_finished d defined r p lines at opening forest opens tt (block_away (top_body r.tree) at block left closes) none ready in
     let f : Forest Item = (list_finished at r).tree in
     let frames : List Frame = done.ready.0.frames in
     let os : List ℕ = map (λ (i : TreeIndex). i.0) f.spine in
     let opens' : Opens d (containers_of frames) p lines opening = subst (λ z. Opens d z p lines opening) (sym done.path ∙ open_path f.nodes f.spine frames done.ready.0.are_open) opens in
-    let k = completes-block d frames f.nodes os p lines left block done.ready.1 opens' done.ready.0.completes in
-    subst (λ z. ReadyAt d z block.gap Line left) (sym new_is) (with_block d f frames block.items block.gap left done.ready.0.are_open done.ready.0.completes.below k)
+    let k = completes-block d defined frames f.nodes os p lines left block done.ready.1 opens' done.ready.0.completes in
+    subst (λ z. ReadyAt d (told defined block.definitions) z block.gap Line left) (sym new_is) (with_block d (told defined block.definitions) f frames block.items block.gap left done.ready.0.are_open done.ready.0.completes.below k)
 
 -- the same behind the tag of a block quote, where a new block ends nothing
-lazy_block : (d : Document) (r : Reading) (new : Forest Item) (p : Place) (lines left : List Place) (at : ℕ) (block : LeafBlock) → OpensBlockAt d (path_of r.tree) p lines (OpensLeaf (Block block) Line left)
-    → new ≡ added (list_finished at r).tree block.items → r.empty_item ≡ None → ReadyLazy d r p lines → ReadyAt d new block.gap Line left
-lazy_block d r new p lines left at block opens new_is none lazy =
+lazy_block : (d : Document) (defined : Tables) (r : Reading) (new : Forest Item) (p : Place) (lines left : List Place) (at : ℕ) (block : LeafBlock) → OpensBlockAt d (path_of r.tree) p lines (OpensLeaf (Block block) Line left)
+    → new ≡ added (list_finished at r).tree block.items → r.empty_item ≡ None → ReadyLazy d defined r p lines → ReadyAt d (told defined block.definitions) new block.gap Line left
+lazy_block d defined r new p lines left at block opens new_is none lazy =
     let f : Forest Item = r.tree in
     let frames : List Frame = lazy.ready.frames in
     let os : List ℕ = map (λ (i : TreeIndex). i.0) f.spine in
@@ -100,29 +107,29 @@ lazy_block d r new p lines left at block opens new_is none lazy =
       begins = (refl, refl);
       opens = subst (λ z. OpensBlockAt d z p lines (OpensLeaf (Block block) Line left)) path opens;
     } in
-    let k = completes-leaf d frames f.nodes os (At p ALeafAlone) lines left block plain (λ path mid. refl) first lazy.ready.completes in
-    let q = with_block d f frames block.items block.gap left lazy.ready.are_open lazy.ready.completes.below k in
+    let k = completes-leaf d defined frames f.nodes os (At p ALeafAlone) lines left block plain (λ path mid. refl) first lazy.ready.completes in
+    let q = with_block d (told defined block.definitions) f frames block.items block.gap left lazy.ready.are_open lazy.ready.completes.below k in
     let same : list_finished at r ≡ r = finishes_nothing at r lazy.kind lazy.quote lazy.blank none in
-    subst (λ z. ReadyAt d z block.gap Line left) (sym (new_is ∙ ap (λ (z : Reading). added z.tree block.items) same)) q
+    subst (λ z. ReadyAt d (told defined block.definitions) z block.gap Line left) (sym (new_is ∙ ap (λ (z : Reading). added z.tree block.items) same)) q
 
 -- a leaf is added at its place
-pub ready_added : (d : Document) (r : Reading) (new : Forest Item) (p : Place) (lines left : List Place) (at : ℕ) (block : LeafBlock) → leaf_closes block ≡ at → (k : Kind) → IsForest r.tree → IsKind d.options p.rest k
-    → OpensAs d (path_of r.tree) p lines k (OpensLeaf (Block block) Line left) → new ≡ added (list_finished at r).tree block.items → r.empty_item ≡ None → ReadyLeaf d r p lines
-    → (empty : Option ℕ) (blank : Bool) → empty ≡ None → blank ≡ block.gap → Ready d (remembered new empty blank) left
-ready_added d r new p lines left at block closes k forest kind opens new_is none (inl (no_item, no_quote, ready)) empty blank e b =
-    remembered_so d new empty blank block.gap left e b
-    (added_block d r new p lines left at block closes forest (no_container d (path_of r.tree) p lines k (OpensLeaf (Block block) Line left) no_item no_quote kind opens) new_is none ready)
-ready_added d r new p lines left at block closes k forest kind opens new_is none (inr lazy) empty blank e b =
-    remembered_so d new empty blank block.gap left e b (lazy_block d r new p lines left at block (k, kind, opens) new_is none lazy)
+pub ready_added : (d : Document) (defined : Tables) (r : Reading) (new : Forest Item) (p : Place) (lines left : List Place) (at : ℕ) (block : LeafBlock) → leaf_closes block ≡ at → (k : Kind) → IsForest r.tree → IsKind d.options p.rest k
+    → OpensAs d (path_of r.tree) p lines (kind_in (path_of r.tree) p k) (OpensLeaf (Block block) Line left) → new ≡ added (list_finished at r).tree block.items → r.empty_item ≡ None → ReadyLeaf d defined r p lines
+    → (empty : Option ℕ) (blank : Bool) → empty ≡ None → blank ≡ block.gap → Ready d (told defined block.definitions) (remembered new empty blank) left
+ready_added d defined r new p lines left at block closes k forest kind opens new_is none (inl (no_item, no_quote, ready)) empty blank e b =
+    remembered_so d (told defined block.definitions) new empty blank block.gap left e b
+    (added_block d defined r new p lines left at block closes forest (no_container d (path_of r.tree) p lines k (OpensLeaf (Block block) Line left) no_item no_quote kind opens) new_is none ready)
+ready_added d defined r new p lines left at block closes k forest kind opens new_is none (inr lazy) empty blank e b =
+    remembered_so d (told defined block.definitions) new empty blank block.gap left e b (lazy_block d defined r new p lines left at block (k, kind, opens) new_is none lazy)
 
 kind_blank_is : (r : Reading) (b : Option ItemBody) (kind : Option BlockQuoteKind) → b ≡ Some (BlockQuoteBody kind) → blank_read_by r b ≡ r
 kind_blank_is r b kind is = ap (blank_read_by r) is
 
 -- a blank line at the place of a leaf
-pub ready_blank_leaf : (d : Document) (r : Reading) (p : Place) (lines : List Place) → IsKind d.options p.rest Blank → r.empty_item ≡ None → ReadyLeaf d r p lines → Ready d (blank_read r) lines
+pub ready_blank_leaf : (d : Document) (defined : Tables) (r : Reading) (p : Place) (lines : List Place) → IsKind d.options p.rest Blank → r.empty_item ≡ None → ReadyLeaf d defined r p lines → Ready d defined (blank_read r) lines
 unfolding blank_read OpensAs
-ready_blank_leaf d r p lines kind none (inl (no_item, no_quote, ready)) = ready_blank d r p lines (kind_says d.options p.rest Blank kind) none ready
-ready_blank_leaf d r p lines kind none (inr lazy) =
+ready_blank_leaf d defined r p lines kind none (inl (no_item, no_quote, ready)) = ready_blank d defined r p lines (kind_says d.options p.rest Blank kind) none ready
+ready_blank_leaf d defined r p lines kind none (inr lazy) =
     let f : Forest Item = r.tree in
     let frames : List Frame = lazy.ready.frames in
     let os : List ℕ = map (λ (i : TreeIndex). i.0) f.spine in
@@ -134,12 +141,12 @@ ready_blank_leaf d r p lines kind none (inr lazy) =
       opens = (Blank, kind, blank);
     } in
     let counts : counts_in frames false ≡ false = quote_counts f.nodes f.spine frames lazy.kind lazy.quote lazy.ready.are_open in
-    let now : ReadyAt d f false Line lines = record {
+    let now : ReadyAt d defined f false Line lines = record {
       frames = frames;
       are_open = lazy.ready.are_open;
-      completes = subst (λ t. CompletesAt d t frames f.nodes os Line lines) counts (completes-blank d false frames f.nodes os (At p ALeafAlone) lines lines (λ path mid. refl) first lazy.ready.completes);
+      completes = subst (λ t. CompletesAt d defined t frames f.nodes os Line lines) counts (completes-blank d defined false frames f.nodes os (At p ALeafAlone) lines lines (λ path mid. refl) first lazy.ready.completes);
     } in
-    subst (λ q. Ready d q lines) (sym (kind_blank_is r (top_body r.tree) lazy.kind lazy.quote)) (ready_plain d r lines none (subst (λ t. ReadyAt d f t Line lines) (sym lazy.blank) now))
+    subst (λ q. Ready d defined q lines) (sym (kind_blank_is r (top_body r.tree) lazy.kind lazy.quote)) (ready_plain d defined r lines none (subst (λ t. ReadyAt d defined f t Line lines) (sym lazy.blank) now))
 
 -- a heading that was added is what opens at its place
 pub opens_heading : (d : Document) (path : List Container) (old new : Forest Item) (p : Place) (at next : ℕ) (level : HeadingLevel) → at ≡ offset (unindented p) → IsPlaceOf d.text (unindented p) → (h : AddsHeading d at level old new next)
@@ -182,22 +189,91 @@ opens_paragraph d path old new p at next marker path_is at_is place a =
           ∙ ap (λ n. OpensLeaf (leaf_block Paragraph p (paragraph_block (offset (unindented p)) n chain) false) Line left) (sym ends),
     )
 
--- behind a paragraph
-pub ready_paragraph : (d : Document) (r : Reading) (new : Forest Item) (p : Place) (at next : ℕ) → IsForest r.tree → IsKind d.options p.rest Paragraph
-    → at ≡ offset (unindented p) → IsPlaceOf d.text (unindented p) → AddsParagraph d at None (list_finished at r).tree new next → r.empty_item ≡ None
-    → ReadyLeaf d r p (lines_from d.text (line_end p)) → (empty : Option ℕ) (blank : Bool) → empty ≡ None → blank ≡ false → Ready d (remembered new empty blank) (lines_from d.text next)
-unfolding OpensAs
-ready_paragraph d r new p at next forest kind at_is place a none ready =
+-- where what is told changes nothing
+pub told_none : (defined : Tables) → told defined [] ≡ defined
+unfolding with_links
+told_none defined = refl
+
+-- what is no paragraph begins as what it is
+pub kind_in_other : (path : List Container) (p : Place) (kind : Kind) → is_paragraph kind ≡ false → kind_in path p kind ≡ kind
+kind_in_other path p Paragraph h = absurd (true≢false h)
+kind_in_other path p kind h = refl
+
+-- nor does a paragraph behind no definition
+kind_in_text : (path : List Container) (p : Place) → definition_at path (unindented p) ≡ None → kind_in path p Paragraph ≡ Paragraph
+kind_in_text path p none = ap (λ (x : Option LinkEntry). if is_some x then LinkDefinitions else Paragraph) none
+
+-- the same behind a definition
+kind_in_run : (path : List Container) (p : Place) (x : LinkEntry) → definition_at path (unindented p) ≡ Some x → kind_in path p Paragraph ≡ LinkDefinitions
+kind_in_run path p x some = ap (λ (x : Option LinkEntry). if is_some x then LinkDefinitions else Paragraph) some
+
+-- what opens behind link definitions, or behind none
+text_opens : (d : Document) (path : List Container) (p : Place) (lines : List Place) (xs : List LinkEntry) (b : Beyond) (o : Opening)
+    → IsRun path (unindented p) lines xs b → OpensBeyond d path xs b o → OpensAs d path p lines (kind_in path p Paragraph) o
+unfolding IsRun OpensAs OpensRun OpensParagraph
+text_opens d path p lines [] b o (none, is) opens =
+    subst (λ k. OpensAs d path p lines k o) (sym (kind_in_text path p none)) (subst (λ z. OpensBeyond d path [] z o) is opens)
+text_opens d path p lines (x ∷ xs) b o (here, more) opens =
+    subst (λ k. OpensAs d path p lines k o) (sym (kind_in_run path p x here)) (x ∷ xs, b, (here, more), opens)
+
+-- a paragraph that was added at a place, behind link definitions or none
+opens_flow : (d : Document) (path : List Container) (old new : Forest Item) (q : Place) (at next : ℕ) (xs : List LinkEntry) → path_of old ≡ path → at ≡ offset q → IsPlaceOf d.text q → (a : AddsParagraph d at None old new next)
+    → OpensBeyond d path xs (FlowsOn q (lines_from d.text (line_end q))) (OpensLeaf (Block (flowing_block q xs (paragraph_block at next a.chain))) Line (lines_from d.text next))
+opens_flow d path old new q at next xs path_is at_is place a =
+    let left : List Place = lines_from d.text next in
+    let ends : start_of (length d.text) left ≡ next = start_of-lines d.text next a.boundary.0 in
+    let here : line_end_at d.text at ≡ line_end q = ap (line_end_at d.text) at_is ∙ ap (λ bs. offset q + line_len bs) (sym place.left) in
+    let text : IsParagraph d path at [] (lines_from d.text (line_end_at d.text at)) a.chain left = subst (λ z. IsParagraph d z at [] (lines_from d.text (line_end_at d.text at)) a.chain left) path_is a.lines in
+    let whole : IsParagraph d path (offset q) [] (lines_from d.text (line_end q)) a.chain left =
+    subst (λ k. IsParagraph d path k [] (lines_from d.text (line_end q)) a.chain left) at_is (subst (λ n. IsParagraph d path at [] (lines_from d.text n) a.chain left) here text) in (
+      a.chain,
+      left,
+      whole,
+      ap (λ k. OpensLeaf (Block (flowing_block q xs (paragraph_block k next a.chain))) Line left) at_is
+          ∙ ap (λ n. OpensLeaf (Block (flowing_block q xs (paragraph_block (offset q) n a.chain))) Line left) (sym ends),
+    )
+
+-- behind a paragraph, which stands behind link definitions or none
+pub ready_flows : (d : Document) (defined : Tables) (r : Reading) (new : Forest Item) (p q : Place) (at next : ℕ) (xs : List LinkEntry) → IsForest r.tree → IsKind d.options p.rest Paragraph → IsPlaceOf d.text q → at ≡ offset q
+    → IsRun (path_of r.tree) (unindented p) (lines_from d.text (line_end p)) xs (FlowsOn q (lines_from d.text (line_end q))) → AddsParagraph d at None (list_finished at r).tree new next → r.empty_item ≡ None
+    → ReadyLeaf d defined r p (lines_from d.text (line_end p)) → (empty : Option ℕ) (blank : Bool) → empty ≡ None → blank ≡ false → Ready d (told defined xs) (remembered new empty blank) (lines_from d.text next)
+ready_flows d defined r new p q at next xs forest kind place at_is run a none ready =
     let lines : List Place = lines_from d.text (line_end p) in
-    let block : List (ℕ × Item) = paragraph_block at next a.chain in
-    let o : Opening = OpensLeaf (leaf_block Paragraph p block false) Line (lines_from d.text next) in
-    let paragraph : OpensAs d (path_of r.tree) p lines Paragraph o = opens_paragraph d (path_of r.tree) (list_finished at r).tree new p at next None (path_finished at r none) at_is place a in
-    ready_added d r new p lines (lines_from d.text next) at (block_at Paragraph p block false) (sym at_is) Paragraph forest kind paragraph a.tree_is none ready
+    let left : List Place = lines_from d.text next in
+    let block : LeafBlock = flowing_block q xs (paragraph_block at next a.chain) in
+    let opens = text_opens d (path_of r.tree) p lines xs (FlowsOn q (lines_from d.text (line_end q))) (OpensLeaf (Block block) Line left) run
+    (opens_flow d (path_of r.tree) (list_finished at r).tree new q at next xs (path_finished at r none) at_is place a) in
+    ready_added d defined r new p lines left at block (sym at_is) Paragraph forest kind opens a.tree_is none ready
+
+-- nothing is added where a block has no items
+added_nothing : (d : Document) (defined : Tables) (f : Forest Item) (run : Bool) (left : List Place) → ReadyAt d defined (added f []) run Line left → ReadyAt d defined f run Line left
+added_nothing d defined f run left ready =
+    let same : f.nodes ++ [] ≡ f.nodes = append-nil f.nodes in
+    record {
+      frames = ready.frames;
+      are_open = subst (λ ns. AreOpen ns f.spine ready.frames) same ready.are_open;
+      completes = subst (λ ns. CompletesAt d defined run ready.frames ns (map (λ (i : TreeIndex). i.0) f.spine) Line left) same ready.completes;
+    }
+
+-- behind link definitions with no paragraph behind them, the last of which begins at a place
+pub ready_ended : (d : Document) (defined : Tables) (r : Reading) (p q : Place) (next : ℕ) (xs : List LinkEntry) → IsForest r.tree → IsKind d.options p.rest Paragraph
+    → IsRun (path_of r.tree) (unindented p) (lines_from d.text (line_end p)) xs (Ended q (lines_from d.text next)) → r.empty_item ≡ None
+    → ReadyLeaf d defined r p (lines_from d.text (line_end p)) → Ready d (told defined xs) (list_finished q.line r) (lines_from d.text next)
+unfolding Ready
+ready_ended d defined r p q next xs forest kind run none ready =
+    let lines : List Place = lines_from d.text (line_end p) in
+    let left : List Place = lines_from d.text next in
+    let now : Reading = list_finished q.line r in
+    let opens = text_opens d (path_of r.tree) p lines xs (Ended q left) (OpensLeaf (Block (run_block q xs)) Line left) run refl in
+    let done : ReadyAt d (told defined xs) (added now.tree []) false Line left =
+    ready_added d defined r (added now.tree []) p lines left q.line (run_block q xs) refl Paragraph forest kind opens refl none ready None false refl refl in
+    ready_plain d (told defined xs) now left (list_finished_none q.line r)
+    (subst (λ t. ReadyAt d (told defined xs) now.tree t Line left) (sym (list_finished_blank q.line r)) (added_nothing d (told defined xs) now.tree false left done))
 
 -- behind the paragraph of a task list item
-pub ready_text : (d : Document) (r : Reading) (new : Forest Item) (p : Place) (at next : ℕ) (marker : Item) → at ≡ offset (unindented p) → IsPlaceOf d.text (unindented p) → AddsParagraph d at (Some marker) r.tree new next → r.empty_item ≡ None
-    → ReadyText d r marker p (lines_from d.text (line_end p)) → Ready d (remembered new r.empty_item r.blank) (lines_from d.text next)
-ready_text d r new p at next marker at_is place a none text =
+pub ready_text : (d : Document) (defined : Tables) (r : Reading) (new : Forest Item) (p : Place) (at next : ℕ) (marker : Item) → at ≡ offset (unindented p) → IsPlaceOf d.text (unindented p) → AddsParagraph d at (Some marker) r.tree new next → r.empty_item ≡ None
+    → ReadyText d defined r marker p (lines_from d.text (line_end p)) → Ready d defined (remembered new r.empty_item r.blank) (lines_from d.text next)
+ready_text d defined r new p at next marker at_is place a none text =
     let ready = text.ready in
     let f : Forest Item = r.tree in
     let frames : List Frame = ready.frames in
@@ -206,9 +282,10 @@ ready_text d r new p at next marker at_is place a none text =
     let left : List Place = lines_from d.text next in
     let block : List (ℕ × Item) = paragraph_block at next (marker_items (Some marker) ++ a.chain) in
     let opens = opens_paragraph d (containers_of frames) f new p at next (Some marker) (open_path f.nodes f.spine frames ready.are_open) at_is place a in
-    let k = completes-text d frames f.nodes os marker p lines left (block_at Paragraph p block false) text.plain opens ready.completes in
-    let q = with_block d f frames block false left ready.are_open ready.completes.below k in
-    ready_plain d (remembered new r.empty_item r.blank) left none (subst (λ t. ReadyAt d new t Line left) (sym text.blank) (subst (λ z. ReadyAt d z false Line left) (sym a.tree_is) q))
+    let k = completes-text d defined frames f.nodes os marker p lines left (block_at Paragraph p block false) text.plain opens ready.completes in
+    let q = with_block d defined f frames block false left ready.are_open ready.completes.below
+    (subst (λ z. CompletesAt d z false frames (f.nodes ++ at_depth (suc (length os)) block) os Line left) (told_none defined) k) in
+    ready_plain d defined (remembered new r.empty_item r.blank) left none (subst (λ t. ReadyAt d defined new t Line left) (sym text.blank) (subst (λ z. ReadyAt d defined z false Line left) (sym a.tree_is) q))
 
 -- a thematic break ends where its line ends
 pub rule_end : (p : Place) (at size : ℕ) → hrule_len (unindented p).rest.left ≡ Some size → at ≡ offset (unindented p) → at + size ≡ line_end p

@@ -1,11 +1,14 @@
 -- A pass read a leaf block, once it was added where a new block had ended what it ends.
-use Rattle.std.proofs.Common.{◌≡◌, inl, ℕ, false, None, refl, arith}
+use Rattle.std.proofs.Common.{◌≡◌, inl, ℕ, false, None, refl, sym, subst, arith}
 use Rattle.first_pass_tree.specs.Forest.{IsForest}
 use Rattle.first_pass_lines.specs.Places.{Place, offset, IsPlaceOf}
 use Rattle.first_pass_grammar.specs.Kinds.{Kind, Blank, IsKind}
 use Rattle.first_pass_grammar.specs.Rows.{is_paragraph}
 use Rattle.first_pass_grammar.specs.Order.{GrowsBy}
-use Rattle.first_pass_names.specs.TableEntries.{names_of}
+use Rattle.first_pass_grammar.specs.Leaves.{document}
+use Rattle.first_pass_grammar.specs.Completion.{lines_from}
+use Rattle.first_pass_names.specs.TableEntries.{tables, names_of}
+use Rattle.first_pass.specs.State.{Ready}
 use Rattle.first_pass_lists.specs.Closing.{list_finished}
 use Rattle.first_pass_lists.specs.declared.reading.Reading.{Reading}
 use Rattle.first_pass.specs.declared.state.FirstPass.{FirstPass}
@@ -38,11 +41,11 @@ leaf_read old new p kind next i empty forest is some other e =
       read = record {
         source = e.source;
         names = e.names;
-        tables = e.tables;
         later = later;
         boundary = e.boundary;
         ready = λ more extends ready.
-            ready_kind text (source_options old) (names_of (allocs_of new)) more r (tree_of new) p kind (reading_of new).blank next forest is other extends e.block empty ready (reading_of new).empty_item (reading_of new).blank none refl;
+            subst (λ z. Ready (document text (source_options old) more) z (reading_of new) (lines_from text next)) (sym e.tables)
+            (ready_kind text (source_options old) (tables (allocs_of old)) (names_of (allocs_of new)) more r (tree_of new) p kind (reading_of new).blank next forest is other extends e.block empty ready (reading_of new).empty_item (reading_of new).blank none refl);
         named = λ h. block_added (names_of (allocs_of new)) (names_of (allocs_of old)) (list_finished p.line r).tree (tree_of new) e.block.items e.names e.block.tree_is
             (kind_named text (source_options old) (names_of (allocs_of new)) p kind (reading_of new).blank (list_finished p.line r).tree (tree_of new) next e.block) (list_finished_named (names_of (allocs_of old)) p.line r h);
         order = λ o. inl (ordered_leaf text r (reading_of new) p.line (offset p) p.line (offset p) next (omega arith) (omega arith) (inl (refl, o.0)) i.within i.boundary empty o.1 fits e.boundary.0 none);

@@ -1,4 +1,5 @@
 pub mod CountLemmas
+pub mod DefinitionLemmas
 pub mod EnterLemmas
 pub mod FinishLemmas
 pub mod HandedOn
@@ -18,5 +19,7 @@ pub mod PopLemmas
 pub mod RawFits
 pub mod ReadyCompleted
 pub mod RuleLemmas
+pub mod RunLemmas
 pub mod StateLemmas
 pub mod TagLemmas
+pub mod TextLemmas

@@ -13,7 +13,7 @@ use Rattle.first_pass_lines.proofs.PlaceFacts.{line_is_place}
 use Rattle.first_pass_grammar.specs.Containers.{after}
 use Rattle.first_pass_grammar.specs.Leaves.{Document}
 use Rattle.first_pass_grammar.specs.Skeleton.{Inside}
-use Rattle.first_pass_grammar.specs.Derivation.{list_flags}
+use Rattle.first_pass_grammar.specs.Derivation.{Tables, list_flags}
 use Rattle.first_pass_open.specs.OpenBlock.{closed_by}
 use Rattle.first_pass_grammar.specs.Completion.{lines_from}
 use Rattle.first_pass_lists.specs.Closing.{top_body, is_list, is_list_of, popped_by, popped_at, popped, item_finished_by, item_finished, list_left, gap_tree, list_finished, loosened_top, list_kept, begun, list_continued, blank_read}
@@ -24,37 +24,37 @@ use Rattle.first_pass_open.proofs.PlaceLemmas.{after_keeps, line_start_end}
 use Rattle.first_pass.proofs.EnterLemmas.{ready_blank_line, ready_line}
 
 -- a line and those behind it, of which the containers that don't go on with it are closed
-pub record IsAtLine (d : Document) (old new : Reading) (start : ℕ) (r : Rest) : Type 0 where
+pub record IsAtLine (d : Document) (defined : Tables) (old new : Reading) (start : ℕ) (r : Rest) : Type 0 where
   pub goes : after (path_of new.tree) (line_rest (drop start d.text)) ≡ Some r
-  pub ready : Ready d old (lines_from d.text start) → Ready d new (line_place start (drop start d.text) ∷ lines_from d.text (start + line_len (drop start d.text)))
+  pub ready : Ready d defined old (lines_from d.text start) → Ready d defined new (line_place start (drop start d.text) ∷ lines_from d.text (start + line_len (drop start d.text)))
 
-pub at_line : (d : Document) (old new : Reading) (start kept : ℕ) (line r : Rest) → line ≡ line_rest (drop start d.text) → start < length d.text → new.tree.spine ≡ outer kept old.tree.spine
+pub at_line : (d : Document) (defined : Tables) (old new : Reading) (start kept : ℕ) (line r : Rest) → line ≡ line_rest (drop start d.text) → start < length d.text → new.tree.spine ≡ outer kept old.tree.spine
     → ((s : List TreeIndex) → path_in new.tree.nodes s ≡ path_in old.tree.nodes s)
-    → ((d : Document) (lines : List Place) → start_of (length d.text) lines ≡ start → NoMore old.tree kept lines → Ready d old lines → Ready d new lines)
+    → ((d : Document) (lines : List Place) → start_of (length d.text) lines ≡ start → NoMore old.tree kept lines → Ready d defined old lines → Ready d defined new lines)
     → after (path_in old.tree.nodes (outer kept old.tree.spine)) line ≡ Some r
     → ((m : ℕ) → kept < m → m ≤ length old.tree.spine → after (path_in old.tree.nodes (outer m old.tree.spine)) line ≡ None)
-    → IsAtLine d old new start r
-at_line d old new start kept line r line_is within spine paths closes taken stops =
+    → IsAtLine d defined old new start r
+at_line d defined old new start kept line r line_is within spine paths closes taken stops =
     let here : Place = line_place start (drop start d.text) in
     let lines : List Place = lines_from d.text (start + line_len (drop start d.text)) in
     let first : lines_from d.text start ≡ here ∷ lines = lines_at-line d.text start within in
     let path : path_of new.tree ≡ path_in old.tree.nodes (outer kept old.tree.spine) = paths new.tree.spine ∙ ap (path_in old.tree.nodes) spine in
     record {
       goes = ap (λ p. after p (line_rest (drop start d.text))) path ∙ ap (after (path_in old.tree.nodes (outer kept old.tree.spine))) (sym line_is) ∙ taken;
-      ready = λ ready. closes d (here ∷ lines) refl (λ m low high. ap (after (path_in old.tree.nodes (outer m old.tree.spine))) (sym line_is) ∙ stops m low high) (subst (Ready d old) first ready);
+      ready = λ ready. closes d (here ∷ lines) refl (λ m low high. ap (after (path_in old.tree.nodes (outer m old.tree.spine))) (sym line_is) ∙ stops m low high) (subst (Ready d defined old) first ready);
     }
 
 -- a blank line read
-pub blank_line_read : (d : Document) (old new : Reading) (start : ℕ) (r : Rest) → IsAtLine d old new start r → is_some (blank_len r.left) ≡ true → Ready d old (lines_from d.text start)
-    → Ready d (blank_read new) (lines_from d.text (start + line_len (drop start d.text)))
-blank_line_read d old new start r line blank ready =
-    ready_blank_line d new (line_place start (drop start d.text)) (lines_from d.text (start + line_len (drop start d.text))) r line.goes blank (line.ready ready)
+pub blank_line_read : (d : Document) (defined : Tables) (old new : Reading) (start : ℕ) (r : Rest) → IsAtLine d defined old new start r → is_some (blank_len r.left) ≡ true → Ready d defined old (lines_from d.text start)
+    → Ready d defined (blank_read new) (lines_from d.text (start + line_len (drop start d.text)))
+blank_line_read d defined old new start r line blank ready =
+    ready_blank_line d defined new (line_place start (drop start d.text)) (lines_from d.text (start + line_len (drop start d.text))) r line.goes blank (line.ready ready)
 
 -- a line that isn't blank
-pub line_entered : (d : Document) (old new : Reading) (start : ℕ) (r : Rest) → IsAtLine d old new start r → is_some (blank_len r.left) ≡ false → Ready d old (lines_from d.text start)
-    → ReadyAt d (item_finished new).tree (item_finished new).blank (Inside (place_at start r)) (lines_from d.text (start + line_len (drop start d.text)))
-line_entered d old new start r line blank ready =
-    ready_line d new (line_place start (drop start d.text)) (lines_from d.text (start + line_len (drop start d.text))) r line.goes blank (line.ready ready)
+pub line_entered : (d : Document) (defined : Tables) (old new : Reading) (start : ℕ) (r : Rest) → IsAtLine d defined old new start r → is_some (blank_len r.left) ≡ false → Ready d defined old (lines_from d.text start)
+    → ReadyAt d defined (item_finished new).tree (item_finished new).blank (Inside (place_at start r)) (lines_from d.text (start + line_len (drop start d.text)))
+line_entered d defined old new start r line blank ready =
+    ready_line d defined new (line_place start (drop start d.text)) (lines_from d.text (start + line_len (drop start d.text))) r line.goes blank (line.ready ready)
 
 none_by : (r : Reading) (o : Option ℕ) → r.empty_item ≡ o → (item_finished_by r o).empty_item ≡ None
 none_by r None h = h

@@ -21,7 +21,7 @@ use Rattle.first_pass_grammar.specs.Kinds.{is_blank_rest, quote_start, item_at}
 use Rattle.first_pass_grammar.specs.Leaves.{Document}
 use Rattle.first_pass_grammar.specs.OpenOrder.{is_in_item}
 use Rattle.first_pass_grammar.specs.Skeleton.{From, Line, Inside, Blanks, Opening, OpensNode, next_is_blank, item_head, task_behind, behind_task, behind_marker, task_alone, item_opening, quote_head, tag_behind, behind_tag, quote_opening, OpensQuote, OpensFrom, Opens}
-use Rattle.first_pass_grammar.specs.Derivation.{node_of, list_flags}
+use Rattle.first_pass_grammar.specs.Derivation.{Tables, node_of, list_flags}
 use Rattle.first_pass_grammar.specs.Completion.{lines_from, Frame, InContainer, InList, containers_of, AreBelow, IsPlain}
 use Rattle.first_pass_grammar.proofs.Finishes.{CompletesAt}
 use Rattle.first_pass_grammar.proofs.Tightening.{modify-append, length-modify}
@@ -76,29 +76,29 @@ quote_body : (f : Forest Item) (start : ℕ) (kind : Option BlockQuoteKind) → 
 quote_body f start kind = get_end f.nodes (length f.spine + 1, node_of start 0 (BlockQuoteBody kind)) [] (length f.nodes) refl
 
 -- a block quote of a kind opened, wherever blocks go on in it
-pub record QuoteIsOpen (d : Document) (old : Reading) (q : Reading) (kind : Option BlockQuoteKind) (inside : From) (behind : List Place) : Type 0 where
-  pub ready : ReadyAt d q.tree false inside behind
+pub record QuoteIsOpen (d : Document) (defined : Tables) (old : Reading) (q : Reading) (kind : Option BlockQuoteKind) (inside : From) (behind : List Place) : Type 0 where
+  pub ready : ReadyAt d defined q.tree false inside behind
   pub path : path_of q.tree ≡ BlockQuote kind ∷ path_of old.tree
   pub top : top_body q.tree ≡ Some (BlockQuoteBody kind)
   pub blank : q.blank ≡ false
   pub none : q.empty_item ≡ None
 
-pub quote_is_open : (d : Document) (r : Reading) (p : Place) (lines behind : List Place) (kind : Option BlockQuoteKind) (inside : From) → IsForest r.tree → Opens d (path_of r.tree) p lines (OpensNode (quote_head p kind) inside behind) → r.empty_item ≡ None
-    → ReadyAt d r.tree r.blank (Inside p) lines → QuoteIsOpen d r (begun (quote_start p) (BlockQuoteBody kind) (list_finished p.line r)) kind inside behind
-quote_is_open d r p lines behind kind inside forest opens none ready =
+pub quote_is_open : (d : Document) (defined : Tables) (r : Reading) (p : Place) (lines behind : List Place) (kind : Option BlockQuoteKind) (inside : From) → IsForest r.tree → Opens d (path_of r.tree) p lines (OpensNode (quote_head p kind) inside behind) → r.empty_item ≡ None
+    → ReadyAt d defined r.tree r.blank (Inside p) lines → QuoteIsOpen d defined r (begun (quote_start p) (BlockQuoteBody kind) (list_finished p.line r)) kind inside behind
+quote_is_open d defined r p lines behind kind inside forest opens none ready =
     let opening : Opening = OpensNode (quote_head p kind) inside behind in
-    let done = ready_finished d r p lines p.line opening forest opens tt (quote_away (top_body r.tree) p kind behind inside) none ready in
+    let done = ready_finished d defined r p lines p.line opening forest opens tt (quote_away (top_body r.tree) p kind behind inside) none ready in
     let f : Forest Item = (list_finished p.line r).tree in
     let frames : List Frame = done.ready.0.frames in
     let opens' : Opens d (containers_of frames) p lines opening = subst (λ z. Opens d z p lines opening) (sym done.path ∙ open_path f.nodes f.spine frames done.ready.0.are_open) opens in
     let os : List ℕ = map (λ (i : TreeIndex). i.0) f.spine in
     let x : Item = node_of (quote_start p) 0 (BlockQuoteBody kind) in
     let g : Forest Item = pushed (appended f x) (record { 0 = length f.nodes }) in
-    let k = completes-quote d frames f.nodes os p lines behind kind (quote_start p) p.line 0 inside done.ready.1 opens' done.ready.0.completes in
-    let now : ReadyAt d g false inside behind = record {
+    let k = completes-quote d defined frames f.nodes os p lines behind kind (quote_start p) p.line 0 inside done.ready.1 opens' done.ready.0.completes in
+    let now : ReadyAt d defined g false inside behind = record {
       frames = InContainer (BlockQuote kind) ∷ frames;
       are_open = opened_too f.nodes (length f.spine + 1) x f.spine frames (InContainer (BlockQuote kind)) refl done.ready.0.completes.below done.ready.0.are_open;
-      completes = subst (λ z. CompletesAt d false (InContainer (BlockQuote kind) ∷ frames) (f.nodes ++ (z, x) ∷ []) (length f.nodes ∷ os) inside behind) (depth_of f.spine) k;
+      completes = subst (λ z. CompletesAt d defined false (InContainer (BlockQuote kind) ∷ frames) (f.nodes ++ (z, x) ∷ []) (length f.nodes ∷ os) inside behind) (depth_of f.spine) k;
     } in
     record {
       ready = now;
@@ -109,29 +109,29 @@ quote_is_open d r p lines behind kind inside forest opens none ready =
     }
 
 -- a block quote without a tag
-pub ready_quote : (d : Document) (r : Reading) (p : Place) (lines : List Place) (inside : Rest) → IsForest r.tree → item_at p.rest ≡ None → prefix (BlockQuote None) p.rest ≡ Some inside → tag_behind d.options inside ≡ None → r.empty_item ≡ None
-    → ReadyAt d r.tree r.blank (Inside p) lines → (let q : Reading = begun (quote_start p) (BlockQuoteBody None) (list_finished p.line r) in ReadyAt d q.tree q.blank (Inside (at_rest p inside)) lines)
-ready_quote d r p lines inside forest no_item is no_tag none ready =
+pub ready_quote : (d : Document) (defined : Tables) (r : Reading) (p : Place) (lines : List Place) (inside : Rest) → IsForest r.tree → item_at p.rest ≡ None → prefix (BlockQuote None) p.rest ≡ Some inside → tag_behind d.options inside ≡ None → r.empty_item ≡ None
+    → ReadyAt d defined r.tree r.blank (Inside p) lines → (let q : Reading = begun (quote_start p) (BlockQuoteBody None) (list_finished p.line r) in ReadyAt d defined q.tree q.blank (Inside (at_rest p inside)) lines)
+ready_quote d defined r p lines inside forest no_item is no_tag none ready =
     let q : Reading = begun (quote_start p) (BlockQuoteBody None) (list_finished p.line r) in
     let path : List Container = path_of r.tree in
     let opens = subst (λ t. Opens d path p lines (quote_opening path p (at_rest p inside) lines t)) no_tag (opens_quote d path p lines inside no_item is) in
-    let begun_is = quote_is_open d r p lines lines None (Inside (at_rest p inside)) forest opens none ready in
-    subst (λ t. ReadyAt d q.tree t (Inside (at_rest p inside)) lines) (sym begun_is.blank) begun_is.ready
+    let begun_is = quote_is_open d defined r p lines lines None (Inside (at_rest p inside)) forest opens none ready in
+    subst (λ t. ReadyAt d defined q.tree t (Inside (at_rest p inside)) lines) (sym begun_is.blank) begun_is.ready
 
 -- a block quote with one
-pub ready_tagged : (d : Document) (r : Reading) (p : Place) (lines : List Place) (inside : Rest) (kind : BlockQuoteKind) → IsForest r.tree → item_at p.rest ≡ None → prefix (BlockQuote None) p.rest ≡ Some inside → tag_behind d.options inside ≡ Some kind → r.empty_item ≡ None
-    → ReadyAt d r.tree r.blank (Inside p) lines → ReadyTagged d (begun (quote_start p) (BlockQuoteBody (Some kind)) (list_finished p.line r)) lines
-ready_tagged d r p lines inside kind forest no_item is tag none ready =
+pub ready_tagged : (d : Document) (defined : Tables) (r : Reading) (p : Place) (lines : List Place) (inside : Rest) (kind : BlockQuoteKind) → IsForest r.tree → item_at p.rest ≡ None → prefix (BlockQuote None) p.rest ≡ Some inside → tag_behind d.options inside ≡ Some kind → r.empty_item ≡ None
+    → ReadyAt d defined r.tree r.blank (Inside p) lines → ReadyTagged d defined (begun (quote_start p) (BlockQuoteBody (Some kind)) (list_finished p.line r)) lines
+ready_tagged d defined r p lines inside kind forest no_item is tag none ready =
     let q : Reading = begun (quote_start p) (BlockQuoteBody (Some kind)) (list_finished p.line r) in
     let path : List Container = path_of r.tree in
     let from : From × List Place = behind_tag (BlockQuote (Some kind) ∷ path) lines in
     let opens = subst (λ t. Opens d path p lines (quote_opening path p (at_rest p inside) lines t)) tag (opens_quote d path p lines inside no_item is) in
-    let begun_is = quote_is_open d r p lines from.1 (Some kind) from.0 forest opens none ready in
+    let begun_is = quote_is_open d defined r p lines from.1 (Some kind) from.0 forest opens none ready in
     record {
       kind = Some kind;
       quote = begun_is.top;
       blank = begun_is.blank;
-      ready = subst (λ z. ReadyAt d q.tree false (behind_tag z lines).0 (behind_tag z lines).1) (sym begun_is.path) begun_is.ready;
+      ready = subst (λ z. ReadyAt d defined q.tree false (behind_tag z lines).0 (behind_tag z lines).1) (sym begun_is.path) begun_is.ready;
     }
 
 -- the tree with an item opened in its list, which goes on or begins
@@ -144,14 +144,14 @@ item_away None p byte number columns inside lines other = tt
 item_away (Some (ListBody flags list n)) p byte number columns inside lines other = (refl, other)
 item_away (Some b) p byte number columns inside lines other = tt
 
-module _ (d : Document) (r : Reading) (p : Place) (lines : List Place) (byte number columns : ℕ) (inside : From) (forest : IsForest r.tree) (opens : Opens d (path_of r.tree) p lines (OpensNode (item_head p byte number columns) inside lines))
-    (none : r.empty_item ≡ None) (ready : ReadyAt d r.tree r.blank (Inside p) lines) where
+module _ (d : Document) (defined : Tables) (r : Reading) (p : Place) (lines : List Place) (byte number columns : ℕ) (inside : From) (forest : IsForest r.tree) (opens : Opens d (path_of r.tree) p lines (OpensNode (item_head p byte number columns) inside lines))
+    (none : r.empty_item ≡ None) (ready : ReadyAt d defined r.tree r.blank (Inside p) lines) where
   -- in a list that begins with it
   in_new_list : is_list_of byte (top_body r.tree) ≡ false
-      → (let q : Reading = begun (offset p) (ListItemBody columns) (begun (offset p) (ListBody (list_flags true) byte number) (list_finished (offset p) r)) in ReadyAt d q.tree false inside lines × (path_of q.tree ≡ ListItem columns ∷ path_of r.tree) × (q.blank ≡ false) × (q.empty_item ≡ None))
+      → (let q : Reading = begun (offset p) (ListItemBody columns) (begun (offset p) (ListBody (list_flags true) byte number) (list_finished (offset p) r)) in ReadyAt d defined q.tree false inside lines × (path_of q.tree ≡ ListItem columns ∷ path_of r.tree) × (q.blank ≡ false) × (q.empty_item ≡ None))
   in_new_list other =
       let opening : Opening = OpensNode (item_head p byte number columns) inside lines in
-      let done = ready_finished d r p lines (offset p) opening forest opens tt (item_away (top_body r.tree) p byte number columns inside lines other) none ready in
+      let done = ready_finished d defined r p lines (offset p) opening forest opens tt (item_away (top_body r.tree) p byte number columns inside lines other) none ready in
       let f : Forest Item = (list_finished (offset p) r).tree in
       let frames : List Frame = done.ready.0.frames in
       let opens' : Opens d (containers_of frames) p lines opening = subst (λ z. Opens d z p lines opening) (sym done.path ∙ open_path f.nodes f.spine frames done.ready.0.are_open) opens in
@@ -160,7 +160,7 @@ module _ (d : Document) (r : Reading) (p : Place) (lines : List Place) (byte num
       let x : Item = node_of (offset p) 0 (ListItemBody columns) in
       let g : Forest Item = pushed (appended f y) (record { 0 = length f.nodes }) in
       let h : Forest Item = pushed (appended g x) (record { 0 = length g.nodes }) in
-      let k = completes-list d frames f.nodes os p lines lines byte number columns (offset p) p.line 0 0 (list_flags true) inside done.ready.1 opens' done.ready.0.completes in
+      let k = completes-list d defined frames f.nodes os p lines lines byte number columns (offset p) p.line 0 0 (list_flags true) inside done.ready.1 opens' done.ready.0.completes in
       let n : length g.nodes ≡ suc (length f.nodes) = (let l = length-append f.nodes ((length f.spine + 1, y) ∷ []) in omega arith) in
       let deep : suc (length os) ≡ length f.spine + 1 = depth_of f.spine in
       let deeper : suc (suc (length os)) ≡ length g.spine + 1 = omega arith in
@@ -169,11 +169,11 @@ module _ (d : Document) (r : Reading) (p : Place) (lines : List Place) (byte num
       ∙ ap (λ z. (f.nodes ++ (z, y) ∷ []) ++ (suc (suc (length os)), x) ∷ []) deep ∙ ap (λ z. (f.nodes ++ (length f.spine + 1, y) ∷ []) ++ (z, x) ∷ []) deeper in
       let list_open : AreOpen g.nodes g.spine (InList byte false ∷ frames) = opened_too f.nodes (length f.spine + 1) y f.spine frames (InList byte false) refl done.ready.0.completes.below done.ready.0.are_open in
       let below : AreBelow (length g.nodes) (length f.nodes ∷ os) = (omega arith, done.ready.0.completes.below) in
-      let q : ReadyAt d h false inside lines = record {
+      let q : ReadyAt d defined h false inside lines = record {
         frames = InContainer (ListItem columns) ∷ InList byte false ∷ frames;
         are_open = opened_too g.nodes (length g.spine + 1) x g.spine (InList byte false ∷ frames) (InContainer (ListItem columns)) refl below list_open;
-        completes = subst (λ z. CompletesAt d false (InContainer (ListItem columns) ∷ InList byte false ∷ frames) h.nodes (z ∷ length f.nodes ∷ os) inside lines) (sym n)
-            (subst (λ z. CompletesAt d false (InContainer (ListItem columns) ∷ InList byte false ∷ frames) z (suc (length f.nodes) ∷ length f.nodes ∷ os) inside lines) nodes k);
+        completes = subst (λ z. CompletesAt d defined false (InContainer (ListItem columns) ∷ InList byte false ∷ frames) h.nodes (z ∷ length f.nodes ∷ os) inside lines) (sym n)
+            (subst (λ z. CompletesAt d defined false (InContainer (ListItem columns) ∷ InList byte false ∷ frames) z (suc (length f.nodes) ∷ length f.nodes ∷ os) inside lines) nodes k);
       } in
       let same : path_of h ≡ ListItem columns ∷ path_of r.tree =
       open_path h.nodes h.spine q.frames q.are_open ∙ ap (λ z. ListItem columns ∷ z) (sym (open_path f.nodes f.spine frames done.ready.0.are_open) ∙ done.path) in
@@ -187,9 +187,9 @@ module _ (d : Document) (r : Reading) (p : Place) (lines : List Place) (byte num
   kept_by false is ix rest flags list n spine body = (refl, is, none)
 
   goes_on_as : (run : Bool) (ix : TreeIndex) (rest : List TreeIndex) (flags : ListFlags) (list n b : ℕ) (loose : Bool) (frames : List Frame) → r.tree.spine ≡ ix ∷ rest → body_at r.tree.nodes ix.0 ≡ Some (ListBody flags list n)
-      → AreOpen r.tree.nodes (ix ∷ rest) (InList b loose ∷ frames) → CompletesAt d run (InList b loose ∷ frames) r.tree.nodes (ix.0 ∷ map (λ i. i.0) rest) (Inside p) lines
+      → AreOpen r.tree.nodes (ix ∷ rest) (InList b loose ∷ frames) → CompletesAt d defined run (InList b loose ∷ frames) r.tree.nodes (ix.0 ∷ map (λ i. i.0) rest) (Inside p) lines
       → (let f : Forest Item = if run then loosened_at r.tree ix else r.tree in
-      AreOpen f.nodes (ix ∷ rest) (InList b (loose || run) ∷ frames) × CompletesAt d run (InList b loose ∷ frames) f.nodes (ix.0 ∷ map (λ i. i.0) rest) (Inside p) lines × (f.spine ≡ ix ∷ rest))
+      AreOpen f.nodes (ix ∷ rest) (InList b (loose || run) ∷ frames) × CompletesAt d defined run (InList b loose ∷ frames) f.nodes (ix.0 ∷ map (λ i. i.0) rest) (Inside p) lines × (f.spine ≡ ix ∷ rest))
   goes_on_as true ix rest flags list n b loose frames spine body o k =
       let g : Forest Item = loosened_at r.tree ix in
       let nodes = loose_is r.tree ix flags list n body in
@@ -199,16 +199,16 @@ module _ (d : Document) (r : Reading) (p : Place) (lines : List Place) (byte num
       subst (λ (z : Forest Item). AreOpen z.nodes rest frames) (sym named)
       (open_below r.tree.nodes now.nodes ix.0 rest frames (λ i h. ap (option_and_then frame_of) (body-other r.tree.nodes ix.0 i (λ x. record { start = x.start; «end» = x.«end»; body = ListBody (list_flags false) list n }) h)) k.below.1 o.1) in (
         (loose_frame r.tree ix flags list n b loose body o.0, outer),
-        subst (λ z. CompletesAt d true (InList b loose ∷ frames) z (ix.0 ∷ map (λ i. i.0) rest) (Inside p) lines) (sym nodes) (completes-reflag_list d true b loose true frames r.tree.nodes ix.0 (map (λ i. i.0) rest) (Inside p) lines k),
+        subst (λ z. CompletesAt d defined true (InList b loose ∷ frames) z (ix.0 ∷ map (λ i. i.0) rest) (Inside p) lines) (sym nodes) (completes-reflag_list d defined true b loose true frames r.tree.nodes ix.0 (map (λ i. i.0) rest) (Inside p) lines k),
         loosened_spine r.tree ix (body_at r.tree.nodes ix.0) ∙ spine,
       )
   goes_on_as false ix rest flags list n b loose frames spine body o k =
       ((ap (λ l. l) o.0 ∙ ap (λ l. Some (InList b l)) (sym (or_false loose)), o.1), k, spine)
 
   item_by : (run : Bool) (ix : TreeIndex) (rest : List TreeIndex) (flags : ListFlags) (list n : ℕ) (frames : List Frame) → r.tree.spine ≡ ix ∷ rest → body_at r.tree.nodes ix.0 ≡ Some (ListBody flags list n) → list ≡ byte
-      → AreOpen r.tree.nodes (ix ∷ rest) frames → CompletesAt d run frames r.tree.nodes (ix.0 ∷ map (λ i. i.0) rest) (Inside p) lines
+      → AreOpen r.tree.nodes (ix ∷ rest) frames → CompletesAt d defined run frames r.tree.nodes (ix.0 ∷ map (λ i. i.0) rest) (Inside p) lines
       → (let f : Forest Item = if run then loosened_at r.tree ix else r.tree in let g : Forest Item = pushed (appended f (node_of (offset p) 0 (ListItemBody columns))) (record { 0 = length f.nodes }) in
-      ReadyAt d g false inside lines × (path_of g ≡ ListItem columns ∷ path_of r.tree))
+      ReadyAt d defined g false inside lines × (path_of g ≡ ListItem columns ∷ path_of r.tree))
   item_by run ix rest flags list n [] spine body same o k = absurd o
   item_by run ix rest flags list n (InContainer c ∷ frames) spine body same o k = absurd (not_container (flags.0 == 1) (flags.0 == 0) list c (sym (ap (option_and_then frame_of) body) ∙ o.0))
   item_by run ix rest flags list n (InList b loose ∷ frames) spine body same o k =
@@ -220,24 +220,24 @@ module _ (d : Document) (r : Reading) (p : Place) (lines : List Place) (byte num
       let now = goes_on_as run ix rest flags list n b loose frames spine body o k in
       let opens' : Opens d (containers_of frames) p lines (OpensNode (item_head p byte number columns) inside lines) = subst (λ z. Opens d z p lines (OpensNode (item_head p byte number columns) inside lines)) path opens in
       let x : Item = node_of (offset p) 0 (ListItemBody columns) in
-      let k' : CompletesAt d run (InList byte loose ∷ frames) f.nodes (ix.0 ∷ os) (Inside p) lines = subst (λ z. CompletesAt d run (InList z loose ∷ frames) f.nodes (ix.0 ∷ os) (Inside p) lines) b_is now.1 in
-      let done = completes-item d run loose frames f.nodes ix.0 os p lines lines byte number columns (offset p) p.line 0 inside opens' k' in
+      let k' : CompletesAt d defined run (InList byte loose ∷ frames) f.nodes (ix.0 ∷ os) (Inside p) lines = subst (λ z. CompletesAt d defined run (InList z loose ∷ frames) f.nodes (ix.0 ∷ os) (Inside p) lines) b_is now.1 in
+      let done = completes-item d defined run loose frames f.nodes ix.0 os p lines lines byte number columns (offset p) p.line 0 inside opens' k' in
       let deep : suc (suc (length os)) ≡ length f.spine + 1 = (let l = depth_of rest in let m = ap (λ (s : List TreeIndex). length s) now.2 in omega arith) in
       let frames' : List Frame = InList byte (loose || run) ∷ frames in
       let o' : AreOpen f.nodes (ix ∷ rest) frames' = subst (λ z. AreOpen f.nodes (ix ∷ rest) (InList z (loose || run) ∷ frames)) b_is now.0 in
-      let q : ReadyAt d (pushed (appended f x) (record { 0 = length f.nodes })) false inside lines = record {
+      let q : ReadyAt d defined (pushed (appended f x) (record { 0 = length f.nodes })) false inside lines = record {
         frames = InContainer (ListItem columns) ∷ frames';
         are_open = opened_too f.nodes (length f.spine + 1) x f.spine frames' (InContainer (ListItem columns)) refl (subst (λ s. AreBelow (length f.nodes) (map (λ (i : TreeIndex). i.0) s)) (sym now.2) now.1.below)
             (subst (λ s. AreOpen f.nodes s frames') (sym now.2) o');
-        completes = subst (λ s. CompletesAt d false (InContainer (ListItem columns) ∷ frames') (f.nodes ++ (length f.spine + 1, x) ∷ []) (length f.nodes ∷ map (λ (i : TreeIndex). i.0) s) inside lines) (sym now.2)
-            (subst (λ z. CompletesAt d false (InContainer (ListItem columns) ∷ frames') (f.nodes ++ (z, x) ∷ []) (length f.nodes ∷ ix.0 ∷ os) inside lines) deep done);
+        completes = subst (λ s. CompletesAt d defined false (InContainer (ListItem columns) ∷ frames') (f.nodes ++ (length f.spine + 1, x) ∷ []) (length f.nodes ∷ map (λ (i : TreeIndex). i.0) s) inside lines) (sym now.2)
+            (subst (λ z. CompletesAt d defined false (InContainer (ListItem columns) ∷ frames') (f.nodes ++ (z, x) ∷ []) (length f.nodes ∷ ix.0 ∷ os) inside lines) deep done);
       } in
       let g : Forest Item = pushed (appended f x) (record { 0 = length f.nodes }) in
       (q, open_path g.nodes g.spine q.frames q.are_open ∙ ap (λ z. ListItem columns ∷ z) (sym path))
 
   -- what is remembered with the item opened
   abbrev ItemIsOpen : Reading → Type 0
-  ItemIsOpen q = ReadyAt d q.tree false inside lines × (path_of q.tree ≡ ListItem columns ∷ path_of r.tree) × (q.blank ≡ false) × (q.empty_item ≡ None)
+  ItemIsOpen q = ReadyAt d defined q.tree false inside lines × (path_of q.tree ≡ ListItem columns ∷ path_of r.tree) × (q.blank ≡ false) × (q.empty_item ≡ None)
 
   in_list_by : (s : List TreeIndex) (b : Option ItemBody) → r.tree.spine ≡ s → option_and_then (λ (ix : TreeIndex). body_at r.tree.nodes ix.0) (slice_get s 0) ≡ b → is_list_of byte b ≡ true → ItemIsOpen (begun (offset p) (ListItemBody columns) (list_kept r))
   in_list_by s None spine is same = cc
@@ -246,8 +246,8 @@ module _ (d : Document) (r : Reading) (p : Place) (lines : List Place) (byte num
       let kept = kept_by r.blank refl ix rest flags list n spine is in
       let equal : list ≡ byte = grind (arith, nat_tests, same) in
       let f : Forest Item = if r.blank then loosened_at r.tree ix else r.tree in
-      let done = item_by r.blank ix rest flags list n ready.frames spine is equal (subst (λ z. AreOpen r.tree.nodes z ready.frames) spine ready.are_open) (subst (λ z. CompletesAt d r.blank ready.frames r.tree.nodes (map (λ (i : TreeIndex). i.0) z) (Inside p) lines) spine ready.completes) in (
-        subst (λ (z : Forest Item). ReadyAt d (pushed (appended z (node_of (offset p) 0 (ListItemBody columns))) (record { 0 = length z.nodes })) false inside lines) (sym kept.0) done.0,
+      let done = item_by r.blank ix rest flags list n ready.frames spine is equal (subst (λ z. AreOpen r.tree.nodes z ready.frames) spine ready.are_open) (subst (λ z. CompletesAt d defined r.blank ready.frames r.tree.nodes (map (λ (i : TreeIndex). i.0) z) (Inside p) lines) spine ready.completes) in (
+        subst (λ (z : Forest Item). ReadyAt d defined (pushed (appended z (node_of (offset p) 0 (ListItemBody columns))) (record { 0 = length z.nodes })) false inside lines) (sym kept.0) done.0,
         subst (λ (z : Forest Item). path_of (pushed (appended z (node_of (offset p) 0 (ListItemBody columns))) (record { 0 = length z.nodes })) ≡ ListItem columns ∷ path_of r.tree) (sym kept.0) done.1,
         kept.1,
         kept.2,
@@ -297,15 +297,15 @@ in_item_plain nodes ix rest (InList byte loose ∷ frames) columns body o =
     let e : Some (InContainer (ListItem columns)) ≡ Some (InList byte loose) = sym (ap (option_and_then frame_of) body) ∙ o.0 in cc
 
 -- an item with something behind its markers
-pub ready_item : (d : Document) (r : Reading) (p : Place) (lines : List Place) (item : (ℕ × ℕ × ℕ) × Rest) (marker : Option Item) (rest : Rest) → IsForest r.tree → item_at p.rest ≡ Some item → task_behind d.options p.line item.1 ≡ (marker, rest)
-    → is_blank_rest rest ≡ false → r.empty_item ≡ None → ReadyAt d r.tree r.blank (Inside p) lines
-    → (let q : Reading = item_opened (offset p) item.0.0 item.0.1 item.0.2 r in (q.blank ≡ false) × (now : ReadyAt d q.tree false (behind_task marker (at_rest p rest)) lines) × IsPlain now.frames)
-ready_item d r p lines item marker rest forest is task some none ready =
+pub ready_item : (d : Document) (defined : Tables) (r : Reading) (p : Place) (lines : List Place) (item : (ℕ × ℕ × ℕ) × Rest) (marker : Option Item) (rest : Rest) → IsForest r.tree → item_at p.rest ≡ Some item → task_behind d.options p.line item.1 ≡ (marker, rest)
+    → is_blank_rest rest ≡ false → r.empty_item ≡ None → ReadyAt d defined r.tree r.blank (Inside p) lines
+    → (let q : Reading = item_opened (offset p) item.0.0 item.0.1 item.0.2 r in (q.blank ≡ false) × (now : ReadyAt d defined q.tree false (behind_task marker (at_rest p rest)) lines) × IsPlain now.frames)
+ready_item d defined r p lines item marker rest forest is task some none ready =
     let from : From = behind_task marker (at_rest p rest) in
     let inside : Opening = OpensNode (item_head p item.0.0 item.0.1 item.0.2) from lines in
     let opens : Opens d (path_of r.tree) p lines inside =
     subst (Opens d (path_of r.tree) p lines) (ap (item_opening d (path_of r.tree) p lines (item.0.0, item.0.1, item.0.2)) task ∙ inside_by d (path_of r.tree) p lines item.0.0 item.0.1 item.0.2 marker rest some) (opens_item d (path_of r.tree) p lines item is) in
-    let done = item_is_open d r p lines item.0.0 item.0.1 item.0.2 from forest opens none ready in
+    let done = item_is_open d defined r p lines item.0.0 item.0.1 item.0.2 from forest opens none ready in
     let g : Forest Item = (list_continued (offset p) item.0.0 item.0.1 r).tree in
     let q : Reading = item_opened (offset p) item.0.0 item.0.1 item.0.2 r in
     (done.2, done.0, in_item_plain q.tree.nodes (record { 0 = length g.nodes }) g.spine done.0.frames item.0.2 (item_body g (offset p) item.0.2) done.0.are_open)
@@ -325,9 +325,9 @@ line_opening : (d : Document) (path : List Container) (p : Place) (lines : List 
     → item_opening d path p lines (byte, number, columns) (marker, rest) ≡ OpensNode (item_head p byte number columns) (task_alone marker (at_rest p rest) None) lines
 line_opening d path p lines byte number columns marker rest h n = rw (h, n) refl
 
-in_item : (d : Document) (f : Forest Item) (e columns : ℕ) (lines : List Place) (t blank : Bool) → blank ≡ false → next_is_blank (path_of f) lines ≡ t → ReadyBeforeLine d f e lines t → ReadyInItem d f e columns lines blank
-in_item d f e columns lines t true none is ready = cc
-in_item d f e columns lines t false none is ready = subst (ReadyBeforeLine d f e lines) (sym is) ready
+in_item : (d : Document) (defined : Tables) (f : Forest Item) (e columns : ℕ) (lines : List Place) (t blank : Bool) → blank ≡ false → next_is_blank (path_of f) lines ≡ t → ReadyBeforeLine d defined f e lines t → ReadyInItem d defined f e columns lines blank
+in_item d defined f e columns lines t true none is ready = cc
+in_item d defined f e columns lines t false none is ready = subst (ReadyBeforeLine d defined f e lines) (sym is) ready
 
 -- the path with an item opened, whatever its indent
 opened_path : (g : Forest Item) (start m n : ℕ) (path : List Container)
@@ -341,17 +341,17 @@ opened_path g start m n path below is =
     top n ∙ ap (λ z. ListItem n ∷ z) (same n ∙ sym (same m) ∙ outer)
 
 -- a task list item marker with nothing behind it, in the item that is innermost
-ready_marked : (d : Document) (f : Forest Item) (marker : Option Item) (p : Place) (blanks : Option ℕ) (lines : List Place) (ix : TreeIndex) (rest : List TreeIndex) (columns : ℕ) → f.spine ≡ ix ∷ rest → body_at f.nodes ix.0 ≡ Some (ListItemBody columns)
-    → ReadyAt d f false (task_alone marker p blanks) lines → ReadyAt d (with_child f marker) false (behind_marker blanks) lines
-ready_marked d f None p blanks lines ix rest columns spine body ready = ready
-ready_marked d f (Some x) p blanks lines ix rest columns spine body ready =
+ready_marked : (d : Document) (defined : Tables) (f : Forest Item) (marker : Option Item) (p : Place) (blanks : Option ℕ) (lines : List Place) (ix : TreeIndex) (rest : List TreeIndex) (columns : ℕ) → f.spine ≡ ix ∷ rest → body_at f.nodes ix.0 ≡ Some (ListItemBody columns)
+    → ReadyAt d defined f false (task_alone marker p blanks) lines → ReadyAt d defined (with_child f marker) false (behind_marker blanks) lines
+ready_marked d defined f None p blanks lines ix rest columns spine body ready = ready
+ready_marked d defined f (Some x) p blanks lines ix rest columns spine body ready =
     let plain = in_item_plain f.nodes ix rest ready.frames columns body (subst (λ s. AreOpen f.nodes s ready.frames) spine ready.are_open) in
     let os : List ℕ = map (λ (i : TreeIndex). i.0) f.spine in
-    let k = completes-mark d ready.frames f.nodes os x p blanks lines plain ready.completes in
+    let k = completes-mark d defined ready.frames f.nodes os x p blanks lines plain ready.completes in
     record {
       frames = ready.frames;
       are_open = open_below f.nodes (f.nodes ++ (length f.spine + 1, x) ∷ []) (length f.nodes) f.spine ready.frames (λ i h. frame-append f.nodes ((length f.spine + 1, x) ∷ []) i h) ready.completes.below ready.are_open;
-      completes = subst (λ z. CompletesAt d false ready.frames (f.nodes ++ (z, x) ∷ []) os (behind_marker blanks) lines) (depth_of f.spine) k;
+      completes = subst (λ z. CompletesAt d defined false ready.frames (f.nodes ++ (z, x) ∷ []) os (behind_marker blanks) lines) (depth_of f.spine) k;
     }
 
 emptied_marked : (f : Forest Item) (ix : TreeIndex) (marker : Option Item) → ix.0 < length f.nodes
@@ -379,10 +379,10 @@ marked_path f (Some x) below = path_below f.nodes (f.nodes ++ (length f.spine + 
 abbrev pub empty_item_read : Reading → Option Item → ℕ → Reading
 empty_item_read r marker e = record r { tree = with_child r.tree marker; empty_item = Some e }
 
-empty_by : (d : Document) (r : Reading) (p : Place) (lines : List Place) (item : (ℕ × ℕ × ℕ) × Rest) (marker : Option Item) (rest : Rest) (e : ℕ) (t : Bool) → next_is_blank (ListItem item.0.2 ∷ path_of r.tree) lines ≡ t → IsForest r.tree → item_at p.rest ≡ Some item
-    → task_behind d.options p.line item.1 ≡ (marker, rest) → is_blank_rest rest ≡ true → start_of (length d.text) lines ≡ e → r.empty_item ≡ None → ReadyAt d r.tree r.blank (Inside p) lines
-    → ReadyEmpty d (empty_item_read (item_opened (offset p) item.0.0 item.0.1 item.0.2 r) marker e) e lines
-empty_by d r p lines item marker rest e true next forest is task blank e_is none ready =
+empty_by : (d : Document) (defined : Tables) (r : Reading) (p : Place) (lines : List Place) (item : (ℕ × ℕ × ℕ) × Rest) (marker : Option Item) (rest : Rest) (e : ℕ) (t : Bool) → next_is_blank (ListItem item.0.2 ∷ path_of r.tree) lines ≡ t → IsForest r.tree → item_at p.rest ≡ Some item
+    → task_behind d.options p.line item.1 ≡ (marker, rest) → is_blank_rest rest ≡ true → start_of (length d.text) lines ≡ e → r.empty_item ≡ None → ReadyAt d defined r.tree r.blank (Inside p) lines
+    → ReadyEmpty d defined (empty_item_read (item_opened (offset p) item.0.0 item.0.1 item.0.2 r) marker e) e lines
+empty_by d defined r p lines item marker rest e true next forest is task blank e_is none ready =
     let byte : ℕ = item.0.0 in let number : ℕ = item.0.1 in let columns : ℕ = item.0.2 in
     let g : Forest Item = (list_continued (offset p) byte number r).tree in
     let q : Reading = item_opened (offset p) byte number columns r in
@@ -392,13 +392,13 @@ empty_by d r p lines item marker rest e true next forest is task blank e_is none
     let opens : Opens d (path_of r.tree) p lines (OpensNode (item_head p byte number 0) from lines) =
     subst (Opens d (path_of r.tree) p lines) (ap (item_opening d (path_of r.tree) p lines (byte, number, columns)) task ∙ empty_opening d (path_of r.tree) p lines byte number columns marker rest e blank next e_is)
     (opens_item d (path_of r.tree) p lines item is) in
-    let done = item_is_open d r p lines byte number 0 from forest opens none ready in
+    let done = item_is_open d defined r p lines byte number 0 from forest opens none ready in
     let more : length (appended g (item_node columns)).nodes ≡ length g.nodes + 1 = length-append g.nodes ((length g.spine + 1, item_node columns) ∷ []) in
     let fewer : length (appended g (item_node 0)).nodes ≡ length g.nodes + 1 = length-append g.nodes ((length g.spine + 1, item_node 0) ∷ []) in
     let within : place.0 < length (appended g (item_node columns)).nodes = omega arith in
     let below : AreBelow (length q.tree.nodes) (map (λ (i : TreeIndex). i.0) q.tree.spine) = AreBelow-more _ _ (length g.nodes ∷ map (λ (i : TreeIndex). i.0) g.spine) (omega arith) done.0.completes.below in
-    let marked : ReadyAt d (with_child (pushed (appended g (item_node 0)) place) marker) false (Blanks e) lines =
-    ready_marked d (pushed (appended g (item_node 0)) place) marker (at_rest p rest) (Some e) lines place g.spine 0 refl (item_body g (offset p) 0) done.0 in
+    let marked : ReadyAt d defined (with_child (pushed (appended g (item_node 0)) place) marker) false (Blanks e) lines =
+    ready_marked d defined (pushed (appended g (item_node 0)) place) marker (at_rest p rest) (Some e) lines place g.spine 0 refl (item_body g (offset p) 0) done.0 in
     let same = ap (λ z. with_child z marker) (sym (emptied_opened g (offset p) columns)) ∙ emptied_marked (appended g (item_node columns)) place marker within in
     let path : path_of (with_child q.tree marker) ≡ ListItem columns ∷ path_of r.tree =
     marked_path q.tree marker below ∙ opened_path g (offset p) 0 columns (path_of r.tree) done.0.completes.below done.1 in
@@ -408,9 +408,9 @@ empty_by d r p lines item marker rest e true next forest is task blank e_is none
       columns = columns;
       spine = marked_spine q.tree marker;
       item = marked_body q.tree marker (length g.nodes) (ListItemBody columns) within (item_body g (offset p) columns);
-      ready = in_item d (with_child q.tree marker) e columns lines true q.blank done.2 (ap (λ z. next_is_blank z lines) path ∙ next) (subst (λ f. ReadyAt d f false (Blanks e) lines) same marked);
+      ready = in_item d defined (with_child q.tree marker) e columns lines true q.blank done.2 (ap (λ z. next_is_blank z lines) path ∙ next) (subst (λ f. ReadyAt d defined f false (Blanks e) lines) same marked);
     }
-empty_by d r p lines item marker rest e false next forest is task blank e_is none ready =
+empty_by d defined r p lines item marker rest e false next forest is task blank e_is none ready =
     let byte : ℕ = item.0.0 in let number : ℕ = item.0.1 in let columns : ℕ = item.0.2 in
     let g : Forest Item = (list_continued (offset p) byte number r).tree in
     let q : Reading = item_opened (offset p) byte number columns r in
@@ -419,9 +419,9 @@ empty_by d r p lines item marker rest e false next forest is task blank e_is non
     let opens : Opens d (path_of r.tree) p lines (OpensNode (item_head p byte number columns) from lines) =
     subst (Opens d (path_of r.tree) p lines) (ap (item_opening d (path_of r.tree) p lines (byte, number, columns)) task ∙ line_opening d (path_of r.tree) p lines byte number columns marker rest blank next)
     (opens_item d (path_of r.tree) p lines item is) in
-    let done = item_is_open d r p lines byte number columns from forest opens none ready in
+    let done = item_is_open d defined r p lines byte number columns from forest opens none ready in
     let more : length q.tree.nodes ≡ length g.nodes + 1 = length-append g.nodes ((length g.spine + 1, node_of (offset p) 0 (ListItemBody columns)) ∷ []) in
-    let marked : ReadyAt d (with_child q.tree marker) false Line lines = ready_marked d q.tree marker (at_rest p rest) None lines place g.spine columns refl (item_body g (offset p) columns) done.0 in
+    let marked : ReadyAt d defined (with_child q.tree marker) false Line lines = ready_marked d defined q.tree marker (at_rest p rest) None lines place g.spine columns refl (item_body g (offset p) columns) done.0 in
     let path : path_of (with_child q.tree marker) ≡ ListItem columns ∷ path_of r.tree = marked_path q.tree marker done.0.completes.below ∙ done.1 in
     record {
       place = place;
@@ -429,16 +429,16 @@ empty_by d r p lines item marker rest e false next forest is task blank e_is non
       columns = columns;
       spine = marked_spine q.tree marker;
       item = marked_body q.tree marker (length g.nodes) (ListItemBody columns) (omega arith) (item_body g (offset p) columns);
-      ready = in_item d (with_child q.tree marker) e columns lines false q.blank done.2 (ap (λ z. next_is_blank z lines) path ∙ next) marked;
+      ready = in_item d defined (with_child q.tree marker) e columns lines false q.blank done.2 (ap (λ z. next_is_blank z lines) path ∙ next) marked;
     }
 
 -- an item with nothing behind its markers
-pub ready_empty_item : (d : Document) (r : Reading) (p : Place) (lines : List Place) (item : (ℕ × ℕ × ℕ) × Rest) (marker : Option Item) (rest : Rest) (e : ℕ) → IsForest r.tree → item_at p.rest ≡ Some item → task_behind d.options p.line item.1 ≡ (marker, rest)
+pub ready_empty_item : (d : Document) (defined : Tables) (r : Reading) (p : Place) (lines : List Place) (item : (ℕ × ℕ × ℕ) × Rest) (marker : Option Item) (rest : Rest) (e : ℕ) → IsForest r.tree → item_at p.rest ≡ Some item → task_behind d.options p.line item.1 ≡ (marker, rest)
     → is_blank_rest rest ≡ true → start_of (length d.text) lines ≡ e → r.empty_item ≡ None
-    → ReadyAt d r.tree r.blank (Inside p) lines → Ready d (empty_item_read (item_opened (offset p) item.0.0 item.0.1 item.0.2 r) marker e) lines
+    → ReadyAt d defined r.tree r.blank (Inside p) lines → Ready d defined (empty_item_read (item_opened (offset p) item.0.0 item.0.1 item.0.2 r) marker e) lines
 unfolding Ready
-ready_empty_item d r p lines item marker rest e forest is task blank e_is none ready =
-    empty_by d r p lines item marker rest e (next_is_blank (ListItem item.0.2 ∷ path_of r.tree) lines) refl forest is task blank e_is none ready
+ready_empty_item d defined r p lines item marker rest e forest is task blank e_is none ready =
+    empty_by d defined r p lines item marker rest e (next_is_blank (ListItem item.0.2 ∷ path_of r.tree) lines) refl forest is task blank e_is none ready
 
 -- what is opened where more of the line is left
 pub opened_behind : (marker : Option Item) (q : Reading) (old new : Rest) (e : ℕ) → ((x : Item) → marker ≡ Some x → is_task_marker x.body ≡ true) → length new.left < length old.left → q.empty_item ≡ None → is_in_item q.tree ≡ true
@@ -446,6 +446,6 @@ pub opened_behind : (marker : Option Item) (q : Reading) (old new : Rest) (e : �
 opened_behind None q old new e mark less none inside = (less, none)
 opened_behind (Some x) q old new e mark less none inside = (mark x refl, none, inside)
 
-pub ready_behind : (d : Document) (r : Reading) (p : Place) (e : ℕ) (marker : Option Item) → (r.blank ≡ false) × (now : ReadyAt d r.tree false (behind_task marker p) (lines_from d.text e)) × IsPlain now.frames → ReadyIn d r p e (task_text marker)
-ready_behind d r p e None (blank, ready, plain) = subst (λ t. ReadyAt d r.tree t (Inside p) (lines_from d.text e)) (sym blank) ready
-ready_behind d r p e (Some x) (blank, ready, plain) = record { blank = blank; ready = ready; plain = plain }
+pub ready_behind : (d : Document) (defined : Tables) (r : Reading) (p : Place) (e : ℕ) (marker : Option Item) → (r.blank ≡ false) × (now : ReadyAt d defined r.tree false (behind_task marker p) (lines_from d.text e)) × IsPlain now.frames → ReadyIn d defined r p e (task_text marker)
+ready_behind d defined r p e None (blank, ready, plain) = subst (λ t. ReadyAt d defined r.tree t (Inside p) (lines_from d.text e)) (sym blank) ready
+ready_behind d defined r p e (Some x) (blank, ready, plain) = record { blank = blank; ready = ready; plain = plain }

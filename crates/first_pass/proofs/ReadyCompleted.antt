@@ -10,6 +10,7 @@ use Rattle.first_pass_tree.specs.Forest.{Forest, body_at, with_body_at}
 use Rattle.first_pass_lines.specs.Places.{Place}
 use Rattle.first_pass_grammar.specs.Names.{Names, Extends}
 use Rattle.first_pass_grammar.specs.Leaves.{Document, document}
+use Rattle.first_pass_grammar.specs.Derivation.{Tables}
 use Rattle.first_pass_grammar.specs.Skeleton.{From, Line, Blanks, next_is_blank}
 use Rattle.first_pass_grammar.specs.Completion.{NoList, Standing, Frame, Completes, CanGoOn}
 use Rattle.first_pass_grammar.proofs.MoreNames.{extends_none}
@@ -42,27 +43,27 @@ open_once nodes (ix ∷ spine) (frame ∷ frames) (other ∷ others) o p =
     let rest = open_once nodes spine frames others o.1 p.1 in
     cc
 
-standing_of : Forest Item → Bool → Standing
-standing_of tree run = record { nodes = tree.nodes; list = NoList; run = run }
+standing_of : Tables → Forest Item → Bool → Standing
+standing_of defined tree run = record { nodes = tree.nodes; list = NoList; run = run; defined = defined }
 
 -- what is ready at a place, with all names
-abbrev AlwaysReady : Document → Forest Item → Bool → From → List Place → Type 0
-AlwaysReady d tree run from lines = (more : Names) → Extends more d.names → ReadyAt (document d.text d.options more) tree run from lines
+abbrev AlwaysReady : Document → Tables → Forest Item → Bool → From → List Place → Type 0
+AlwaysReady d defined tree run from lines = (more : Names) → Extends more d.names → ReadyAt (document d.text d.options more) defined tree run from lines
 
-completed_at : (d : Document) (tree : Forest Item) (run : Bool) (from : From) (lines : List Place) → CanGoOn (path_of tree) from
-    → AlwaysReady d tree run from lines → CompletedAt d tree run from lines
+completed_at : (d : Document) (defined : Tables) (tree : Forest Item) (run : Bool) (from : From) (lines : List Place) → CanGoOn (path_of tree) from
+    → AlwaysReady d defined tree run from lines → CompletedAt d defined tree run from lines
 unfolding standing_of
-completed_at d tree run from lines can ready =
+completed_at d defined tree run from lines can ready =
     let now = ready d.names (extends_none d.names) in
     let places : List ℕ = map (λ (ix : TreeIndex). ix.0) tree.spine in
-    let always : (more : Names) → Extends more d.names → Completes (document d.text d.options more) now.frames places (standing_of tree run) from lines =
+    let always : (more : Names) → Extends more d.names → Completes (document d.text d.options more) now.frames places (standing_of defined tree run) from lines =
     λ more x.
     let at_last = ready more x in
-    subst (λ z. Completes (document d.text d.options more) z places (standing_of tree run) from lines)
+    subst (λ z. Completes (document d.text d.options more) z places (standing_of defined tree run) from lines)
     (open_once tree.nodes tree.spine at_last.frames now.frames at_last.are_open now.are_open) at_last.completes in
     let inside = subst (λ z. CanGoOn z from) (open_path tree.nodes tree.spine now.frames now.are_open) can in
     let size = open_length tree.nodes tree.spine now.frames now.are_open in
-    let done = completion_derives d now.frames places (standing_of tree run) from lines size inside always in
+    let done = completion_derives d now.frames places (standing_of defined tree run) from lines size inside always in
     record { frames = now.frames; are_open = now.are_open; completion = done.0; derives = done.1 }
 
 -- an empty item is a container
@@ -72,7 +73,7 @@ item_goes_on f ix rest columns from spine item =
     subst (λ (s : List TreeIndex). CanGoOn (path_in f.nodes s) from) (sym spine)
     (subst (λ (o : Option ItemBody). CanGoOn (with_container (option_and_then container_of o) (path_in f.nodes rest)) from) (sym item) tt)
 
-module _ (d : Document) (r : Reading) (lines : List Place) (e : ℕ) (empty : ReadyEmpty d r e lines) where
+module _ (d : Document) (defined : Tables) (r : Reading) (lines : List Place) (e : ℕ) (empty : ReadyEmpty d defined r e lines) where
   zero_is : emptied r.tree r.tree.spine ≡ with_body_at r.tree empty.place (ListItemBody 0)
   zero_is = ap (emptied r.tree) empty.spine
 
@@ -83,26 +84,26 @@ module _ (d : Document) (r : Reading) (lines : List Place) (e : ℕ) (empty : Re
       subst (λ f. CanGoOn (path_of f) (Blanks e)) (sym zero_is)
       (item_goes_on (with_body_at r.tree empty.place (ListItemBody 0)) empty.place empty.outer 0 (Blanks e) empty.spine body)
 
-  before_line : (t : Bool) → ((more : Names) → Extends more d.names → ReadyBeforeLine (document d.text d.options more) r.tree e lines t)
-      → CompletedBeforeLine d r.tree e lines t
-  before_line true ready = completed_at d (emptied r.tree r.tree.spine) false (Blanks e) lines zero_goes_on ready
-  before_line false ready = completed_at d r.tree false Line lines (line_goes_on (path_of r.tree)) ready
+  before_line : (t : Bool) → ((more : Names) → Extends more d.names → ReadyBeforeLine (document d.text d.options more) defined r.tree e lines t)
+      → CompletedBeforeLine d defined r.tree e lines t
+  before_line true ready = completed_at d defined (emptied r.tree r.tree.spine) false (Blanks e) lines zero_goes_on ready
+  before_line false ready = completed_at d defined r.tree false Line lines (line_goes_on (path_of r.tree)) ready
 
   in_item : (blank : Bool)
-      → ((more : Names) → Extends more d.names → (columns : ℕ) × ReadyInItem (document d.text d.options more) r.tree e columns lines blank)
-      → CompletedInItem d r.tree e lines blank
+      → ((more : Names) → Extends more d.names → (columns : ℕ) × ReadyInItem (document d.text d.options more) defined r.tree e columns lines blank)
+      → CompletedInItem d defined r.tree e lines blank
   in_item true ready =
-      completed_at d r.tree true (Blanks e) lines (item_goes_on r.tree empty.place empty.outer empty.columns (Blanks e) empty.spine empty.item)
+      completed_at d defined r.tree true (Blanks e) lines (item_goes_on r.tree empty.place empty.outer empty.columns (Blanks e) empty.spine empty.item)
       (λ more x. (ready more x).1.1)
   in_item false ready = before_line (next_is_blank (path_of r.tree) lines) (λ more x. (ready more x).1)
 
-ready_with : (d : Document) (r : Reading) (lines : List Place) (o : Option ℕ)
-    → ((more : Names) → Extends more d.names → ReadyWith (document d.text d.options more) r lines o) → CompletedWith d r lines o
-ready_with d r lines None ready = completed_at d r.tree r.blank Line lines (line_goes_on (path_of r.tree)) ready
-ready_with d r lines (Some e) ready =
-    in_item d r lines e (ready d.names (extends_none d.names)) r.blank (λ more x. let empty = ready more x in (empty.columns, empty.ready))
+ready_with : (d : Document) (defined : Tables) (r : Reading) (lines : List Place) (o : Option ℕ)
+    → ((more : Names) → Extends more d.names → ReadyWith (document d.text d.options more) defined r lines o) → CompletedWith d defined r lines o
+ready_with d defined r lines None ready = completed_at d defined r.tree r.blank Line lines (line_goes_on (path_of r.tree)) ready
+ready_with d defined r lines (Some e) ready =
+    in_item d defined r lines e (ready d.names (extends_none d.names)) r.blank (λ more x. let empty = ready more x in (empty.columns, empty.ready))
 
-pub ready_completed : (d : Document) (r : Reading) (lines : List Place)
-    → ((more : Names) → Extends more d.names → Ready (document d.text d.options more) r lines) → IsCompleted d r lines
+pub ready_completed : (d : Document) (defined : Tables) (r : Reading) (lines : List Place)
+    → ((more : Names) → Extends more d.names → Ready (document d.text d.options more) defined r lines) → IsCompleted d defined r lines
 unfolding Ready IsCompleted
-ready_completed d r lines ready = ready_with d r lines r.empty_item ready
+ready_completed d defined r lines ready = ready_with d defined r lines r.empty_item ready

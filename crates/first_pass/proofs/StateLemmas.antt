@@ -17,7 +17,7 @@ use Rattle.first_pass_grammar.specs.declared.kind.Container.TheVariants.{BlockQu
 use Rattle.first_pass_grammar.specs.Containers.{prefix, after, next_goes_on}
 use Rattle.first_pass_grammar.specs.Leaves.{Document, document}
 use Rattle.first_pass_grammar.specs.Skeleton.{Line, Blanks, is_blank_behind, next_is_blank, Ends, end_before}
-use Rattle.first_pass_grammar.specs.Derivation.{Derives, tight_body, tightened}
+use Rattle.first_pass_grammar.specs.Derivation.{Tables, no_tables, Derives, tight_body, tightened}
 use Rattle.first_pass_grammar.specs.Completion.{lines_from, Frame}
 use Rattle.first_pass_grammar.proofs.Finishes.{CompletesAt}
 use Rattle.first_pass_grammar.proofs.Completions.{completes-first, completes-end}
@@ -26,41 +26,40 @@ use Rattle.first_pass_lists.specs.Closing.{remembered, tight_run, tight_at, tigh
 use Rattle.first_pass_lists.specs.declared.reading.Reading.{Reading}
 use Rattle.first_pass_open.specs.Path.{container_of, container_at, with_container, path_in, path_of, outer}
 use Rattle.first_pass.specs.State.{frame_of, frame_at, AreOpen, ReadyAt, ReadyBeforeLine, ReadyInItem, ReadyWith, NoMore, Ready}
-use Rattle.first_pass_names.specs.TableEntries.{no_tables}
 use Rattle.first_pass_open.proofs.FrontLemmas.{outer-all}
 use Rattle.first_pass_lists.proofs.BodyLemmas.{body-kept}
 use Rattle.first_pass.proofs.PopLemmas.{pop_container, pop_list}
 
 -- before the first block
-pub ready_first : (text : List ℕ) (options : Options) (names : Names) (tree : Forest Item) (root : TreeIndex) → root.0 ≡ 0 → tree ≡ with_end_at empty_forest root (length text) → Ready (document text options names) (remembered tree None false) (lines_from text 0)
+pub ready_first : (text : List ℕ) (options : Options) (names : Names) (tree : Forest Item) (root : TreeIndex) → root.0 ≡ 0 → tree ≡ with_end_at empty_forest root (length text) → Ready (document text options names) no_tables (remembered tree None false) (lines_from text 0)
 unfolding Ready
 ready_first text options names tree root top tree_is =
     let at_top : ℕ → TreeIndex = λ n. record { 0 = n } in
     let e : tree ≡ with_end_at empty_forest (at_top 0) (length text) = tree_is ∙ ap (λ n. with_end_at empty_forest (at_top n) (length text)) top in
-    subst (λ f. ReadyAt (document text options names) f false Line (lines_from text 0)) (sym e) (record { frames = []; are_open = tt; completes = completes-first (document text options names) })
+    subst (λ f. ReadyAt (document text options names) no_tables f false Line (lines_from text 0)) (sym e) (record { frames = []; are_open = tt; completes = completes-first (document text options names) })
 
-ended_by : (d : Document) (tree : Forest Item) (run : Bool) (frames : List Frame) → AreOpen tree.nodes [] frames → CompletesAt d run frames tree.nodes [] Line [] → Derives d tree.nodes no_tables
-ended_by d tree run [] o k = completes-end d run tree.nodes k
-ended_by d tree run (frame ∷ frames) o k = absurd o
-
--- at the end of the text, with nothing open
-ready_end : (d : Document) (tree : Forest Item) (run : Bool) → tree.spine ≡ [] → ReadyAt d tree run Line [] → Derives d tree.nodes no_tables
-ready_end d tree run closed ready =
-    ended_by d tree run ready.frames (subst (λ s. AreOpen tree.nodes s ready.frames) closed ready.are_open) (subst (λ s. CompletesAt d run ready.frames tree.nodes (map (λ ix. ix.0) s) Line []) closed ready.completes)
-
-ended_with : (d : Document) (r : Reading) (o : Option ℕ) → r.tree.spine ≡ [] → ReadyWith d r [] o → Derives d r.tree.nodes no_tables
-ended_with d r None closed ready = ready_end d r.tree r.blank closed ready
-ended_with d r (Some e) closed ready = (let x : [] ≡ ready.place ∷ ready.outer = sym closed ∙ ready.spine in cc)
+ended_by : (d : Document) (defined : Tables) (tree : Forest Item) (run : Bool) (frames : List Frame) → AreOpen tree.nodes [] frames → CompletesAt d defined run frames tree.nodes [] Line [] → Derives d tree.nodes defined
+ended_by d defined tree run [] o k = completes-end d defined run tree.nodes k
+ended_by d defined tree run (frame ∷ frames) o k = absurd o
 
 -- at the end of the text, with nothing open
-pub ready_finish : (d : Document) (r : Reading) → r.tree.spine ≡ [] → Ready d r [] → Derives d r.tree.nodes no_tables
+ready_end : (d : Document) (defined : Tables) (tree : Forest Item) (run : Bool) → tree.spine ≡ [] → ReadyAt d defined tree run Line [] → Derives d tree.nodes defined
+ready_end d defined tree run closed ready =
+    ended_by d defined tree run ready.frames (subst (λ s. AreOpen tree.nodes s ready.frames) closed ready.are_open) (subst (λ s. CompletesAt d defined run ready.frames tree.nodes (map (λ ix. ix.0) s) Line []) closed ready.completes)
+
+ended_with : (d : Document) (defined : Tables) (r : Reading) (o : Option ℕ) → r.tree.spine ≡ [] → ReadyWith d defined r [] o → Derives d r.tree.nodes defined
+ended_with d defined r None closed ready = ready_end d defined r.tree r.blank closed ready
+ended_with d defined r (Some e) closed ready = (let x : [] ≡ ready.place ∷ ready.outer = sym closed ∙ ready.spine in cc)
+
+-- at the end of the text, with nothing open
+pub ready_finish : (d : Document) (defined : Tables) (r : Reading) → r.tree.spine ≡ [] → Ready d defined r [] → Derives d r.tree.nodes defined
 unfolding Ready
-ready_finish d r closed ready = ended_with d r r.empty_item closed ready
+ready_finish d defined r closed ready = ended_with d defined r r.empty_item closed ready
 
 -- where no item is empty
-pub ready_plain : (d : Document) (r : Reading) (lines : List Place) → r.empty_item ≡ None → ReadyAt d r.tree r.blank Line lines → Ready d r lines
+pub ready_plain : (d : Document) (defined : Tables) (r : Reading) (lines : List Place) → r.empty_item ≡ None → ReadyAt d defined r.tree r.blank Line lines → Ready d defined r lines
 unfolding Ready
-ready_plain d r lines none ready = subst (λ o. ReadyWith d r lines o) (sym none) ready
+ready_plain d defined r lines none ready = subst (λ o. ReadyWith d defined r lines o) (sym none) ready
 
 -- an item that takes blank lines alone goes on with each line
 zero_prefix : (q : Rest) → prefix (ListItem 0) q ≡ Some q
@@ -95,27 +94,27 @@ framed_open : (nodes : List (ℕ × Item)) (ix : TreeIndex) (rest : List TreeInd
 framed_open nodes ix rest [] o = absurd o
 framed_open nodes ix rest (frame ∷ frames) o = (frame, o.0)
 
-module _ (d : Document) (r : Reading) (lines : List Place) (e : ℕ) (ix : TreeIndex) (rest : List TreeIndex) (forest : IsForest r.tree) (spine : r.tree.spine ≡ ix ∷ rest) (e_is : start_of (length d.text) lines ≡ e) where
+module _ (d : Document) (defined : Tables) (r : Reading) (lines : List Place) (e : ℕ) (ix : TreeIndex) (rest : List TreeIndex) (forest : IsForest r.tree) (spine : r.tree.spine ≡ ix ∷ rest) (e_is : start_of (length d.text) lines ≡ e) where
   -- the innermost open node closed before the next line, where no item is empty
   pop_as : (b : Option ItemBody) (frame : Frame) → body_at r.tree.nodes ix.0 ≡ b → option_and_then frame_of b ≡ Some frame → Ends (with_container (option_and_then container_of b) (path_in r.tree.nodes rest)) Line lines
-      → ReadyAt d r.tree r.blank Line lines → ReadyAt d (popped_by r (closed_by r.tree e (ix ∷ rest)) ix b).tree r.blank Line lines
+      → ReadyAt d defined r.tree r.blank Line lines → ReadyAt d defined (popped_by r (closed_by r.tree e (ix ∷ rest)) ix b).tree r.blank Line lines
   pop_as None frame is framed ends ready = cc
   pop_as (Some (BlockQuoteBody kind)) frame is framed ends ready =
-      pop_container d r.tree r.blank Line lines e ix rest (BlockQuote kind) spine (ap (option_and_then frame_of) is) ends (sym e_is) ready
+      pop_container d defined r.tree r.blank Line lines e ix rest (BlockQuote kind) spine (ap (option_and_then frame_of) is) ends (sym e_is) ready
   pop_as (Some (ListItemBody columns)) frame is framed ends ready =
-      pop_container d r.tree r.blank Line lines e ix rest (ListItem columns) spine (ap (option_and_then frame_of) is) ends (sym e_is) ready
+      pop_container d defined r.tree r.blank Line lines e ix rest (ListItem columns) spine (ap (option_and_then frame_of) is) ends (sym e_is) ready
   pop_as (Some (ListBody flags list number)) frame is framed ends ready =
-      pop_list d r.tree r.blank lines e ix rest flags list number forest spine is e_is ends ready
+      pop_list d defined r.tree r.blank lines e ix rest flags list number forest spine is e_is ends ready
   pop_as (Some b) frame is framed ends ready = cc
 
   ends_at : Ends (path_of r.tree) Line lines → Ends (path_in r.tree.nodes (ix ∷ rest)) Line lines
   ends_at ends = subst (λ s. Ends (path_in r.tree.nodes s) Line lines) spine ends
 
-  pop_plain : Ends (path_of r.tree) Line lines → ReadyAt d r.tree r.blank Line lines → ReadyAt d (popped e r).tree r.blank Line lines
+  pop_plain : Ends (path_of r.tree) Line lines → ReadyAt d defined r.tree r.blank Line lines → ReadyAt d defined (popped e r).tree r.blank Line lines
   pop_plain ends ready =
       let o : AreOpen r.tree.nodes (ix ∷ rest) ready.frames = subst (λ s. AreOpen r.tree.nodes s ready.frames) spine ready.are_open in
       let frame = framed_open r.tree.nodes ix rest ready.frames o in
-      subst (λ (q : Reading). ReadyAt d q.tree r.blank Line lines) (sym (popped_is e r ix rest spine)) (pop_as (body_at r.tree.nodes ix.0) frame.0 refl frame.1 (ends_at ends) ready)
+      subst (λ (q : Reading). ReadyAt d defined q.tree r.blank Line lines) (sym (popped_is e r ix rest spine)) (pop_as (body_at r.tree.nodes ix.0) frame.0 refl frame.1 (ends_at ends) ready)
 
   kept_blank : (b : Option ItemBody) → (popped_by r (closed_by r.tree e (ix ∷ rest)) ix b).blank ≡ r.blank
   kept_blank None = refl
@@ -139,37 +138,37 @@ module _ (d : Document) (r : Reading) (lines : List Place) (e : ℕ) (ix : TreeI
   popped_item : (columns : ℕ) → body_at r.tree.nodes ix.0 ≡ Some (ListItemBody columns) → popped e r ≡ record r { tree = closed_by r.tree e (ix ∷ rest); empty_item = None }
   popped_item columns item = popped_is e r ix rest spine ∙ ap (popped_by r (closed_by r.tree e (ix ∷ rest)) ix) item
 
-  pop_none : r.empty_item ≡ None → Ends (path_of r.tree) Line lines → ReadyAt d r.tree r.blank Line lines → Ready d (popped e r) lines
+  pop_none : r.empty_item ≡ None → Ends (path_of r.tree) Line lines → ReadyAt d defined r.tree r.blank Line lines → Ready d defined (popped e r) lines
   pop_none none ends ready =
-      ready_plain d (popped e r) lines (popped-none none) (subst (λ b. ReadyAt d (popped e r).tree b Line lines) (sym popped-blank) (pop_plain ends ready))
+      ready_plain d defined (popped e r) lines (popped-none none) (subst (λ b. ReadyAt d defined (popped e r).tree b Line lines) (sym popped-blank) (pop_plain ends ready))
 
-  closed_item : (columns x : ℕ) (blank : Bool) → r.blank ≡ blank → body_at r.tree.nodes ix.0 ≡ Some (ListItemBody columns) → Ends (path_of r.tree) Line lines → ReadyInItem d r.tree x columns lines blank → ReadyAt d (closed_by r.tree e (ix ∷ rest)) blank Line lines
+  closed_item : (columns x : ℕ) (blank : Bool) → r.blank ≡ blank → body_at r.tree.nodes ix.0 ≡ Some (ListItemBody columns) → Ends (path_of r.tree) Line lines → ReadyInItem d defined r.tree x columns lines blank → ReadyAt d defined (closed_by r.tree e (ix ∷ rest)) blank Line lines
   closed_item columns x true is item ends (zero_is, ready) =
       let c : container_at r.tree.nodes ix ≡ Some (ListItem columns) = ap (option_and_then container_of) item in
       let ends' : Ends (ListItem columns ∷ path_in r.tree.nodes rest) Line lines = subst (λ o. Ends (with_container o (path_in r.tree.nodes rest)) Line lines) c (ends_at ends) in
       let ends0 : Ends (ListItem 0 ∷ path_in r.tree.nodes rest) Line lines = subst (λ n. Ends (ListItem n ∷ path_in r.tree.nodes rest) Line lines) zero_is ends' in
       let last : e ≡ end_before (length d.text) (path_in r.tree.nodes rest) (Blanks x) lines =
       sym (ap (λ t. if t then x else start_of (length d.text) lines) (not_on (path_in r.tree.nodes rest) lines ends0) ∙ e_is) in
-      pop_container d r.tree true (Blanks x) lines e ix rest (ListItem columns) spine (ap (option_and_then frame_of) item) (not_blank (ListItem columns ∷ path_in r.tree.nodes rest) lines ends') last ready
+      pop_container d defined r.tree true (Blanks x) lines e ix rest (ListItem columns) spine (ap (option_and_then frame_of) item) (not_blank (ListItem columns ∷ path_in r.tree.nodes rest) lines ends') last ready
   closed_item columns x false is item ends ready =
       let c : container_at r.tree.nodes ix ≡ Some (ListItem columns) = ap (option_and_then container_of) item in
       let ends' : Ends (ListItem columns ∷ path_in r.tree.nodes rest) Line lines = subst (λ o. Ends (with_container o (path_in r.tree.nodes rest)) Line lines) c (ends_at ends) in
-      let now : ReadyAt d r.tree false Line lines = subst (ReadyBeforeLine d r.tree x lines) (not_blank (path_of r.tree) lines ends) ready in
-      pop_container d r.tree false Line lines e ix rest (ListItem columns) spine (ap (option_and_then frame_of) item) ends' (sym e_is) now
+      let now : ReadyAt d defined r.tree false Line lines = subst (ReadyBeforeLine d defined r.tree x lines) (not_blank (path_of r.tree) lines ends) ready in
+      pop_container d defined r.tree false Line lines e ix rest (ListItem columns) spine (ap (option_and_then frame_of) item) ends' (sym e_is) now
 
-  pop_with : (o : Option ℕ) → r.empty_item ≡ o → Ends (path_of r.tree) Line lines → ReadyWith d r lines o → Ready d (popped e r) lines
+  pop_with : (o : Option ℕ) → r.empty_item ≡ o → Ends (path_of r.tree) Line lines → ReadyWith d defined r lines o → Ready d defined (popped e r) lines
   pop_with None none ends ready = pop_none none ends ready
   pop_with (Some x) some ends ready =
       let same : ready.place ∷ ready.outer ≡ ix ∷ rest = sym ready.spine ∙ spine in
       let at : ready.place ≡ ix = cc in
       let item : body_at r.tree.nodes ix.0 ≡ Some (ListItemBody ready.columns) = subst (λ (i : TreeIndex). body_at r.tree.nodes i.0 ≡ Some (ListItemBody ready.columns)) at ready.item in
-      subst (λ q. Ready d q lines) (sym (popped_item ready.columns item))
-      (ready_plain d (record r { tree = closed_by r.tree e (ix ∷ rest); empty_item = None }) lines refl (closed_item ready.columns x r.blank refl item ends ready.ready))
+      subst (λ q. Ready d defined q lines) (sym (popped_item ready.columns item))
+      (ready_plain d defined (record r { tree = closed_by r.tree e (ix ∷ rest); empty_item = None }) lines refl (closed_item ready.columns x r.blank refl item ends ready.ready))
 
 -- the innermost open node closed before the next line
-pub ready_pop : (d : Document) (r : Reading) (lines : List Place) (e : ℕ) (ix : TreeIndex) (rest : List TreeIndex) → IsForest r.tree → r.tree.spine ≡ ix ∷ rest → start_of (length d.text) lines ≡ e → Ends (path_of r.tree) Line lines → Ready d r lines → Ready d (popped e r) lines
+pub ready_pop : (d : Document) (defined : Tables) (r : Reading) (lines : List Place) (e : ℕ) (ix : TreeIndex) (rest : List TreeIndex) → IsForest r.tree → r.tree.spine ≡ ix ∷ rest → start_of (length d.text) lines ≡ e → Ends (path_of r.tree) Line lines → Ready d defined r lines → Ready d defined (popped e r) lines
 unfolding Ready
-ready_pop d r lines e ix rest forest spine e_is ends ready = pop_with d r lines e ix rest forest spine e_is r.empty_item refl ends ready
+ready_pop d defined r lines e ix rest forest spine e_is ends ready = pop_with d defined r lines e ix rest forest spine e_is r.empty_item refl ends ready
 
 -- closing changes no container
 pub same_path : (nodes other : List (ℕ × Item)) → ((i : ℕ) → option_and_then container_of (body_at other i) ≡ option_and_then container_of (body_at nodes i)) → (s : List TreeIndex) → path_in other s ≡ path_in nodes s
@@ -251,10 +250,10 @@ pub record ClosedSoFar (old now : Reading) (kept at : ℕ) : Type 0 where
   pub fewer : length now.tree.spine ≤ length old.tree.spine
   pub spine : now.tree.spine ≡ outer (length now.tree.spine) old.tree.spine
   pub paths : (s : List TreeIndex) → path_in now.tree.nodes s ≡ path_in old.tree.nodes s
-  pub ready : (d : Document) (lines : List Place) → start_of (length d.text) lines ≡ at → NoMore old.tree kept lines → Ready d old lines → Ready d now lines
+  pub ready : (d : Document) (defined : Tables) (lines : List Place) → start_of (length d.text) lines ≡ at → NoMore old.tree kept lines → Ready d defined old lines → Ready d defined now lines
 
 pub closed_none : (old : Reading) (kept at : ℕ) → kept ≤ length old.tree.spine → ClosedSoFar old old kept at
-closed_none old kept at h = record { enough = h; fewer = (let l : length old.tree.spine ≡ length old.tree.spine = refl in omega arith); spine = sym (outer-all old.tree.spine); paths = λ s. refl; ready = λ d lines e none ready. ready }
+closed_none old kept at h = record { enough = h; fewer = (let l : length old.tree.spine ≡ length old.tree.spine = refl in omega arith); spine = sym (outer-all old.tree.spine); paths = λ s. refl; ready = λ d defined lines e none ready. ready }
 
 closed_more : (old now : Reading) (kept at : ℕ) (s : List TreeIndex) → IsForest now.tree → now.tree.spine ≡ s → kept < length s → ClosedSoFar old now kept at → ClosedSoFar old (popped at now) kept at × (length (popped at now).tree.spine < length s)
 closed_more old now kept at [] forest spine more c = absurd (omega arith)
@@ -270,8 +269,8 @@ closed_more old now kept at (ix ∷ rest) forest spine more c =
         fewer = omega arith;
         spine = after_it ∙ left ∙ ap (λ n. outer n old.tree.spine) (sym k);
         paths = λ s. popped_paths at now ix rest spine s ∙ c.paths s;
-        ready = λ d lines e none ready. ready_pop d now lines at ix rest forest spine e
-            (subst (λ p. Ends p Line lines) (sym (c.paths now.tree.spine ∙ ap (path_in old.tree.nodes) (spine ∙ here))) (none (suc (length rest)) (omega arith) (omega arith))) (c.ready d lines e none ready);
+        ready = λ d defined lines e none ready. ready_pop d defined now lines at ix rest forest spine e
+            (subst (λ p. Ends p Line lines) (sym (c.paths now.tree.spine ∙ ap (path_in old.tree.nodes) (spine ∙ here))) (none (suc (length rest)) (omega arith) (omega arith))) (c.ready d defined lines e none ready);
       },
       omega arith,
     )

@@ -11,6 +11,7 @@ use Rattle.first_pass_lines.specs.Rest.{indent}
 use Rattle.first_pass_lines.specs.Lines.{line_len}
 use Rattle.first_pass_lines.specs.Places.{Place, line_rest, line_place, place_at}
 use Rattle.first_pass_lines.proofs.LineFacts.{lines_at-line, lines_at-end}
+use Rattle.first_pass_grammar.specs.Derivation.{Tables}
 use Rattle.first_pass_grammar.specs.declared.kind.Container.{Container}
 use Rattle.first_pass_grammar.specs.declared.kind.Container.TheVariants.{BlockQuote}
 use Rattle.first_pass_grammar.specs.Containers.{at_rest, after, front}
@@ -56,7 +57,7 @@ end_by : (whole : Bool) → (nat_lt (indent (line_rest [])) 4 && interrupts whol
 unfolding interrupts
 end_by whole = refl
 
-tag_end : (path : List Container) → ends_tag path (line_rest []) ≡ true
+pub tag_end : (path : List Container) → ends_tag path (line_rest []) ≡ true
 tag_end path = ap (λ r. nat_lt (indent r) 4 && interrupts (is_some (after path (line_rest []))) r) (front-end path) ∙ end_by (is_some (after path (line_rest [])))
 
 tag_by : (path : List Container) (line : Place) (lines : List Place) (t : Bool) → ends_tag path line.rest ≡ t
@@ -76,13 +77,13 @@ tag_line path text at t is =
     ]
 
 -- the line behind its tag, which is read as any other
-pub ready_any_line : (d : Document) (r : Reading) (at : ℕ) → ends_tag (path_of r.tree) (line_rest (drop at d.text)) ≡ true → r.empty_item ≡ None → ReadyTagged d r (lines_from d.text at) → Ready d r (lines_from d.text at)
-ready_any_line d r at is none tagged =
+pub ready_any_line : (d : Document) (defined : Tables) (r : Reading) (at : ℕ) → ends_tag (path_of r.tree) (line_rest (drop at d.text)) ≡ true → r.empty_item ≡ None → ReadyTagged d defined r (lines_from d.text at) → Ready d defined r (lines_from d.text at)
+ready_any_line d defined r at is none tagged =
     let lines : List Place = lines_from d.text at in
     let here : behind_tag (path_of r.tree) lines ≡ (Line, lines) = tag_line (path_of r.tree) d.text at true is in
-    ready_plain d r lines none (subst (λ t. ReadyAt d r.tree t Line lines) (sym tagged.blank) (subst (λ (z : From × List Place). ReadyAt d r.tree false z.0 z.1) here tagged.ready))
+    ready_plain d defined r lines none (subst (λ t. ReadyAt d defined r.tree t Line lines) (sym tagged.blank) (subst (λ (z : From × List Place). ReadyAt d defined r.tree false z.0 z.1) here tagged.ready))
 
 -- the same, which belongs to the quote
-pub ready_its_line : (d : Document) (r : Reading) (at : ℕ) → ends_tag (path_of r.tree) (line_rest (drop at d.text)) ≡ false → ReadyTagged d r (lines_from d.text at)
-    → ReadyLazy d r (unindented (place_at at (front (path_of r.tree) (line_rest (drop at d.text))))) (lines_from d.text (at + line_len (drop at d.text)))
-ready_its_line d r at is tagged = subst (λ (z : From × List Place). ReadyInQuote d r z.0 z.1) (tag_line (path_of r.tree) d.text at false is) tagged
+pub ready_its_line : (d : Document) (defined : Tables) (r : Reading) (at : ℕ) → ends_tag (path_of r.tree) (line_rest (drop at d.text)) ≡ false → ReadyTagged d defined r (lines_from d.text at)
+    → ReadyLazy d defined r (unindented (place_at at (front (path_of r.tree) (line_rest (drop at d.text))))) (lines_from d.text (at + line_len (drop at d.text)))
+ready_its_line d defined r at is tagged = subst (λ (z : From × List Place). ReadyInQuote d defined r z.0 z.1) (tag_line (path_of r.tree) d.text at false is) tagged

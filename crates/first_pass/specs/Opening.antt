@@ -12,6 +12,7 @@ use Rattle.first_pass_grammar.specs.declared.kind.Container.TheVariants.{BlockQu
 use Rattle.first_pass_grammar.specs.Containers.{prefix}
 use Rattle.first_pass_grammar.specs.Kinds.{item_at}
 use Rattle.first_pass_grammar.specs.Leaves.{Document}
+use Rattle.first_pass_grammar.specs.Derivation.{Tables}
 use Rattle.first_pass_grammar.specs.Skeleton.{From, Inside, At, ALeafAlone, TextOf, behind_tag}
 use Rattle.first_pass_grammar.specs.Completion.{lines_from, IsPlain}
 use Rattle.first_pass.specs.declared.containers.Behind.{Behind}
@@ -25,29 +26,29 @@ use Rattle.first_pass_items.specs.declared.item.ItemBody.TheVariants.{BlockQuote
 use Rattle.first_pass.specs.State.{Ready, ReadyAt}
 
 -- a task list item marker is remembered, with its paragraph at a place in the line, in what is no list
-pub record ReadyText (d : Document) (r : Reading) (marker : Item) (p : Place) (lines : List Place) : Type 0 where
+pub record ReadyText (d : Document) (defined : Tables) (r : Reading) (marker : Item) (p : Place) (lines : List Place) : Type 0 where
   pub blank : r.blank ≡ false
-  pub ready : ReadyAt d r.tree false (At p (TextOf marker)) lines
+  pub ready : ReadyAt d defined r.tree false (At p (TextOf marker)) lines
   pub plain : IsPlain ready.frames
 
 -- a block quote with a tag is innermost, before blocks go on with these lines
-pub record ReadyInQuote (d : Document) (r : Reading) (from : From) (lines : List Place) : Type 0 where
+pub record ReadyInQuote (d : Document) (defined : Tables) (r : Reading) (from : From) (lines : List Place) : Type 0 where
   pub kind : Option BlockQuoteKind
   pub quote : top_body r.tree ≡ Some (BlockQuoteBody kind)
   pub blank : r.blank ≡ false
-  pub ready : ReadyAt d r.tree false from lines
+  pub ready : ReadyAt d defined r.tree false from lines
 
 -- before the line behind its tag
-abbrev pub ReadyTagged : Document → Reading → List Place → Type 0
-ReadyTagged d r lines = ReadyInQuote d r (behind_tag (path_of r.tree) lines).0 (behind_tag (path_of r.tree) lines).1
+abbrev pub ReadyTagged : Document → Tables → Reading → List Place → Type 0
+ReadyTagged d defined r lines = ReadyInQuote d defined r (behind_tag (path_of r.tree) lines).0 (behind_tag (path_of r.tree) lines).1
 
 -- in that line, at the place of a leaf
-abbrev pub ReadyLazy : Document → Reading → Place → List Place → Type 0
-ReadyLazy d r p lines = ReadyInQuote d r (At p ALeafAlone) lines
+abbrev pub ReadyLazy : Document → Tables → Reading → Place → List Place → Type 0
+ReadyLazy d defined r p lines = ReadyInQuote d defined r (At p ALeafAlone) lines
 
 -- a leaf is at a place in a line, where no container begins or behind the tag of a block quote
-abbrev pub ReadyLeaf : Document → Reading → Place → List Place → Type 0
-ReadyLeaf d r p lines = ((item_at p.rest ≡ None) × (prefix (BlockQuote None) p.rest ≡ None) × ReadyAt d r.tree r.blank (Inside p) lines) ⊎ ReadyLazy d r p lines
+abbrev pub ReadyLeaf : Document → Tables → Reading → Place → List Place → Type 0
+ReadyLeaf d defined r p lines = ((item_at p.rest ≡ None) × (prefix (BlockQuote None) p.rest ≡ None) × ReadyAt d defined r.tree r.blank (Inside p) lines) ⊎ ReadyLazy d defined r p lines
 
 -- behind the containers no other begins, nor an empty item; the marker of a task stands in an item; or the whole line is taken, in an item
 -- or a block quote
@@ -72,16 +73,16 @@ IsOpenedAt None q old new e = (length new.left < length old.left) × (q.empty_it
 IsOpenedAt (Some behind) q old new e = IsBehind behind q new e
 
 -- what the pass remembers goes on at a place in the line, or behind the line, which ends at an offset
-abbrev pub ReadyBehind : Document → Reading → Place → ℕ → Behind → Type 0
-ReadyBehind d r p e BehindLeaf = ReadyAt d r.tree r.blank (Inside p) (lines_from d.text e)
-ReadyBehind d r p e (TaskText marker) = ReadyText d r marker p (lines_from d.text e)
-ReadyBehind d r p e (NextLine next) = Ready d r (lines_from d.text next)
-ReadyBehind d r p e (Tag next) = ReadyTagged d r (lines_from d.text next)
+abbrev pub ReadyBehind : Document → Tables → Reading → Place → ℕ → Behind → Type 0
+ReadyBehind d defined r p e BehindLeaf = ReadyAt d defined r.tree r.blank (Inside p) (lines_from d.text e)
+ReadyBehind d defined r p e (TaskText marker) = ReadyText d defined r marker p (lines_from d.text e)
+ReadyBehind d defined r p e (NextLine next) = Ready d defined r (lines_from d.text next)
+ReadyBehind d defined r p e (Tag next) = ReadyTagged d defined r (lines_from d.text next)
 
 -- the same where a container was opened, or it is known what is behind the containers
-abbrev pub ReadyIn : Document → Reading → Place → ℕ → Option Behind → Type 0
-ReadyIn d r p e None = ReadyAt d r.tree r.blank (Inside p) (lines_from d.text e)
-ReadyIn d r p e (Some behind) = ReadyBehind d r p e behind
+abbrev pub ReadyIn : Document → Tables → Reading → Place → ℕ → Option Behind → Type 0
+ReadyIn d defined r p e None = ReadyAt d defined r.tree r.blank (Inside p) (lines_from d.text e)
+ReadyIn d defined r p e (Some behind) = ReadyBehind d defined r p e behind
 
 -- a list that is innermost is in order up to the line's beginning, and what else is up to a place in the line
 abbrev pub line_or : Forest Item → ℕ → ℕ → ℕ

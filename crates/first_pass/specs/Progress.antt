@@ -12,20 +12,19 @@ use Rattle.first_pass.specs.State.{Ready}
 use Rattle.first_pass.specs.Ordered.{IsOrderedFrom}
 use Rattle.first_pass.specs.Opening.{ReadyLeaf, line_or}
 
--- A pass went on, as far as one offset at least, and reading goes on at another, between characters: it reads the same text, what was named keeps its name,
--- and no table changed. Each index names an entry if each did before. What it remembers begins a derivation from there on under all names under which this held before, and is in order if that held.
+-- A pass went on, as far as one offset at least, and reading goes on at another, between characters: it reads the same text, what was named keeps its name.
+-- Each index names an entry if each did before. What it remembers begins a derivation from there on under all names under which this held before, and is in order if that held.
 pub record WentOn (old new : FirstPass) (far : ℕ) (begins : Names → Type 0) (in_order : Type 0) (next : ℕ) : Type 0 where
   pub source : source_of new ≡ source_of old
   pub names : Extends (names_of (allocs_of new)) (names_of (allocs_of old))
-  pub tables : tables (allocs_of new) ≡ tables (allocs_of old)
   pub later : far ≤ next
   pub boundary : IsCharBoundary (source_text old) next
-  pub ready : (more : Names) → Extends more (names_of (allocs_of new)) → begins more → Ready (document (source_text old) (source_options old) more) (reading_of new) (lines_from (source_text old) next)
+  pub ready : (more : Names) → Extends more (names_of (allocs_of new)) → begins more → Ready (document (source_text old) (source_options old) more) (tables (allocs_of new)) (reading_of new) (lines_from (source_text old) next)
   pub named : AreNamed (names_of (allocs_of old)) (tree_of old).nodes → AreNamed (names_of (allocs_of new)) (tree_of new).nodes
   pub order : in_order → IsOrderedFrom (source_text old) (reading_of new) next
 
 -- a pass read the leaf block that begins at a place where no container begins, or behind the tag of a block quote
 abbrev pub ReadsLeaf : FirstPass → FirstPass → Place → ℕ → Type 0
 ReadsLeaf old new p next =
-    WentOn old new (line_end p) (λ more. ReadyLeaf (document (source_text old) (source_options old) more) (reading_of old) p (lines_from (source_text old) (line_end p)))
+    WentOn old new (line_end p) (λ more. ReadyLeaf (document (source_text old) (source_options old) more) (tables (allocs_of old)) (reading_of old) p (lines_from (source_text old) (line_end p)))
     (IsCharBoundary (source_text old) p.line × IsOrderedTo (source_text old) (tree_of old) (line_or (tree_of old) p.line (offset p))) next

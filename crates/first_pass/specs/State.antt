@@ -9,6 +9,7 @@ use Rattle.first_pass_tree.specs.Forest.{Forest, body_at}
 use Rattle.first_pass_lines.specs.Places.{Place}
 use Rattle.first_pass_grammar.specs.declared.kind.Container.TheVariants.{BlockQuote, ListItem}
 use Rattle.first_pass_grammar.specs.Leaves.{Document}
+use Rattle.first_pass_grammar.specs.Derivation.{Tables}
 use Rattle.first_pass_grammar.specs.Skeleton.{From, Line, Blanks, Ends, next_is_blank}
 use Rattle.first_pass_grammar.specs.Completion.{NoList, Frame, InContainer, InList, Completes}
 use Rattle.first_pass_lists.specs.Closing.{emptied}
@@ -38,35 +39,35 @@ AreOpen nodes (ix ∷ spine) (frame ∷ frames) = (frame_at nodes ix.0 ≡ Some 
 
 -- Only containers and lists are open, and whatever completes the nodes from a place or from these lines on, the text derives; the run of blank lines before
 -- holds one that counts, or doesn't.
-pub record ReadyAt (d : Document) (tree : Forest Item) (run : Bool) (from : From) (lines : List Place) : Type 0 where
+pub record ReadyAt (d : Document) (defined : Tables) (tree : Forest Item) (run : Bool) (from : From) (lines : List Place) : Type 0 where
   pub frames : List Frame
   pub are_open : AreOpen tree.nodes tree.spine frames
-  pub completes : Completes d frames (map (λ ix. ix.0) tree.spine) (record { nodes = tree.nodes; list = NoList; run = run }) from lines
+  pub completes : Completes d frames (map (λ ix. ix.0) tree.spine) (record { nodes = tree.nodes; list = NoList; run = run; defined = defined }) from lines
 
 -- the same with an empty item innermost, whose marker's line ends at an offset: whether it takes blank lines alone is seen at the next line
-abbrev pub ReadyBeforeLine : Document → Forest Item → ℕ → List Place → Bool → Type 0
-ReadyBeforeLine d tree e lines true = ReadyAt d (emptied tree tree.spine) false (Blanks e) lines
-ReadyBeforeLine d tree e lines false = ReadyAt d tree false Line lines
+abbrev pub ReadyBeforeLine : Document → Tables → Forest Item → ℕ → List Place → Bool → Type 0
+ReadyBeforeLine d defined tree e lines true = ReadyAt d defined (emptied tree tree.spine) false (Blanks e) lines
+ReadyBeforeLine d defined tree e lines false = ReadyAt d defined tree false Line lines
 
-abbrev pub ReadyInItem : Document → Forest Item → ℕ → ℕ → List Place → Bool → Type 0
-ReadyInItem d tree e columns lines true = (columns ≡ 0) × ReadyAt d tree true (Blanks e) lines
-ReadyInItem d tree e columns lines false = ReadyBeforeLine d tree e lines (next_is_blank (path_of tree) lines)
+abbrev pub ReadyInItem : Document → Tables → Forest Item → ℕ → ℕ → List Place → Bool → Type 0
+ReadyInItem d defined tree e columns lines true = (columns ≡ 0) × ReadyAt d defined tree true (Blanks e) lines
+ReadyInItem d defined tree e columns lines false = ReadyBeforeLine d defined tree e lines (next_is_blank (path_of tree) lines)
 
-pub record ReadyEmpty (d : Document) (r : Reading) (e : ℕ) (lines : List Place) : Type 0 where
+pub record ReadyEmpty (d : Document) (defined : Tables) (r : Reading) (e : ℕ) (lines : List Place) : Type 0 where
   pub place : TreeIndex
   pub outer : List TreeIndex
   pub columns : ℕ
   pub spine : r.tree.spine ≡ place ∷ outer
   pub item : body_at r.tree.nodes place.0 ≡ Some (ListItemBody columns)
-  pub ready : ReadyInItem d r.tree e columns lines r.blank
+  pub ready : ReadyInItem d defined r.tree e columns lines r.blank
 
-abbrev pub ReadyWith : Document → Reading → List Place → Option ℕ → Type 0
-ReadyWith d r lines None = ReadyAt d r.tree r.blank Line lines
-ReadyWith d r lines (Some e) = ReadyEmpty d r e lines
+abbrev pub ReadyWith : Document → Tables → Reading → List Place → Option ℕ → Type 0
+ReadyWith d defined r lines None = ReadyAt d defined r.tree r.blank Line lines
+ReadyWith d defined r lines (Some e) = ReadyEmpty d defined r e lines
 
 -- what the pass remembers begins a derivation of the text that goes on with these lines
-unfoldable pub Ready : Document → Reading → List Place → Type 0
-Ready d r lines = ReadyWith d r lines r.empty_item
+unfoldable pub Ready : Document → Tables → Reading → List Place → Type 0
+Ready d defined r lines = ReadyWith d defined r lines r.empty_item
 
 -- no more than so many of the open nodes go on with the first of these lines
 abbrev pub NoMore : Forest Item → ℕ → List Place → Type 0

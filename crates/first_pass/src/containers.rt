@@ -3,6 +3,7 @@
 ghost use Rattle.std.specs.Prelude.{◌≡◌, ℕ, ◌+◌, ◌<◌, ◌≤◌, List, length, drop, Some, None, true, false, MatchOption, IfOk, IfSome, OnOk, IsUtf8, IsCharBoundary};
 ghost use Rattle.first_pass_lines.specs.Rest.{after_columns};
 ghost use Rattle.first_pass_lines.specs.Places.{Place, offset, line_end, start_of, IsPlaceOf};
+ghost use Rattle.first_pass_grammar.specs.Derivation.{Tables};
 ghost use Rattle.first_pass_grammar.specs.Names.{Names, AreNamed};
 ghost use Rattle.first_pass_grammar.specs.Leaves.{Document, document};
 ghost use Rattle.first_pass_grammar.specs.declared.kind.Container.TheVariants.{BlockQuote, ListItem};
@@ -53,10 +54,10 @@ pub(crate) fn close_containers(reading: &mut Reading, kept: usize, ix: usize)
     requires { kept ≤ length reading.old.tree.spine }
     ensures spine { reading.new.tree.spine ≡ outer kept reading.old.tree.spine }
     ensures paths { (s : List TreeIndex) → path_in reading.new.tree.nodes s ≡ path_in reading.old.tree.nodes s }
-    ensures ready { (d : Document) (lines : List Place) → start_of (length d.text) lines ≡ ix
+    ensures ready { (d : Document) (defined : Tables) (lines : List Place) → start_of (length d.text) lines ≡ ix
         → NoMore reading.old.tree kept lines
-        → Ready d reading.old lines
-        → Ready d reading.new lines }
+        → Ready d defined reading.old lines
+        → Ready d defined reading.new lines }
     ensures order { (text : List ℕ) → ix ≤ length text → IsCharBoundary text ix → IsOrderedAt text reading.old ix
         → IsOrderedAt text reading.new ix }
     ensures none_added { length reading.new.tree.nodes ≡ length reading.old.tree.nodes }
@@ -84,12 +85,13 @@ pub(crate) fn enter_line<'a>(
     ensures same_end { IfSome result (λ place. line_end place
         ≡ start_ix + line_len (drop start_ix source.entry.text.now)) }
     ensures no_empty { IfSome result (λ place. reading.new.empty_item ≡ None) }
-    ensures ready { (names : Names) → Ready (document source.entry.text.now source.entry.options names) reading.old
+    ensures ready { (names : Names) (defined : Tables)
+        → Ready (document source.entry.text.now source.entry.options names) defined reading.old
         (lines_from source.entry.text.now start_ix)
         → MatchOption result
-        (Ready (document source.entry.text.now source.entry.options names) reading.new (lines_from source.entry.text.now
-        (start_ix + line_len (drop start_ix source.entry.text.now))))
-        (λ place. ReadyAt (document source.entry.text.now source.entry.options names) reading.new.tree
+        (Ready (document source.entry.text.now source.entry.options names) defined reading.new
+        (lines_from source.entry.text.now (start_ix + line_len (drop start_ix source.entry.text.now))))
+        (λ place. ReadyAt (document source.entry.text.now source.entry.options names) defined reading.new.tree
         reading.new.blank (Inside place)
         (lines_from source.entry.text.now (start_ix + line_len (drop start_ix source.entry.text.now)))) }
     ensures order { IsOrderedFrom source.entry.text.now reading.old start_ix
@@ -128,10 +130,10 @@ pub(crate) fn open_containers<'a>(
     ensures same_end { OnOk result (line_end place.new ≡ line_end place.old) }
     ensures behind { IfOk result (λ answer. IsBehind answer reading.new place.new.rest
         (line_end place.old)) }
-    ensures ready { IfOk result (λ answer. (names : Names) →
-        ReadyAt (document source.entry.text.now source.entry.options names) reading.old.tree reading.old.blank
+    ensures ready { IfOk result (λ answer. (names : Names) (defined : Tables) →
+        ReadyAt (document source.entry.text.now source.entry.options names) defined reading.old.tree reading.old.blank
         (Inside place.old) (lines_from source.entry.text.now (line_end place.old))
-        → ReadyBehind (document source.entry.text.now source.entry.options names) reading.new place.new
+        → ReadyBehind (document source.entry.text.now source.entry.options names) defined reading.new place.new
         (line_end place.old) answer) }
     ensures order { IfOk result (λ answer. IsCharBoundary source.entry.text.now place.old.line
         → IsOrderedTo source.entry.text.now reading.old.tree
@@ -164,10 +166,10 @@ fn open_container<'a>(
     ensures same_end { OnOk result (line_end place.new ≡ line_end place.old) }
     ensures opened { IfOk result (λ answer. IsOpenedAt answer reading.new place.old.rest place.new.rest
         (line_end place.old)) }
-    ensures ready { IfOk result (λ answer. (names : Names) →
-        ReadyAt (document source.entry.text.now source.entry.options names) reading.old.tree reading.old.blank
+    ensures ready { IfOk result (λ answer. (names : Names) (defined : Tables) →
+        ReadyAt (document source.entry.text.now source.entry.options names) defined reading.old.tree reading.old.blank
         (Inside place.old) (lines_from source.entry.text.now (line_end place.old))
-        → ReadyIn (document source.entry.text.now source.entry.options names) reading.new place.new
+        → ReadyIn (document source.entry.text.now source.entry.options names) defined reading.new place.new
         (line_end place.old) answer) }
     ensures order { IfOk result (λ answer. IsCharBoundary source.entry.text.now place.old.line
         → IsOrderedTo source.entry.text.now reading.old.tree

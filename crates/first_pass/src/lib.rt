@@ -3,6 +3,7 @@
 #![tactic(auto)]
 
 pub mod containers;
+mod definition;
 mod interrupt;
 mod laws;
 mod leaf;

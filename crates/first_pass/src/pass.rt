@@ -9,12 +9,12 @@ ghost use Rattle.first_pass_tokens.specs.TreeTokens.{AppendsLine};
 ghost use Rattle.first_pass_grammar.specs.Leaves.{document};
 ghost use Rattle.first_pass_grammar.specs.declared.kind.Container.TheVariants.{BlockQuote};
 ghost use Rattle.first_pass_grammar.specs.Containers.{prefix};
-ghost use Rattle.first_pass_grammar.specs.Derivation.{Derives};
+ghost use Rattle.first_pass_grammar.specs.Derivation.{no_tables, Derives};
 ghost use Rattle.first_pass_grammar.specs.Completion.{lines_from};
 ghost use Rattle.first_pass_text.specs.Appends.{text_upto};
 ghost use Rattle.first_pass_open.specs.OpenBlock.{closed_by};
 ghost use Rattle.first_pass_grammar.specs.Skeleton.{Inside, Line};
-ghost use Rattle.first_pass_grammar.specs.Kinds.{item_at};
+ghost use Rattle.first_pass_grammar.specs.Kinds.{Paragraph, item_at, unindented, IsKind};
 ghost use Rattle.first_pass_text.specs.declared.kinds.Found.TheVariants.{Marked};
 ghost use Rattle.first_pass.specs.Adding.{AddsLeaf};
 ghost use Rattle.first_pass.specs.Opening.{ReadyText, ReadyTagged, OrderedText};
@@ -26,11 +26,12 @@ ghost use Rattle.first_pass_text.specs.Between.{StandsBefore};
 ghost use Rattle.first_pass_grammar.specs.Order.{IsOrdered, GrowsBy, is_task_marker};
 ghost use Rattle.first_pass_grammar.specs.OpenOrder.{IsOrderedTo, is_in_item};
 ghost use Rattle.first_pass.specs.State.{Ready, ReadyAt};
-ghost use Rattle.first_pass_names.specs.TableEntries.{tables, no_tables, names_of};
+ghost use Rattle.first_pass_names.specs.TableEntries.{tables, names_of};
 ghost use Rattle.first_pass_grammar.specs.Names.{Names, Extends, AreNamed};
 ghost use Rattle.first_pass.specs.Views.{allocs_of, reading_of, source_of, source_options, source_text, tree_of};
 
 use crate::containers::{Behind, close_containers, enter_line, open_containers};
+use crate::definition::RunEnd;
 pub use crate::state::FirstPass;
 pub use first_pass_below::below::{count_header_cols, get_html_end_tag};
 use first_pass_below::flank::TableParseMode;
@@ -74,7 +75,7 @@ impl<'a> FirstPass<'a> {
         ensures options { IfOk result (λ pass. (source_options pass) ≡ options) }
         ensures tables { IfOk result (λ pass. tables (allocs_of pass) ≡ no_tables) }
         ensures ready { IfOk result (λ pass. (names : Names)
-            → Ready (document text.now options names) (reading_of pass) (lines_from text.now 0)) }
+            → Ready (document text.now options names) no_tables (reading_of pass) (lines_from text.now 0)) }
         ensures order { IfOk result (λ pass. IsOrderedAt text.now (reading_of pass) 0) }
         ensures root { IfOk result (λ pass. length (tree_of pass).nodes ≡ 1) }
         ensures named { IfOk result (λ pass. AreNamed (names_of (allocs_of pass)) (tree_of pass).nodes) }
@@ -109,13 +110,14 @@ impl<'a> FirstPass<'a> {
         requires boundary { IsCharBoundary (source_text self.old) start_ix }
         ensures source { OnOk result (source_of self.new ≡ source_of self.old) }
         ensures names { OnOk result (Extends (names_of (allocs_of self.new)) (names_of (allocs_of self.old))) }
-        ensures tables { OnOk result (tables (allocs_of self.new) ≡ tables (allocs_of self.old)) }
         ensures later { IfOk result (λ next. (start_ix < next) × (next ≤ length (source_text self.old))) }
         ensures boundary { IfOk result (λ next. IsCharBoundary (source_text self.old) next) }
         ensures ready { IfOk result (λ next. (names : Names) → Extends names (names_of (allocs_of self.new))
-            → Ready (document (source_text self.old) (source_options self.old) names) (reading_of self.old)
+            → Ready (document (source_text self.old) (source_options self.old) names)
+            (tables (allocs_of self.old)) (reading_of self.old)
             (lines_from (source_text self.old) start_ix)
-            → Ready (document (source_text self.old) (source_options self.old) names) (reading_of self.new)
+            → Ready (document (source_text self.old) (source_options self.old) names)
+            (tables (allocs_of self.new)) (reading_of self.new)
             (lines_from (source_text self.old) next)) }
         ensures order { IfOk result (λ next. IsOrderedFrom (source_text self.old) (reading_of self.old) start_ix
             → IsOrderedFrom (source_text self.old) (reading_of self.new) next) }
@@ -150,7 +152,8 @@ impl<'a> FirstPass<'a> {
         requires boundary { IsCharBoundary (source_text self.old) start }
         requires no_empty { (reading_of self.old).empty_item ≡ None }
         ensures read { IfOk result (λ next. WentOn self.old self.new start (λ names.
-            ReadyTagged (document (source_text self.old) (source_options self.old) names) (reading_of self.old)
+            ReadyTagged (document (source_text self.old) (source_options self.old) names)
+            (tables (allocs_of self.old)) (reading_of self.old)
             (lines_from (source_text self.old) start))
             (IsOrderedTo (source_text self.old) (tree_of self.old) start) next) }
         ensures few { IfOk result (λ next. GrowsBy start next (tree_of self.old).nodes
@@ -174,7 +177,8 @@ impl<'a> FirstPass<'a> {
         requires item { is_in_item (tree_of self.old) ≡ true }
         requires no_empty { (reading_of self.old).empty_item ≡ None }
         ensures read { IfOk result (λ next. WentOn self.old self.new (line_end place.entry) (λ names.
-            ReadyText (document (source_text self.old) (source_options self.old) names) (reading_of self.old) marker
+            ReadyText (document (source_text self.old) (source_options self.old) names)
+            (tables (allocs_of self.old)) (reading_of self.old) marker
             place.entry (lines_from (source_text self.old) (line_end place.entry)))
             (OrderedText (source_text self.old) (tree_of self.old) marker (offset place.entry)) next) }
         ensures few { IfOk result (λ next. (from : ℕ) → StandsBefore (source_text self.old) from
@@ -230,8 +234,7 @@ impl<'a> FirstPass<'a> {
                 Ok(next_line(self.source.text.as_bytes(), at))
             }
             Found::Paragraph => {
-                self.reading.finish_list(at);
-                let next = self.parse_paragraph(at, None)?;
+                let next = self.parse_text(place, at)?;
                 Ok(next)
             }
             Found::HtmlToBlank => {
@@ -242,6 +245,32 @@ impl<'a> FirstPass<'a> {
             Found::Marked(leaf) => {
                 self.reading.finish_list(place.line);
                 let next = self.parse_marked(place, leaf, columns, at)?;
+                Ok(next)
+            }
+        }
+    }
+
+    // Reads the link definitions at a place whose text begins at the offset `at`, and the paragraph that they flow
+    // into, or the paragraph that begins there; answers as `parse_block`.
+    fn parse_text(&mut self, place: Place<'a>, at: usize) -> Result<usize, AllocError>
+        requires utf8 { IsUtf8 (source_text self.old) }
+        requires place { IsPlaceOf (source_text self.old) place }
+        requires no_empty { (reading_of self.old).empty_item ≡ None }
+        requires kind { IsKind (source_options self.old) place.rest Paragraph }
+        requires at { at ≡ offset (unindented place) }
+        ensures read { IfOk result (λ next. ReadsLeaf self.old self.new place.entry next) }
+        ensures few { IfOk result (λ next. GrowsBy (offset place.entry) next (tree_of self.old).nodes
+            (tree_of self.new).nodes) }
+    {
+        self.reading.tree.is_forest();
+        match self.parse_definitions(place.line, at)? {
+            RunEnd::NextLine(line, next) => {
+                self.reading.finish_list(line);
+                Ok(next)
+            }
+            RunEnd::Paragraph(text) => {
+                self.reading.finish_list(text);
+                let next = self.parse_paragraph(text, None)?;
                 Ok(next)
             }
         }

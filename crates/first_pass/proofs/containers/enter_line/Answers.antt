@@ -15,27 +15,27 @@ use Rattle.first_pass.proofs.LineLemmas.{at_line, blank_line_read, line_entered,
 use Rattle.first_pass.proofs.containers.enter_line.Goals as goal
 
 pub returns-then-is_some-clause-ready : goal.returns-then-is_some-clause-ready
-returns-then-is_some-clause-ready c = λ names.
+returns-then-is_some-clause-ready c = λ names defined.
     let source = c.args.source in
     let d = document source.text.now source.options names in
     let line = c.new-line_start.ensures ∙ ap line_rest (c.rest_of.ensures.value ∙ ap (drop c.args.start_ix) c.as_bytes.ensures.value) in
     let closed : Reading = c.close_containers.new.reading in
-    let at = at_line d c.args.reading.now closed c.args.start_ix c.scan_containers-kept.result c.new-line_start.result c.scan_containers-kept.new.line_start
-    line c.requires.within c.close_containers.ensures.spine c.close_containers.ensures.paths c.close_containers.ensures.ready c.scan_containers-kept.ensures.taken c.scan_containers-kept.ensures.stops in
+    let at = at_line d defined c.args.reading.now closed c.args.start_ix c.scan_containers-kept.result c.new-line_start.result c.scan_containers-kept.new.line_start
+    line c.requires.within c.close_containers.ensures.spine c.close_containers.ensures.paths (λ e lines. c.close_containers.ensures.ready e defined lines) c.scan_containers-kept.ensures.taken c.scan_containers-kept.ensures.stops in
     let blank = ap (λ bs. is_some (blank_len bs)) (sym c.left.ensures) ∙ ap is_some (sym c.scan_blank_line.ensures.value) ∙ sym c.is_some.ensures ∙ c.if-is_some.true in
-    λ ready. subst (λ q. Ready d q (lines_from source.text.now (c.args.start_ix + line_len (drop c.args.start_ix source.text.now)))) (sym c.read_blank_line.ensures) (blank_line_read d _ closed c.args.start_ix _ at blank ready)
+    λ ready. subst (λ q. Ready d defined q (lines_from source.text.now (c.args.start_ix + line_len (drop c.args.start_ix source.text.now)))) (sym c.read_blank_line.ensures) (blank_line_read d defined _ closed c.args.start_ix _ at blank ready)
 
 pub returns-clause-ready : goal.returns-clause-ready
-returns-clause-ready c = λ names.
+returns-clause-ready c = λ names defined.
     let source = c.args.source in
     let d = document source.text.now source.options names in
     let line = c.new-line_start.ensures ∙ ap line_rest (c.rest_of.ensures.value ∙ ap (drop c.args.start_ix) c.as_bytes.ensures.value) in
     let closed : Reading = c.close_containers.new.reading in
-    let at = at_line d c.args.reading.now closed c.args.start_ix c.scan_containers-kept.result c.new-line_start.result c.scan_containers-kept.new.line_start
-    line c.requires.within c.close_containers.ensures.spine c.close_containers.ensures.paths c.close_containers.ensures.ready c.scan_containers-kept.ensures.taken c.scan_containers-kept.ensures.stops in
+    let at = at_line d defined c.args.reading.now closed c.args.start_ix c.scan_containers-kept.result c.new-line_start.result c.scan_containers-kept.new.line_start
+    line c.requires.within c.close_containers.ensures.spine c.close_containers.ensures.paths (λ e lines. c.close_containers.ensures.ready e defined lines) c.scan_containers-kept.ensures.taken c.scan_containers-kept.ensures.stops in
     let blank = ap (λ bs. is_some (blank_len bs)) (sym c.left.ensures) ∙ ap is_some (sym c.scan_blank_line.ensures.value) ∙ sym c.is_some.ensures ∙ c.if-is_some.false in
-    λ ready. subst (λ (q : Reading). ReadyAt d q.tree q.blank (Inside (place_at c.args.start_ix c.scan_containers-kept.new.line_start)) (lines_from source.text.now (c.args.start_ix + line_len (drop c.args.start_ix source.text.now))))
-    (sym c.finish_empty_list_item.ensures) (line_entered d _ closed c.args.start_ix _ at blank ready)
+    λ ready. subst (λ (q : Reading). ReadyAt d defined q.tree q.blank (Inside (place_at c.args.start_ix c.scan_containers-kept.new.line_start)) (lines_from source.text.now (c.args.start_ix + line_len (drop c.args.start_ix source.text.now))))
+    (sym c.finish_empty_list_item.ensures) (line_entered d defined _ closed c.args.start_ix _ at blank ready)
 
 pub returns-clause-place : goal.returns-clause-place
 returns-clause-place c =

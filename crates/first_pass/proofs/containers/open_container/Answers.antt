@@ -74,7 +74,7 @@ opened_is c =
     ∙ ap (λ n. item_opened n c.in-Some.item.byte c.in-Some.item.number c.in-Some.item.indent c.args.reading.now) (c.offset-before.ensures ∙ ap offset (sym c.place.view_is))
 
 pub returns-then-is_none-clause-ready : goal.returns-then-is_none-clause-ready
-returns-then-is_none-clause-ready c = rw (← c.place.view_is, c.scan_task-marker.ensures.place) (λ names.
+returns-then-is_none-clause-ready c = rw (← c.place.view_is, c.scan_task-marker.ensures.place) (λ names defined.
     let source = c.args.source in
     let d = document source.text.now source.options names in
     let p = place_at c.place.inside.line c.place.inside.rest in
@@ -83,10 +83,10 @@ returns-then-is_none-clause-ready c = rw (← c.place.view_is, c.scan_task-marke
     let none = c.is_none.ensures in
     let yes = c.if-is_none.true in
     let blank : is_blank_rest rest ≡ false = ap (λ bs. is_some (blank_len bs)) (sym (c.left.ensures ∙ ap (λ (p : Place). p.rest.left) c.scan_task-marker.ensures.place)) ∙ ap is_some (sym c.scan_blank_line.ensures.value) ∙ none ∙ ap not yes in
-    λ ready. let done = ready_item d c.args.reading.now p (lines_from source.text.now (line_end p)) item c.scan_task-marker.result rest c.is_forest.ensures (taken c) (task c) blank c.requires.no_empty ready in
-    subst (λ o. ReadyIn d c.open_item.new.self (place_at c.place.inside.line rest) (line_end p) o) (sym c.behind_marker.ensures)
-    (subst (λ (q : Reading). ReadyIn d q (place_at c.place.inside.line rest) (line_end p) (task_text c.scan_task-marker.result)) (sym (opened_is c))
-    (ready_behind d (item_opened (offset p) c.in-Some.item.byte c.in-Some.item.number c.in-Some.item.indent c.args.reading.now) (place_at c.place.inside.line rest) (line_end p) c.scan_task-marker.result done)))
+    λ ready. let done = ready_item d defined c.args.reading.now p (lines_from source.text.now (line_end p)) item c.scan_task-marker.result rest c.is_forest.ensures (taken c) (task c) blank c.requires.no_empty ready in
+    subst (λ o. ReadyIn d defined c.open_item.new.self (place_at c.place.inside.line rest) (line_end p) o) (sym c.behind_marker.ensures)
+    (subst (λ (q : Reading). ReadyIn d defined q (place_at c.place.inside.line rest) (line_end p) (task_text c.scan_task-marker.result)) (sym (opened_is c))
+    (ready_behind d defined (item_opened (offset p) c.in-Some.item.byte c.in-Some.item.number c.in-Some.item.indent c.args.reading.now) (place_at c.place.inside.line rest) (line_end p) c.scan_task-marker.result done)))
 
 -- the item that is taken, where its line ends behind it
 taken_whole : (c : goal.After-as_bytes) → item_at c.place.inside.rest ≡ Some ((c.in-Some.item.byte, c.in-Some.item.number, c.in-Some.item.indent), c.scan_item.new.line_start)
@@ -128,7 +128,7 @@ pub returns-in-Some-clause-opened : goal.returns-in-Some-clause-opened
 returns-in-Some-clause-opened c = rw (← c.place.view_is) (next_is c)
 
 pub returns-in-Some-clause-ready : goal.returns-in-Some-clause-ready
-returns-in-Some-clause-ready c = rw (← c.place.view_is) (λ names.
+returns-in-Some-clause-ready c = rw (← c.place.view_is) (λ names defined.
     let source = c.args.source in
     let text = source.text.now in
     let d = document text source.options names in
@@ -146,10 +146,10 @@ returns-in-Some-clause-ready c = rw (← c.place.view_is) (λ names.
     let task = both marker rest (task_behind c.args.source.options c.place.inside.line c.scan_item.new.line_start) c.scan_task-marker.ensures.marker refl in
     let now : c.open_item.new.self ≡ item_opened (offset p) c.in-Some.item.byte c.in-Some.item.number c.in-Some.item.indent old =
     c.in_ok-open_item.ensures ∙ ap (λ n. item_opened n c.in-Some.item.byte c.in-Some.item.number c.in-Some.item.indent old) (c.offset-before.ensures ∙ ap offset (sym c.place.view_is)) in
-    λ ready. subst (λ n. Ready d (remembered c.append_item.new.tree (Some c.next_line-next.result) c.open_item.new.self.blank) (lines_from text n)) (sym next)
-    (subst (λ t. Ready d (remembered t (Some c.next_line-next.result) c.open_item.new.self.blank) (lines_from text (line_end p))) (sym c.in_ok-append_item.ensures)
-    (subst (λ (q : Reading). Ready d (empty_item_read q marker c.next_line-next.result) (lines_from text (line_end p))) (sym now)
-    (ready_empty_item d old p (lines_from text (line_end p)) item marker rest c.next_line-next.result c.is_forest.ensures (taken_empty c) task blank first c.requires.no_empty ready))))
+    λ ready. subst (λ n. Ready d defined (remembered c.append_item.new.tree (Some c.next_line-next.result) c.open_item.new.self.blank) (lines_from text n)) (sym next)
+    (subst (λ t. Ready d defined (remembered t (Some c.next_line-next.result) c.open_item.new.self.blank) (lines_from text (line_end p))) (sym c.in_ok-append_item.ensures)
+    (subst (λ (q : Reading). Ready d defined (empty_item_read q marker c.next_line-next.result) (lines_from text (line_end p))) (sym now)
+    (ready_empty_item d defined old p (lines_from text (line_end p)) item marker rest c.next_line-next.result c.is_forest.ensures (taken_empty c) task blank first c.requires.no_empty ready))))
 
 -- no item, but a block quote
 quote_here : (old mid new : Rest) (found : Option ListMarker) (width : Option ℕ) (at : ℕ) → found ≡ None → MatchOption (item_at old) ((found ≡ None) × (mid ≡ old)) (λ item. (found ≡ Some (marker_of item.0)) × (mid ≡ item.1)) → width ≡ Some at
@@ -181,7 +181,7 @@ no_kind None h = refl
 no_kind (Some kind) h = cc
 
 pub returns-then-is_none-2-clause-ready : goal.returns-then-is_none-2-clause-ready
-returns-then-is_none-2-clause-ready c = rw (← c.place.view_is) (λ names.
+returns-then-is_none-2-clause-ready c = rw (← c.place.view_is) (λ names defined.
     let source = c.args.source in
     let d = document source.text.now source.options names in
     let p = place_at c.place.inside.line c.place.inside.rest in
@@ -190,8 +190,8 @@ returns-then-is_none-2-clause-ready c = rw (← c.place.view_is) (λ names.
     let none = no_kind c.scan_tag-tag.result c.if-is_none-2.ensures in
     let now : c.open_quote.new.self ≡ begun (quote_start p) (BlockQuoteBody None) (list_finished c.place.inside.line old) =
     c.in_ok-open_quote.ensures ∙ ap (λ n. begun (c.place.inside.line + n) (BlockQuoteBody c.scan_tag-tag.result) (list_finished c.place.inside.line old)) (quote_is c).2 ∙ ap (λ k. begun (quote_start p) (BlockQuoteBody k) (list_finished c.place.inside.line old)) none in
-    λ ready. subst (λ (q : Reading). ReadyAt d q.tree q.blank (Inside (place_at c.place.inside.line inside)) (lines_from source.text.now (line_end p))) (sym now)
-    (ready_quote d old p (lines_from source.text.now (line_end p)) inside c.is_forest.ensures (quote_is c).0 (quote_is c).1 (sym c.scan_tag-tag.ensures ∙ none) c.requires.no_empty ready))
+    λ ready. subst (λ (q : Reading). ReadyAt d defined q.tree q.blank (Inside (place_at c.place.inside.line inside)) (lines_from source.text.now (line_end p))) (sym now)
+    (ready_quote d defined old p (lines_from source.text.now (line_end p)) inside c.is_forest.ensures (quote_is c).0 (quote_is c).1 (sym c.scan_tag-tag.ensures ∙ none) c.requires.no_empty ready))
 
 -- a block quote with a tag
 tagged_at : (c : goal.After-as_bytes-in-Some-scan_quote) → prefix (BlockQuote None) c.place.inside.rest ≡ Some c.scan_quote.new.line_start
@@ -239,7 +239,7 @@ some_kind None h = cc
 some_kind (Some kind) h = (kind, refl)
 
 pub returns-in-Some-scan_quote-clause-ready : goal.returns-in-Some-scan_quote-clause-ready
-returns-in-Some-scan_quote-clause-ready c = rw (← c.place.view_is) (λ names.
+returns-in-Some-scan_quote-clause-ready c = rw (← c.place.view_is) (λ names defined.
     let source = c.args.source in
     let d = document source.text.now source.options names in
     let p = place_at c.place.inside.line c.place.inside.rest in
@@ -248,9 +248,9 @@ returns-in-Some-scan_quote-clause-ready c = rw (← c.place.view_is) (λ names.
     let tag = some_kind c.scan_tag-tag.result c.if-is_none-2.ensures in
     let now : c.open_quote.new.self ≡ begun (quote_start p) (BlockQuoteBody (Some tag.0)) (list_finished c.place.inside.line old) =
     c.in_ok-open_quote.ensures ∙ ap (λ n. begun (c.place.inside.line + n) (BlockQuoteBody c.scan_tag-tag.result) (list_finished c.place.inside.line old)) (tagged_is c).2 ∙ ap (λ k. begun (quote_start p) (BlockQuoteBody k) (list_finished c.place.inside.line old)) tag.1 in
-    λ ready. subst (λ n. ReadyTagged d c.open_quote.new.self (lines_from source.text.now n)) (sym (tag_line_end c))
-    (subst (λ (q : Reading). ReadyTagged d q (lines_from source.text.now (line_end p))) (sym now)
-    (ready_tagged d old p (lines_from source.text.now (line_end p)) inside tag.0 c.is_forest.ensures (tagged_is c).0 (tagged_is c).1 (sym c.scan_tag-tag.ensures ∙ tag.1) c.requires.no_empty ready)))
+    λ ready. subst (λ n. ReadyTagged d defined c.open_quote.new.self (lines_from source.text.now n)) (sym (tag_line_end c))
+    (subst (λ (q : Reading). ReadyTagged d defined q (lines_from source.text.now (line_end p))) (sym now)
+    (ready_tagged d defined old p (lines_from source.text.now (line_end p)) inside tag.0 c.is_forest.ensures (tagged_is c).0 (tagged_is c).1 (sym c.scan_tag-tag.ensures ∙ tag.1) c.requires.no_empty ready)))
 
 pub returns-then-is_none-clause-order : goal.returns-then-is_none-clause-order
 returns-then-is_none-clause-order c = rw (← c.place.view_is, c.scan_task-marker.ensures.place) (

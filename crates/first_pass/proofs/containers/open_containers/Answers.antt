@@ -9,16 +9,16 @@ use Rattle.first_pass.specs.Opening.{ReadyIn, ReadyBehind, GrowsIn}
 use Rattle.first_pass.proofs.containers.open_containers.Goals as goal
 
 pub returns-in-Some-clause-ready : goal.returns-in-Some-clause-ready
-returns-in-Some-clause-ready c = λ names ready.
+returns-in-Some-clause-ready c = λ names defined ready.
     let text = c.args.source.text.now in
     let d = document text c.args.source.options names in
     let l = c.loop-behind in
     let e = l.invariant.same_end in
     let p = c.open_container.new.place in
-    let before = subst (λ (n : ℕ). ReadyAt d l.reading.tree l.reading.blank (Inside l.place) (lines_from text n)) (sym e) (l.invariant.ready names ready) in
+    let before = subst (λ (n : ℕ). ReadyAt d defined l.reading.tree l.reading.blank (Inside l.place) (lines_from text n)) (sym e) (l.invariant.ready names defined ready) in
     let is : c.in_ok-behind.field-0 ≡ Some c.in-Some.behind = cc in
-    subst (λ (n : ℕ). ReadyBehind d c.open_container.new.reading p n c.in-Some.behind) e
-    (subst (λ o. ReadyIn d c.open_container.new.reading p (line_end l.place) o) is (c.in_ok-behind.ensures.ready names before))
+    subst (λ (n : ℕ). ReadyBehind d defined c.open_container.new.reading p n c.in-Some.behind) e
+    (subst (λ o. ReadyIn d defined c.open_container.new.reading p (line_end l.place) o) is (c.in_ok-behind.ensures.ready names defined before))
 
 pub returns-in-Some-clause-few : goal.returns-in-Some-clause-few
 returns-in-Some-clause-few c =

@@ -2,6 +2,7 @@ use Rattle.std.proofs.Common.{◌≡◌, length, None, IsCharBoundary}
 use Rattle.first_pass_lines.specs.Places.{offset, line_end, IsPlaceOf}
 use Rattle.first_pass_grammar.specs.Names.{Names, AreNamed}
 use Rattle.first_pass_grammar.specs.Leaves.{document}
+use Rattle.first_pass_grammar.specs.Derivation.{Tables}
 use Rattle.first_pass_grammar.specs.Skeleton.{Inside}
 use Rattle.first_pass_grammar.specs.Completion.{lines_from}
 use Rattle.first_pass_grammar.specs.Order.{GrowsBy}
@@ -17,8 +18,8 @@ invariant-loop-behind l = record {
   same_line : l.place.line ≡ l.fn.place.line;
   same_end : line_end l.place ≡ line_end l.fn.place;
   no_empty : l.reading.empty_item ≡ None;
-  ready : (names : Names) → ReadyAt (document l.source.text.now l.source.options names) l.initial.reading.tree l.initial.reading.blank (Inside l.fn.place) (lines_from l.source.text.now (line_end l.fn.place))
-      → ReadyAt (document l.source.text.now l.source.options names) l.reading.tree l.reading.blank (Inside l.place) (lines_from l.source.text.now (line_end l.fn.place));
+  ready : (names : Names) (defined : Tables) → ReadyAt (document l.source.text.now l.source.options names) defined l.initial.reading.tree l.initial.reading.blank (Inside l.fn.place) (lines_from l.source.text.now (line_end l.fn.place))
+      → ReadyAt (document l.source.text.now l.source.options names) defined l.reading.tree l.reading.blank (Inside l.place) (lines_from l.source.text.now (line_end l.fn.place));
   order : IsCharBoundary l.source.text.now l.fn.place.line → IsOrderedTo l.source.text.now l.initial.reading.tree (line_or l.initial.reading.tree l.fn.place.line (offset l.fn.place))
       → IsOrderedTo l.source.text.now l.reading.tree (line_or l.reading.tree l.place.line (offset l.place));
   named : (names : Names) → AreNamed names l.initial.reading.tree.nodes → AreNamed names l.reading.tree.nodes;

@@ -4,12 +4,11 @@ use Rattle.first_pass_lines.proofs.LineFacts.{lines_at-end}
 use Rattle.first_pass_grammar.specs.Leaves.{document}
 use Rattle.first_pass_items.specs.declared.option_set.Options.{Options}
 use Rattle.first_pass_grammar.specs.Completion.{lines_from}
-use Rattle.first_pass_grammar.specs.Derivation.{Derives}
 use Rattle.first_pass_lists.specs.declared.reading.Reading.{Reading}
 use Rattle.first_pass_open.specs.declared.source.Source.{Source}
 use Rattle.first_pass.specs.Ordered.{reached, IsOrderedAt, IsOrderedFrom}
 use Rattle.first_pass.specs.State.{Ready}
-use Rattle.first_pass_names.specs.TableEntries.{names_of}
+use Rattle.first_pass_names.specs.TableEntries.{tables, names_of}
 use Rattle.first_pass.proofs.OrderLemmas.{ordered_whole}
 use Rattle.first_pass_open.proofs.FrontLemmas.{outer-none}
 use Rattle.first_pass.proofs.StateLemmas.{ready_finish}
@@ -20,9 +19,8 @@ pub loop-ix-init : goal.loop-ix-init
 loop-ix-init c = record {
   same_text = c.in_ok-pass.ensures.text;
   same_options = c.in_ok-pass.ensures.options;
-  none = c.in_ok-pass.ensures.tables;
   boundary = IsCharBoundary-start c.args.text.now c.utf8.text;
-  ready = λ names more. c.in_ok-pass.ensures.ready names;
+  ready = λ names more. subst (λ z. Ready (document c.args.text.now c.args.options names) z c.in_ok-pass.pass.reading (lines_from c.args.text.now 0)) (sym c.in_ok-pass.ensures.tables) (c.in_ok-pass.ensures.ready names);
   order = inl c.in_ok-pass.ensures.order;
   named = c.in_ok-pass.ensures.named;
   few = (let root = c.in_ok-pass.ensures.root in omega arith);
@@ -43,10 +41,9 @@ loop-ix-preserved c =
     record {
       same_text = ap (λ (z : Source). z.text.now) e.source ∙ i.same_text;
       same_options = ap (λ (z : Source). z.options) e.source ∙ i.same_options;
-      none = e.tables ∙ i.none;
       boundary = subst (λ t. IsCharBoundary t next) i.same_text e.boundary;
       ready = λ names more.
-          subst (λ (z : List ℕ × Options). Ready (document z.0 z.1 names) before (lines_from z.0 c.loop-ix.ix) → Ready (document z.0 z.1 names) behind (lines_from z.0 next)) (both_same i.same_text i.same_options) (e.ready names more)
+          subst (λ (z : List ℕ × Options). Ready (document z.0 z.1 names) (tables pass.allocs) before (lines_from z.0 c.loop-ix.ix) → Ready (document z.0 z.1 names) (tables new.allocs) behind (lines_from z.0 next)) (both_same i.same_text i.same_options) (e.ready names more)
           (i.ready names (extends_both names (names_of new.allocs) (names_of pass.allocs) more e.names));
       order = subst (λ t. IsOrderedFrom t before c.loop-ix.ix → IsOrderedFrom t behind next) i.same_text e.order i.order;
       named = e.named i.named;
@@ -68,10 +65,9 @@ returns-clause-derived c =
     let d = document c.args.text.now c.args.options names in
     let i = c.loop-ix.invariant in
     let now = c.close_containers.new.reading in
-    let none = i.none in
-    let here = subst (Ready d c.loop-ix.pass.reading) (lines_at-end c.args.text.now c.loop-ix.ix c.loop-ix-test.false) (i.ready names (extends_equal _ _ refl)) in
-    let closed : Ready d now [] = c.close_containers.ensures.ready d [] refl (λ m low high. tt) here in
-    subst (Derives d c.close_containers.new.reading.tree.nodes) (sym none) (ready_finish d now (all_closed c) closed)
+    let here = subst (Ready d (tables c.loop-ix.pass.allocs) c.loop-ix.pass.reading) (lines_at-end c.args.text.now c.loop-ix.ix c.loop-ix-test.false) (i.ready names (extends_equal _ _ refl)) in
+    let closed : Ready d (tables c.loop-ix.pass.allocs) now [] = c.close_containers.ensures.ready d (tables c.loop-ix.pass.allocs) [] refl (λ m low high. tt) here in
+    ready_finish d (tables c.loop-ix.pass.allocs) now (all_closed c) closed
 
 pub returns-clause-finished : goal.returns-clause-finished
 returns-clause-finished c = all_closed c

@@ -4,7 +4,7 @@ use Rattle.first_pass_grammar.specs.Leaves.{document}
 use Rattle.first_pass_grammar.specs.Completion.{lines_from}
 use Rattle.first_pass.specs.Ordered.{IsOrderedFrom}
 use Rattle.first_pass.specs.State.{Ready}
-use Rattle.first_pass_names.specs.TableEntries.{tables, no_tables, names_of}
+use Rattle.first_pass_names.specs.TableEntries.{tables, names_of}
 use Rattle.first_pass.proofs.pass.run_first_pass.Given as goal
 
 -- the blocks are read up to here
@@ -12,9 +12,8 @@ abbrev pub invariant-loop-ix : goal.invariant-loop-ix
 invariant-loop-ix l = record {
   same_text : l.pass.source.text.now ≡ l.text;
   same_options : l.pass.source.options ≡ l.fn.options;
-  none : tables l.pass.allocs ≡ no_tables;
   boundary : IsCharBoundary l.text l.ix;
-  ready : (names : Names) → Extends names (names_of l.pass.allocs) → Ready (document l.text l.fn.options names) l.pass.reading (lines_from l.text l.ix);
+  ready : (names : Names) → Extends names (names_of l.pass.allocs) → Ready (document l.text l.fn.options names) (tables l.pass.allocs) l.pass.reading (lines_from l.text l.ix);
   order : IsOrderedFrom l.text l.pass.reading l.ix;
   named : AreNamed (names_of l.pass.allocs) l.pass.reading.tree.nodes;
   few : length l.pass.reading.tree.nodes ≤ 1 + 4 * l.ix;

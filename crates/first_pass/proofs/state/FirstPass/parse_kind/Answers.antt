@@ -1,34 +1,31 @@
-use Rattle.std.proofs.Common.{◌≡◌, ◌≤◌, inl, inr, ℕ, [], ◌++◌, length, drop, IsCharBoundary, None, false, refl, sym, ap, subst, ◌∙◌, arith}
+use Rattle.std.proofs.Common.{◌≡◌, ◌≤◌, inl, length, drop, IsCharBoundary, false, refl, sym, ap, subst, ◌∙◌, arith}
 use Rattle.std.proofs.Math.Nat.{zero-max}
 use Rattle.first_pass_lines.specs.Places.{offset, line_end, Place}
-use Rattle.first_pass_grammar.specs.Leaves.{document, paragraph_block, marker_items}
+use Rattle.first_pass_grammar.specs.Leaves.{document}
 use Rattle.first_pass_grammar.specs.Completion.{lines_from}
-use Rattle.first_pass_text.specs.Appends.{line_end_at, AddsParagraph}
+use Rattle.first_pass_text.specs.Appends.{line_end_at}
 use Rattle.first_pass_lists.specs.Closing.{list_finished, blank_read}
 use Rattle.first_pass_lists.specs.declared.reading.Reading.{Reading}
 use Rattle.first_pass.specs.Opening.{line_or}
 use Rattle.first_pass.specs.Ordered.{IsOrderedAt}
 use Rattle.first_pass_text.specs.Found.{IsFoundAt, kind_of, marked_kind}
 use Rattle.first_pass_text.specs.declared.kinds.MarkedLeaf.{MarkedLeaf}
-use Rattle.first_pass_text.specs.Between.{AddsBetween}
 use Rattle.first_pass.specs.State.{Ready}
 use Rattle.first_pass_open.proofs.PlaceLemmas.{all_keep, place_end}
 use Rattle.first_pass.proofs.OrderLemmas.{ordered_none, ordered_blank_read}
 use Rattle.first_pass.proofs.LineLemmas.{list_finished_none}
-use Rattle.first_pass.proofs.OrderSteps.{line_or-below, ordered_finished, ordered_leaf, unindented_later, place_before_end}
-use Rattle.first_pass.proofs.LeafLemmas.{ready_blank_leaf, ready_paragraph, line_end_of}
+use Rattle.first_pass.proofs.OrderSteps.{line_or-below, ordered_finished, unindented_later, place_before_end}
+use Rattle.first_pass.proofs.LeafLemmas.{ready_blank_leaf, line_end_of}
 use Rattle.first_pass_text.proofs.KindLemmas.{Says, kind_says}
-use Rattle.first_pass_grammar.proofs.NoIndex.{paragraph_free}
-use Rattle.first_pass_grammar.proofs.NamedItems.{paragraph_named as text_named}
 use Rattle.first_pass.proofs.NamedLemmas.{AreReadNamed, blank_named, block_added, list_finished_named, kind_named}
-use Rattle.first_pass.proofs.KindBlocks.{marked_some, marked_other, paragraph_named, columns_are, html_blank_added, AddsHtml, ready_kind}
+use Rattle.first_pass.proofs.KindBlocks.{marked_some, marked_other, columns_are, html_blank_added, AddsHtml, ready_kind}
 use Rattle.first_pass.proofs.HandedOn.{list_finished_blank}
 use Rattle.first_pass.specs.Adding.{AddsLeaf}
-use Rattle.first_pass_names.specs.TableEntries.{names_of, no_names, tables}
+use Rattle.first_pass_names.specs.TableEntries.{names_of, tables}
 use Rattle.first_pass_raw.specs.RawBlocks.{IsPlaceAt, behind_line_at}
-use Rattle.first_pass_grammar.specs.Kinds.{HtmlToBlank, Paragraph, unindented, IsKind}
-use Rattle.first_pass.proofs.CountLemmas.{count, list_finished_count, blank_count, block_count, leaf_left, left_before}
-use Rattle.first_pass_names.proofs.NameLemmas.{extends_none, extends_equal}
+use Rattle.first_pass_grammar.specs.Kinds.{HtmlToBlank, unindented, IsKind}
+use Rattle.first_pass.proofs.CountLemmas.{count, list_finished_count, blank_count, leaf_left, left_before}
+use Rattle.first_pass_names.proofs.NameLemmas.{extends_none}
 use Rattle.first_pass.proofs.LeafAdded.{found_boundary}
 use Rattle.first_pass.proofs.LeafRead.{leaf_read}
 use Rattle.first_pass.proofs.state.FirstPass.parse_kind.Goals as goal
@@ -59,62 +56,14 @@ returns-in-Blank c =
       read = record {
         source = refl;
         names = extends_none _;
-        tables = refl;
         later = omega arith;
         boundary = last;
         ready = λ names more ready. let d = document text self.source.options names in
-            subst (λ q. Ready d q (lines_from text next)) (sym c.read_blank_line.ensures) (subst (λ n. Ready d (blank_read old) (lines_from text n)) (sym ends)
-            (ready_blank_leaf d old p (lines_from text (line_end p)) (subst (IsKind self.source.options p.rest) (ap kind_of c.in-Blank.is) c.requires.found.kind) c.requires.no_empty ready));
+            subst (λ q. Ready d (tables self.allocs) q (lines_from text next)) (sym c.read_blank_line.ensures) (subst (λ n. Ready d (tables self.allocs) (blank_read old) (lines_from text n)) (sym ends)
+            (ready_blank_leaf d (tables self.allocs) old p (lines_from text (line_end p)) (subst (IsKind self.source.options p.rest) (ap kind_of c.in-Blank.is) c.requires.found.kind) c.requires.no_empty ready));
         named = λ h. subst (AreReadNamed (names_of self.allocs)) (sym c.read_blank_line.ensures) (blank_named (names_of self.allocs) old h);
         order = λ o. inl (subst (λ (q : Reading). IsOrderedAt text q next) (sym c.read_blank_line.ensures)
             (ordered_blank_read text old from next (omega arith) high (ordered_none text old from c.requires.no_empty (omega arith) o.1)));
-      };
-      few = omega arith;
-    }
-
-pub parse_paragraph-requires-clause-boundary : goal.parse_paragraph-requires-clause-boundary
-parse_paragraph-requires-clause-boundary c = found_boundary _ _ _ c.requires.utf8 c.requires.place c.requires.found.at_is
-
-pub returns-in_ok-next-in-Paragraph : goal.returns-in_ok-next-in-Paragraph
-returns-in_ok-next-in-Paragraph c =
-    let self = c.args.self.now in
-    let text = self.source.text.now in
-    let options = self.source.options in
-    let p = c.args.place in
-    let at = c.args.at in
-    let old : Reading = self.reading in
-    let rem = c.finish_list.ensures in
-    let new = c.parse_paragraph.new.self in
-    let next = c.in_ok-next-in-Paragraph.next in
-    let e = c.in_ok-next-in-Paragraph.ensures in
-    let kind = subst (IsKind options p.rest) (ap kind_of c.in-Paragraph.is) c.requires.found.kind in
-    let i = all_keep text p.line p.rest c.requires.utf8 c.requires.place in
-    let there = c.requires.found.at_is in
-    let low = unindented_later text p.line p.rest c.requires.utf8 c.requires.place in
-    let begins = found_boundary text p at c.requires.utf8 c.requires.place there in
-    let block : AddsParagraph (document text options no_names) at None (list_finished at old).tree new.reading.tree next =
-    subst (λ (r : Reading). AddsParagraph (document text options no_names) at None r.tree new.reading.tree next) rem e.block in
-    let none = ap (λ (r : Reading). r.empty_item) e.reading in
-    let blank = ap (λ (r : Reading). r.blank) e.reading ∙ ap (λ (r : Reading). r.blank) rem ∙ list_finished_blank at old in
-    let fits : (from : ℕ) → from ≤ at → AddsBetween text from next (list_finished at old).tree new.reading.tree =
-    λ from before. subst (λ (r : Reading). AddsBetween text from next r.tree new.reading.tree) rem (e.fits tt from before) in
-    let ends = ap (line_end_at text) there ∙ line_end_of text p i in
-    let later = block.later in
-    let some = left_before p (leaf_left options p.rest Paragraph kind (λ b. cc)) in
-    let grows = block_count text (offset p) next (list_finished at old).tree new.reading.tree (fits (offset p) (omega arith)) (omega arith) in
-    let same = list_finished_count at old in
-    record {
-      read = record {
-        source = e.source;
-        names = extends_equal _ _ (ap names_of e.allocs);
-        tables = ap tables e.allocs;
-        later = omega arith;
-        boundary = block.boundary;
-        ready = λ names more ready. ready_paragraph (document text options names) old new.reading.tree p at next c.is_forest.ensures kind there i
-            (paragraph_named text options no_names names at None (list_finished at old).tree new.reading.tree next block) c.requires.no_empty ready new.reading.empty_item new.reading.blank none blank;
-        named = λ h. block_added (names_of new.allocs) (names_of self.allocs) (list_finished at old).tree new.reading.tree (paragraph_block at next (marker_items None ++ block.chain)) (extends_equal _ _ (ap names_of e.allocs)) block.tree_is
-            (text_named (names_of new.allocs) at next None block.chain tt (paragraph_free (document text options no_names) _ at [] _ block.chain _ tt block.lines)) (list_finished_named (names_of self.allocs) at old h);
-        order = λ o. inl (ordered_leaf text old new.reading p.line (offset p) at at next (omega arith) (omega arith) (inr refl) begins.0 begins c.requires.no_empty o.1 (fits at (omega arith)) block.boundary.0 none);
       };
       few = omega arith;
     }
@@ -136,8 +85,8 @@ returns-in_ok-next-in-HtmlToBlank c =
     let at = c.args.at in
     let old : Reading = self.reading in
     let q : Reading = list_finished p.line old in
-    let f = c.finish_list-in-HtmlToBlank.new.self in
-    let rem : f ≡ q = c.finish_list-in-HtmlToBlank.ensures ∙ ap (λ (z : Place). list_finished z.line old) c.place-in-HtmlToBlank.view_is in
+    let f = c.finish_list.new.self in
+    let rem : f ≡ q = c.finish_list.ensures ∙ ap (λ (z : Place). list_finished z.line old) c.place-in-HtmlToBlank.view_is in
     let after = c.parse_html_block_type_6_or_7.new.self in
     let e = c.in_ok-next-in-HtmlToBlank.ensures in
     let next = c.in_ok-next-in-HtmlToBlank.next in
@@ -163,10 +112,10 @@ returns-in_ok-next-in-HtmlToBlank c =
       read = record {
         source = e.source;
         names = e.names;
-        tables = e.tables;
         later = omega arith;
         boundary = e.boundary.1;
-        ready = λ names more ready. ready_kind text options (names_of after.allocs) names old after.reading.tree p HtmlToBlank false next c.is_forest.ensures kind refl more block c.requires.no_empty ready after.reading.empty_item after.reading.blank none blank;
+        ready = λ names more ready. subst (λ z. Ready (document text options names) z after.reading (lines_from text next)) (sym e.tables)
+            (ready_kind text options (tables self.allocs) (names_of after.allocs) names old after.reading.tree p HtmlToBlank false next c.is_forest.ensures kind refl more block c.requires.no_empty ready after.reading.empty_item after.reading.blank none blank);
         named = λ h. block_added (names_of after.allocs) (names_of self.allocs) q.tree after.reading.tree block.items e.names block.tree_is
             (kind_named text options (names_of after.allocs) p HtmlToBlank false q.tree after.reading.tree next block) (list_finished_named (names_of self.allocs) p.line old h);
         order = λ o. e.order at (omega arith) (subst (λ (r : Reading). IsOrderedAt text r at) (sym rem)

@@ -13,6 +13,7 @@ use Rattle.first_pass.specs.Opening.{ReadyLazy}
 use Rattle.first_pass_open.proofs.PlaceLemmas.{text_place}
 use Rattle.first_pass.proofs.OrderLemmas.{ordered_none}
 use Rattle.first_pass.proofs.OrderSteps.{ordered_at_place, place_before_end}
+use Rattle.first_pass_names.specs.TableEntries.{tables}
 use Rattle.first_pass_names.proofs.NameLemmas.{extends_none}
 use Rattle.first_pass.proofs.TagLemmas.{ready_any_line, ready_its_line}
 use Rattle.first_pass.proofs.state.FirstPass.parse_tagged.Goals as goal
@@ -44,10 +45,9 @@ returns-in-None c =
       read = record {
         source = refl;
         names = extends_none _;
-        tables = refl;
         later = omega arith;
         boundary = c.requires.boundary;
-        ready = λ names more tagged. ready_any_line (document text self.source.options names) self.reading at any c.requires.no_empty tagged;
+        ready = λ names more tagged. ready_any_line (document text self.source.options names) (tables self.allocs) self.reading at any c.requires.no_empty tagged;
         named = λ h. h;
         order = λ ordered. inl (ordered_none text self.reading at c.requires.no_empty c.requires.boundary.0 ordered);
       };
@@ -76,12 +76,11 @@ returns-in_ok-next-in-Some c =
       read = record {
         source = e.read.source;
         names = e.read.names;
-        tables = e.read.tables;
         later = omega arith;
         boundary = e.read.boundary;
         ready = λ names more tagged. let d = document text self.source.options names in
             e.read.ready names more
-            (inr (subst (λ q. ReadyLazy d old q (lines_from text (line_end q))) (sym same) (subst (λ n. ReadyLazy d old p (lines_from text n)) (sym ends) (ready_its_line d old at its.0 tagged))));
+            (inr (subst (λ q. ReadyLazy d (tables self.allocs) old q (lines_from text (line_end q))) (sym same) (subst (λ n. ReadyLazy d (tables self.allocs) old p (lines_from text n)) (sym ends) (ready_its_line d (tables self.allocs) old at its.0 tagged))));
         named = e.read.named;
         order = λ ordered. e.read.order (ordered_at_place text self.reading.tree at q refl c.requires.boundary (subst (IsPlaceOf text) (sym same) here.0) ordered);
       };

@@ -61,13 +61,13 @@ returns c =
       read = record {
         source = e.source;
         names = extends_equal _ _ (ap names_of e.allocs);
-        tables = ap tables e.allocs;
         later = omega arith;
         boundary = e.block.boundary;
         ready = λ names more ready. let d = document text options names in
-            subst (λ o. Ready d (remembered new.reading.tree o new.reading.blank) (lines_from text next)) (c.requires.no_empty ∙ sym none)
-            (subst (λ b. Ready d (remembered new.reading.tree self.reading.empty_item b) (lines_from text next)) (sym (ap (λ (r : Reading). r.blank) e.reading))
-            (ready_text d old new.reading.tree p at next c.args.marker there i (paragraph_named text options no_names names at (Some c.args.marker) self.reading.tree new.reading.tree next e.block) c.requires.no_empty ready));
+            subst (λ z. Ready d z new.reading (lines_from text next)) (sym (ap tables e.allocs))
+            (subst (λ o. Ready d (tables self.allocs) (remembered new.reading.tree o new.reading.blank) (lines_from text next)) (c.requires.no_empty ∙ sym none)
+            (subst (λ b. Ready d (tables self.allocs) (remembered new.reading.tree self.reading.empty_item b) (lines_from text next)) (sym (ap (λ (r : Reading). r.blank) e.reading))
+            (ready_text d (tables self.allocs) old new.reading.tree p at next c.args.marker there i (paragraph_named text options no_names names at (Some c.args.marker) self.reading.tree new.reading.tree next e.block) c.requires.no_empty ready)));
         named = λ h. block_added (names_of new.allocs) (names_of self.allocs) old.tree new.reading.tree (paragraph_block at next (marker_items (Some c.args.marker) ++ e.block.chain)) (extends_equal _ _ (ap names_of e.allocs)) e.block.tree_is
             (text_named (names_of new.allocs) at next (Some c.args.marker) e.block.chain (task_has_none c.args.marker.body c.requires.marker) (paragraph_free (document text options no_names) _ at [] _ e.block.chain _ tt e.block.lines)) h;
         order = λ o. inl (ordered_block text self.reading.tree new.reading o.from next (fits o.from o.stands) e.block.boundary.0 none o.ordered);

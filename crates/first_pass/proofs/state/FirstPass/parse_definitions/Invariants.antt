@@ -1,0 +1,22 @@
+use Rattle.std.proofs.Common.{◌≡◌, ◌-◌, length, IsCharBoundary}
+use Rattle.first_pass_lines.specs.Places.{Place, offset, IsPlaceOf}
+use Rattle.first_pass_tree.specs.Forest.{in_table}
+use Rattle.first_pass_names.specs.TableEntries.{tables, names_of}
+use Rattle.first_pass_open.specs.Path.{path_of}
+use Rattle.first_pass.specs.Runs.{RunSoFar}
+use Rattle.first_pass.proofs.state.FirstPass.parse_definitions.Given as goal
+
+-- the definitions are read up to here
+abbrev pub invariant-loop-size : goal.invariant-loop-size
+invariant-loop-size l = record {
+  same_source : l.self.source ≡ l.fn.self.source;
+  same_reading : l.self.reading ≡ l.fn.self.reading;
+  same_names : names_of l.self.allocs ≡ names_of l.fn.self.allocs;
+  boundary : IsCharBoundary l.fn.self.source.text.now l.at;
+  so_far : (p : Place) → p.line ≡ l.fn.line → offset p ≡ l.fn.at → IsPlaceOf l.fn.self.source.text.now p
+      → (q : Place) × (q.line ≡ l.line) × (offset q ≡ l.at)
+      × RunSoFar l.fn.self.source.text.now (path_of l.fn.self.reading.tree) (in_table l.fn.self.reading.tree.nodes l.fn.self.reading.tree.spine) p q (tables l.fn.self.allocs) (tables l.self.allocs);
+}
+
+abbrev pub decreases-loop-size : goal.decreases-loop-size
+decreases-loop-size l = length l.fn.self.source.text.now - l.at

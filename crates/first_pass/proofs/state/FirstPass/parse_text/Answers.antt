@@ -1,0 +1,74 @@
+use Rattle.std.proofs.Common.{◌≡◌, ◌≤◌, ℕ, None, IsCharBoundary, refl, sym, ap, subst, ◌∙◌}
+use Rattle.first_pass_lines.specs.Places.{Place}
+use Rattle.first_pass_grammar.specs.Kinds.{unindented}
+use Rattle.first_pass_grammar.specs.Leaves.{document}
+use Rattle.first_pass_names.specs.TableEntries.{tables, no_names}
+use Rattle.first_pass_lists.specs.Closing.{list_finished, with_block}
+use Rattle.first_pass_lists.specs.declared.reading.Reading.{Reading}
+use Rattle.first_pass_open.specs.Path.{path_of}
+use Rattle.first_pass_open.specs.declared.source.Source.{Source}
+use Rattle.first_pass_open.proofs.PlaceLemmas.{all_keep}
+use Rattle.first_pass_tree.specs.Forest.{in_table}
+use Rattle.first_pass_text.specs.Appends.{AddsParagraph}
+use Rattle.first_pass_text.specs.Between.{AddsBetween}
+use Rattle.first_pass.specs.Runs.{ReadsRun}
+use Rattle.first_pass.proofs.LeafAdded.{found_boundary}
+use Rattle.first_pass.proofs.TextLemmas.{run_line, run_text}
+use Rattle.first_pass.proofs.state.FirstPass.parse_text.Goals as goal
+
+pub parse_definitions-requires-clause-boundary : goal.parse_definitions-requires-clause-boundary
+parse_definitions-requires-clause-boundary c = found_boundary _ _ _ c.requires.utf8 c.requires.place c.requires.at
+
+pub returns-in-NextLine : goal.returns-in-NextLine
+returns-in-NextLine c =
+    let self = c.args.self.now in
+    let text = self.source.text.now in
+    let p = c.args.place in
+    let r : Reading = self.reading in
+    let mid = c.parse_definitions.new.self in
+    let e = c.in_ok-line.ensures in
+    let i = all_keep text p.line p.rest c.requires.utf8 c.requires.place in
+    let nested = in_table r.tree.nodes r.tree.spine in
+    let run = subst (ReadsRun text (path_of r.tree) nested (unindented p) (tables self.allocs) (tables mid.allocs)) c.in-NextLine.is (e.run (unindented p) (ap (λ (q : Place). q.line) (sym c.place.view_is)) (sym c.requires.at) i) in
+    let w = run_line self mid _ p nested c.in-NextLine.line c.in-NextLine.next c.requires.utf8 c.requires.place c.requires.no_empty c.is_forest.ensures c.requires.kind refl e.source e.names run refl refl
+    (c.finish_list.ensures ∙ ap (list_finished c.in-NextLine.line) e.reading) in
+    record { read = w.read; few = w.few }
+
+pub parse_paragraph-requires-clause-boundary : goal.parse_paragraph-requires-clause-boundary
+parse_paragraph-requires-clause-boundary c =
+    let self = c.args.self.now in
+    let text = self.source.text.now in
+    let p = c.args.place in
+    let e = c.in_ok-line.ensures in
+    let i = all_keep text p.line p.rest c.requires.utf8 c.requires.place in
+    let run = subst (ReadsRun text (path_of self.reading.tree) (in_table self.reading.tree.nodes self.reading.tree.spine) (unindented p) (tables self.allocs) (tables c.parse_definitions.new.self.allocs)) c.in-Paragraph.is
+    (e.run (unindented p) (ap (λ (q : Place). q.line) (sym c.place.view_is)) (sym c.requires.at) i) in
+    subst (λ (z : Source). IsCharBoundary z.text.now c.in-Paragraph.text) (sym e.source) (subst (IsCharBoundary text) (sym run.says) run.stands.boundary)
+
+pub returns : goal.returns
+returns c =
+    let self = c.args.self.now in
+    let text = self.source.text.now in
+    let options = self.source.options in
+    let p = c.args.place in
+    let at = c.in-Paragraph.text in
+    let next = c.in_ok-next-in-Paragraph.next in
+    let r : Reading = self.reading in
+    let mid = c.parse_definitions.new.self in
+    let new = c.parse_paragraph.new.self in
+    let e = c.in_ok-line.ensures in
+    let f = c.in_ok-next-in-Paragraph.ensures in
+    let i = all_keep text p.line p.rest c.requires.utf8 c.requires.place in
+    let nested = in_table r.tree.nodes r.tree.spine in
+    let run = subst (ReadsRun text (path_of r.tree) nested (unindented p) (tables self.allocs) (tables mid.allocs)) c.in-Paragraph.is
+    (e.run (unindented p) (ap (λ (q : Place). q.line) (sym c.place.view_is)) (sym c.requires.at) i) in
+    let done : c.finish_list-in-Paragraph.new.self ≡ list_finished at r = c.finish_list-in-Paragraph.ensures ∙ ap (list_finished at) e.reading in
+    let block : AddsParagraph (document text options no_names) at None (list_finished at r).tree new.reading.tree next =
+    subst (λ (z : Reading). AddsParagraph (document text options no_names) at None z.tree new.reading.tree next) done
+    (subst (λ (z : Source). AddsParagraph (document z.text.now z.options no_names) at None c.finish_list-in-Paragraph.new.self.tree new.reading.tree next) e.source f.block) in
+    let fits : (from : ℕ) → from ≤ at → AddsBetween text from next (list_finished at r).tree new.reading.tree =
+    λ from before. subst (λ (z : Reading). AddsBetween text from next z.tree new.reading.tree) done
+    (subst (λ (z : Source). AddsBetween z.text.now from next c.finish_list-in-Paragraph.new.self.tree new.reading.tree) e.source (f.fits tt from before)) in
+    let w = run_text self mid new p nested at next c.requires.utf8 c.requires.place c.requires.no_empty c.is_forest.ensures c.requires.kind refl e.source e.names run f.source f.allocs
+    (f.reading ∙ ap (λ (z : Reading). with_block z new.reading.tree) done) block fits in
+    record { read = w.read; few = w.few }

@@ -1,0 +1,184 @@
+//! Link reference definitions, as calls of the pass.
+
+ghost use Rattle.std.specs.Prelude.{◌≡◌, ℕ, ◌+◌, ◌-◌, ◌<◌, ◌≤◌, length, take, drop, None, IfOk, IfSome, IsSomeAnd, MatchOption, OnOk, IsUtf8, IsCharBoundary, true, false};
+ghost use Rattle.std.specs.List.{list_any};
+ghost use Rattle.std.specs.Option.{option_map};
+ghost use Rattle.first_pass_items.specs.CowText.{text_of};
+ghost use Rattle.first_pass_lines.specs.Lines.{is_line_end};
+ghost use Rattle.first_pass_lines.specs.Places.{Place, offset, IsPlaceOf};
+ghost use Rattle.first_pass_links.specs.Labels.{label_at};
+ghost use Rattle.first_pass_links.specs.Texts.{Borrows};
+ghost use Rattle.first_pass_tree.specs.Forest.{in_table};
+ghost use Rattle.first_pass_grammar.specs.Definitions.{prefix_crossed, space_at, title_at, target_at, reference_at};
+ghost use Rattle.first_pass_names.specs.TableEntries.{tables, names_of};
+ghost use Rattle.first_pass_open.specs.Path.{path_of};
+ghost use Rattle.first_pass_text.specs.Rests.{IsRestOf};
+ghost use Rattle.first_pass_definitions.specs.Found.{IsTarget, IsReference, IsLabelLen};
+ghost use Rattle.first_pass.specs.Runs.{ReadsRun};
+ghost use Rattle.first_pass.specs.Views.{allocs_of, reading_of, source_of, source_text, tree_of};
+
+use crate::state::FirstPass;
+use first_pass_definitions::{label, reference, space, target, title};
+use first_pass_items::cow_str::CowStr;
+use first_pass_labels::label_key::LabelKey;
+use first_pass_labels::label_table::LinkDef;
+use first_pass_lines::places::{next_line, rest_of};
+use std::alloc::AllocError;
+
+/// What stands behind link definitions.
+#[derive(Clone, Copy)]
+pub(crate) enum RunEnd {
+    /// Nothing of their run: the last of them is in the line that begins at the first offset, and the next line begins
+    /// at the second.
+    NextLine(usize, usize),
+    /// Text of a paragraph, which begins at an offset.
+    Paragraph(usize),
+}
+
+impl<'a> FirstPass<'a> {
+    /// The link reference definition that begins at the offset `start` into the text: how many bytes it has, its label
+    /// and what it says. `None` where none begins. Nothing is read or changed: who takes it puts it into the table. The
+    /// error is want of memory (CommonMark 4.7).
+    #[inline(always)]
+    pub fn parse_refdef_total(
+        &mut self,
+        start: usize,
+    ) -> Result<Option<(usize, LabelKey<'a>, LinkDef<'a>)>, AllocError>
+        requires { IsCharBoundary (source_text self.old) start }
+        ensures unchanged { self.new ≡ self.old }
+        ensures value { IfOk result (λ answer.
+            let nested = in_table (tree_of self.old).nodes (tree_of self.old).spine in
+            MatchOption (reference_at nested (path_of (tree_of self.old)) (drop start (source_text self.old)))
+            (answer ≡ None)
+            (λ reference. IsSomeAnd answer (IsReference nested start reference))) }
+        ensures fits { IfOk result (λ answer. IfSome answer (λ found.
+            (0 < found.0) × IsCharBoundary (source_text self.old) (start + found.0))) }
+        ensures borrowed { IfOk result (λ answer. IfSome answer (λ found. (n : ℕ)
+            → IsLabelLen (path_of (tree_of self.old)) (in_table (tree_of self.old).nodes (tree_of self.old).spine)
+            (drop (start + 1) (source_text self.old)) n
+            → text_of found.1 ≡ take n (drop (start + 1) (source_text self.old))
+            → Borrows (take n (drop (start + 1) (source_text self.old))) found.1)) }
+    {
+        reference::parse_refdef_total(self.alloc, self.source, &self.reading.tree, start)
+    }
+
+    /// The label behind the `[` that stands before the offset `start` into the text: how many bytes it has from there
+    /// on, its `]` too, and its text, in which each run of white space is one space. It goes on over the lines that a
+    /// definition crosses, without what they have of the prefixes of the open containers. `None` where there is no
+    /// label; the error is want of memory (CommonMark 4.7).
+    pub fn parse_refdef_label(
+        &self,
+        start: usize,
+    ) -> Result<Option<(usize, CowStr<'a>)>, AllocError>
+        requires { IsCharBoundary (source_text self.now) start }
+        ensures value { IfOk result (λ answer. MatchOption (label_at (prefix_crossed true (path_of (tree_of self.now)))
+            (in_table (tree_of self.now).nodes (tree_of self.now).spine) (drop start (source_text self.now)))
+            (answer ≡ None)
+            (λ label. IsSomeAnd answer (λ found. (found.0 ≡ label.0) × (text_of found.1 ≡ label.1)))) }
+        ensures fits { IfOk result (λ answer. IfSome answer (λ found.
+            (0 < found.0) × IsCharBoundary (source_text self.now) (start + found.0))) }
+        ensures borrowed { IfOk result (λ answer. IfSome answer (λ found.
+            text_of found.1 ≡ take (found.0 - 1) (drop start (source_text self.now))
+            → Borrows (take (found.0 - 1) (drop start (source_text self.now))) found.1)) }
+    {
+        label::parse_refdef_label(self.alloc, self.source, &self.reading.tree, start)
+    }
+
+    /// What a definition has behind its colon, before the offset `start` into the text: white space, a destination, and
+    /// white space and a title or none. Answers how many bytes it has from `start` on, and the definition with its
+    /// destination and title unescaped, whose span begins at `span_start`. `None` where none stands there; the error is
+    /// want of memory (CommonMark 4.7).
+    pub fn scan_refdef(
+        &self,
+        span_start: usize,
+        start: usize,
+    ) -> Result<Option<(usize, LinkDef<'a>)>, AllocError>
+        requires { IsCharBoundary (source_text self.now) start }
+        ensures value { IfOk result (λ answer. MatchOption
+            (target_at (path_of (tree_of self.now)) (drop start (source_text self.now)))
+            (answer ≡ None)
+            (λ target. IsSomeAnd answer
+            (IsTarget (in_table (tree_of self.now).nodes (tree_of self.now).spine) span_start start target))) }
+        ensures fits { IfOk result (λ answer. IfSome answer (λ found.
+            IsCharBoundary (source_text self.now) (start + found.0))) }
+    {
+        target::scan_refdef(
+            self.alloc,
+            self.source,
+            &self.reading.tree,
+            span_start,
+            start,
+        )
+    }
+
+    /// The white space of a definition at the offset `i` into `bytes`, which are those of the whole text, with at most
+    /// one line end: the offset behind it, and how many line ends it has. Behind a line end it goes on where the
+    /// definition goes on in the next line. `None` where a second line end follows, or no such line; the error is
+    /// want of memory (CommonMark 4.7).
+    pub fn scan_refdef_space(
+        &self,
+        bytes: &[u8],
+        i: usize,
+    ) -> Result<Option<(usize, usize)>, AllocError>
+        requires whole { bytes.now ≡ source_text self.now }
+        requires place { IsCharBoundary (source_text self.now) i }
+        ensures value { IfOk result (λ answer. answer
+            ≡ option_map (λ s. (i + s.0, s.1))
+            (space_at (path_of (tree_of self.now)) (drop i (source_text self.now)))) }
+        ensures place { IfOk result (λ answer. IfSome answer (λ s. IsCharBoundary (source_text self.now) s.0)) }
+    {
+        let _ = bytes;
+        space::scan_refdef_space(self.alloc, self.source, &self.reading.tree, i)
+    }
+
+    /// The title that `text` begins with, all that the whole text has from a place on: how many bytes it has, what
+    /// begins and ends it too, and what stands between, not yet unescaped and with one `\n` for each line end. It goes
+    /// on over the lines that a definition crosses. `None` where there is none; the error is want of memory
+    /// (CommonMark 4.7).
+    pub fn scan_refdef_title<'t>(
+        &self,
+        text: &'t str,
+    ) -> Result<Option<(usize, CowStr<'t>)>, AllocError>
+        requires { IsRestOf (source_text self.now) text.now }
+        ensures value { IfOk result (λ answer. MatchOption (title_at (path_of (tree_of self.now)) text.now)
+            (answer ≡ None)
+            (λ title. IsSomeAnd answer (λ found. (found.0 ≡ title.0) × (text_of found.1 ≡ title.1)))) }
+        ensures fits { IfOk result (λ answer. IfSome answer (λ found.
+            (1 < found.0) × IsCharBoundary text.now found.0)) }
+        ensures borrowed { IfOk result (λ answer. IfSome answer (λ found.
+            list_any is_line_end (text_of found.1) ≡ false → Borrows (text_of found.1) found.1)) }
+    {
+        title::scan_refdef_title(self.alloc, self.source, &self.reading.tree, text)
+    }
+
+    // Reads the link definitions that begin at the offset `at`, in the line that begins at `line`, as many as there
+    // are, and puts them into the table beside the tree.
+    pub(crate) fn parse_definitions(&mut self, line: usize, at: usize) -> Result<RunEnd, AllocError>
+        requires utf8 { IsUtf8 (source_text self.old) }
+        requires boundary { IsCharBoundary (source_text self.old) at }
+        ensures source { OnOk result (source_of self.new ≡ source_of self.old) }
+        ensures reading { OnOk result (reading_of self.new ≡ reading_of self.old) }
+        ensures names { OnOk result (names_of (allocs_of self.new) ≡ names_of (allocs_of self.old)) }
+        ensures run { IfOk result (λ behind. (p : Place) → p.line ≡ line → offset p ≡ at
+            → IsPlaceOf (source_text self.old) p
+            → ReadsRun (source_text self.old) (path_of (tree_of self.old))
+            (in_table (tree_of self.old).nodes (tree_of self.old).spine) p (tables (allocs_of self.old))
+            (tables (allocs_of self.new)) behind) }
+    {
+        self.source.is_short();
+        let mut line = line;
+        let mut at = at;
+        while let Some((size, label, definition)) = self.parse_refdef_total(at)? {
+            self.allocs.define_link(label, definition)?;
+            let bytes = self.source.text.as_bytes();
+            let next = next_line(bytes, at + size);
+            let rest = self.scan_next_line_or_lazy_continuation(rest_of(bytes, next))?;
+            let Some(rest) = rest else {
+                return Ok(RunEnd::NextLine(line, next));
+            };
+            line = next;
+            at = next + rest.bytes_scanned();
+        }
+        Ok(RunEnd::Paragraph(at))
+    }
+}
