@@ -1,2 +1,3 @@
 mod FaultLemmas
 mod Lines
+mod LinkLines

@@ -1,5 +1,5 @@
--- Lines of nodes, one after the other, and what of them is written.
-use Rattle.std.proofs.Common.{◌≡◌, ℕ, ◌+◌, ◌<◌, List, [], ◌++◌, Option, Result, Ok, Err, OnErr, length, take, drop, get_or, refl, sym, ap, ◌∙◌, append_assoc, take-append-drop}
+-- Lines, one after the other, and what of them is written.
+use Rattle.std.proofs.Common.{◌≡◌, ℕ, ◌+◌, ◌<◌, List, [], ◌++◌, Option, Result, Ok, Err, OnErr, length, take, drop, get_or, refl, sym, ap, ◌∙◌, append_assoc, append-nil, take-append-drop}
 use Rattle.std.proofs.lemmas.List.{take_more, flat_map_more}
 use Rattle.std.proofs.lemmas.Grind.{flat_map-append}
 use Rattle.std.proofs.KnownBytes.{Appends-nil, Appends-trans}
@@ -20,18 +20,29 @@ next_line names nodes i d done held line within so_far is =
 cut_at : (names : Names) (nodes : List (ℕ × Item)) (i : ℕ) → flat_map (node_line names) nodes ≡ flat_map (node_line names) (take i nodes) ++ flat_map (node_line names) (drop i nodes)
 cut_at names nodes i = ap (flat_map (node_line names)) (sym (take-append-drop i nodes)) ∙ flat_map-append (node_line names) (take i nodes) (drop i nodes)
 
--- a beginning of the lines so far, of which a writer took a beginning, is one of all lines
-pub front_of_lines : (names : Names) (nodes : List (ℕ × Item)) (i : ℕ) (done lines : List ℕ) (old mid new : Option (List ℕ)) → done ++ lines ≡ flat_map (node_line names) (take i nodes)
-    → Appends old mid done → AppendsFront mid new lines → AppendsFront old new (flat_map (node_line names) nodes)
-front_of_lines names nodes i done lines old mid new so_far appended front =
-    let others = flat_map (node_line names) (drop i nodes) in
+-- a beginning of lines behind those that were written, of which a writer took a beginning, is one of all lines
+pub front_among : (all done lines others : List ℕ) (old mid new : Option (List ℕ)) → (done ++ lines) ++ others ≡ all → Appends old mid done → AppendsFront mid new lines → AppendsFront old new all
+front_among all done lines others old mid new is appended front =
     record {
       written = done ++ front.written;
       left = front.left ++ others;
-      split = cut_at names nodes i ∙ ap (λ l. l ++ others) (sym so_far ∙ ap (λ l. done ++ l) front.split ∙ sym (append_assoc done front.written front.left))
-          ∙ append_assoc (done ++ front.written) front.left others;
+      split = sym is ∙ ap (λ l. l ++ others) (ap (λ l. done ++ l) front.split ∙ sym (append_assoc done front.written front.left)) ∙ append_assoc (done ++ front.written) front.left others;
       appended = Appends-trans old mid new done front.written appended front.appended;
     }
+
+-- so for the lines of the first nodes
+pub front_of_lines : (names : Names) (nodes : List (ℕ × Item)) (i : ℕ) (done lines : List ℕ) (old mid new : Option (List ℕ)) → done ++ lines ≡ flat_map (node_line names) (take i nodes)
+    → Appends old mid done → AppendsFront mid new lines → AppendsFront old new (flat_map (node_line names) nodes)
+front_of_lines names nodes i done lines old mid new so_far =
+    let others = flat_map (node_line names) (drop i nodes) in
+    front_among _ done lines others old mid new (ap (λ l. l ++ others) so_far ∙ sym (cut_at names nodes i))
+
+-- a beginning of the first lines is one of all, and so are they with a beginning of the others
+pub front_first : (lines others : List ℕ) (old new : Option (List ℕ)) → AppendsFront old new lines → AppendsFront old new (lines ++ others)
+front_first lines others old new = front_among _ [] lines others old old new refl (Appends-nil old)
+
+pub front_behind : (lines others : List ℕ) (old mid new : Option (List ℕ)) → Appends old mid lines → AppendsFront mid new others → AppendsFront old new (lines ++ others)
+front_behind lines others old mid new = front_among _ lines others [] old mid new (append-nil (lines ++ others))
 
 -- nothing, as a beginning
 pub nothing : (known : Option (List ℕ)) (lines : List ℕ) → AppendsFront known known lines

@@ -1,9 +1,11 @@
--- How the nodes of a tree are printed (this project).
-use Rattle.std.specs.Prelude.{ℕ, zero, suc, ◌==◌, Bool, true, false, Some, List, [], ◌∷◌, ◌++◌, codes, decimal, encode_utf8, bit_and, if◌then◌else◌}
+-- How the nodes of a tree and the link definitions of a text are printed (this project).
+use Rattle.std.specs.Prelude.{ℕ, zero, suc, ◌==◌, Bool, true, false, Option, None, Some, List, [], ◌∷◌, ◌++◌, codes, decimal, encode_utf8, bit_and, if◌then◌else◌}
 use Rattle.std.specs.List.{flat_map}
 use Rattle.first_pass_items.specs.Bytes.{line_feed, carriage_return, backslash, small_n, small_r}
 use Rattle.first_pass_items.specs.declared.item.Item.{Item}
 use Rattle.first_pass_grammar.specs.Names.{Names, text_named}
+use Rattle.first_pass_grammar.specs.LinkTables.{LinkEntry}
+use Rattle.first_pass_grammar.specs.Derivation.{Tables}
 use Rattle.first_pass_items.specs.declared.item.ListFlags.{ListFlags}
 use Rattle.first_pass_items.specs.declared.item.BlockQuoteKind.{BlockQuoteKind}
 use Rattle.first_pass_items.specs.declared.item.BlockQuoteKind.TheVariants.{Note, Tip, Important, Warning, Caution}
@@ -128,7 +130,23 @@ named_values names _ = []
 abbrev pub body_text : Names → ItemBody → List ℕ
 body_text names body = name_of body ++ block_values body ++ token_values body ++ named_values names body
 
+-- a range behind a space, and the end of its line
+abbrev pub range_text : ℕ → ℕ → List ℕ
+range_text start e = codes " " ++ decimal start ++ codes ".." ++ decimal e ++ codes "\n"
+
 -- the line of a node: two spaces a level of depth, what it is, and its range
 abbrev pub node_line : Names → ℕ × Item → List ℕ
-node_line names node =
-    indentation node.0 ++ body_text names node.1.body ++ codes " " ++ decimal node.1.start ++ codes ".." ++ decimal node.1.«end» ++ codes "\n"
+node_line names node = indentation node.0 ++ body_text names node.1.body ++ range_text node.1.start node.1.«end»
+
+-- a title in quotation marks behind a space, where there is one
+abbrev pub title_text : Option (List ℕ) → List ℕ
+title_text None = []
+title_text (Some title) = codes " \"" ++ visible title ++ codes "\""
+
+-- the line of a link definition: its label as it is spelled, its destination, its title where it has one, and its range (CommonMark 4.7)
+abbrev pub link_line : LinkEntry → List ℕ
+link_line link = codes "[" ++ link.label ++ codes "]: " ++ visible link.dest ++ title_text link.title ++ range_text link.start link.«end»
+
+-- the lines of a tree's nodes, and behind them those of the link definitions, in the order of their table
+abbrev pub printed_lines : Names → List (ℕ × Item) → Tables → List ℕ
+printed_lines names nodes tables = flat_map (node_line names) nodes ++ flat_map link_line tables.links

@@ -1,6 +1,5 @@
 -- What a run of the program reads and writes (this project).
 use Rattle.std.specs.Prelude.{◌≡◌, ◌⊎◌, ℕ, List, Option, String, IsUtf8}
-use Rattle.std.specs.List.{flat_map}
 use Rattle.std.specs.Io.KnownBytes.{Keeps, Appends}
 use Rattle.first_pass_items.specs.declared.option_set.Options.{Options}
 use Rattle.first_pass_items.specs.declared.item.Item.{Item}
@@ -11,16 +10,16 @@ use Rattle.first_pass_host.specs.declared.fault.BlocksFault.{BlocksFault}
 use Rattle.first_pass_host.specs.declared.fault.BlocksFault.TheVariants.{OutOfMemory, NotUtf8, BadOptions, ReadFailed, WriteFailed}
 use Rattle.first_pass_host.specs.OptionWord.{StandFor}
 use Rattle.first_pass_host.specs.Streams.{AppendsFront, ReadsWhole}
-use Rattle.first_pass_program.specs.Printed.{node_line}
+use Rattle.first_pass_program.specs.Printed.{printed_lines}
 
--- the whole output for a UTF-8 text under options: the lines of the nodes that the block grammar derives
+-- the whole output for a UTF-8 text under options: the lines of the nodes and of the link definitions that the block grammar derives
 pub record IsPrinted (options : Options) (text output : List ℕ) : Type 0 where
   pub utf8 : IsUtf8 text
   pub names : Names
   pub nodes : List (ℕ × Item)
   pub tables : Tables
   pub derived : Derives (document text options names) nodes tables
-  pub lines : output ≡ flat_map (node_line names) nodes
+  pub lines : output ≡ printed_lines names nodes tables
 
 -- What a fault leaves of a text and a writer: nothing is written of a text that isn't UTF-8, nor where memory ends before the writes; else a beginning of the whole output is.
 abbrev pub LeavesText : BlocksFault → Options → List ℕ → Option (List ℕ) → Option (List ℕ) → Type 0

@@ -1,7 +1,8 @@
-//! The work of the programs: the printed tree of `blocks`, and the timed runs of `bench`.
+//! The work of the programs: the printed tree and link definitions of `blocks`, and the timed runs of `bench`.
 #![tactic(auto)]
 
 pub mod bench;
 pub mod printed;
+pub mod printed_links;
 pub mod run;
 pub mod timed;

@@ -3,7 +3,7 @@
 ghost use Rattle.std.specs.Prelude.{◌≡◌, ◌++◌, ◌∷◌, [], OnOk, codes, decimal, encode_utf8};
 ghost use Rattle.first_pass_items.specs.declared.item.ItemBody.TheVariants.{MaybeEmphasis, MaybeMath, MaybeSmartQuote, MaybeCode, List as ListBody};
 ghost use Rattle.first_pass_names.specs.TableEntries.{names_of};
-ghost use Rattle.first_pass_program.specs.Printed.{node_line, named_values, visible, visible_byte, name_of, block_values, token_values, body_text, enclosed, flag_name, list_name, quote_name, metadata_name, indentation};
+ghost use Rattle.first_pass_program.specs.Printed.{node_line, named_values, visible, visible_byte, name_of, block_values, token_values, body_text, enclosed, flag_name, list_name, quote_name, metadata_name, indentation, range_text};
 
 use bitflags::Flags;
 use first_pass_items::item::{BlockQuoteKind, Item, ItemBody, ListFlags, MetadataBlockKind};
@@ -23,10 +23,17 @@ pub fn append_node(
 {
     append_indentation(line, depth)?;
     append_body(line, item.body, allocs)?;
+    append_range(line, item.start, item.end)
+}
+
+/// Appends a space, a range and the end of its line.
+pub fn append_range(line: &mut Vec<u8>, start: usize, end: usize) -> Result<(), AllocError>
+    ensures { OnOk result (line.new.items ≡ line.old.items ++ range_text start end) }
+{
     line.push(b' ')?;
-    append_number(line, item.start)?;
+    append_number(line, start)?;
     line.extend_from_slice(b"..")?;
-    append_number(line, item.end)?;
+    append_number(line, end)?;
     line.push(b'\n')?;
     Ok(())
 }
@@ -91,7 +98,7 @@ fn append_text(line: &mut Vec<u8>, text: &str) -> Result<(), AllocError>
 
 /// Appends bytes, a backslash, a newline and a carriage return among them as `\\`, `\n` and `\r`.
 #[tactic(auto, unfolding(crate::specs::Printed::visible))]
-fn append_visible(line: &mut Vec<u8>, bytes: &[u8]) -> Result<(), AllocError>
+pub fn append_visible(line: &mut Vec<u8>, bytes: &[u8]) -> Result<(), AllocError>
     ensures { OnOk result (line.new.items ≡ line.old.items ++ visible bytes.now) }
 {
     for byte in bytes {
