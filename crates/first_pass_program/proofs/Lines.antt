@@ -21,12 +21,14 @@ cut_at : (names : Names) (nodes : List (ℕ × Item)) (i : ℕ) → flat_map (no
 cut_at names nodes i = ap (flat_map (node_line names)) (sym (take-append-drop i nodes)) ∙ flat_map-append (node_line names) (take i nodes) (drop i nodes)
 
 -- a beginning of lines behind those that were written, of which a writer took a beginning, is one of all lines
-pub front_among : (all done lines others : List ℕ) (old mid new : Option (List ℕ)) → (done ++ lines) ++ others ≡ all → Appends old mid done → AppendsFront mid new lines → AppendsFront old new all
+pub front_among : (all done lines others : List ℕ) (old mid new : Option (List ℕ)) → (done ++ lines) ++ others ≡ all
+    → Appends old mid done → AppendsFront mid new lines → AppendsFront old new all
 front_among all done lines others old mid new is appended front =
     record {
       written = done ++ front.written;
       left = front.left ++ others;
-      split = sym is ∙ ap (λ l. l ++ others) (ap (λ l. done ++ l) front.split ∙ sym (append_assoc done front.written front.left)) ∙ append_assoc (done ++ front.written) front.left others;
+      split = sym is ∙ ap (λ l. l ++ others) (ap (λ l. done ++ l) front.split ∙ sym (append_assoc done front.written front.left))
+          ∙ append_assoc (done ++ front.written) front.left others;
       appended = Appends-trans old mid new done front.written appended front.appended;
     }
 

@@ -15,15 +15,16 @@ pub first_link : (held : List ℕ) (rest links : List (CowStr × LinkDef)) → h
 first_link held rest links empty is = ap (λ l. l ++ link_lines rest) empty ∙ ap link_lines is
 
 -- with the line of the next one
-pub next_link : (links rest left : List (CowStr × LinkDef)) (link : CowStr × LinkDef) (done held line : List ℕ) → rest ≡ link ∷ left → line ≡ held ++ link_line (link_entry link)
-    → (done ++ held) ++ link_lines rest ≡ link_lines links → (done ++ line) ++ link_lines left ≡ link_lines links
+pub next_link : (links rest left : List (CowStr × LinkDef)) (link : CowStr × LinkDef) (done held line : List ℕ) → rest ≡ link ∷ left
+    → line ≡ held ++ link_line (link_entry link) → (done ++ held) ++ link_lines rest ≡ link_lines links → (done ++ line) ++ link_lines left ≡ link_lines links
 next_link links rest left link done held line rest_is line_is so_far =
     let this = link_line (link_entry link) in
-    ap (λ l. (done ++ l) ++ link_lines left) line_is ∙ ap (λ l. l ++ link_lines left) (sym (append_assoc done held this)) ∙ append_assoc (done ++ held) this (link_lines left)
-    ∙ ap (λ l. (done ++ held) ++ link_lines l) (sym rest_is) ∙ so_far
+    ap (λ l. (done ++ l) ++ link_lines left) line_is ∙ ap (λ l. l ++ link_lines left) (sym (append_assoc done held this))
+    ∙ append_assoc (done ++ held) this (link_lines left) ∙ ap (λ l. (done ++ held) ++ link_lines l) (sym rest_is) ∙ so_far
 
 -- where what was held is written
-pub none_held : (links left : List (CowStr × LinkDef)) (done held : List ℕ) → held ≡ [] → done ++ link_lines left ≡ link_lines links → (done ++ held) ++ link_lines left ≡ link_lines links
+pub none_held : (links left : List (CowStr × LinkDef)) (done held : List ℕ) → held ≡ []
+    → done ++ link_lines left ≡ link_lines links → (done ++ held) ++ link_lines left ≡ link_lines links
 none_held links left done held empty so_far = ap (λ l. l ++ link_lines left) (ap (λ l. done ++ l) empty ∙ append-nil done) ∙ so_far
 
 -- behind the last one

@@ -18,8 +18,10 @@ returns-in_err-append_link-clause-front g c =
 pub returns-in_err-write_whole-clause-front : goal.returns-in_err-write_whole-clause-front
 returns-in_err-write_whole-clause-front g c =
     let (done, split, appended) = c.loop-label.invariant in
-    let line = next_link _ _ c.next.new.self (c.in-Some.label.now, c.in-Some.definition.now) done _ c.append_link.new.line.items c.in-Some.ensures.steps c.in_ok-append_link.ensures split in
-    on_any c.from_residual-in_err-write_whole.result (front_among _ done _ _ _ _ _ line appended (subst (AppendsFront _ _) c.as_slice.ensures.value c.in_err-write_whole.ensures.front))
+    let line = next_link _ _ c.next.new.self (c.in-Some.label.now, c.in-Some.definition.now) done _ c.append_link.new.line.items
+    c.in-Some.ensures.steps c.in_ok-append_link.ensures split in
+    on_any c.from_residual-in_err-write_whole.result (front_among _ done _ _ _ _ _ line appended
+    (subst (AppendsFront _ _) c.as_slice.ensures.value c.in_err-write_whole.ensures.front))
 
 pub loop-label-preserved-then-len-ge-PIECE : goal.loop-label-preserved-then-len-ge-PIECE
 loop-label-preserved-then-len-ge-PIECE g c =
@@ -33,16 +35,22 @@ loop-label-preserved-then-len-ge-PIECE g c =
 
 pub loop-label-preserved : goal.loop-label-preserved
 loop-label-preserved g c =
-    let (done, split, appended) = c.loop-label.invariant in
-    (done, next_link _ _ c.next.new.self (c.in-Some.label.now, c.in-Some.definition.now) done _ c.append_link.new.line.items c.in-Some.ensures.steps c.in_ok-append_link.ensures split, appended)
+    let (done, split, appended) = c.loop-label.invariant in (
+      done,
+      next_link _ _ c.next.new.self (c.in-Some.label.now, c.in-Some.definition.now) done _ c.append_link.new.line.items
+          c.in-Some.ensures.steps c.in_ok-append_link.ensures split,
+      appended,
+    )
 
 pub returns-clause-ok : goal.returns-clause-ok
 returns-clause-ok g c =
     let (done, split, appended) = c.loop-label.invariant in
     let all = last_link _ _ (done ++ c.loop-label.held.items) c.in-None.ensures.steps.0 split in
-    on_ok_weaker c.write_whole-2.result (λ last. subst (Appends _ _) all (Appends-trans _ _ _ _ _ appended (subst (Appends _ _) c.as_slice-2.ensures.value last))) c.write_whole-2.ensures.ok
+    on_ok_weaker c.write_whole-2.result (λ last. subst (Appends _ _) all
+    (Appends-trans _ _ _ _ _ appended (subst (Appends _ _) c.as_slice-2.ensures.value last))) c.write_whole-2.ensures.ok
 
 pub returns-clause-front : goal.returns-clause-front
 returns-clause-front g c =
     let (done, split, appended) = c.loop-label.invariant in
-    on_err_then c.write_whole-2.result (λ front. front_among _ done c.loop-label.held.items _ _ _ _ split appended (subst (AppendsFront _ _) c.as_slice-2.ensures.value front)) c.write_whole-2.ensures.front
+    on_err_then c.write_whole-2.result (λ front. front_among _ done c.loop-label.held.items _ _ _ _ split appended
+    (subst (AppendsFront _ _) c.as_slice-2.ensures.value front)) c.write_whole-2.ensures.front
