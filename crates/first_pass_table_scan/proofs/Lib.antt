@@ -1,1 +1,4 @@
 pub mod TableFacts
+pub mod HeaderRows
+pub mod DelimiterRows
+pub mod TableStart

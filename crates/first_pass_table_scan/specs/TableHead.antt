@@ -1,5 +1,5 @@
 -- The delimiter row of a table, and how many columns its header row has (GFM 4.10).
-use Rattle.std.specs.Prelude.{ℕ, ◌+◌, ◌-◌, ◌==◌, ◌&&◌, not, Bool, true, false, nat_le, List, [], ◌∷◌, length, map, take, drop, Option, Some, None, slice_index, if◌then◌else◌}
+use Rattle.std.specs.Prelude.{ℕ, ◌+◌, ◌-◌, ◌==◌, ◌&&◌, not, Bool, true, false, nat_le, nat_lt, List, [], ◌∷◌, length, map, take, drop, Option, Some, None, slice_index, if◌then◌else◌}
 use Rattle.std.specs.Option.{option_map, option_map_or}
 use Rattle.std.specs.List.{prefix_len, suffix_len, take_while, list_any, slice_split}
 use Rattle.first_pass_items.specs.Bytes.{hyphen, colon, backslash, pipe}
@@ -7,7 +7,7 @@ use Rattle.first_pass_items.specs.declared.item.Alignment.{Alignment}
 use Rattle.first_pass_items.specs.declared.item.Alignment.TheVariants.{None as Unaligned, Left, Center, Right}
 use Rattle.first_pass_lines.specs.Lines.{is_content, is_white, is_blank, begins, is_blank_line, line_len}
 use Rattle.first_pass_scan.specs.LeafLines.{run_len}
-use Rattle.first_pass_lines.specs.Rest.{columns_of}
+use Rattle.first_pass_lines.specs.Rest.{Rest, indent, after_columns, columns_of}
 
 -- a pipe (GFM 4.10)
 abbrev pub is_pipe : ℕ → Bool
@@ -76,7 +76,25 @@ pipes_behind b (c ∷ cs) = (if is_pipe c && not (b == backslash) then 1 else 0)
 abbrev pub pipes_of : List ℕ → ℕ
 pipes_of bs = pipes_behind 0 bs
 
--- how many columns a header row has whose last pipe stands at a place: its pipes, without one that begins it behind white space, and one more where that last one isn't the end of its line but for white space (GFM 4.10)
+-- how many columns a header row of so many pipes has whose last one stands at a place: without one that begins it behind white space, and one more where the last isn't the end of its line but for white space (GFM 4.10)
+abbrev pub columns_by_pipes : ℕ → List ℕ → ℕ → ℕ
+columns_by_pipes pipes bs last =
+    pipes - (if begins pipe (drop (prefix_len is_white bs) bs) then 1 else 0) + (if is_blank_line (drop (last + 1) bs) then 0 else 1)
+
+-- how many columns a header row has whose last pipe stands at a place (GFM 4.10)
 abbrev pub header_columns : List ℕ → ℕ → ℕ
-header_columns bs last =
-    pipes_of (take (last + 1) bs) - (if begins pipe (drop (prefix_len is_white bs) bs) then 1 else 0) + (if is_blank_line (drop (last + 1) bs) then 0 else 1)
+header_columns bs last = columns_by_pipes (pipes_of (take (last + 1) bs)) bs last
+
+-- the place of the last pipe in bytes behind the byte b that is not directly behind a backslash, if there is one (GFM 4.10)
+abbrev pub last_pipe_behind : ℕ → List ℕ → Option ℕ
+last_pipe_behind b [] = None
+last_pipe_behind b (c ∷ cs) =
+    option_map_or (λ k. Some (k + 1)) (last_pipe_behind c cs) (if is_pipe c && not (b == backslash) then Some 0 else None)
+
+-- how many columns the line that begins here has as a header row: none where it has no pipe but behind backslashes (GFM 4.10)
+unfoldable pub head_columns : List ℕ → ℕ
+head_columns bs = option_map_or (header_columns bs) (last_pipe_behind 0 (take_while is_content bs)) 0
+
+-- the alignments that the line gives of which this is left, if it is a delimiter row: three columns of indent at most (GFM 4.10)
+unfoldable pub delimiter_row_of : Rest → Option (List Alignment)
+delimiter_row_of r = if nat_lt (indent r) 4 then delimiter_row (after_columns (indent r) r).left else None

@@ -2,3 +2,4 @@
 #![tactic(auto)]
 
 pub mod table_scan;
+pub mod table_start;

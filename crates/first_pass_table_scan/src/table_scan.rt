@@ -105,7 +105,7 @@ fn scan_delimiter_cell(bytes: &[u8]) -> Option<Alignment>
 }
 
 // How many bytes stand before the first pipe: all, if there is none.
-fn cell_len(bytes: &[u8]) -> usize
+pub(crate) fn cell_len(bytes: &[u8]) -> usize
     ensures value { result ≡ position_or_len is_pipe bytes.now }
     ensures within { result ≤ length bytes.now }
 {
@@ -136,7 +136,7 @@ fn scan_delimiter_cells(alloc: Global, bytes: &[u8]) -> Result<Option<Vec<Alignm
 
 // The alignments of the delimiter row that `bytes` begin with, if there is one.
 #[tactic(auto, unfolding(crate::specs::TableHead::delimiter_row))]
-fn scan_delimiter_row(alloc: Global, bytes: &[u8]) -> Result<Option<Vec<Alignment>>, AllocError>
+fn scan_alignments(alloc: Global, bytes: &[u8]) -> Result<Option<Vec<Alignment>>, AllocError>
     ensures { IfOk result (λ columns. option_map (λ v. v.items) columns ≡ delimiter_row bytes.now) }
 {
     if LineStart::new(bytes).scan_space(4) {
@@ -158,7 +158,7 @@ pub fn scan_table_head(alloc: Global, bytes: &[u8]) -> Result<(usize, Vec<Alignm
     ensures value { IfOk result (λ head. (head.0, head.1.items) ≡ table_head bytes.now) }
     ensures within { IfOk result (λ head. head.0 ≤ length bytes.now) }
 {
-    match scan_delimiter_row(alloc, bytes)? {
+    match scan_alignments(alloc, bytes)? {
         None => Ok((0, Vec::new(alloc))),
         Some(columns) => Ok((scan_nextline(bytes), columns)),
     }

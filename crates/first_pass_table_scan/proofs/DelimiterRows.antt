@@ -1,0 +1,195 @@
+-- Facts on where a delimiter row can begin, and on how many alignments it gives.
+use Rattle.std.proofs.Common.{◌≡◌, subst, ℕ, zero, suc, ◌+◌, ◌-◌, ◌<◌, ◌≤◌, ◌==◌, ◌&&◌, ◌||◌, ◌⊎◌, Bool, true, false, nat_le, nat_lt, List, [], ◌∷◌, length, map, take, drop, Option, Some, None, refl, sym, ap, ◌∙◌, arith, inl, inr, if◌then◌else◌}
+use Rattle.std.specs.Option.{option_map, option_map_or}
+use Rattle.std.specs.List.{prefix_len, suffix_len, take_while, position_or_len, list_any, slice_split}
+use Rattle.std.proofs.lemmas.Bool.{cases_lt}
+use Rattle.std.proofs.lemmas.Bool.Decides.{nat_tests}
+use Rattle.std.proofs.lemmas.List.{take_all}
+use Rattle.std.proofs.lemmas.List.Sums.{prefix_len-le-length}
+use Rattle.first_pass_items.specs.Bytes.{hyphen, colon, pipe}
+use Rattle.first_pass_items.specs.declared.item.Alignment.{Alignment}
+use Rattle.first_pass_lines.specs.Lines.{is_blank, is_content, begins, line_len}
+use Rattle.first_pass_scan.specs.LeafLines.{run_len}
+use Rattle.first_pass_lines.specs.Rest.{Rest, indent, after_columns, columns_of}
+use Rattle.first_pass_lines.proofs.PlaceFacts.{all_columns, all_columns_up_to}
+use Rattle.first_pass_table_scan.specs.TableHead.{is_pipe, ends, stripped, without_first, without_last, is_hyphens, alignment_by, delimiter_cell, each_of, delimiter_cells, delimiter_row, table_head, delimiter_row_of}
+use Rattle.first_pass_table_scan.proofs.TableFacts.{cells-refused, cells-more, cells-last}
+
+-- a byte stands first in these bytes, or they are none
+abbrev Fronted : ℕ → List ℕ → Type 0
+Fronted b bs = (bs ≡ []) ⊎ ((cs : List ℕ) × (bs ≡ b ∷ cs))
+
+take_front : (b : ℕ) (n : ℕ) (bs : List ℕ) → Fronted b (take n (b ∷ bs))
+take_front b zero bs = inl refl
+take_front b (suc n) bs = inr (take n bs, refl)
+
+take_none : (n : ℕ) → take {A = ℕ} n [] ≡ []
+take_none zero = refl
+take_none (suc n) = refl
+
+fronted-take : (b n : ℕ) (bs : List ℕ) → Fronted b bs → Fronted b (take n bs)
+fronted-take b n bs f =
+    elim f as (λ _. Fronted b (take n bs)) [
+      inl e ↦ inl (ap (take n) e ∙ take_none n)
+    | inr more ↦ subst (λ cs. Fronted b (take n cs)) (sym more.1) (take_front b n more.0)
+    ]
+
+strip_fronted : (b : ℕ) (cs : List ℕ) → is_blank b ≡ false → prefix_len is_blank (b ∷ cs) ≡ 0
+strip_fronted b cs h = ap (λ t. if t then 1 + prefix_len is_blank cs else 0) h
+
+fronted-stripped : (b : ℕ) (bs : List ℕ) → is_blank b ≡ false → Fronted b bs → Fronted b (stripped bs)
+unfolding stripped
+fronted-stripped b bs h f =
+    elim f as (λ _. Fronted b (stripped bs)) [
+      inl e ↦ subst (λ cs. Fronted b (stripped cs)) (sym e) (inl refl)
+    | inr more ↦ subst (λ cs. Fronted b (stripped cs)) (sym more.1) (subst (λ k. Fronted b (let s : List ℕ = drop k (b ∷ more.0) in take (length s - suffix_len is_blank s) s)) (sym (strip_fronted b more.0 h)) (take_front b (length (b ∷ more.0) - suffix_len is_blank (b ∷ more.0)) more.0))
+    ]
+
+begins-other : (b c : ℕ) (bs : List ℕ) → (b == c) ≡ false → Fronted b bs → begins c bs ≡ false
+begins-other b c bs h f =
+    elim f as (λ _. begins c bs ≡ false) [
+      inl e ↦ ap (begins c) e
+    | inr more ↦ ap (begins c) more.1 ∙ h
+    ]
+
+without_first-other : (b c : ℕ) (bs : List ℕ) → (b == c) ≡ false → Fronted b bs → without_first c bs ≡ bs
+without_first-other b c bs h f = ap (λ t. if t then drop 1 bs else bs) (begins-other b c bs h f)
+
+last_or_not : (b : ℕ) (bs : List ℕ) (t : Bool) → Fronted b bs → Fronted b (if t then take (length bs - 1) bs else bs)
+last_or_not b bs true f = fronted-take b (length bs - 1) bs f
+last_or_not b bs false f = f
+
+no_run : (b : ℕ) (cs : List ℕ) → (b == hyphen) ≡ false → run_len hyphen (b ∷ cs) ≡ 0
+no_run b cs h = ap (λ t. if t then 1 + run_len hyphen cs else 0) h
+
+none_of_some : (n : ℕ) → (nat_le 1 (suc n) && (0 == suc n)) ≡ false
+none_of_some n = grind (arith, nat_tests)
+
+no_hyphens : (b : ℕ) (bs : List ℕ) → (b == hyphen) ≡ false → Fronted b bs → is_hyphens bs ≡ false
+no_hyphens b bs h f =
+    elim f as (λ _. is_hyphens bs ≡ false) [
+      inl e ↦ ap is_hyphens e
+    | inr more ↦ ap is_hyphens more.1 ∙ ap (λ n. nat_le 1 (length (b ∷ more.0)) && (n == length (b ∷ more.0))) (no_run b more.0 h) ∙ none_of_some (length more.0)
+    ]
+
+-- no alignment begins with such a byte
+cell-refused : (b : ℕ) (bs : List ℕ) → is_blank b ≡ false → (b == hyphen) ≡ false → (b == colon) ≡ false → Fronted b bs → delimiter_cell bs ≡ None
+unfolding delimiter_cell
+cell-refused b bs blank h k f =
+    let cell : List ℕ = stripped bs in
+    let front : Fronted b cell = fronted-stripped b bs blank f in
+    let tail : List ℕ = without_first colon cell in
+    let same : tail ≡ cell = without_first-other b colon cell k front in
+    let tail_front : Fronted b tail = subst (Fronted b) (sym same) front in
+    let no : is_hyphens (without_last colon tail) ≡ false = no_hyphens b (without_last colon tail) h (last_or_not b tail (ends colon tail) tail_front) in
+    ap (λ t. if t then Some (alignment_by (begins colon cell) (ends colon tail)) else None) no
+
+cells-refused-at : (b : ℕ) (bs : List ℕ) → is_blank b ≡ false → (b == hyphen) ≡ false → (b == colon) ≡ false → Fronted b bs → delimiter_cells bs ≡ None
+cells-refused-at b bs blank h k f =
+    let n : ℕ = position_or_len is_pipe bs in
+    cells-refused bs n refl (prefix_len-le-length _ bs) (sym (cell-refused b (take n bs) blank h k (fronted-take b n bs f)))
+
+if_none : (t : Bool) (o : Option (List Alignment)) → o ≡ None → (if t then o else None) ≡ None
+if_none true o h = h
+if_none false o h = refl
+
+-- and no delimiter row
+row_refused : (b : ℕ) (bs : List ℕ) → is_blank b ≡ false → (b == pipe) ≡ false → (b == hyphen) ≡ false → (b == colon) ≡ false → Fronted b bs → delimiter_row bs ≡ None
+unfolding delimiter_row
+row_refused b bs blank p h k f =
+    let row : List ℕ = stripped (take_while is_content bs) in
+    let front : Fronted b row = fronted-stripped b (take_while is_content bs) blank (fronted-take b (prefix_len is_content bs) bs f) in
+    let inner : List ℕ = without_first pipe row in
+    let same : inner ≡ row = without_first-other b pipe row p front in
+    let inner_front : Fronted b inner = subst (Fronted b) (sym same) front in
+    if_none (nat_le (columns_of bs 0) 3 && list_any is_pipe row) (delimiter_cells (without_last pipe inner)) (cells-refused-at b (without_last pipe inner) blank h k (last_or_not b inner (ends pipe inner) inner_front))
+
+either_no : (s t : Bool) → (s || t) ≡ false → (s ≡ false) × (t ≡ false)
+either_no false false h = (refl, refl)
+either_no false true h = absurd cc
+either_no true t h = absurd cc
+
+neither : (s t : Bool) → s ≡ false → t ≡ false → (s || t) ≡ false
+neither s t e f = ap (λ u. u || t) e ∙ f
+
+-- a delimiter row that no space or tab stands before begins with a pipe, a hyphen or a colon
+pub row-refused : (bs : List ℕ) → begins 32 bs ≡ false → begins 9 bs ≡ false → (begins pipe bs || begins hyphen bs || begins colon bs) ≡ false → delimiter_row bs ≡ None
+row-refused [] space tab h = row_refused 0 [] refl refl refl refl (inl refl)
+row-refused (b ∷ bs) space tab h =
+    let some = either_no ((b == pipe) || (b == hyphen)) (b == colon) h in
+    let two = either_no (b == pipe) (b == hyphen) some.0 in
+    row_refused b (b ∷ bs) (neither (b == 9) (b == 32) tab space) two.0 two.1 some.1 (inr (bs, refl))
+
+-- the delimiter row behind the columns of a line, of which there are fewer than four
+pub row_of-few : (r s : Rest) → s ≡ after_columns 4 r → nat_le 4 (indent r) ≡ false → delimiter_row_of r ≡ delimiter_row s.left
+unfolding delimiter_row_of
+row_of-few r s e h =
+    let few : nat_lt (indent r) 4 ≡ true = grind (arith, nat_tests, h) in
+    let low : indent r ≤ 4 = grind (arith, nat_tests, h) in
+    let same : after_columns (indent r) r ≡ s = sym (all_columns_up_to 4 r low) ∙ sym e in
+    ap (λ t. if t then delimiter_row (after_columns (indent r) r).left else None) few ∙ ap (λ q. delimiter_row q.left) same
+
+pub row_of-refused : (r s : Rest) → s ≡ after_columns 4 r → nat_le 4 (indent r) ≡ false → (begins pipe s.left || begins hyphen s.left || begins colon s.left) ≡ false → None ≡ delimiter_row_of r
+row_of-refused r s e h look =
+    let low : indent r ≤ 4 = grind (arith, nat_tests, h) in
+    let same : after_columns (indent r) r ≡ s = sym (all_columns_up_to 4 r low) ∙ sym e in
+    let front = all_columns r in
+    sym (row_of-few r s e h ∙ row-refused s.left (ap (λ q. begins 32 q.left) (sym same) ∙ front.1) (ap (λ q. begins 9 q.left) (sym same) ∙ front.2) look)
+
+-- each delimiter row gives an alignment
+cons-some : (x : Alignment) (o : Option (List Alignment)) (xs : List Alignment) → option_map (λ ys. x ∷ ys) o ≡ Some xs → 0 < length xs
+cons-some x None xs h = absurd cc
+cons-some x (Some ys) xs h =
+    let same : x ∷ ys ≡ xs = cc in
+    let long : suc (length ys) ≡ length xs = ap length same in
+    omega arith
+
+each-some : (o : Option Alignment) (os : List (Option Alignment)) (xs : List Alignment) → each_of (o ∷ os) ≡ Some xs → 0 < length xs
+each-some None os xs h = absurd cc
+each-some (Some x) os xs h = cons-some x (each_of os) xs h
+
+cells-some : (bs : List ℕ) (xs : List Alignment) → delimiter_cells bs ≡ Some xs → 0 < length xs
+cells-some bs xs h =
+    let n : ℕ = position_or_len is_pipe bs in
+    let o : Option Alignment = delimiter_cell (take n bs) in
+    let within : n ≤ length bs = prefix_len-le-length _ bs in
+    elim (cases_lt n (length bs)) as (λ _. 0 < length xs) [
+      inl more ↦ each-some o (map delimiter_cell (slice_split is_pipe (drop (n + 1) bs))) xs (sym (cells-more bs n o refl more refl) ∙ h)
+    | inr all ↦ each-some o [] xs (sym (cells-last bs n o refl (omega arith) refl) ∙ h)
+    ]
+
+if_some : (t : Bool) (o : Option (List Alignment)) (xs : List Alignment) → (if t then o else None) ≡ Some xs → o ≡ Some xs
+if_some true o xs h = h
+if_some false o xs h = absurd cc
+
+pub row-some : (bs : List ℕ) (xs : List Alignment) → delimiter_row bs ≡ Some xs → 0 < length xs
+unfolding delimiter_row
+row-some bs xs h =
+    let row : List ℕ = stripped (take_while is_content bs) in
+    let cells : List ℕ = without_last pipe (without_first pipe row) in
+    cells-some cells xs (if_some (nat_le (columns_of bs 0) 3 && list_any is_pipe row) (delimiter_cells cells) xs h)
+
+pub row_of-some : (r : Rest) (xs : List Alignment) → delimiter_row_of r ≡ Some xs → 0 < length xs
+unfolding delimiter_row_of
+row_of-some r xs h = row-some (after_columns (indent r) r).left xs (if_some (nat_lt (indent r) 4) (delimiter_row (after_columns (indent r) r).left) xs h)
+
+-- the row of a head that was read, by its alignments
+head-cases : (n : ℕ) (o : Option (List Alignment)) (size : ℕ) (xs : List Alignment) → ◌≡◌ {A = ℕ × List Alignment} (size, xs) (option_map_or (λ columns. (n, columns)) o (0, [])) → ((xs ≡ []) × (o ≡ None)) ⊎ (o ≡ Some xs)
+head-cases n None size xs h = inl (ap (λ q. q.1) h, refl)
+head-cases n (Some ys) size xs h = inr (ap (λ q. Some q.1) (sym h))
+
+pub head-empty : (bs : List ℕ) (size : ℕ) (xs : List Alignment) → (size, xs) ≡ table_head bs → length xs ≡ 0 → delimiter_row bs ≡ None
+unfolding table_head
+head-empty bs size xs h none =
+    elim (head-cases (line_len bs) (delimiter_row bs) size xs h) as (λ _. delimiter_row bs ≡ None) [
+      inl none_there ↦ none_there.1
+    | inr some ↦ absurd (let long = row-some bs xs some in omega arith)
+    ]
+
+pub head-read : (bs : List ℕ) (size : ℕ) (xs : List Alignment) → (size, xs) ≡ table_head bs → ¬ (length xs ≡ 0) → delimiter_row bs ≡ Some xs
+unfolding table_head
+head-read bs size xs h long =
+    elim (head-cases (line_len bs) (delimiter_row bs) size xs h) as (λ _. delimiter_row bs ≡ Some xs) [
+      inl none_there ↦ absurd (long (ap length none_there.0))
+    | inr some ↦ some
+    ]

@@ -1,0 +1,96 @@
+//! Whether a table begins at a line: the columns that a line has as a header row, and the delimiter row behind
+//! the columns of a line (GFM 4.10).
+
+ghost use Rattle.std.specs.Option.{option_map, option_map_or};
+ghost use Rattle.std.specs.List.{take_while};
+ghost use Rattle.std.specs.Prelude.{◌≡◌, ℕ, ◌+◌, ◌==◌, ◌&&◌, ◌||◌, not, Some, IfOk};
+ghost use Rattle.first_pass_items.specs.Bytes.{hyphen, colon, backslash, pipe};
+ghost use Rattle.first_pass_lines.specs.Lines.{begins, is_content};
+ghost use Rattle.first_pass_table_scan.specs.TableHead.{is_pipe, head_columns, columns_by_pipes, delimiter_row_of, last_pipe_behind, pipes_of};
+
+use crate::table_scan::{cell_len, count_header_cols, scan_table_head};
+use first_pass_items::item::Alignment;
+use first_pass_lines::lines::content_len;
+use first_pass_scan::line_start::LineStart;
+use std::alloc::{AllocError, Global};
+
+/// How many columns the line that `bytes` begins with has as the header row of a table: its pipes not
+/// directly behind a backslash, without one that begins it behind white space, and one more where something
+/// else than white space stands behind the last. 0 where it has no such pipe. GFM 4.10.
+pub fn scan_head_columns(bytes: &[u8]) -> usize
+    ensures { result ≡ head_columns bytes.now }
+{
+    let row = &bytes[..content_len(bytes)];
+    if cell_len(row) == row.len() {
+        return 0;
+    }
+    let (pipes, end) = count_pipes(row);
+    if end == 0 {
+        return 0;
+    }
+    count_header_cols(bytes, pipes, 0, end - 1)
+}
+
+// Whether the byte is a pipe, and the one before it, 0 at the front, is no backslash.
+fn is_open_pipe(before: u8, byte: u8) -> bool
+    ensures { result ≡ (is_pipe byte && not (before == backslash)) }
+{
+    byte == b'|' && before != b'\\'
+}
+
+// How many pipes not directly behind a backslash the row has, and the offset behind the last: 0, if there is none.
+fn count_pipes(row: &[u8]) -> (usize, usize)
+    ensures pipes { result.0 ≡ pipes_of row.now }
+    ensures end { result.1 ≡ option_map_or (λ last. last + 1) (last_pipe_behind 0 row.now) 0 }
+{
+    let mut pipes = 0;
+    let mut end = 0;
+    let mut before = 0;
+    for (at, byte) in row.iter().enumerate() {
+        if is_open_pipe(before, *byte) {
+            pipes += 1;
+            end = at + 1;
+        }
+        before = *byte;
+    }
+    (pipes, end)
+}
+
+// Whether a byte is next with which a delimiter row can begin behind its indent.
+fn can_begin_delimiters(bytes: &[u8]) -> bool
+    ensures { result ≡ begins pipe bytes.now || begins hyphen bytes.now || begins colon bytes.now }
+{
+    matches!(bytes, [b'|' | b'-' | b':', ..])
+}
+
+/// The alignments of the columns that the delimiter row behind the columns of `line` gives, which are three at
+/// most: one at least. `None` where no such row is here; an error only where memory is refused. GFM 4.10.
+#[tactic(auto, unfolding(crate::specs::TableHead::delimiter_row_of))]
+pub fn scan_delimiter_row(
+    alloc: Global,
+    line: &LineStart<'_>,
+) -> Result<Option<Vec<Alignment>>, AllocError>
+    ensures { IfOk result (λ columns. option_map (λ v. v.items) columns ≡ delimiter_row_of line.now) }
+{
+    let mut row = line.copy();
+    if row.scan_space(4) {
+        return Ok(None);
+    }
+    if !can_begin_delimiters(row.left()) {
+        return Ok(None);
+    }
+    let (_, columns) = scan_table_head(alloc, row.left())?;
+    if columns.is_empty() {
+        return Ok(None);
+    }
+    Ok(Some(columns))
+}
+
+/// What the pipes of a line say of its columns as a header row: without a pipe there are none; else the pipes,
+/// without one that begins it behind white space, and one more where something else than white space stands
+/// behind the last, are the columns. GFM 4.10.
+pub fn law_of_head_columns(bytes: &[u8])
+    ensures none { pipes_of (take_while is_content bytes.now) ≡ 0 → head_columns bytes.now ≡ 0 }
+    ensures some { (last : ℕ) → last_pipe_behind 0 (take_while is_content bytes.now) ≡ Some last
+        → head_columns bytes.now ≡ columns_by_pipes (pipes_of (take_while is_content bytes.now)) bytes.now last }
+{}
