@@ -4,7 +4,6 @@ use Rattle.std.specs.Option.{option_map, option_map_or}
 use Rattle.std.specs.List.{prefix_len, suffix_len, take_while, position_or_len, list_any, slice_split}
 use Rattle.std.proofs.lemmas.Bool.{cases_lt}
 use Rattle.std.proofs.lemmas.Bool.Decides.{nat_tests}
-use Rattle.std.proofs.lemmas.List.{take_all}
 use Rattle.std.proofs.lemmas.List.Sums.{prefix_len-le-length}
 use Rattle.first_pass_items.specs.Bytes.{hyphen, colon, pipe}
 use Rattle.first_pass_items.specs.declared.item.Alignment.{Alignment}
@@ -30,8 +29,8 @@ take_none (suc n) = refl
 fronted-take : (b n : ℕ) (bs : List ℕ) → Fronted b bs → Fronted b (take n bs)
 fronted-take b n bs f =
     elim f as (λ _. Fronted b (take n bs)) [
-      inl e ↦ inl (ap (take n) e ∙ take_none n)
-    | inr more ↦ subst (λ cs. Fronted b (take n cs)) (sym more.1) (take_front b n more.0)
+      | inl e ↦ inl (ap (take n) e ∙ take_none n)
+      | inr more ↦ subst (λ cs. Fronted b (take n cs)) (sym more.1) (take_front b n more.0)
     ]
 
 strip_fronted : (b : ℕ) (cs : List ℕ) → is_blank b ≡ false → prefix_len is_blank (b ∷ cs) ≡ 0
@@ -41,15 +40,15 @@ fronted-stripped : (b : ℕ) (bs : List ℕ) → is_blank b ≡ false → Fronte
 unfolding stripped
 fronted-stripped b bs h f =
     elim f as (λ _. Fronted b (stripped bs)) [
-      inl e ↦ subst (λ cs. Fronted b (stripped cs)) (sym e) (inl refl)
-    | inr more ↦ subst (λ cs. Fronted b (stripped cs)) (sym more.1) (subst (λ k. Fronted b (let s : List ℕ = drop k (b ∷ more.0) in take (length s - suffix_len is_blank s) s)) (sym (strip_fronted b more.0 h)) (take_front b (length (b ∷ more.0) - suffix_len is_blank (b ∷ more.0)) more.0))
+      | inl e ↦ subst (λ cs. Fronted b (stripped cs)) (sym e) (inl refl)
+      | inr more ↦ subst (λ cs. Fronted b (stripped cs)) (sym more.1) (subst (λ k. Fronted b (let s : List ℕ = drop k (b ∷ more.0) in take (length s - suffix_len is_blank s) s)) (sym (strip_fronted b more.0 h)) (take_front b (length (b ∷ more.0) - suffix_len is_blank (b ∷ more.0)) more.0))
     ]
 
 begins-other : (b c : ℕ) (bs : List ℕ) → (b == c) ≡ false → Fronted b bs → begins c bs ≡ false
 begins-other b c bs h f =
     elim f as (λ _. begins c bs ≡ false) [
-      inl e ↦ ap (begins c) e
-    | inr more ↦ ap (begins c) more.1 ∙ h
+      | inl e ↦ ap (begins c) e
+      | inr more ↦ ap (begins c) more.1 ∙ h
     ]
 
 without_first-other : (b c : ℕ) (bs : List ℕ) → (b == c) ≡ false → Fronted b bs → without_first c bs ≡ bs
@@ -68,8 +67,8 @@ none_of_some n = grind (arith, nat_tests)
 no_hyphens : (b : ℕ) (bs : List ℕ) → (b == hyphen) ≡ false → Fronted b bs → is_hyphens bs ≡ false
 no_hyphens b bs h f =
     elim f as (λ _. is_hyphens bs ≡ false) [
-      inl e ↦ ap is_hyphens e
-    | inr more ↦ ap is_hyphens more.1 ∙ ap (λ n. nat_le 1 (length (b ∷ more.0)) && (n == length (b ∷ more.0))) (no_run b more.0 h) ∙ none_of_some (length more.0)
+      | inl e ↦ ap is_hyphens e
+      | inr more ↦ ap is_hyphens more.1 ∙ ap (λ n. nat_le 1 (length (b ∷ more.0)) && (n == length (b ∷ more.0))) (no_run b more.0 h) ∙ none_of_some (length more.0)
     ]
 
 -- no alignment begins with such a byte
@@ -154,8 +153,8 @@ cells-some bs xs h =
     let o : Option Alignment = delimiter_cell (take n bs) in
     let within : n ≤ length bs = prefix_len-le-length _ bs in
     elim (cases_lt n (length bs)) as (λ _. 0 < length xs) [
-      inl more ↦ each-some o (map delimiter_cell (slice_split is_pipe (drop (n + 1) bs))) xs (sym (cells-more bs n o refl more refl) ∙ h)
-    | inr all ↦ each-some o [] xs (sym (cells-last bs n o refl (omega arith) refl) ∙ h)
+      | inl more ↦ each-some o (map delimiter_cell (slice_split is_pipe (drop (n + 1) bs))) xs (sym (cells-more bs n o refl more refl) ∙ h)
+      | inr all ↦ each-some o [] xs (sym (cells-last bs n o refl (omega arith) refl) ∙ h)
     ]
 
 if_some : (t : Bool) (o : Option (List Alignment)) (xs : List Alignment) → (if t then o else None) ≡ Some xs → o ≡ Some xs
@@ -182,14 +181,14 @@ pub head-empty : (bs : List ℕ) (size : ℕ) (xs : List Alignment) → (size, x
 unfolding table_head
 head-empty bs size xs h none =
     elim (head-cases (line_len bs) (delimiter_row bs) size xs h) as (λ _. delimiter_row bs ≡ None) [
-      inl none_there ↦ none_there.1
-    | inr some ↦ absurd (let long = row-some bs xs some in omega arith)
+      | inl none_there ↦ none_there.1
+      | inr some ↦ absurd (let long = row-some bs xs some in omega arith)
     ]
 
 pub head-read : (bs : List ℕ) (size : ℕ) (xs : List Alignment) → (size, xs) ≡ table_head bs → ¬ (length xs ≡ 0) → delimiter_row bs ≡ Some xs
 unfolding table_head
 head-read bs size xs h long =
     elim (head-cases (line_len bs) (delimiter_row bs) size xs h) as (λ _. delimiter_row bs ≡ Some xs) [
-      inl none_there ↦ absurd (long (ap length none_there.0))
-    | inr some ↦ some
+      | inl none_there ↦ absurd (long (ap length none_there.0))
+      | inr some ↦ some
     ]

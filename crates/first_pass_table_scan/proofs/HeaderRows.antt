@@ -1,5 +1,5 @@
 -- Facts on the pipes of a header row, and on its columns.
-use Rattle.std.proofs.Common.{◌≡◌, ℕ, suc,  ◌+◌, ◌-◌, ◌<◌, ◌≤◌, ◌⊎◌, Bool, true, false, List, [], ◌∷◌, length, take, drop, Option, Some, None, refl, sym, ap, ◌∙◌, arith, inl, inr, if◌then◌else◌, ◌==◌, ◌&&◌, not, get_or}
+use Rattle.std.proofs.Common.{◌≡◌, ℕ, suc, ◌+◌, ◌-◌, ◌<◌, ◌≤◌, ◌⊎◌, Bool, true, false, List, [], ◌∷◌, length, take, drop, Option, Some, None, refl, sym, ap, ◌∙◌, arith, inl, inr, if◌then◌else◌, ◌==◌, ◌&&◌, not, get_or}
 use Rattle.std.specs.Option.{option_map_or}
 use Rattle.std.specs.List.{prefix_len, take_while, position_or_len}
 use Rattle.std.proofs.lemmas.List.{drop_more, drop_all, take-take}
@@ -59,8 +59,8 @@ pub pipes-some : (b : ℕ) (bs : List ℕ) (n : ℕ) → last_pipe_behind b bs �
 pipes-some b [] n h = absurd cc
 pipes-some b (c ∷ cs) n h =
     elim (last-cases (is_pipe c && not (b == backslash)) (last_pipe_behind c cs) n h) as (λ _. 1 ≤ pipes_behind b (c ∷ cs)) [
-      inl here ↦ (let one = one_if (is_pipe c && not (b == backslash)) here.1 in omega arith)
-    | inr more ↦ (let rest = pipes-some c cs more.0 more.1 in omega arith)
+      | inl here ↦ (let one = one_if (is_pipe c && not (b == backslash)) here.1 in omega arith)
+      | inr more ↦ (let rest = pipes-some c cs more.0 more.1 in omega arith)
     ]
 
 -- the last pipe is one of the bytes
@@ -68,8 +68,8 @@ pub last-within : (b : ℕ) (bs : List ℕ) (n : ℕ) → last_pipe_behind b bs 
 last-within b [] n h = absurd cc
 last-within b (c ∷ cs) n h =
     elim (last-cases (is_pipe c && not (b == backslash)) (last_pipe_behind c cs) n h) as (λ _. n < length (c ∷ cs)) [
-      inl here ↦ (let at = here.2 in omega arith)
-    | inr more ↦ (let at = more.2 in let rest = last-within c cs more.0 more.1 in omega arith)
+      | inl here ↦ (let at = here.2 in omega arith)
+      | inr more ↦ (let at = more.2 in let rest = last-within c cs more.0 more.1 in omega arith)
     ]
 
 -- behind the last pipe there is none
@@ -78,8 +78,8 @@ pipes-to-last b [] n h = absurd cc
 pipes-to-last b (c ∷ cs) n h =
     let t : Bool = is_pipe c && not (b == backslash) in
     elim (last-cases t (last_pipe_behind c cs) n h) as (λ _. pipes_behind b (take (n + 1) (c ∷ cs)) ≡ pipes_behind b (c ∷ cs)) [
-      inl here ↦ ap (λ k. pipes_behind b (take (k + 1) (c ∷ cs))) here.2 ∙ ap (λ k. (if t then 1 else 0) + k) (sym (pipes-none c cs here.0))
-    | inr more ↦ (let at = more.2 in let e : n + 1 ≡ suc (more.0 + 1) = omega arith in ap (λ k. pipes_behind b (take k (c ∷ cs))) e ∙ ap (λ k. (if t then 1 else 0) + k) (pipes-to-last c cs more.0 more.1))
+      | inl here ↦ ap (λ k. pipes_behind b (take (k + 1) (c ∷ cs))) here.2 ∙ ap (λ k. (if t then 1 else 0) + k) (sym (pipes-none c cs here.0))
+      | inr more ↦ (let at = more.2 in let e : n + 1 ≡ suc (more.0 + 1) = omega arith in ap (λ k. pipes_behind b (take k (c ∷ cs))) e ∙ ap (λ k. (if t then 1 else 0) + k) (pipes-to-last c cs more.0 more.1))
     ]
 
 -- bytes without a pipe have no last one
@@ -184,11 +184,11 @@ pub columns_within : (bs : List ℕ) → head_columns bs ≤ prefix_len is_conte
 unfolding head_columns
 columns_within bs =
     few_or_none bs (last_pipe_behind 0 (take_while is_content bs)) (λ n h.
-        let counted = pipes-of-line bs n h in
-        let long = line_len-content bs in
-        let few = pipes-fit 0 (take_while is_content bs) in
-        let most = columns-few (pipes_of (take (n + 1) bs)) (begins pipe (drop (prefix_len is_white bs) bs)) (is_blank_line (drop (n + 1) bs)) in
-        omega arith)
+    let counted = pipes-of-line bs n h in
+    let long = line_len-content bs in
+    let few = pipes-fit 0 (take_while is_content bs) in
+    let most = columns-few (pipes_of (take (n + 1) bs)) (begins pipe (drop (prefix_len is_white bs) bs)) (is_blank_line (drop (n + 1) bs)) in
+    omega arith)
 
 -- what the pipes of a line say of its columns
 pub head-by-pipes : (bs : List ℕ) (n : ℕ) → last_pipe_behind 0 (take_while is_content bs) ≡ Some n → head_columns bs ≡ columns_by_pipes (pipes_of (take_while is_content bs)) bs n

@@ -1,4 +1,4 @@
-use Rattle.std.proofs.Common.{◌≡◌, ℕ, List, refl, sym, ◌∙◌, arith}
+use Rattle.std.proofs.Common.{ℕ, List, refl, sym, ◌∙◌, arith}
 use Rattle.first_pass_table_scan.proofs.HeaderRows.{pipes-first, step-open, step-other, pipes-end, ending-end}
 use Rattle.first_pass_table_scan.proofs.TableFacts.{pipes-fit}
 use Rattle.first_pass_table_scan.proofs.table_start.count_pipes.Goals as goal
@@ -19,12 +19,12 @@ loop-at-preserved c =
     let old = c.loop-at in
     let new = c.if-is_open_pipe in
     elim c.if-is_open_pipe.branch [
-      then-is_open_pipe w ↦
-        (let s = step-open row old.at old.before new.before old.pipes old.end new.pipes new.end c.loop-at-test.true w.before-is w.pipes-is w.end-is (sym c.is_open_pipe.ensures ∙ w.if-is_open_pipe.true) old.invariant.pipes old.invariant.ending in
-         record { pipes = s.0; ending = s.1 })
-    | else-is_open_pipe w ↦
-        (let s = step-other row old.at old.before new.before old.pipes old.end new.pipes new.end c.loop-at-test.true w.before-is w.pipes-is w.end-is (sym c.is_open_pipe.ensures ∙ w.if-is_open_pipe.false) old.invariant.pipes old.invariant.ending in
-         record { pipes = s.0; ending = s.1 })
+      | then-is_open_pipe w ↦
+          (let s = step-open row old.at old.before new.before old.pipes old.end new.pipes new.end c.loop-at-test.true w.before-is w.pipes-is w.end-is (sym c.is_open_pipe.ensures ∙ w.if-is_open_pipe.true) old.invariant.pipes old.invariant.ending in
+          record { pipes = s.0; ending = s.1 })
+      | else-is_open_pipe w ↦
+          (let s = step-other row old.at old.before new.before old.pipes old.end new.pipes new.end c.loop-at-test.true w.before-is w.pipes-is w.end-is (sym c.is_open_pipe.ensures ∙ w.if-is_open_pipe.false) old.invariant.pipes old.invariant.ending in
+          record { pipes = s.0; ending = s.1 })
     ]
 
 pub overflow_add-pipes : goal.overflow_add-pipes
