@@ -21,7 +21,8 @@ pub fn scan_head_columns(bytes: &[u8]) -> usize
     ensures { result ≡ head_columns bytes.now }
 {
     let row = &bytes[..content_len(bytes)];
-    if cell_len(row) == row.len() {
+    let first = cell_len(row);
+    if first == row.len() {
         return 0;
     }
     let (pipes, end) = count_pipes(row);

@@ -6,10 +6,10 @@ use Rattle.first_pass_table_scan.specs.TableHead.{last_pipe_behind, header_colum
 use Rattle.first_pass_table_scan.proofs.HeaderRows.{head-unmarked, head-escaped, head-some, last-found, last-in-line, counted-some, counted-to-last}
 use Rattle.first_pass_table_scan.proofs.table_start.scan_head_columns.Goals as goal
 
-pub returns-then-cell_len-row : goal.returns-then-cell_len-row
-returns-then-cell_len-row c =
+pub returns-then-first-row : goal.returns-then-first-row
+returns-then-first-row c =
     let bs : List ℕ = c.args.bytes.now in
-    head-unmarked bs (take c.content_len.result bs) c.cell_len.result (ap (λ n. take n bs) c.content_len.ensures.value) c.cell_len.ensures.value c.if-cell_len-row.true
+    head-unmarked bs (take c.content_len.result bs) c.cell_len-first.result (ap (λ n. take n bs) c.content_len.ensures.value) c.cell_len-first.ensures.value c.if-first-row.true
 
 pub returns-then-end-eq0 : goal.returns-then-end-eq0
 returns-then-end-eq0 c =
