@@ -12,8 +12,7 @@ use Rattle.first_pass_lines.proofs.LineFacts.{line_len-none}
 use Rattle.first_pass_lines.proofs.PlaceFacts.{line_end_boundary}
 use Rattle.first_pass_links.specs.Escapes.{unescaped}
 use Rattle.first_pass_labels.specs.declared.label_table.LinkDef.{LinkDef}
-use Rattle.first_pass_grammar.specs.declared.kind.Container.{Container}
-use Rattle.first_pass_grammar.specs.Containers.{front}
+use Rattle.first_pass_grammar.specs.Containers.{Context, front}
 use Rattle.first_pass_grammar.specs.Kinds.{all_taken, is_blank_rest, ends_tag}
 use Rattle.first_pass_grammar.specs.Definitions.{LinkReference, reference_at}
 use Rattle.first_pass_grammar.specs.LinkRuns.{entry_of}
@@ -22,12 +21,12 @@ use Rattle.first_pass_definitions.proofs.ReferenceFacts.{reference_last}
 use Rattle.first_pass_names.specs.TableEntries.{link_entry}
 use Rattle.first_pass_definitions.specs.Found.{HasTitle, IsReference}
 use Rattle.first_pass_tree.specs.Forest.{in_table}
-use Rattle.first_pass_open.specs.Path.{path_of}
+use Rattle.first_pass_open.specs.Path.{context_of}
 use Rattle.first_pass_open.specs.declared.source.Source.{Source}
 use Rattle.first_pass_lists.specs.declared.reading.Reading.{Reading}
 use Rattle.first_pass_text.specs.Rests.{IsRestOf}
 use Rattle.first_pass.specs.declared.state.FirstPass.{FirstPass}
-use Rattle.first_pass.specs.Views.{reading_of, source_of, source_text, tree_of}
+use Rattle.first_pass.specs.Views.{reading_of, source_of, source_text, tree_of, context_in}
 use Rattle.first_pass.proofs.TagLemmas.{tag_end}
 use Rattle.first_pass.proofs.RunLemmas.{defined_here, IsOneMore}
 
@@ -67,11 +66,11 @@ behind_boundary text e u b =
     ]
 
 -- What was found is one more.
-pub one_more : (text : List ℕ) (path : List Container) (nested : Bool) (q : Place) (at : ℕ) (x : LinkReference) (found : ℕ × CowStr × LinkDef) (before now : Tables) → IsUtf8 text → IsPlaceOf text q → offset q ≡ at
-    → reference_at nested path (drop at text) ≡ Some x → IsReference nested at x found → 0 < found.0 → IsCharBoundary text (at + found.0) → now ≡ told before (link_entry (found.1, found.2) ∷ [])
-    → IsOneMore text path nested q (at + found.0) before now
-one_more text path nested q at x found before now u i there here h some b is =
-    let ends = reference_last nested path (drop at text) x here in
+pub one_more : (text : List ℕ) (around : Context) (nested : Bool) (q : Place) (at : ℕ) (x : LinkReference) (found : ℕ × CowStr × LinkDef) (before now : Tables) → IsUtf8 text → IsPlaceOf text q → offset q ≡ at
+    → reference_at nested around (drop at text) ≡ Some x → IsReference nested at x found → 0 < found.0 → IsCharBoundary text (at + found.0) → now ≡ told before (link_entry (found.1, found.2) ∷ [])
+    → IsOneMore text around nested q (at + found.0) before now
+one_more text around nested q at x found before now u i there here h some b is =
+    let ends = reference_last nested around (drop at text) x here in
     let size : found.0 ≡ x.size = h.size in
     let last : at + (x.size - 1) ≡ at + found.0 - 1 = omega arith in
     record {
@@ -81,8 +80,8 @@ one_more text path nested q at x found before now u i there here h some b is =
       boundary = behind_boundary text (at + found.0) u b;
       entry = link_entry (found.1, found.2);
       here = λ plain.
-          (let nothing : reference_at false path (drop at text) ≡ Some x = subst (λ z. reference_at z path (drop at text) ≡ Some x) plain here in
-          defined_here text path q x i (ap (λ n. reference_at false path (drop n text)) there ∙ nothing)
+          (let nothing : reference_at false around (drop at text) ≡ Some x = subst (λ z. reference_at z around (drop at text) ≡ Some x) plain here in
+          defined_here text around q x i (ap (λ n. reference_at false around (drop n text)) there ∙ nothing)
           ∙ ap (λ n. Some (entry_of n x)) there
           ∙ ap (λ z. Some z) (sym (entry_is at x found (subst (λ z. IsReference z at x found) plain h))));
       ends = h.definition.end_is ∙ ap (λ n. at + n) (sym size);
@@ -91,23 +90,23 @@ one_more text path nested q at x found before now u i there here h some b is =
 
 -- the definition at an offset, as a pass sees it with the same text and the same open blocks
 same_reference : (first now : FirstPass) (at : ℕ) → source_of now ≡ source_of first → reading_of now ≡ reading_of first
-    → reference_at (in_table (tree_of now).nodes (tree_of now).spine) (path_of (tree_of now)) (drop at (source_text now)) ≡ reference_at (in_table (tree_of first).nodes (tree_of first).spine) (path_of (tree_of first)) (drop at (source_text first))
+    → reference_at (in_table (tree_of now).nodes (tree_of now).spine) (context_in now) (drop at (source_text now)) ≡ reference_at (in_table (tree_of first).nodes (tree_of first).spine) (context_in first) (drop at (source_text first))
 same_reference first now at source reading =
-    ap (λ (z : Source). reference_at (in_table (tree_of now).nodes (tree_of now).spine) (path_of (tree_of now)) (drop at z.text.now)) source
-    ∙ ap (λ (z : Reading). reference_at (in_table z.tree.nodes z.tree.spine) (path_of z.tree) (drop at (source_text first))) reading
+    ap (λ (z : Source). reference_at (in_table (tree_of now).nodes (tree_of now).spine) (context_of z.options (tree_of now)) (drop at z.text.now)) source
+    ∙ ap (λ (z : Reading). reference_at (in_table z.tree.nodes z.tree.spine) (context_of (source_of first).options z.tree) (drop at (source_text first))) reading
 
 -- what a pass answers to the definition at an offset
 abbrev pub Answers : FirstPass → ℕ → Option (ℕ × CowStr × LinkDef) → Type 0
 Answers pass at answer =
     (let nested : Bool = in_table (tree_of pass).nodes (tree_of pass).spine in
-    MatchOption (reference_at nested (path_of (tree_of pass)) (drop at (source_text pass))) (answer ≡ None) (λ x. IsSomeAnd answer (IsReference nested at x)))
+    MatchOption (reference_at nested (context_in pass) (drop at (source_text pass))) (answer ≡ None) (λ x. IsSomeAnd answer (IsReference nested at x)))
 
 pub none_here : (first now : FirstPass) (at : ℕ) (answer : Option (ℕ × CowStr × LinkDef)) → source_of now ≡ source_of first → reading_of now ≡ reading_of first → Answers now at answer → answer ≡ None
-    → reference_at (in_table (tree_of first).nodes (tree_of first).spine) (path_of (tree_of first)) (drop at (source_text first)) ≡ None
+    → reference_at (in_table (tree_of first).nodes (tree_of first).spine) (context_in first) (drop at (source_text first)) ≡ None
 none_here first now at answer source reading said is = sym (same_reference first now at source reading) ∙ none_by _ answer (IsReference (in_table (tree_of now).nodes (tree_of now).spine) at) said is
 
 pub found_here : (first now : FirstPass) (at : ℕ) (answer : Option (ℕ × CowStr × LinkDef)) (found : ℕ × CowStr × LinkDef) → source_of now ≡ source_of first → reading_of now ≡ reading_of first → Answers now at answer → answer ≡ Some found
-    → (x : LinkReference) × (reference_at (in_table (tree_of first).nodes (tree_of first).spine) (path_of (tree_of first)) (drop at (source_text first)) ≡ Some x) × IsReference (in_table (tree_of first).nodes (tree_of first).spine) at x found
+    → (x : LinkReference) × (reference_at (in_table (tree_of first).nodes (tree_of first).spine) (context_in first) (drop at (source_text first)) ≡ Some x) × IsReference (in_table (tree_of first).nodes (tree_of first).spine) at x found
 found_here first now at answer found source reading said is =
     let w = found_by _ answer found (IsReference (in_table (tree_of now).nodes (tree_of now).spine) at) said is in
     (w.0, sym (same_reference first now at source reading) ∙ w.1, subst (λ (z : Reading). IsReference (in_table z.tree.nodes z.tree.spine) at w.0 found) reading w.2)
@@ -130,21 +129,21 @@ rest_there text bytes next b is =
     record { within = omega arith; are = is ∙ ap (λ n. drop n text) (sym there); boundary = subst (IsCharBoundary text) (sym there) b }
 
 -- whether a run ends before the line that these bytes begin with, and what is left of it behind its columns
-abbrev pub stops_at : List Container → List ℕ → Bool
-stops_at path bs = ends_tag path (line_rest bs) || is_blank_rest (all_taken (front path (line_rest bs)))
+abbrev pub stops_at : Context → List ℕ → Bool
+stops_at around bs = ends_tag around (line_rest bs) || is_blank_rest (all_taken (front around.path (line_rest bs)))
 
-abbrev pub rest_at : List Container → List ℕ → Rest
-rest_at path bs = all_taken (front path (line_rest bs))
+abbrev pub rest_at : Context → List ℕ → Rest
+rest_at around bs = all_taken (front around.path (line_rest bs))
 
 -- A line that goes on with a run is there.
-pub line_is_there : (text : List ℕ) (path : List Container) (next : ℕ) → stops_at path (drop next text) ≡ false → next < length text
-line_is_there text path next goes =
+pub line_is_there : (text : List ℕ) (around : Context) (next : ℕ) → stops_at around (drop next text) ≡ false → next < length text
+line_is_there text around next goes =
     elim (cases_lt next (length text)) [
       | inl within ↦ within
-      | inr past ↦ (let none : stops_at path (drop next text) ≡ true = ap (stops_at path) (drop_all next text past) ∙ ap (λ t. t || is_blank_rest (all_taken (front path (line_rest [])))) (tag_end path) in
+      | inr past ↦ (let none : stops_at around (drop next text) ≡ true = ap (stops_at around) (drop_all next text past) ∙ ap (λ t. t || is_blank_rest (all_taken (front around.path (line_rest [])))) (tag_end around) in
           absurd (true≢false (sym none ∙ goes)))
     ]
 
 -- what is answered of the next line, as it is said of the text
-pub answered : (path path' : List Container) (bs bs' : List ℕ) (o : Option Rest) → path ≡ path' → bs ≡ bs' → o ≡ (if stops_at path bs then None else Some (rest_at path bs)) → o ≡ (if stops_at path' bs' then None else Some (rest_at path' bs'))
-answered path path' bs bs' o a b h = subst (λ z. o ≡ (if stops_at path' z then None else Some (rest_at path' z))) b (subst (λ z. o ≡ (if stops_at z bs then None else Some (rest_at z bs))) a h)
+pub answered : (around around' : Context) (bs bs' : List ℕ) (o : Option Rest) → around ≡ around' → bs ≡ bs' → o ≡ (if stops_at around bs then None else Some (rest_at around bs)) → o ≡ (if stops_at around' bs' then None else Some (rest_at around' bs'))
+answered around around' bs bs' o a b h = subst (λ z. o ≡ (if stops_at around' z then None else Some (rest_at around' z))) b (subst (λ z. o ≡ (if stops_at z bs then None else Some (rest_at z bs))) a h)

@@ -23,7 +23,7 @@ use Rattle.first_pass_grammar.specs.HtmlBlocks.{until_end, until_blank, IsHtml}
 use Rattle.first_pass_grammar.specs.Rows.{is_paragraph}
 use Rattle.first_pass_grammar.specs.Skeleton.{block_at, leaf_block, Line, Opening, OpensLeaf, OpensAs}
 use Rattle.first_pass_grammar.specs.Completion.{lines_from}
-use Rattle.first_pass_open.specs.Path.{path_of}
+use Rattle.first_pass_open.specs.Path.{path_of, context_of}
 use Rattle.first_pass_names.specs.TableEntries.{no_names}
 use Rattle.first_pass_raw.specs.RawBlocks.{IsPlaceAt, behind_line_at, code_behind, AddsIndented, AddsRaw, metadata_behind, fenced_behind, html_to_end, html_to_blank}
 use Rattle.first_pass.specs.Adding.{AddsKind}
@@ -201,7 +201,7 @@ ready_kind text options defined own names r new p kind gap next forest is other 
     let opens = subst (λ path. OpensAs d path p lines kind o) (path_finished p.line r none) (a.opens names extends) in
     subst (λ z. Ready d z (remembered new empty blank) left) (told_none defined)
     (ready_added d defined r new p lines left p.line (block_at kind p a.items gap) (ap (λ t. if t then offset (unindented p) else p.line) other) kind forest is
-    (subst (λ k. OpensAs d (path_of r.tree) p lines k o) (sym (kind_in_other (path_of r.tree) p kind other)) opens) a.tree_is none ready empty blank e b)
+    (subst (λ k. OpensAs d (path_of r.tree) p lines k o) (sym (kind_in_other (context_of options r.tree) p kind other)) opens) a.tree_is none ready empty blank e b)
 
 -- the same of a kind that is this one, and blank lines or none at its end
 pub adds_so : (text : List ℕ) (options : Options) (names : Names) (p : Place) (k kind : Kind) (gap blank : Bool) (old new : Forest Item) (next : ℕ) → kind ≡ k → blank ≡ gap → AddsKind text options names p k gap old new next → AddsKind text options names p kind blank old new next

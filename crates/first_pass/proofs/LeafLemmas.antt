@@ -19,9 +19,9 @@ use Rattle.first_pass_grammar.specs.Rows.{is_paragraph}
 use Rattle.std.proofs.lemmas.Bool.{true≢false}
 use Rattle.first_pass_grammar.specs.declared.kind.Container.{Container}
 use Rattle.first_pass_grammar.specs.declared.kind.Container.TheVariants.{BlockQuote}
-use Rattle.first_pass_grammar.specs.Containers.{at_rest, prefix}
+use Rattle.first_pass_grammar.specs.Containers.{Context, at_rest, prefix}
 use Rattle.first_pass_grammar.specs.Kinds.{Kind, Blank, ThematicBreak, AtxHeading, LinkDefinitions, Paragraph, unindented, item_at, IsKind}
-use Rattle.first_pass_grammar.specs.Leaves.{Document, IsParagraph, IsHeading, heading_text_at, rule_block, heading_block, paragraph_block, marker_items}
+use Rattle.first_pass_grammar.specs.Leaves.{Document, around, IsParagraph, IsHeading, heading_text_at, rule_block, heading_block, paragraph_block, marker_items}
 use Rattle.first_pass_grammar.specs.Skeleton.{BlankLine, LeafBlock, Block, run_block, flowing_block, OpensBeyond, OpensRun, block_at, leaf_block, Line, Inside, At, ALeafAlone, IsFirst, Opening, OpensLeaf, OpensParagraph, OpensAs, OpensBlockAt, OpensQuote, OpensFrom, Opens}
 use Rattle.first_pass_grammar.specs.Completion.{lines_from, Frame, containers_of, AreBelow}
 use Rattle.first_pass_grammar.proofs.Finishes.{CompletesAt}
@@ -29,7 +29,7 @@ use Rattle.first_pass_grammar.proofs.Completions.{leaf_closes, completes-leaf, c
 use Rattle.first_pass_text.specs.Appends.{line_end_at, AddsParagraph, AddsHeading}
 use Rattle.first_pass_lists.specs.Closing.{remembered, top_body, is_list, list_finished, blank_read_by, blank_read}
 use Rattle.first_pass_lists.specs.declared.reading.Reading.{Reading}
-use Rattle.first_pass_open.specs.Path.{path_of}
+use Rattle.first_pass_open.specs.Path.{path_of, context_of}
 use Rattle.first_pass.specs.State.{AreOpen, ReadyAt, Ready}
 use Rattle.first_pass.specs.Opening.{ReadyText, ReadyLazy, ReadyLeaf}
 use Rattle.first_pass.proofs.LineLemmas.{list_finished_none}
@@ -114,7 +114,7 @@ lazy_block d defined r new p lines left at block opens new_is none lazy =
 
 -- a leaf is added at its place
 pub ready_added : (d : Document) (defined : Tables) (r : Reading) (new : Forest Item) (p : Place) (lines left : List Place) (at : ℕ) (block : LeafBlock) → leaf_closes block ≡ at → (k : Kind) → IsForest r.tree → IsKind d.options p.rest k
-    → OpensAs d (path_of r.tree) p lines (kind_in (path_of r.tree) p k) (OpensLeaf (Block block) Line left) → new ≡ added (list_finished at r).tree block.items → r.empty_item ≡ None → ReadyLeaf d defined r p lines
+    → OpensAs d (path_of r.tree) p lines (kind_in (context_of d.options r.tree) p k) (OpensLeaf (Block block) Line left) → new ≡ added (list_finished at r).tree block.items → r.empty_item ≡ None → ReadyLeaf d defined r p lines
     → (empty : Option ℕ) (blank : Bool) → empty ≡ None → blank ≡ block.gap → Ready d (told defined block.definitions) (remembered new empty blank) left
 ready_added d defined r new p lines left at block closes k forest kind opens new_is none (inl (no_item, no_quote, ready)) empty blank e b =
     remembered_so d (told defined block.definitions) new empty blank block.gap left e b
@@ -195,26 +195,26 @@ unfolding with_links
 told_none defined = refl
 
 -- what is no paragraph begins as what it is
-pub kind_in_other : (path : List Container) (p : Place) (kind : Kind) → is_paragraph kind ≡ false → kind_in path p kind ≡ kind
-kind_in_other path p Paragraph h = absurd (true≢false h)
-kind_in_other path p kind h = refl
+pub kind_in_other : (around : Context) (p : Place) (kind : Kind) → is_paragraph kind ≡ false → kind_in around p kind ≡ kind
+kind_in_other around p Paragraph h = absurd (true≢false h)
+kind_in_other around p kind h = refl
 
 -- nor does a paragraph behind no definition
-kind_in_text : (path : List Container) (p : Place) → definition_at path (unindented p) ≡ None → kind_in path p Paragraph ≡ Paragraph
-kind_in_text path p none = ap (λ (x : Option LinkEntry). if is_some x then LinkDefinitions else Paragraph) none
+kind_in_text : (around : Context) (p : Place) → definition_at around (unindented p) ≡ None → kind_in around p Paragraph ≡ Paragraph
+kind_in_text around p none = ap (λ (x : Option LinkEntry). if is_some x then LinkDefinitions else Paragraph) none
 
 -- the same behind a definition
-kind_in_run : (path : List Container) (p : Place) (x : LinkEntry) → definition_at path (unindented p) ≡ Some x → kind_in path p Paragraph ≡ LinkDefinitions
-kind_in_run path p x some = ap (λ (x : Option LinkEntry). if is_some x then LinkDefinitions else Paragraph) some
+kind_in_run : (around : Context) (p : Place) (x : LinkEntry) → definition_at around (unindented p) ≡ Some x → kind_in around p Paragraph ≡ LinkDefinitions
+kind_in_run around p x some = ap (λ (x : Option LinkEntry). if is_some x then LinkDefinitions else Paragraph) some
 
 -- what opens behind link definitions, or behind none
 text_opens : (d : Document) (path : List Container) (p : Place) (lines : List Place) (xs : List LinkEntry) (b : Beyond) (o : Opening)
-    → IsRun path (unindented p) lines xs b → OpensBeyond d path xs b o → OpensAs d path p lines (kind_in path p Paragraph) o
+    → IsRun (around d path) (unindented p) lines xs b → OpensBeyond d path xs b o → OpensAs d path p lines (kind_in (around d path) p Paragraph) o
 unfolding IsRun OpensAs OpensRun OpensParagraph
 text_opens d path p lines [] b o (none, is) opens =
-    subst (λ k. OpensAs d path p lines k o) (sym (kind_in_text path p none)) (subst (λ z. OpensBeyond d path [] z o) is opens)
+    subst (λ k. OpensAs d path p lines k o) (sym (kind_in_text (around d path) p none)) (subst (λ z. OpensBeyond d path [] z o) is opens)
 text_opens d path p lines (x ∷ xs) b o (here, more) opens =
-    subst (λ k. OpensAs d path p lines k o) (sym (kind_in_run path p x here)) (x ∷ xs, b, (here, more), opens)
+    subst (λ k. OpensAs d path p lines k o) (sym (kind_in_run (around d path) p x here)) (x ∷ xs, b, (here, more), opens)
 
 -- a paragraph that was added at a place, behind link definitions or none
 opens_flow : (d : Document) (path : List Container) (old new : Forest Item) (q : Place) (at next : ℕ) (xs : List LinkEntry) → path_of old ≡ path → at ≡ offset q → IsPlaceOf d.text q → (a : AddsParagraph d at None old new next)
@@ -235,7 +235,7 @@ opens_flow d path old new q at next xs path_is at_is place a =
 
 -- behind a paragraph, which stands behind link definitions or none
 pub ready_flows : (d : Document) (defined : Tables) (r : Reading) (new : Forest Item) (p q : Place) (at next : ℕ) (xs : List LinkEntry) → IsForest r.tree → IsKind d.options p.rest Paragraph → IsPlaceOf d.text q → at ≡ offset q
-    → IsRun (path_of r.tree) (unindented p) (lines_from d.text (line_end p)) xs (FlowsOn q (lines_from d.text (line_end q))) → AddsParagraph d at None (list_finished at r).tree new next → r.empty_item ≡ None
+    → IsRun (context_of d.options r.tree) (unindented p) (lines_from d.text (line_end p)) xs (FlowsOn q (lines_from d.text (line_end q))) → AddsParagraph d at None (list_finished at r).tree new next → r.empty_item ≡ None
     → ReadyLeaf d defined r p (lines_from d.text (line_end p)) → (empty : Option ℕ) (blank : Bool) → empty ≡ None → blank ≡ false → Ready d (told defined xs) (remembered new empty blank) (lines_from d.text next)
 ready_flows d defined r new p q at next xs forest kind place at_is run a none ready =
     let lines : List Place = lines_from d.text (line_end p) in
@@ -257,7 +257,7 @@ added_nothing d defined f run left ready =
 
 -- behind link definitions with no paragraph behind them, the last of which begins at a place
 pub ready_ended : (d : Document) (defined : Tables) (r : Reading) (p q : Place) (next : ℕ) (xs : List LinkEntry) → IsForest r.tree → IsKind d.options p.rest Paragraph
-    → IsRun (path_of r.tree) (unindented p) (lines_from d.text (line_end p)) xs (Ended q (lines_from d.text next)) → r.empty_item ≡ None
+    → IsRun (context_of d.options r.tree) (unindented p) (lines_from d.text (line_end p)) xs (Ended q (lines_from d.text next)) → r.empty_item ≡ None
     → ReadyLeaf d defined r p (lines_from d.text (line_end p)) → Ready d (told defined xs) (list_finished q.line r) (lines_from d.text next)
 unfolding Ready
 ready_ended d defined r p q next xs forest kind run none ready =

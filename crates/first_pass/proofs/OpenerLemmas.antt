@@ -18,7 +18,7 @@ use Rattle.first_pass_grammar.specs.declared.kind.Container.{Container}
 use Rattle.first_pass_grammar.specs.declared.kind.Container.TheVariants.{BlockQuote, ListItem}
 use Rattle.first_pass_grammar.specs.Containers.{at_rest, prefix}
 use Rattle.first_pass_grammar.specs.Kinds.{is_blank_rest, quote_start, item_at}
-use Rattle.first_pass_grammar.specs.Leaves.{Document}
+use Rattle.first_pass_grammar.specs.Leaves.{Document, around}
 use Rattle.first_pass_grammar.specs.OpenOrder.{is_in_item}
 use Rattle.first_pass_grammar.specs.Skeleton.{From, Line, Inside, Blanks, Opening, OpensNode, next_is_blank, item_head, task_behind, behind_task, behind_marker, task_alone, item_opening, quote_head, tag_behind, behind_tag, quote_opening, OpensQuote, OpensFrom, Opens}
 use Rattle.first_pass_grammar.specs.Derivation.{Tables, node_of, list_flags}
@@ -65,10 +65,10 @@ quote_away (Some (ListBody flags list number)) p kind behind inside = (refl, ref
 quote_away (Some b) p kind behind inside = tt
 
 opens_quote : (d : Document) (path : List Container) (p : Place) (lines : List Place) (r : Rest) → item_at p.rest ≡ None → prefix (BlockQuote None) p.rest ≡ Some r
-    → Opens d path p lines (quote_opening path p (at_rest p r) lines (tag_behind d.options r))
+    → Opens d path p lines (quote_opening (around d path) p (at_rest p r) lines (tag_behind d.options r))
 unfolding OpensFrom
 opens_quote d path p lines r none is =
-    let opening : Opening = quote_opening path p (at_rest p r) lines (tag_behind d.options r) in
+    let opening : Opening = quote_opening (around d path) p (at_rest p r) lines (tag_behind d.options r) in
     subst (λ o. OpensFrom d path p lines o opening) (sym none) (subst (λ o. OpensQuote d path p lines (option_map (at_rest p) o) opening) (sym is) refl)
 
 -- what a block quote is once it is opened
@@ -114,7 +114,7 @@ pub ready_quote : (d : Document) (defined : Tables) (r : Reading) (p : Place) (l
 ready_quote d defined r p lines inside forest no_item is no_tag none ready =
     let q : Reading = begun (quote_start p) (BlockQuoteBody None) (list_finished p.line r) in
     let path : List Container = path_of r.tree in
-    let opens = subst (λ t. Opens d path p lines (quote_opening path p (at_rest p inside) lines t)) no_tag (opens_quote d path p lines inside no_item is) in
+    let opens = subst (λ t. Opens d path p lines (quote_opening (around d path) p (at_rest p inside) lines t)) no_tag (opens_quote d path p lines inside no_item is) in
     let begun_is = quote_is_open d defined r p lines lines None (Inside (at_rest p inside)) forest opens none ready in
     subst (λ t. ReadyAt d defined q.tree t (Inside (at_rest p inside)) lines) (sym begun_is.blank) begun_is.ready
 
@@ -124,14 +124,14 @@ pub ready_tagged : (d : Document) (defined : Tables) (r : Reading) (p : Place) (
 ready_tagged d defined r p lines inside kind forest no_item is tag none ready =
     let q : Reading = begun (quote_start p) (BlockQuoteBody (Some kind)) (list_finished p.line r) in
     let path : List Container = path_of r.tree in
-    let from : From × List Place = behind_tag (BlockQuote (Some kind) ∷ path) lines in
-    let opens = subst (λ t. Opens d path p lines (quote_opening path p (at_rest p inside) lines t)) tag (opens_quote d path p lines inside no_item is) in
+    let from : From × List Place = behind_tag (around d (BlockQuote (Some kind) ∷ path)) lines in
+    let opens = subst (λ t. Opens d path p lines (quote_opening (around d path) p (at_rest p inside) lines t)) tag (opens_quote d path p lines inside no_item is) in
     let begun_is = quote_is_open d defined r p lines from.1 (Some kind) from.0 forest opens none ready in
     record {
       kind = Some kind;
       quote = begun_is.top;
       blank = begun_is.blank;
-      ready = subst (λ z. ReadyAt d defined q.tree false (behind_tag z lines).0 (behind_tag z lines).1) (sym begun_is.path) begun_is.ready;
+      ready = subst (λ z. ReadyAt d defined q.tree false (behind_tag (around d z) lines).0 (behind_tag (around d z) lines).1) (sym begun_is.path) begun_is.ready;
     }
 
 -- the tree with an item opened in its list, which goes on or begins

@@ -10,7 +10,7 @@ use Rattle.first_pass_lines.specs.Places.{Place, offset, line_place, place_at, l
 use Rattle.first_pass_lines.proofs.LineFacts.{line_len-none, line_len-step, line_len-some, line_len-inside, line_len-within, lines_at-line, lines_at-end}
 use Rattle.first_pass_open.proofs.PlaceLemmas.{text_place}
 use Rattle.first_pass_grammar.specs.declared.kind.Container.{Container}
-use Rattle.first_pass_grammar.specs.Containers.{front}
+use Rattle.first_pass_grammar.specs.Containers.{Context, front}
 use Rattle.first_pass_grammar.specs.Kinds.{all_taken, unindented, is_blank_rest, ends_tag}
 use Rattle.first_pass_grammar.specs.Definitions.{LinkReference, reference_at}
 use Rattle.first_pass_grammar.specs.LinkTables.{LinkEntry}
@@ -110,8 +110,8 @@ lines_behind_it text p e i less within no_end =
     (ap (λ n. lines_beyond e (lines_from text n)) ends ∙ r.0, omega arith)
 
 -- at the start nothing is read
-pub run_begun : (text : List ℕ) (path : List Container) (nested : Bool) (p : Place) (tables : Tables) → IsPlaceOf text p → RunSoFar text path nested p p tables tables
-run_begun text path nested p tables i = record {
+pub run_begun : (text : List ℕ) (around : Context) (nested : Bool) (p : Place) (tables : Tables) → IsPlaceOf text p → RunSoFar text around nested p p tables tables
+run_begun text around nested p tables i = record {
   stands = i;
   later = inl (refl, omega arith);
   ends = omega arith;
@@ -121,20 +121,20 @@ run_begun text path nested p tables i = record {
 }
 
 -- a definition that stands at a place, by its entry
-pub defined_here : (text : List ℕ) (path : List Container) (q : Place) (x : LinkReference) → IsPlaceOf text q → reference_at false path (drop (offset q) text) ≡ Some x → definition_at path q ≡ Some (entry_of (offset q) x)
-defined_here text path q x i is = ap (option_map (entry_of (offset q))) (ap (reference_at false path) i.left ∙ is)
+pub defined_here : (text : List ℕ) (around : Context) (q : Place) (x : LinkReference) → IsPlaceOf text q → reference_at false around (drop (offset q) text) ≡ Some x → definition_at around q ≡ Some (entry_of (offset q) x)
+defined_here text around q x i is = ap (option_map (entry_of (offset q))) (ap (reference_at false around) i.left ∙ is)
 
-pub defined_none : (text : List ℕ) (path : List Container) (q : Place) → IsPlaceOf text q → reference_at false path (drop (offset q) text) ≡ None → definition_at path q ≡ None
-defined_none text path q i is = ap (option_map (entry_of (offset q))) (ap (reference_at false path) i.left ∙ is)
+pub defined_none : (text : List ℕ) (around : Context) (q : Place) → IsPlaceOf text q → reference_at false around (drop (offset q) text) ≡ None → definition_at around q ≡ None
+defined_none text around q i is = ap (option_map (entry_of (offset q))) (ap (reference_at false around) i.left ∙ is)
 
 -- What a definition that is read is: where it ends, and what is told with it. The first holds of each, the second where no table is open.
-pub record IsOneMore (text : List ℕ) (path : List Container) (nested : Bool) (q : Place) (e : ℕ) (before now : Tables) : Type 0 where
+pub record IsOneMore (text : List ℕ) (around : Context) (nested : Bool) (q : Place) (e : ℕ) (before now : Tables) : Type 0 where
   pub less : offset q < e
   pub within : e ≤ length text
   pub no_end : is_line_end (slice_index text (e - 1)) ≡ false
   pub boundary : IsCharBoundary text (e + line_len (drop e text))
   pub entry : LinkEntry
-  pub here : nested ≡ false → definition_at path q ≡ Some entry
+  pub here : nested ≡ false → definition_at around q ≡ Some entry
   pub ends : entry.«end» ≡ e
   pub defined : nested ≡ false → now ≡ told before (entry ∷ [])
 
@@ -151,14 +151,14 @@ behind_entry : (text : List ℕ) (q : Place) (e : ℕ) (x : LinkEntry) → x.«e
 behind_entry text q e x is lines = ap (λ n. lines_beyond n (lines_from text (line_end q))) is ∙ lines
 
 -- One definition more, behind which the line goes on with the run.
-pub run_goes_on : (text : List ℕ) (path : List Container) (nested : Bool) (p q : Place) (e next : ℕ) (before mid now : Tables) → IsUtf8 text → next ≡ e + line_len (drop e text) → next < length text
-    → (ends_tag path (line_rest (drop next text)) || is_blank_rest (all_taken (front path (line_rest (drop next text))))) ≡ false
-    → RunSoFar text path nested p q before mid → IsOneMore text path nested q e mid now → RunSoFar text path nested p (text_at text path next) before now
+pub run_goes_on : (text : List ℕ) (around : Context) (nested : Bool) (p q : Place) (e next : ℕ) (before mid now : Tables) → IsUtf8 text → next ≡ e + line_len (drop e text) → next < length text
+    → (ends_tag around (line_rest (drop next text)) || is_blank_rest (all_taken (front around.path (line_rest (drop next text))))) ≡ false
+    → RunSoFar text around nested p q before mid → IsOneMore text around nested q e mid now → RunSoFar text around nested p (text_at text around.path next) before now
 unfolding IsRun
-run_goes_on text path nested p q e next before mid now u at within goes r one =
+run_goes_on text around nested p q e next before mid now u at within goes r one =
     let behind = lines_behind_it text q e r.stands one.less one.within one.no_end in
     let begins : IsCharBoundary text next = subst (IsCharBoundary text) (sym at) one.boundary in
-    let there = text_place text next path u begins in
+    let there = text_place text next around.path u begins in
     let low = behind.1 in
     let ends = r.ends in
     let some = line_len-within text next within in
@@ -176,25 +176,25 @@ run_goes_on text path nested p q e next before mid now u at within goes r one =
       definitions = r.definitions ++ x ∷ [];
       defined = λ plain. told_more before mid now r.definitions x (r.defined plain) (one.defined plain);
       goes_on = λ plain further beyond run.
-          subst (λ z. IsRun path p (lines_from text (line_end p)) z beyond) (sym (append_assoc r.definitions (x ∷ []) further))
+          subst (λ z. IsRun around p (lines_from text (line_end p)) z beyond) (sym (append_assoc r.definitions (x ∷ []) further))
           (r.goes_on plain (x ∷ further) beyond
-          (one.here plain, inr (line, left, lines, goes, subst (λ n. IsRun path (text_at text path next) (lines_from text n) further beyond) there.1 run)));
+          (one.here plain, inr (line, left, lines, goes, subst (λ n. IsRun around (text_at text around.path next) (lines_from text n) further beyond) there.1 run)));
     }
 
 -- One definition more, behind which the run ends.
-run_ends_by : (path : List Container) (text : List ℕ) (next : ℕ)
-    → (next < length text → (ends_tag path (line_rest (drop next text)) || is_blank_rest (all_taken (front path (line_rest (drop next text))))) ≡ true) → ends_run path (lines_from text next) ≡ true
-run_ends_by path text next ends =
+run_ends_by : (around : Context) (text : List ℕ) (next : ℕ)
+    → (next < length text → (ends_tag around (line_rest (drop next text)) || is_blank_rest (all_taken (front around.path (line_rest (drop next text))))) ≡ true) → ends_run around (lines_from text next) ≡ true
+run_ends_by around text next ends =
     elim (cases_lt next (length text)) [
-      | inl within ↦ ap (ends_run path) (lines_at-line text next within) ∙ ends within
-      | inr past ↦ (let none : lines_from text next ≡ [] = lines_at-end text next past in ap (ends_run path) none)
+      | inl within ↦ ap (ends_run around) (lines_at-line text next within) ∙ ends within
+      | inr past ↦ (let none : lines_from text next ≡ [] = lines_at-end text next past in ap (ends_run around) none)
     ]
 
-pub run_ends : (text : List ℕ) (path : List Container) (nested : Bool) (p q : Place) (e line next : ℕ) (before mid now : Tables) → next ≡ e + line_len (drop e text) → line ≡ q.line
-    → (next < length text → (ends_tag path (line_rest (drop next text)) || is_blank_rest (all_taken (front path (line_rest (drop next text))))) ≡ true)
-    → RunSoFar text path nested p q before mid → IsOneMore text path nested q e mid now → ReadsRun text path nested p before now (NextLine line next)
+pub run_ends : (text : List ℕ) (around : Context) (nested : Bool) (p q : Place) (e line next : ℕ) (before mid now : Tables) → next ≡ e + line_len (drop e text) → line ≡ q.line
+    → (next < length text → (ends_tag around (line_rest (drop next text)) || is_blank_rest (all_taken (front around.path (line_rest (drop next text))))) ≡ true)
+    → RunSoFar text around nested p q before mid → IsOneMore text around nested q e mid now → ReadsRun text around nested p before now (NextLine line next)
 unfolding IsRun
-run_ends text path nested p q e line next before mid now at here ends r one =
+run_ends text around nested p q e line next before mid now at here ends r one =
     let behind = lines_behind_it text q e r.stands one.less one.within one.no_end in
     let x : LinkEntry = one.entry in
     let lines : lines_beyond x.«end» (lines_from text (line_end q)) ≡ lines_from text next = behind_entry text q e x one.ends behind.0 ∙ ap (lines_from text) (sym at) in
@@ -208,14 +208,14 @@ run_ends text path nested p q e line next before mid now at here ends r one =
       definitions = r.definitions ++ x ∷ [];
       defined = λ plain. told_more before mid now r.definitions x (r.defined plain) (one.defined plain);
       run = λ plain. r.goes_on plain (x ∷ []) (Ended q (lines_from text next))
-          (one.here plain, inl (ap (ends_run path) lines ∙ run_ends_by path text next ends, refl, ap (Ended q) (sym lines)));
+          (one.here plain, inl (ap (ends_run around) lines ∙ run_ends_by around text next ends, refl, ap (Ended q) (sym lines)));
     }
 
 -- No definition more: a paragraph's text begins there.
-pub run_flows : (text : List ℕ) (path : List Container) (nested : Bool) (p q : Place) (at : ℕ) (before now : Tables) → at ≡ offset q → (nested ≡ false → definition_at path q ≡ None)
-    → RunSoFar text path nested p q before now → ReadsRun text path nested p before now (Paragraph at)
+pub run_flows : (text : List ℕ) (around : Context) (nested : Bool) (p q : Place) (at : ℕ) (before now : Tables) → at ≡ offset q → (nested ≡ false → definition_at around q ≡ None)
+    → RunSoFar text around nested p q before now → ReadsRun text around nested p before now (Paragraph at)
 unfolding IsRun
-run_flows text path nested p q at before now here none r = record {
+run_flows text around nested p q at before now here none r = record {
   place = q;
   stands = r.stands;
   later = r.later;
@@ -223,5 +223,5 @@ run_flows text path nested p q at before now here none r = record {
   says = here;
   definitions = r.definitions;
   defined = r.defined;
-  run = λ plain. subst (λ z. IsRun path p (lines_from text (line_end p)) z (FlowsOn q (lines_from text (line_end q)))) (append-nil r.definitions) (r.goes_on plain [] (FlowsOn q (lines_from text (line_end q))) (none plain, refl));
+  run = λ plain. subst (λ z. IsRun around p (lines_from text (line_end p)) z (FlowsOn q (lines_from text (line_end q)))) (append-nil r.definitions) (r.goes_on plain [] (FlowsOn q (lines_from text (line_end q))) (none plain, refl));
 }

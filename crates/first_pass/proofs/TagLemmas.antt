@@ -12,9 +12,9 @@ use Rattle.first_pass_lines.specs.Lines.{line_len}
 use Rattle.first_pass_lines.specs.Places.{Place, line_rest, line_place, place_at}
 use Rattle.first_pass_lines.proofs.LineFacts.{lines_at-line, lines_at-end}
 use Rattle.first_pass_grammar.specs.Derivation.{Tables}
-use Rattle.first_pass_grammar.specs.declared.kind.Container.{Container}
+use Rattle.first_pass_grammar.specs.Containers.{Context}
 use Rattle.first_pass_grammar.specs.declared.kind.Container.TheVariants.{BlockQuote}
-use Rattle.first_pass_grammar.specs.Containers.{at_rest, after, front}
+use Rattle.first_pass_grammar.specs.Containers.{Context, at_rest, after, front}
 use Rattle.first_pass_grammar.specs.Kinds.{unindented, interrupts, ends_tag}
 use Rattle.first_pass_grammar.specs.Leaves.{Document}
 use Rattle.first_pass_grammar.specs.Skeleton.{From, Line, At, ALeafAlone, behind_tag}
@@ -22,7 +22,7 @@ use Rattle.first_pass_grammar.specs.Completion.{lines_from, Frame, InContainer}
 use Rattle.first_pass_grammar.proofs.Completions.{counts_in}
 use Rattle.first_pass_lists.specs.Closing.{top_body, is_list, popped, item_finished_by, item_finished, list_left, gap_tree, gap_noted, list_finished}
 use Rattle.first_pass_lists.specs.declared.reading.Reading.{Reading}
-use Rattle.first_pass_open.specs.Path.{path_of}
+use Rattle.first_pass_open.specs.Path.{path_of, context_of}
 use Rattle.first_pass.specs.State.{frame_of, AreOpen, ReadyAt, Ready}
 use Rattle.first_pass.specs.Opening.{ReadyInQuote, ReadyTagged, ReadyLazy}
 use Rattle.first_pass_open.proofs.PathLemmas.{front-end}
@@ -53,37 +53,39 @@ quote_counts nodes (ix ∷ s) (frame ∷ frames) kind quote o =
     ap (λ f. counts_in (f ∷ frames) false) (sym same)
 
 -- At the text's end no line belongs to it.
-end_by : (whole : Bool) → (nat_lt (indent (line_rest [])) 4 && interrupts whole (line_rest [])) ≡ true
+end_by : (around : Context) (whole : Bool) → (nat_lt (indent (line_rest [])) 4 && interrupts around whole (line_rest [])) ≡ true
 unfolding interrupts
-end_by whole = refl
+end_by around whole = refl
 
-pub tag_end : (path : List Container) → ends_tag path (line_rest []) ≡ true
-tag_end path = ap (λ r. nat_lt (indent r) 4 && interrupts (is_some (after path (line_rest []))) r) (front-end path) ∙ end_by (is_some (after path (line_rest [])))
+pub tag_end : (around : Context) → ends_tag around (line_rest []) ≡ true
+tag_end around =
+    ap (λ r. nat_lt (indent r) 4 && interrupts around (is_some (after around.path (line_rest []))) r) (front-end around.path)
+    ∙ end_by around (is_some (after around.path (line_rest [])))
 
-tag_by : (path : List Container) (line : Place) (lines : List Place) (t : Bool) → ends_tag path line.rest ≡ t
-    → behind_tag path (line ∷ lines) ≡ (if t then (Line, line ∷ lines) else (At (unindented (at_rest line (front path line.rest))) ALeafAlone, lines))
-tag_by path line lines t is = rw is refl
+tag_by : (around : Context) (line : Place) (lines : List Place) (t : Bool) → ends_tag around line.rest ≡ t
+    → behind_tag around (line ∷ lines) ≡ (if t then (Line, line ∷ lines) else (At (unindented (at_rest line (front around.path line.rest))) ALeafAlone, lines))
+tag_by around line lines t is = rw is refl
 
 -- where blocks go on behind its tag, at the line that begins at an offset
-tag_line : (path : List Container) (text : List ℕ) (at : ℕ) (t : Bool) → ends_tag path (line_rest (drop at text)) ≡ t
+tag_line : (around : Context) (text : List ℕ) (at : ℕ) (t : Bool) → ends_tag around (line_rest (drop at text)) ≡ t
     → (let lines : List Place = lines_from text at in
-    behind_tag path lines ≡ (if t then (Line, lines) else (At (unindented (place_at at (front path (line_rest (drop at text))))) ALeafAlone, lines_from text (at + line_len (drop at text)))))
-tag_line path text at t is =
+    behind_tag around lines ≡ (if t then (Line, lines) else (At (unindented (place_at at (front around.path (line_rest (drop at text))))) ALeafAlone, lines_from text (at + line_len (drop at text)))))
+tag_line around text at t is =
     elim (cases_lt at (length text)) [
-      | inl within ↦ (let first = lines_at-line text at within in ap (behind_tag path) first ∙ tag_by path (line_place at (drop at text)) (lines_from text (at + line_len (drop at text))) t is ∙ ap (λ z. if t then (Line, z) else (At (unindented (place_at at (front path (line_rest (drop at text))))) ALeafAlone, lines_from text (at + line_len (drop at text)))) (sym first))
+      | inl within ↦ (let first = lines_at-line text at within in ap (behind_tag around) first ∙ tag_by around (line_place at (drop at text)) (lines_from text (at + line_len (drop at text))) t is ∙ ap (λ z. if t then (Line, z) else (At (unindented (place_at at (front around.path (line_rest (drop at text))))) ALeafAlone, lines_from text (at + line_len (drop at text)))) (sym first))
       | inr past ↦ (let none : lines_from text at ≡ [] = lines_at-end text at past in
-          let over : t ≡ true = sym is ∙ ap (λ bs. ends_tag path (line_rest bs)) (ends_past text at past) ∙ tag_end path in
-          ap (behind_tag path) none ∙ ap (λ z. (Line, z)) (sym none) ∙ ap (λ u. if u then (Line, lines_from text at) else (At (unindented (place_at at (front path (line_rest (drop at text))))) ALeafAlone, lines_from text (at + line_len (drop at text)))) (sym over))
+          let over : t ≡ true = sym is ∙ ap (λ bs. ends_tag around (line_rest bs)) (ends_past text at past) ∙ tag_end around in
+          ap (behind_tag around) none ∙ ap (λ z. (Line, z)) (sym none) ∙ ap (λ u. if u then (Line, lines_from text at) else (At (unindented (place_at at (front around.path (line_rest (drop at text))))) ALeafAlone, lines_from text (at + line_len (drop at text)))) (sym over))
     ]
 
 -- the line behind its tag, which is read as any other
-pub ready_any_line : (d : Document) (defined : Tables) (r : Reading) (at : ℕ) → ends_tag (path_of r.tree) (line_rest (drop at d.text)) ≡ true → r.empty_item ≡ None → ReadyTagged d defined r (lines_from d.text at) → Ready d defined r (lines_from d.text at)
+pub ready_any_line : (d : Document) (defined : Tables) (r : Reading) (at : ℕ) → ends_tag (context_of d.options r.tree) (line_rest (drop at d.text)) ≡ true → r.empty_item ≡ None → ReadyTagged d defined r (lines_from d.text at) → Ready d defined r (lines_from d.text at)
 ready_any_line d defined r at is none tagged =
     let lines : List Place = lines_from d.text at in
-    let here : behind_tag (path_of r.tree) lines ≡ (Line, lines) = tag_line (path_of r.tree) d.text at true is in
+    let here : behind_tag (context_of d.options r.tree) lines ≡ (Line, lines) = tag_line (context_of d.options r.tree) d.text at true is in
     ready_plain d defined r lines none (subst (λ t. ReadyAt d defined r.tree t Line lines) (sym tagged.blank) (subst (λ (z : From × List Place). ReadyAt d defined r.tree false z.0 z.1) here tagged.ready))
 
 -- the same, which belongs to the quote
-pub ready_its_line : (d : Document) (defined : Tables) (r : Reading) (at : ℕ) → ends_tag (path_of r.tree) (line_rest (drop at d.text)) ≡ false → ReadyTagged d defined r (lines_from d.text at)
+pub ready_its_line : (d : Document) (defined : Tables) (r : Reading) (at : ℕ) → ends_tag (context_of d.options r.tree) (line_rest (drop at d.text)) ≡ false → ReadyTagged d defined r (lines_from d.text at)
     → ReadyLazy d defined r (unindented (place_at at (front (path_of r.tree) (line_rest (drop at d.text))))) (lines_from d.text (at + line_len (drop at d.text)))
-ready_its_line d defined r at is tagged = subst (λ (z : From × List Place). ReadyInQuote d defined r z.0 z.1) (tag_line (path_of r.tree) d.text at false is) tagged
+ready_its_line d defined r at is tagged = subst (λ (z : From × List Place). ReadyInQuote d defined r z.0 z.1) (tag_line (context_of d.options r.tree) d.text at false is) tagged

@@ -11,7 +11,7 @@ use Rattle.first_pass_lines.specs.Rest.{indent}
 use Rattle.first_pass_lines.specs.Places.{Place, offset, line_end, IsPlaceOf}
 use Rattle.first_pass_lines.proofs.PlaceFacts.{columns_line_end}
 use Rattle.first_pass_open.specs.Path.{path_of}
-use Rattle.first_pass_grammar.specs.declared.kind.Container.{Container}
+use Rattle.first_pass_grammar.specs.Containers.{Context}
 use Rattle.first_pass_grammar.specs.Kinds.{Paragraph, unindented, IsKind}
 use Rattle.first_pass_grammar.specs.Leaves.{Document, document, paragraph_block, marker_items}
 use Rattle.first_pass_grammar.specs.Derivation.{Tables, told}
@@ -25,7 +25,7 @@ use Rattle.first_pass_lists.specs.declared.reading.Reading.{Reading}
 use Rattle.first_pass_text.specs.Between.{AddsBetween}
 use Rattle.first_pass.specs.declared.state.FirstPass.{FirstPass}
 use Rattle.first_pass.specs.declared.definition.RunEnd.TheVariants.{NextLine, Paragraph as TextBehind}
-use Rattle.first_pass.specs.Views.{allocs_of, reading_of, source_of, source_options, source_text, tree_of}
+use Rattle.first_pass.specs.Views.{allocs_of, context_in, reading_of, source_of, source_options, source_text, tree_of}
 use Rattle.first_pass.specs.State.{frame_of, AreOpen, Ready}
 use Rattle.first_pass.specs.Opening.{ReadyLeaf, line_or}
 use Rattle.first_pass.specs.Runs.{IsLater, ReadsRun}
@@ -99,13 +99,14 @@ later_than text p q mid (inl (same, low)) = omega arith
 later_than text p q mid (inr (low, there)) = (let ends = place_before_end (unindented p) in omega arith)
 
 -- where the lines behind a place begin that is read behind its columns
-run_from : (text : List ℕ) (path : List Container) (p : Place) (xs : List LinkEntry) (b : Beyond) → IsRun path (unindented p) (lines_from text (line_end (unindented p))) xs b → IsRun path (unindented p) (lines_from text (line_end p)) xs b
-run_from text path p xs b run = subst (λ n. IsRun path (unindented p) (lines_from text n) xs b) (columns_line_end (indent p.rest) p) run
+run_from : (text : List ℕ) (around : Context) (p : Place) (xs : List LinkEntry) (b : Beyond)
+    → IsRun around (unindented p) (lines_from text (line_end (unindented p))) xs b → IsRun around (unindented p) (lines_from text (line_end p)) xs b
+run_from text around p xs b run = subst (λ n. IsRun around (unindented p) (lines_from text n) xs b) (columns_line_end (indent p.rest) p) run
 
 -- link definitions with no paragraph behind them
 pub run_line : (old mid new : FirstPass) (p : Place) (nested : Bool) (line next : ℕ) → IsUtf8 (source_text old) → IsPlaceOf (source_text old) p → (reading_of old).empty_item ≡ None → IsForest (tree_of old) → IsKind (source_options old) p.rest Paragraph
     → nested ≡ in_table (tree_of old).nodes (tree_of old).spine → source_of mid ≡ source_of old → names_of (allocs_of mid) ≡ names_of (allocs_of old)
-    → ReadsRun (source_text old) (path_of (tree_of old)) nested (unindented p) (tables (allocs_of old)) (tables (allocs_of mid)) (NextLine line next)
+    → ReadsRun (source_text old) (context_in old) nested (unindented p) (tables (allocs_of old)) (tables (allocs_of mid)) (NextLine line next)
     → source_of new ≡ source_of mid → allocs_of new ≡ allocs_of mid → reading_of new ≡ list_finished line (reading_of old) → IsLeafRead old new p next
 run_line old mid new p nested line next u i empty forest kind nest source names w source' allocs reading =
     let text = source_text old in
@@ -131,7 +132,7 @@ run_line old mid new p nested line next u i empty forest kind nest source names 
         ready = λ more extends ready.
             let d = document text (source_options old) more in
             let plain = nest ∙ leaf_plain d (tables (allocs_of old)) r p (lines_from text (line_end p)) ready in
-            let run = run_from text (path_of r.tree) p w.definitions (Ended q (lines_from text next)) (w.run plain) in
+            let run = run_from text (context_in old) p w.definitions (Ended q (lines_from text next)) (w.run plain) in
             subst (λ z. Ready d z (reading_of new) (lines_from text next)) (sym (ap tables allocs ∙ w.defined plain))
             (subst (λ z. Ready d (told (tables (allocs_of old)) w.definitions) z (lines_from text next)) (sym behind)
             (ready_ended d (tables (allocs_of old)) r p q next w.definitions forest kind run empty ready));
@@ -146,7 +147,7 @@ run_line old mid new p nested line next u i empty forest kind nest source names 
 -- the paragraph that they flow into, or that stands alone
 pub run_text : (old mid new : FirstPass) (p : Place) (nested : Bool) (at next : ℕ) → IsUtf8 (source_text old) → IsPlaceOf (source_text old) p → (reading_of old).empty_item ≡ None → IsForest (tree_of old) → IsKind (source_options old) p.rest Paragraph
     → nested ≡ in_table (tree_of old).nodes (tree_of old).spine → source_of mid ≡ source_of old → names_of (allocs_of mid) ≡ names_of (allocs_of old)
-    → ReadsRun (source_text old) (path_of (tree_of old)) nested (unindented p) (tables (allocs_of old)) (tables (allocs_of mid)) (TextBehind at)
+    → ReadsRun (source_text old) (context_in old) nested (unindented p) (tables (allocs_of old)) (tables (allocs_of mid)) (TextBehind at)
     → source_of new ≡ source_of mid → allocs_of new ≡ allocs_of mid → reading_of new ≡ with_block (list_finished at (reading_of old)) (tree_of new)
     → AddsParagraph (document (source_text old) (source_options old) no_names) at None (list_finished at (reading_of old)).tree (tree_of new) next
     → ((from : ℕ) → from ≤ at → AddsBetween (source_text old) from next (list_finished at (reading_of old)).tree (tree_of new)) → IsLeafRead old new p next
@@ -178,7 +179,7 @@ run_text old mid new p nested at next u i empty forest kind nest source names w 
         ready = λ more extends ready.
             let d = document text options more in
             let plain = nest ∙ leaf_plain d (tables (allocs_of old)) r p (lines_from text (line_end p)) ready in
-            let run = run_from text (path_of r.tree) p w.definitions (FlowsOn q (lines_from text (line_end q))) (w.run plain) in
+            let run = run_from text (context_in old) p w.definitions (FlowsOn q (lines_from text (line_end q))) (w.run plain) in
             subst (λ z. Ready d z (reading_of new) (lines_from text next)) (sym (ap tables allocs ∙ w.defined plain))
             (ready_flows d (tables (allocs_of old)) r (tree_of new) p q at next w.definitions forest kind w.stands at_is run
             (paragraph_named text options no_names more at None (list_finished at r).tree (tree_of new) next block) empty ready (reading_of new).empty_item (reading_of new).blank none blank);

@@ -20,7 +20,7 @@ use Rattle.first_pass.specs.declared.containers.Behind.TheVariants.{Leaf as Behi
 use Rattle.first_pass_lists.specs.Closing.{top_body, is_list}
 use Rattle.first_pass_lists.specs.declared.list.ListMarker.{ListMarker}
 use Rattle.first_pass_lists.specs.declared.reading.Reading.{Reading}
-use Rattle.first_pass_open.specs.Path.{path_of}
+use Rattle.first_pass_open.specs.Path.{context_of}
 use Rattle.first_pass_items.specs.declared.item.BlockQuoteKind.{BlockQuoteKind}
 use Rattle.first_pass_items.specs.declared.item.ItemBody.TheVariants.{BlockQuote as BlockQuoteBody}
 use Rattle.first_pass.specs.State.{Ready, ReadyAt}
@@ -40,7 +40,7 @@ pub record ReadyInQuote (d : Document) (defined : Tables) (r : Reading) (from : 
 
 -- before the line behind its tag
 abbrev pub ReadyTagged : Document → Tables → Reading → List Place → Type 0
-ReadyTagged d defined r lines = ReadyInQuote d defined r (behind_tag (path_of r.tree) lines).0 (behind_tag (path_of r.tree) lines).1
+ReadyTagged d defined r lines = ReadyInQuote d defined r (behind_tag (context_of d.options r.tree) lines).0 (behind_tag (context_of d.options r.tree) lines).1
 
 -- in that line, at the place of a leaf
 abbrev pub ReadyLazy : Document → Tables → Reading → Place → List Place → Type 0

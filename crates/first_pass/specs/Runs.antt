@@ -1,7 +1,7 @@
 -- What is said of link definitions that are read (private functions alone cite this).
 use Rattle.std.specs.Prelude.{◌≡◌, ◌⊎◌, ◌≤◌, ℕ, Bool, false, List, ◌++◌, IsCharBoundary}
 use Rattle.first_pass_lines.specs.Places.{Place, offset, line_end, IsPlaceOf}
-use Rattle.first_pass_grammar.specs.declared.kind.Container.{Container}
+use Rattle.first_pass_grammar.specs.Containers.{Context}
 use Rattle.first_pass_grammar.specs.Derivation.{Tables, told}
 use Rattle.first_pass_grammar.specs.LinkTables.{LinkEntry}
 use Rattle.first_pass_grammar.specs.LinkRuns.{Beyond, Ended, FlowsOn, IsRun}
@@ -15,14 +15,14 @@ IsLater text p q = ((q.line ≡ p.line) × (offset p ≤ offset q)) ⊎ ((line_e
 
 -- The definitions from a place on are read up to another, and what they define is told: what is a run from there on, is one with them from the first on.
 -- That is said where no table is open.
-pub record RunSoFar (text : List ℕ) (path : List Container) (nested : Bool) (p q : Place) (before now : Tables) : Type 0 where
+pub record RunSoFar (text : List ℕ) (around : Context) (nested : Bool) (p q : Place) (before now : Tables) : Type 0 where
   pub stands : IsPlaceOf text q
   pub later : IsLater text p q
   pub ends : line_end p ≤ line_end q
   pub definitions : List LinkEntry
   pub defined : nested ≡ false → now ≡ told before definitions
   pub goes_on : nested ≡ false → (more : List LinkEntry) (beyond : Beyond)
-      → IsRun path q (lines_from text (line_end q)) more beyond → IsRun path p (lines_from text (line_end p)) (definitions ++ more) beyond
+      → IsRun around q (lines_from text (line_end q)) more beyond → IsRun around p (lines_from text (line_end p)) (definitions ++ more) beyond
 
 -- what stands behind the definitions, the last of which or the text behind which begins at a place
 abbrev pub beyond_of : List ℕ → Place → RunEnd → Beyond
@@ -35,7 +35,7 @@ SaysEnd text q (NextLine line next) = (line ≡ q.line) × (line_end q ≤ next)
 SaysEnd text q (Paragraph at) = at ≡ offset q
 
 -- The link definitions that begin at a place are read, as many as there are, and what they define is told.
-pub record ReadsRun (text : List ℕ) (path : List Container) (nested : Bool) (p : Place) (before now : Tables) (behind : RunEnd) : Type 0 where
+pub record ReadsRun (text : List ℕ) (around : Context) (nested : Bool) (p : Place) (before now : Tables) (behind : RunEnd) : Type 0 where
   pub place : Place
   pub stands : IsPlaceOf text place
   pub later : IsLater text p place
@@ -43,4 +43,4 @@ pub record ReadsRun (text : List ℕ) (path : List Container) (nested : Bool) (p
   pub says : SaysEnd text place behind
   pub definitions : List LinkEntry
   pub defined : nested ≡ false → now ≡ told before definitions
-  pub run : nested ≡ false → IsRun path p (lines_from text (line_end p)) definitions (beyond_of text place behind)
+  pub run : nested ≡ false → IsRun around p (lines_from text (line_end p)) definitions (beyond_of text place behind)

@@ -6,6 +6,8 @@ use Rattle.first_pass_tree.specs.Forest.{Forest}
 use Rattle.first_pass_names.specs.declared.items.Allocations.{Allocations}
 use Rattle.first_pass_open.specs.declared.source.Source.{Source}
 use Rattle.first_pass_lists.specs.declared.reading.Reading.{Reading}
+use Rattle.first_pass_grammar.specs.Containers.{Context}
+use Rattle.first_pass_open.specs.Path.{context_of}
 use Rattle.first_pass.specs.declared.state.FirstPass.{FirstPass}
 
 abbrev pub source_of : FirstPass → Source
@@ -25,3 +27,7 @@ tree_of pass = pass.reading.tree
 
 abbrev pub allocs_of : FirstPass → Allocations
 allocs_of pass = pass.allocs
+
+-- what a line is read in by it
+abbrev pub context_in : FirstPass → Context
+context_in pass = context_of pass.source.options pass.reading.tree

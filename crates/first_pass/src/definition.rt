@@ -11,11 +11,10 @@ ghost use Rattle.first_pass_links.specs.Texts.{Borrows};
 ghost use Rattle.first_pass_tree.specs.Forest.{in_table};
 ghost use Rattle.first_pass_grammar.specs.Definitions.{prefix_crossed, space_at, title_at, target_at, reference_at};
 ghost use Rattle.first_pass_names.specs.TableEntries.{tables, names_of};
-ghost use Rattle.first_pass_open.specs.Path.{path_of};
 ghost use Rattle.first_pass_text.specs.Rests.{IsRestOf};
 ghost use Rattle.first_pass_definitions.specs.Found.{IsTarget, IsReference, IsLabelLen};
 ghost use Rattle.first_pass.specs.Runs.{ReadsRun};
-ghost use Rattle.first_pass.specs.Views.{allocs_of, reading_of, source_of, source_text, tree_of};
+ghost use Rattle.first_pass.specs.Views.{allocs_of, context_in, reading_of, source_of, source_text, tree_of};
 
 use crate::state::FirstPass;
 use first_pass_definitions::{label, reference, space, target, title};
@@ -48,13 +47,13 @@ impl<'a> FirstPass<'a> {
         ensures unchanged { self.new ≡ self.old }
         ensures value { IfOk result (λ answer.
             let nested = in_table (tree_of self.old).nodes (tree_of self.old).spine in
-            MatchOption (reference_at nested (path_of (tree_of self.old)) (drop start (source_text self.old)))
+            MatchOption (reference_at nested (context_in self.old) (drop start (source_text self.old)))
             (answer ≡ None)
             (λ reference. IsSomeAnd answer (IsReference nested start reference))) }
         ensures fits { IfOk result (λ answer. IfSome answer (λ found.
             (0 < found.0) × IsCharBoundary (source_text self.old) (start + found.0))) }
         ensures borrowed { IfOk result (λ answer. IfSome answer (λ found. (n : ℕ)
-            → IsLabelLen (path_of (tree_of self.old)) (in_table (tree_of self.old).nodes (tree_of self.old).spine)
+            → IsLabelLen (context_in self.old) (in_table (tree_of self.old).nodes (tree_of self.old).spine)
             (drop (start + 1) (source_text self.old)) n
             → text_of found.1 ≡ take n (drop (start + 1) (source_text self.old))
             → Borrows (take n (drop (start + 1) (source_text self.old))) found.1)) }
@@ -71,7 +70,7 @@ impl<'a> FirstPass<'a> {
         start: usize,
     ) -> Result<Option<(usize, CowStr<'a>)>, AllocError>
         requires { IsCharBoundary (source_text self.now) start }
-        ensures value { IfOk result (λ answer. MatchOption (label_at (prefix_crossed true (path_of (tree_of self.now)))
+        ensures value { IfOk result (λ answer. MatchOption (label_at (prefix_crossed true (context_in self.now))
             (in_table (tree_of self.now).nodes (tree_of self.now).spine) (drop start (source_text self.now)))
             (answer ≡ None)
             (λ label. IsSomeAnd answer (λ found. (found.0 ≡ label.0) × (text_of found.1 ≡ label.1)))) }
@@ -95,7 +94,7 @@ impl<'a> FirstPass<'a> {
     ) -> Result<Option<(usize, LinkDef<'a>)>, AllocError>
         requires { IsCharBoundary (source_text self.now) start }
         ensures value { IfOk result (λ answer. MatchOption
-            (target_at (path_of (tree_of self.now)) (drop start (source_text self.now)))
+            (target_at (context_in self.now) (drop start (source_text self.now)))
             (answer ≡ None)
             (λ target. IsSomeAnd answer
             (IsTarget (in_table (tree_of self.now).nodes (tree_of self.now).spine) span_start start target))) }
@@ -124,7 +123,7 @@ impl<'a> FirstPass<'a> {
         requires place { IsCharBoundary (source_text self.now) i }
         ensures value { IfOk result (λ answer. answer
             ≡ option_map (λ s. (i + s.0, s.1))
-            (space_at (path_of (tree_of self.now)) (drop i (source_text self.now)))) }
+            (space_at (context_in self.now) (drop i (source_text self.now)))) }
         ensures place { IfOk result (λ answer. IfSome answer (λ s. IsCharBoundary (source_text self.now) s.0)) }
     {
         let _ = bytes;
@@ -140,7 +139,7 @@ impl<'a> FirstPass<'a> {
         text: &'t str,
     ) -> Result<Option<(usize, CowStr<'t>)>, AllocError>
         requires { IsRestOf (source_text self.now) text.now }
-        ensures value { IfOk result (λ answer. MatchOption (title_at (path_of (tree_of self.now)) text.now)
+        ensures value { IfOk result (λ answer. MatchOption (title_at (context_in self.now) text.now)
             (answer ≡ None)
             (λ title. IsSomeAnd answer (λ found. (found.0 ≡ title.0) × (text_of found.1 ≡ title.1)))) }
         ensures fits { IfOk result (λ answer. IfSome answer (λ found.
@@ -161,7 +160,7 @@ impl<'a> FirstPass<'a> {
         ensures names { OnOk result (names_of (allocs_of self.new) ≡ names_of (allocs_of self.old)) }
         ensures run { IfOk result (λ behind. (p : Place) → p.line ≡ line → offset p ≡ at
             → IsPlaceOf (source_text self.old) p
-            → ReadsRun (source_text self.old) (path_of (tree_of self.old))
+            → ReadsRun (source_text self.old) (context_in self.old)
             (in_table (tree_of self.old).nodes (tree_of self.old).spine) p (tables (allocs_of self.old))
             (tables (allocs_of self.new)) behind) }
     {

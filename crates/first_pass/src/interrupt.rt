@@ -1,12 +1,14 @@
 //! Which lines end a paragraph before them, as calls of the pass.
 
-ghost use Rattle.std.specs.Prelude.{◌≡◌, ◌||◌, Some, None, IfOk, if◌then◌else◌};
+ghost use Rattle.std.specs.Prelude.{◌≡◌, ◌&&◌, ◌||◌, not, Some, None, IfOk, if◌then◌else◌};
 ghost use Rattle.first_pass_lines.specs.Places.{line_rest};
 ghost use Rattle.first_pass_grammar.specs.Containers.{front};
 ghost use Rattle.first_pass_grammar.specs.Kinds.{all_taken, ends_tag, interrupts_with, is_blank_rest};
 ghost use Rattle.first_pass_open.specs.Path.{path_of};
+ghost use Rattle.first_pass_grammar.specs.TableHeads.{table_interrupts};
 ghost use Rattle.first_pass_text.specs.Rests.{IsRestOf};
-ghost use Rattle.first_pass.specs.Views.{source_text, tree_of};
+ghost use Rattle.first_pass_tree.specs.Forest.{in_table};
+ghost use Rattle.first_pass.specs.Views.{context_in, source_text, tree_of};
 
 use crate::state::FirstPass;
 use bitflags::Flags;
@@ -14,21 +16,25 @@ use first_pass_items::option_set::Options;
 use first_pass_lines::lines::scan_blank_line;
 use first_pass_scan::line_start::LineStart;
 use first_pass_text::interrupt::{scan_line_behind_tag, scan_paragraph_interrupt_no_table};
+use first_pass_text::table_start::interrupts_as_table;
 use std::alloc::AllocError;
 
 impl<'a> FirstPass<'a> {
-    /// Whether `text`, what is left of a line behind its indentation of under four columns, interrupts a paragraph, as
-    /// `scan_paragraph_interrupt_no_table` says (CommonMark 4.8). `current_container` says whether the line goes on
-    /// with all open containers, `tree_position` with how many of them. Tables interrupt no paragraph yet.
+    /// Whether `text`, what is left of a line behind its indentation of under four columns and all that the whole text
+    /// has behind it, interrupts a paragraph inside the open containers: as `scan_paragraph_interrupt_no_table` says
+    /// (CommonMark 4.8), or as a table does that the line heads, where it begins with a pipe (GFM 4.10).
+    /// `current_container` says whether the line goes on with all open containers, `tree_position` with how many.
     pub fn scan_paragraph_interrupt(
         &self,
         text: &str,
         current_container: bool,
         tree_position: usize,
     ) -> Result<bool, AllocError>
-        ensures { IfOk result (λ yes. yes ≡ interrupts_with current_container text.now) }
+        ensures { IfOk result (λ yes. let tree = tree_of self.now in
+            yes ≡ (interrupts_with (current_container && not (in_table tree.nodes tree.spine)) text.now
+            || table_interrupts (context_in self.now) text.now)) }
     {
-        scan_paragraph_interrupt_no_table(
+        if scan_paragraph_interrupt_no_table(
             self.alloc,
             text,
             current_container,
@@ -38,7 +44,11 @@ impl<'a> FirstPass<'a> {
                 .contains(Options::ENABLE_DEFINITION_LIST),
             &self.reading.tree,
             tree_position,
-        )
+        )? {
+            return Ok(true);
+        }
+        let options = self.source.options;
+        interrupts_as_table(self.alloc, options, &self.reading.tree, text.as_bytes())
     }
 
     /// Enters the line that `bytes` begin with, all that the text has from the line on: a line that goes on with a
@@ -53,7 +63,7 @@ impl<'a> FirstPass<'a> {
         requires { IsRestOf (source_text self.old) bytes.now }
         ensures unchanged { self.new ≡ self.old }
         ensures value { IfOk result (λ rest. let line = front (path_of (tree_of self.old)) (line_rest bytes.now) in
-            rest ≡ (if ends_tag (path_of (tree_of self.old)) (line_rest bytes.now) || is_blank_rest (all_taken line)
+            rest ≡ (if ends_tag (context_in self.old) (line_rest bytes.now) || is_blank_rest (all_taken line)
             then None
             else Some (all_taken line))) }
     {

@@ -12,7 +12,7 @@ use Rattle.first_pass_links.specs.Destinations.{unescaped_upto, ends_brackets, b
 use Rattle.first_pass_links.specs.Escapes.{begins_escape}
 use Rattle.first_pass_links.proofs.Destinations.{first_byte}
 use Rattle.first_pass_links.specs.Labels.{joined, bytes_of, offsets_of, label_at}
-use Rattle.first_pass_grammar.specs.declared.kind.Container.{Container}
+use Rattle.first_pass_grammar.specs.Containers.{Context}
 use Rattle.first_pass_grammar.specs.Definitions.{prefix_crossed, space_at, with_line_feeds, ends_title, title_end, title_text, title_prefix, title_at, alone_behind, title_beyond, title_behind, behind_destination, deepest_nesting, Target, target_of, target_from, target_beyond, target_at, LinkReference, reference_of, reference_behind, reference_at}
 
 -- what an answer was made of
@@ -31,17 +31,17 @@ map_some f (Some a) r h = (a, refl, some_same (f a) r h)
 abbrev BlankAt : List ℕ → ℕ → Type 0
 BlankAt bs n = is_some (blank_len (drop n bs)) ≡ true
 
-titled_by : (t : Bool) (path : List Container) (bs : List ℕ) (n : ℕ) (r : ℕ × List ℕ)
-    → (if t then None else option_and_then (alone_behind n bs) (title_at path (drop n bs))) ≡ Some r → BlankAt bs r.0
-titled_by true path bs n r h = cc
-titled_by false path bs n r h =
-    let t = and_some (alone_behind n bs) (title_at path (drop n bs)) r h in
+titled_by : (t : Bool) (around : Context) (bs : List ℕ) (n : ℕ) (r : ℕ × List ℕ)
+    → (if t then None else option_and_then (alone_behind n bs) (title_at around (drop n bs))) ≡ Some r → BlankAt bs r.0
+titled_by true around bs n r h = cc
+titled_by false around bs n r h =
+    let t = and_some (alone_behind n bs) (title_at around (drop n bs)) r h in
     let p = cond_some (is_some (blank_len (drop (n + t.0.0) bs))) (n + t.0.0, t.0.1) r t.2 in
     ap (λ (q : ℕ × List ℕ). is_some (blank_len (drop q.0 bs))) (sym p.1) ∙ p.0
 
-titled_blank : (path : List Container) (bs : List ℕ) (r : ℕ × List ℕ) → title_behind path bs ≡ Some r → BlankAt bs r.0
-titled_blank path bs r h =
-    let s = and_some (title_beyond path bs) (space_at path bs) r h in titled_by (s.0.0 == 0) path bs s.0.0 r s.2
+titled_blank : (around : Context) (bs : List ℕ) (r : ℕ × List ℕ) → title_behind around bs ≡ Some r → BlankAt bs r.0
+titled_blank around bs r h =
+    let s = and_some (title_beyond around bs) (space_at around bs) r h in titled_by (s.0.0 == 0) around bs s.0.0 r s.2
 
 abbrev nothing_further : ℕ × Option (List ℕ)
 nothing_further = (0, None)
@@ -52,45 +52,45 @@ further_by None bs f g h =
     let p = cond_some (is_some (blank_len bs)) (nothing_further) f h in ap (λ (q : ℕ × Option (List ℕ)). is_some (blank_len (drop q.0 bs))) (sym p.1) ∙ p.0
 further_by (Some t) bs f g h = ap (λ (q : ℕ × Option (List ℕ)). is_some (blank_len (drop q.0 bs))) (sym (some_same (t.0, Some t.1) f h)) ∙ g t refl
 
-further_blank : (path : List Container) (bs : List ℕ) (f : ℕ × Option (List ℕ)) → behind_destination path bs ≡ Some f → BlankAt bs f.0
+further_blank : (around : Context) (bs : List ℕ) (f : ℕ × Option (List ℕ)) → behind_destination around bs ≡ Some f → BlankAt bs f.0
 unfolding behind_destination
-further_blank path bs f h = further_by (title_behind path bs) bs f (titled_blank path bs) h
+further_blank around bs f h = further_by (title_behind around bs) bs f (titled_blank around bs) h
 
-pub target_blank : (path : List Container) (bs : List ℕ) (t : ℕ × Target) → target_at path bs ≡ Some t → BlankAt bs t.0
+pub target_blank : (around : Context) (bs : List ℕ) (t : ℕ × Target) → target_at around bs ≡ Some t → BlankAt bs t.0
 unfolding target_at
-target_blank path bs t h =
-    let s = and_some (target_beyond path bs) (space_at path bs) t h in
-    let d = and_some (target_from path s.0.0 (drop s.0.0 bs)) (destination_at deepest_nesting (drop s.0.0 bs)) t s.2 in
-    let f = map_some (target_of s.0.0 d.0) (behind_destination path (drop d.0.0 (drop s.0.0 bs))) t d.2 in
-    let b = further_blank path (drop d.0.0 (drop s.0.0 bs)) f.0 f.1 in
+target_blank around bs t h =
+    let s = and_some (target_beyond around bs) (space_at around bs) t h in
+    let d = and_some (target_from around s.0.0 (drop s.0.0 bs)) (destination_at deepest_nesting (drop s.0.0 bs)) t s.2 in
+    let f = map_some (target_of s.0.0 d.0) (behind_destination around (drop d.0.0 (drop s.0.0 bs))) t d.2 in
+    let b = further_blank around (drop d.0.0 (drop s.0.0 bs)) f.0 f.1 in
     ap (λ (q : ℕ × Target). is_some (blank_len (drop q.0 bs))) (sym f.2)
     ∙ ap (λ xs. is_some (blank_len xs)) (sym (drop-drop f.0.0 (s.0.0 + d.0.0) bs) ∙ ap (drop f.0.0) (sym (drop-drop d.0.0 s.0.0 bs))) ∙ b
 
-behind_by : (t : Bool) (path : List Container) (bs : List ℕ) (l : ℕ × List ℕ) (r : LinkReference)
-    → (if t then option_map (reference_of (l.0 + 2) l.1) (target_at path (drop (l.0 + 1) bs)) else None) ≡ Some r → (cs : List ℕ) → bs ≡ drop 1 cs
+behind_by : (t : Bool) (around : Context) (bs : List ℕ) (l : ℕ × List ℕ) (r : LinkReference)
+    → (if t then option_map (reference_of (l.0 + 2) l.1) (target_at around (drop (l.0 + 1) bs)) else None) ≡ Some r → (cs : List ℕ) → bs ≡ drop 1 cs
     → BlankAt cs r.size
-behind_by false path bs l r h cs e = cc
-behind_by true path bs l r h cs e =
-    let t = map_some (reference_of (l.0 + 2) l.1) (target_at path (drop (l.0 + 1) bs)) r h in
-    let b = target_blank path (drop (l.0 + 1) bs) t.0 t.1 in
+behind_by false around bs l r h cs e = cc
+behind_by true around bs l r h cs e =
+    let t = map_some (reference_of (l.0 + 2) l.1) (target_at around (drop (l.0 + 1) bs)) r h in
+    let b = target_blank around (drop (l.0 + 1) bs) t.0 t.1 in
     let i : 1 + (l.0 + 1 + t.0.0) ≡ l.0 + 2 + t.0.0 = omega arith in
     let d : drop t.0.0 (drop (l.0 + 1) bs) ≡ drop (l.0 + 2 + t.0.0) cs = drop-drop t.0.0 (l.0 + 1) bs ∙ ap (drop (l.0 + 1 + t.0.0)) e ∙ drop-drop
     (l.0 + 1 + t.0.0) 1 cs ∙ ap (λ n. drop n cs) i in
     ap (λ (q : LinkReference). is_some (blank_len (drop q.size cs))) (sym t.2) ∙ ap (λ xs. is_some (blank_len xs)) (sym d) ∙ b
 
-reference_by : (t : Bool) (in_table : Bool) (path : List Container) (bs : List ℕ) (r : LinkReference)
-    → (if t then option_and_then (reference_behind path (drop 1 bs)) (label_at (prefix_crossed true path) in_table (drop 1 bs)) else None) ≡ Some r
+reference_by : (t : Bool) (in_table : Bool) (around : Context) (bs : List ℕ) (r : LinkReference)
+    → (if t then option_and_then (reference_behind around (drop 1 bs)) (label_at (prefix_crossed true around) in_table (drop 1 bs)) else None) ≡ Some r
     → BlankAt bs r.size
-reference_by false in_table path bs r h = cc
-reference_by true in_table path bs r h =
-    let l = and_some (reference_behind path (drop 1 bs)) (label_at (prefix_crossed true path) in_table (drop 1 bs)) r h in
-    behind_by (begins 58 (drop l.0.0 (drop 1 bs))) path (drop 1 bs) l.0 r l.2 bs refl
+reference_by false in_table around bs r h = cc
+reference_by true in_table around bs r h =
+    let l = and_some (reference_behind around (drop 1 bs)) (label_at (prefix_crossed true around) in_table (drop 1 bs)) r h in
+    behind_by (begins 58 (drop l.0.0 (drop 1 bs))) around (drop 1 bs) l.0 r l.2 bs refl
 
 -- Behind a definition the rest of its line is blank (CommonMark 4.7).
-pub reference_blank : (in_table : Bool) (path : List Container) (bs : List ℕ) (r : LinkReference) → reference_at in_table path bs ≡ Some r
+pub reference_blank : (in_table : Bool) (around : Context) (bs : List ℕ) (r : LinkReference) → reference_at in_table around bs ≡ Some r
     → is_some (blank_len (drop r.size bs)) ≡ true
 unfolding reference_at
-reference_blank in_table path bs r h = reference_by (begins 91 bs) in_table path bs r h
+reference_blank in_table around bs r h = reference_by (begins 91 bs) in_table around bs r h
 
 -- the last byte of a destination
 abbrev Plain : List ℕ → ℕ → Type 0
@@ -277,14 +277,14 @@ close_plain b close f = close_plain_by (b == 39) (b == 34) (b == 40) b close ref
 no_feed_close : (close : ℕ) → is_line_end close ≡ false → close ≡ 10 → ⊥
 no_feed_close close h e = let z : is_line_end 10 ≡ false = ap is_line_end (sym e) ∙ h in cc
 
-title_last : (path : List Container) (bs : List ℕ) (t : ℕ × List ℕ) → title_at path bs ≡ Some t → (0 < t.0) × Plain bs (t.0 - 1)
+title_last : (around : Context) (bs : List ℕ) (t : ℕ × List ℕ) → title_at around bs ≡ Some t → (0 < t.0) × Plain bs (t.0 - 1)
 unfolding title_at
-title_last path [] t h = cc
-title_last path (b ∷ bs) t h =
-    let c = and_some (λ close. option_map (λ (x : ℕ × List ℕ). (x.0 + 1, x.1)) (title_text (title_prefix path) close bs)) (title_end b) t h in
-    let x = map_some (λ (x : ℕ × List ℕ). (x.0 + 1, x.1)) (title_text (title_prefix path) c.0 bs) t c.2 in
+title_last around [] t h = cc
+title_last around (b ∷ bs) t h =
+    let c = and_some (λ close. option_map (λ (x : ℕ × List ℕ). (x.0 + 1, x.1)) (title_text (title_prefix around) close bs)) (title_end b) t h in
+    let x = map_some (λ (x : ℕ × List ℕ). (x.0 + 1, x.1)) (title_text (title_prefix around) c.0 bs) t c.2 in
     let p = close_plain b c.0 c.1 in
-    let l = text_last (title_prefix path) c.0 bs x.0 (no_feed_close c.0 p) x.1 in
+    let l = text_last (title_prefix around) c.0 bs x.0 (no_feed_close c.0 p) x.1 in
     let e : x.0.0 + 1 ≡ t.0 = ap (λ (q : ℕ × List ℕ). q.0) x.2 in
     let s = l.0 in
     let i : t.0 - 1 ≡ suc (x.0.0 - 1) = omega arith in
@@ -297,14 +297,14 @@ part_plain bs n k m e p =
     let i : n + (k - 1) ≡ m - 1 = omega arith in
     ap is_line_end (ap (slice_index bs) (sym i) ∙ sym (get_or-drop n bs (k - 1) 0)) ∙ p.1
 
-titled_last_by : (t : Bool) (path : List Container) (bs : List ℕ) (n : ℕ) (r : ℕ × List ℕ)
-    → (if t then None else option_and_then (alone_behind n bs) (title_at path (drop n bs))) ≡ Some r → (0 < r.0) × Plain bs (r.0 - 1)
-titled_last_by true path bs n r h = cc
-titled_last_by false path bs n r h =
-    let t = and_some (alone_behind n bs) (title_at path (drop n bs)) r h in
+titled_last_by : (t : Bool) (around : Context) (bs : List ℕ) (n : ℕ) (r : ℕ × List ℕ)
+    → (if t then None else option_and_then (alone_behind n bs) (title_at around (drop n bs))) ≡ Some r → (0 < r.0) × Plain bs (r.0 - 1)
+titled_last_by true around bs n r h = cc
+titled_last_by false around bs n r h =
+    let t = and_some (alone_behind n bs) (title_at around (drop n bs)) r h in
     let p = cond_some (is_some (blank_len (drop (n + t.0.0) bs))) (n + t.0.0, t.0.1) r t.2 in
     let e : n + t.0.0 ≡ r.0 = ap (λ (q : ℕ × List ℕ). q.0) p.1 in
-    let l = title_last path (drop n bs) t.0 t.1 in
+    let l = title_last around (drop n bs) t.0 t.1 in
     let s = l.0 in
     (omega arith, part_plain bs n t.0.0 r.0 (sym e) l)
 
@@ -316,24 +316,24 @@ further_last_by (Some t) bs f g h =
     let e : t.0 ≡ f.0 = ap (λ (q : ℕ × Option (List ℕ)). q.0) (some_same (t.0, Some t.1) f h) in
     inr (subst (λ k. (0 < k) × Plain bs (k - 1)) e (g t refl))
 
-further_last : (path : List Container) (bs : List ℕ) (f : ℕ × Option (List ℕ)) → behind_destination path bs ≡ Some f
+further_last : (around : Context) (bs : List ℕ) (f : ℕ × Option (List ℕ)) → behind_destination around bs ≡ Some f
     → (f.0 ≡ 0) ⊎ ((0 < f.0) × Plain bs (f.0 - 1))
 unfolding behind_destination
-further_last path bs f h =
-    further_last_by (title_behind path bs) bs f (λ r e. (let s = and_some (title_beyond path bs) (space_at path bs) r e in titled_last_by (s.0.0 == 0) path
+further_last around bs f h =
+    further_last_by (title_behind around bs) bs f (λ r e. (let s = and_some (title_beyond around bs) (space_at around bs) r e in titled_last_by (s.0.0 == 0) around
     bs s.0.0 r s.2)) h
 
-target_last : (path : List Container) (bs : List ℕ) (t : ℕ × Target) → target_at path bs ≡ Some t → (0 < t.0) × Plain bs (t.0 - 1)
+target_last : (around : Context) (bs : List ℕ) (t : ℕ × Target) → target_at around bs ≡ Some t → (0 < t.0) × Plain bs (t.0 - 1)
 unfolding target_at
-target_last path bs t h =
-    let s = and_some (target_beyond path bs) (space_at path bs) t h in
-    let d = and_some (target_from path s.0.0 (drop s.0.0 bs)) (destination_at deepest_nesting (drop s.0.0 bs)) t s.2 in
-    let f = map_some (target_of s.0.0 d.0) (behind_destination path (drop d.0.0 (drop s.0.0 bs))) t d.2 in
+target_last around bs t h =
+    let s = and_some (target_beyond around bs) (space_at around bs) t h in
+    let d = and_some (target_from around s.0.0 (drop s.0.0 bs)) (destination_at deepest_nesting (drop s.0.0 bs)) t s.2 in
+    let f = map_some (target_of s.0.0 d.0) (behind_destination around (drop d.0.0 (drop s.0.0 bs))) t d.2 in
     let e : s.0.0 + d.0.0 + f.0.0 ≡ t.0 = ap (λ (q : ℕ × Target). q.0) f.2 in
     let l = dest_last deepest_nesting (drop s.0.0 bs) d.0 d.1 in
     let some = l.0 in (
       omega arith,
-      elim (further_last path (drop d.0.0 (drop s.0.0 bs)) f.0 f.1) [
+      elim (further_last around (drop d.0.0 (drop s.0.0 bs)) f.0 f.1) [
         | inl none ↦ part_plain bs s.0.0 d.0.0 t.0 (omega arith) l
         | inr more ↦ part_plain bs (s.0.0 + d.0.0) f.0.0 t.0 (sym e) (
           more.0,
@@ -343,28 +343,28 @@ target_last path bs t h =
       ],
     )
 
-behind_last_by : (t : Bool) (path : List Container) (bs : List ℕ) (l : ℕ × List ℕ) (r : LinkReference)
-    → (if t then option_map (reference_of (l.0 + 2) l.1) (target_at path (drop (l.0 + 1) bs)) else None) ≡ Some r → (cs : List ℕ)
+behind_last_by : (t : Bool) (around : Context) (bs : List ℕ) (l : ℕ × List ℕ) (r : LinkReference)
+    → (if t then option_map (reference_of (l.0 + 2) l.1) (target_at around (drop (l.0 + 1) bs)) else None) ≡ Some r → (cs : List ℕ)
     → bs ≡ drop 1 cs → (0 < r.size) × Plain cs (r.size - 1)
-behind_last_by false path bs l r h cs e = cc
-behind_last_by true path bs l r h cs e =
-    let t = map_some (reference_of (l.0 + 2) l.1) (target_at path (drop (l.0 + 1) bs)) r h in
+behind_last_by false around bs l r h cs e = cc
+behind_last_by true around bs l r h cs e =
+    let t = map_some (reference_of (l.0 + 2) l.1) (target_at around (drop (l.0 + 1) bs)) r h in
     let s : l.0 + 2 + t.0.0 ≡ r.size = ap (λ (q : LinkReference). q.size) t.2 in
     let i : 1 + (l.0 + 1) ≡ l.0 + 2 = omega arith in
     let d : drop (l.0 + 1) bs ≡ drop (l.0 + 2) cs = ap (drop (l.0 + 1)) e ∙ drop-drop (l.0 + 1) 1 cs ∙ ap (λ n. drop n cs) i in
-    let b = target_last path (drop (l.0 + 1) bs) t.0 t.1 in
+    let b = target_last around (drop (l.0 + 1) bs) t.0 t.1 in
     (omega arith, part_plain cs (l.0 + 2) t.0.0 r.size (sym s) (b.0, ap (λ xs. is_line_end (slice_index xs (t.0.0 - 1))) (sym d) ∙ b.1))
 
-reference_last_by : (t : Bool) (in_table : Bool) (path : List Container) (bs : List ℕ) (r : LinkReference)
-    → (if t then option_and_then (reference_behind path (drop 1 bs)) (label_at (prefix_crossed true path) in_table (drop 1 bs)) else None) ≡ Some r
+reference_last_by : (t : Bool) (in_table : Bool) (around : Context) (bs : List ℕ) (r : LinkReference)
+    → (if t then option_and_then (reference_behind around (drop 1 bs)) (label_at (prefix_crossed true around) in_table (drop 1 bs)) else None) ≡ Some r
     → (0 < r.size) × Plain bs (r.size - 1)
-reference_last_by false in_table path bs r h = cc
-reference_last_by true in_table path bs r h =
-    let l = and_some (reference_behind path (drop 1 bs)) (label_at (prefix_crossed true path) in_table (drop 1 bs)) r h in
-    behind_last_by (begins 58 (drop l.0.0 (drop 1 bs))) path (drop 1 bs) l.0 r l.2 bs refl
+reference_last_by false in_table around bs r h = cc
+reference_last_by true in_table around bs r h =
+    let l = and_some (reference_behind around (drop 1 bs)) (label_at (prefix_crossed true around) in_table (drop 1 bs)) r h in
+    behind_last_by (begins 58 (drop l.0.0 (drop 1 bs))) around (drop 1 bs) l.0 r l.2 bs refl
 
 -- A definition has a byte, and its last one ends no line (CommonMark 4.7).
-pub reference_last : (in_table : Bool) (path : List Container) (bs : List ℕ) (r : LinkReference) → reference_at in_table path bs ≡ Some r
+pub reference_last : (in_table : Bool) (around : Context) (bs : List ℕ) (r : LinkReference) → reference_at in_table around bs ≡ Some r
     → (0 < r.size) × (is_line_end (slice_index bs (r.size - 1)) ≡ false)
 unfolding reference_at
-reference_last in_table path bs r h = reference_last_by (begins 91 bs) in_table path bs r h
+reference_last in_table around bs r h = reference_last_by (begins 91 bs) in_table around bs r h

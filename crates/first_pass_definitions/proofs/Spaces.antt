@@ -9,7 +9,7 @@ use Rattle.first_pass_lines.specs.Rest.{Rest}
 use Rattle.first_pass_lines.specs.Places.{line_rest, line_place, place_at, IsPlaceOf}
 use Rattle.first_pass_lines.proofs.LineFacts.{line_len-eol}
 use Rattle.first_pass_lines.proofs.PlaceFacts.{line_is_place, white_keeps, line_end_boundary}
-use Rattle.first_pass_grammar.specs.declared.kind.Container.{Container}
+use Rattle.first_pass_grammar.specs.Containers.{Context}
 use Rattle.first_pass_grammar.specs.Definitions.{crossed, prefix_crossed, space_beyond, space_behind, space_at}
 
 -- Behind white space, and behind a line end, a character begins.
@@ -38,30 +38,30 @@ place_white text line n r u i h =
 abbrev shifted : ℕ → Option (ℕ × ℕ) → Option (ℕ × ℕ)
 shifted s o = option_map (λ (x : ℕ × ℕ). (s + x.0, x.1)) o
 
-space_is : (path : List Container) (bs : List ℕ) (n : ℕ) (o : Option ℕ) → prefix_len is_white bs ≡ n → eol_len (drop n bs) ≡ o
-    → space_at path bs ≡ space_behind path bs n o
+space_is : (around : Context) (bs : List ℕ) (n : ℕ) (o : Option ℕ) → prefix_len is_white bs ≡ n → eol_len (drop n bs) ≡ o
+    → space_at around bs ≡ space_behind around bs n o
 unfolding space_at
-space_is path bs n o e f = rw e (rw f refl)
+space_is around bs n o e f = rw e (rw f refl)
 
-pub space_plain : (path : List Container) (text : List ℕ) (s n : ℕ) → n ≡ prefix_len is_white (drop s text) → eol_len (drop (s + n) text) ≡ None
-    → Some (s + n, 0) ≡ shifted s (space_at path (drop s text))
-space_plain path text s n e f = ap (shifted s) (sym (space_is path (drop s text) n None (sym e) (ap eol_len (drop-drop n s text) ∙ f)))
+pub space_plain : (around : Context) (text : List ℕ) (s n : ℕ) → n ≡ prefix_len is_white (drop s text) → eol_len (drop (s + n) text) ≡ None
+    → Some (s + n, 0) ≡ shifted s (space_at around (drop s text))
+space_plain around text s n e f = ap (shifted s) (sym (space_is around (drop s text) n None (sym e) (ap eol_len (drop-drop n s text) ∙ f)))
 
 -- behind a line end
-crossed_space : (path : List Container) (text : List ℕ) (s n e : ℕ) (o : Option Rest) → n ≡ prefix_len is_white (drop s text)
-    → eol_len (drop (s + n) text) ≡ Some e → o ≡ crossed false path (line_rest (drop (s + n + e) text))
-    → space_at path (drop s text) ≡ option_and_then (space_beyond (n + e) (drop (s + n + e) text)) (option_map (λ (r : Rest). r.taken) o)
-crossed_space path text s n e o h f g =
+crossed_space : (around : Context) (text : List ℕ) (s n e : ℕ) (o : Option Rest) → n ≡ prefix_len is_white (drop s text)
+    → eol_len (drop (s + n) text) ≡ Some e → o ≡ crossed false around (line_rest (drop (s + n + e) text))
+    → space_at around (drop s text) ≡ option_and_then (space_beyond (n + e) (drop (s + n + e) text)) (option_map (λ (r : Rest). r.taken) o)
+crossed_space around text s n e o h f g =
     let i : s + (n + e) ≡ s + n + e = omega arith in
     let d : drop (n + e) (drop s text) ≡ drop (s + n + e) text = drop-drop (n + e) s text ∙ ap (λ k. drop k text) i in
-    space_is path (drop s text) n (Some e) (sym h) (ap eol_len (drop-drop n s text) ∙ f)
-    ∙ ap (λ xs. option_and_then (space_beyond (n + e) xs) (prefix_crossed false path xs)) d
+    space_is around (drop s text) n (Some e) (sym h) (ap eol_len (drop-drop n s text) ∙ f)
+    ∙ ap (λ xs. option_and_then (space_beyond (n + e) xs) (prefix_crossed false around xs)) d
     ∙ ap (λ q. option_and_then (space_beyond (n + e) (drop (s + n + e) text)) (option_map (λ (r : Rest). r.taken) q)) (sym g)
 
-pub space_stops : (path : List Container) (text : List ℕ) (s n e : ℕ) → n ≡ prefix_len is_white (drop s text) → eol_len (drop (s + n) text) ≡ Some e
-    → None ≡ crossed false path (line_rest (drop (s + n + e) text))
-    → None ≡ shifted s (space_at path (drop s text))
-space_stops path text s n e h f g = ap (shifted s) (sym (crossed_space path text s n e None h f g))
+pub space_stops : (around : Context) (text : List ℕ) (s n e : ℕ) → n ≡ prefix_len is_white (drop s text) → eol_len (drop (s + n) text) ≡ Some e
+    → None ≡ crossed false around (line_rest (drop (s + n + e) text))
+    → None ≡ shifted s (space_at around (drop s text))
+space_stops around text s n e h f g = ap (shifted s) (sym (crossed_space around text s n e None h f g))
 
 beyond : (t : Bool) (text : List ℕ) (at k m n : ℕ) → m ≡ prefix_len is_white (drop (at + k) text) → at_line_end (drop (at + k + m) text) ≡ t
     → space_beyond n (drop at text) k ≡ (if t then None else Some (n + (k + m), 1))
@@ -75,10 +75,10 @@ over_by : (t : Bool) (s n e m k : ℕ) → (if t then None else Some (s + n + e 
 over_by true s n e m k = refl
 over_by false s n e m k = let i : s + n + e + k + m ≡ s + (n + e + (k + m)) = omega arith in ap (λ j. Some (j, 1)) i
 
-pub space_over : (t : Bool) (path : List Container) (text : List ℕ) (s n e m : ℕ) (r : Rest) → n ≡ prefix_len is_white (drop s text)
-    → eol_len (drop (s + n) text) ≡ Some e → Some r ≡ crossed false path (line_rest (drop (s + n + e) text))
+pub space_over : (t : Bool) (around : Context) (text : List ℕ) (s n e m : ℕ) (r : Rest) → n ≡ prefix_len is_white (drop s text)
+    → eol_len (drop (s + n) text) ≡ Some e → Some r ≡ crossed false around (line_rest (drop (s + n + e) text))
     → m ≡ prefix_len is_white (drop (s + n + e + r.taken) text) → at_line_end (drop (s + n + e + r.taken + m) text) ≡ t
-    → (if t then None else Some (s + n + e + r.taken + m, 1)) ≡ shifted s (space_at path (drop s text))
-space_over t path text s n e m r h f g i j =
-    let k = crossed_space path text s n e (Some r) h f g ∙ beyond t text (s + n + e) r.taken m (n + e) i j in
+    → (if t then None else Some (s + n + e + r.taken + m, 1)) ≡ shifted s (space_at around (drop s text))
+space_over t around text s n e m r h f g i j =
+    let k = crossed_space around text s n e (Some r) h f g ∙ beyond t text (s + n + e) r.taken m (n + e) i j in
     over_by t s n e m r.taken ∙ ap (shifted s) (sym k)

@@ -1,18 +1,21 @@
 -- What a definition has behind its colon, and the definition.
-use Rattle.std.proofs.Common.{◌≡◌, ℕ, ◌+◌, ◌-◌, ◌<◌, Bool, true, false, List, drop, Option, Some, None, is_some, MatchOption, IsSomeAnd, IsUtf8, IsCharBoundary, refl, sym, ap, subst, ◌∙◌, arith, if◌then◌else◌}
+use Rattle.std.proofs.Common.{◌≡◌, ℕ, zero, suc, ◌+◌, ◌-◌, ◌==◌, ◌<◌, Bool, true, false, List, drop, Option, Some, None, is_some, MatchOption, IsSomeAnd, IsUtf8, IsCharBoundary, refl, sym, ap, subst, ◌∙◌, arith, if◌then◌else◌}
 use Rattle.std.specs.Borrow.{Bor}
 use Rattle.std.specs.Option.{option_map, option_and_then, option_map_or}
+use Rattle.std.specs.List.{list_any}
+use Rattle.std.proofs.lemmas.Bool.Decides.{nat_tests}
 use Rattle.std.proofs.lemmas.List.{drop-drop}
 use Rattle.std.proofs.lemmas.Str.{IsCharBoundary-after_ascii}
 use Rattle.first_pass_items.specs.declared.cow_str.CowStr.{CowStr}
 use Rattle.first_pass_items.specs.CowText.{text_of}
 use Rattle.first_pass_labels.specs.declared.label_table.LinkDef.{LinkDef}
-use Rattle.first_pass_lines.specs.Lines.{begins, blank_len}
+use Rattle.first_pass_lines.specs.Lines.{is_line_end, begins, blank_len}
 use Rattle.first_pass_links.specs.Destinations.{destination_at}
 use Rattle.first_pass_links.specs.Labels.{label_at}
+use Rattle.first_pass_links.specs.Texts.{Borrows}
 use Rattle.first_pass_links.proofs.Destinations.{first_byte}
-use Rattle.first_pass_grammar.specs.declared.kind.Container.{Container}
-use Rattle.first_pass_grammar.specs.Definitions.{prefix_crossed, space_at, title_behind, behind_destination, deepest_nesting, Target, target_of, target_from, target_at, LinkReference, reference_of, reference_behind, reference_at}
+use Rattle.first_pass_grammar.specs.Containers.{Context}
+use Rattle.first_pass_grammar.specs.Definitions.{prefix_crossed, space_at, title_at, alone_behind, title_beyond, title_behind, behind_destination, deepest_nesting, Target, target_of, target_from, target_at, LinkReference, reference_of, reference_behind, reference_at}
 use Rattle.first_pass_definitions.specs.Reading.{IsReadText, IsReadTitle}
 use Rattle.first_pass_definitions.specs.Found.{IsUnescaped, HasTitle, IsDefinition, IsTarget, IsReference}
 
@@ -23,29 +26,86 @@ IsTitleBehind at o answer = MatchOption o (answer ≡ None) (λ title. IsSomeAnd
 abbrev pub IsFurther : ℕ → Option (ℕ × Option (List ℕ)) → Option (ℕ × Option CowStr) → Type 0
 IsFurther at o answer = MatchOption o (answer ≡ None) (λ further. IsSomeAnd answer (λ found. (found.0 ≡ at + further.0) × IsReadTitle further.1 found.1))
 
+-- answers about the title at a place
+abbrev pub IsTitleRead : Option (ℕ × List ℕ) → Option (ℕ × CowStr) → Type 0
+IsTitleRead o answer = MatchOption o (answer ≡ None) (λ t. IsSomeAnd answer (λ found. (found.0 ≡ t.0) × (text_of found.1 ≡ t.1)))
+
+abbrev pub read_to : ℕ → CowStr → Option (ℕ × CowStr)
+read_to len title = Some (len, title)
+
+abbrev pub space_to : ℕ → ℕ → Option (ℕ × ℕ)
+space_to start lines = Some (start, lines)
+
+no_title : (len : ℕ) (title : CowStr) → read_to len title ≡ None → ⊥
+no_title len title h = cc
+
+no_space_to : (start k : ℕ) → space_to start k ≡ None → ⊥
+no_space_to start k h = cc
+
+space_is : (start k at m n : ℕ) → space_to start k ≡ space_to (at + m) n → start ≡ at + m
+space_is start k at m n h = ap (λ (o : Option (ℕ × ℕ)). option_map_or (λ (s : ℕ × ℕ). s.0) o 0) h
+
+read_by : (bs : List ℕ) (at n len : ℕ) (title : CowStr) (o : Option (ℕ × List ℕ)) → IsTitleRead o (read_to len title)
+    → (list_any is_line_end (text_of title) ≡ false → Borrows (text_of title) title) → is_some (blank_len (drop (n + len) bs)) ≡ true
+    → IsTitleBehind at (option_and_then (alone_behind n bs) o) (Some (at + n + len, title))
+read_by bs at n len title None h borrows blank = absurd (no_title len title h)
+read_by bs at n len title (Some t) h borrows blank =
+    let same : n + len ≡ n + t.0 = ap (λ k. n + k) h.0 in
+    let alone : is_some (blank_len (drop (n + t.0) bs)) ≡ true = subst (λ k. is_some (blank_len (drop k bs)) ≡ true) same blank in
+    let far : at + n + len ≡ at + (n + t.0) = (let e : len ≡ t.0 = h.0 in omega arith) in
+    rw alone (far, record { value = h.1; borrowed = subst (λ xs. list_any is_line_end xs ≡ false → Borrows xs title) h.1 borrows })
+
+none_at : (m start at : ℕ) → start ≡ at + m → (start ≡ at → ⊥) → (m == 0) ≡ false
+none_at zero start at there apart = absurd (apart (omega arith))
+none_at (suc m) start at there apart = grind (arith, nat_tests)
+
+space_read_by : (around : Context) (text : List ℕ) (at start k len : ℕ) (title : CowStr) (o : Option (ℕ × ℕ))
+    → space_to start k ≡ option_map (λ s. (at + s.0, s.1)) o → (start ≡ at → ⊥) → IsTitleRead (title_at around (drop start text)) (read_to len title)
+    → (list_any is_line_end (text_of title) ≡ false → Borrows (text_of title) title) → is_some (blank_len (drop (start + len) text)) ≡ true
+    → IsTitleBehind at (option_and_then (title_beyond around (drop at text)) o) (Some (start + len, title))
+space_read_by around text at start k len title None is apart read borrows blank = absurd (no_space_to start k is)
+space_read_by around text at start k len title (Some s) is apart read borrows blank =
+    let there : start ≡ at + s.0 = space_is start k at s.0 s.1 is in
+    let some : (s.0 == 0) ≡ false = none_at s.0 start at there apart in
+    let behind : IsTitleRead (title_at around (drop s.0 (drop at text))) (read_to len title) =
+    subst (λ bs. IsTitleRead (title_at around bs) (read_to len title)) (ap (λ n. drop n text) there ∙ sym (drop-drop s.0 at text)) read in
+    let rest : is_some (blank_len (drop (s.0 + len) (drop at text))) ≡ true =
+    subst (λ bs. is_some (blank_len bs) ≡ true) (ap (λ n. drop n text) (let e = there in omega arith) ∙ sym (drop-drop (s.0 + len) at text)) blank in
+    let far : at + s.0 + len ≡ start + len = omega arith in
+    rw some (subst (λ e. IsTitleBehind at (option_and_then (alone_behind s.0 (drop at text)) (title_at around (drop s.0 (drop at text)))) (Some (e, title))) far
+    (read_by (drop at text) at s.0 len title (title_at around (drop s.0 (drop at text))) behind borrows rest))
+
+-- the title behind a destination, which white space parts from it and behind which the rest of its line is blank
+pub title_read : (around : Context) (text : List ℕ) (at start k len : ℕ) (title : CowStr)
+    → space_to start k ≡ option_map (λ s. (at + s.0, s.1)) (space_at around (drop at text)) → (start ≡ at → ⊥)
+    → IsTitleRead (title_at around (drop start text)) (read_to len title)
+    → (list_any is_line_end (text_of title) ≡ false → Borrows (text_of title) title) → is_some (blank_len (drop (start + len) text)) ≡ true
+    → IsTitleBehind at (title_behind around (drop at text)) (Some (start + len, title))
+title_read around text at start k len title is = space_read_by around text at start k len title (space_at around (drop at text)) is
+
 titled_by : (o : Option (ℕ × List ℕ)) (d : Option (ℕ × Option (List ℕ))) (at e : ℕ) (title : CowStr) → IsTitleBehind at o (Some (e, title))
     → IsFurther at (option_map_or (λ (t : ℕ × List ℕ). Some (t.0, Some t.1)) o d) (Some (e, Some title))
 titled_by None d at e title h = cc
 titled_by (Some t) d at e title h = h
 
-pub titled : (path : List Container) (bs : List ℕ) (at e : ℕ) (title : CowStr) → IsTitleBehind at (title_behind path bs) (Some (e, title))
-    → IsFurther at (behind_destination path bs) (Some (e, Some title))
+pub titled : (around : Context) (bs : List ℕ) (at e : ℕ) (title : CowStr) → IsTitleBehind at (title_behind around bs) (Some (e, title))
+    → IsFurther at (behind_destination around bs) (Some (e, Some title))
 unfolding behind_destination
-titled path bs at e title h = titled_by (title_behind path bs) _ at e title h
+titled around bs at e title h = titled_by (title_behind around bs) _ at e title h
 
 untitled_by : (o : Option (ℕ × List ℕ)) (at : ℕ) → IsTitleBehind at o None → o ≡ None
 untitled_by None at h = refl
 untitled_by (Some t) at h = absurd h
 
-pub alone : (path : List Container) (bs : List ℕ) (at : ℕ) → IsTitleBehind at (title_behind path bs) None → is_some (blank_len bs) ≡ true
-    → IsFurther at (behind_destination path bs) (Some (at, None))
+pub alone : (around : Context) (bs : List ℕ) (at : ℕ) → IsTitleBehind at (title_behind around bs) None → is_some (blank_len bs) ≡ true
+    → IsFurther at (behind_destination around bs) (Some (at, None))
 unfolding behind_destination
-alone path bs at h k = rw (untitled_by (title_behind path bs) at h) (rw k (omega arith, tt))
+alone around bs at h k = rw (untitled_by (title_behind around bs) at h) (rw k (omega arith, tt))
 
-pub not_alone : (path : List Container) (bs : List ℕ) (at : ℕ) → IsTitleBehind at (title_behind path bs) None → is_some (blank_len bs) ≡ false
-    → IsFurther at (behind_destination path bs) None
+pub not_alone : (around : Context) (bs : List ℕ) (at : ℕ) → IsTitleBehind at (title_behind around bs) None → is_some (blank_len bs) ≡ false
+    → IsFurther at (behind_destination around bs) None
 unfolding behind_destination
-not_alone path bs at h k = rw (untitled_by (title_behind path bs) at h) (rw k refl)
+not_alone around bs at h k = rw (untitled_by (title_behind around bs) at h) (rw k refl)
 
 further_found : (o : Option (ℕ × Option (List ℕ))) (at e : ℕ) (title : Option CowStr) → IsFurther at o (Some (e, title))
     → (f : ℕ × Option (List ℕ)) × (o ≡ Some f) × (e ≡ at + f.0) × IsReadTitle f.1 title
@@ -82,64 +142,64 @@ space_none None start h = refl
 space_none (Some s) start h = cc
 
 -- the target step by step
-pub no_space : (path : List Container) (text : List ℕ) (start : ℕ) → None ≡ shifted start (space_at path (drop start text))
-    → target_at path (drop start text) ≡ None
+pub no_space : (around : Context) (text : List ℕ) (start : ℕ) → None ≡ shifted start (space_at around (drop start text))
+    → target_at around (drop start text) ≡ None
 unfolding target_at
-no_space path text start h = rw (space_none (space_at path (drop start text)) start h) refl
+no_space around text start h = rw (space_none (space_at around (drop start text)) start h) refl
 
-at_dest : (path : List Container) (text : List ℕ) (start at : ℕ) (s : ℕ × ℕ) → space_at path (drop start text) ≡ Some s → at ≡ start + s.0
-    → target_at path (drop start text) ≡ option_and_then (target_from path s.0 (drop at text)) (destination_at deepest_nesting (drop at text))
+at_dest : (around : Context) (text : List ℕ) (start at : ℕ) (s : ℕ × ℕ) → space_at around (drop start text) ≡ Some s → at ≡ start + s.0
+    → target_at around (drop start text) ≡ option_and_then (target_from around s.0 (drop at text)) (destination_at deepest_nesting (drop at text))
 unfolding target_at
-at_dest path text start at s e h =
-    rw e (ap (λ xs. option_and_then (target_from path s.0 xs) (destination_at deepest_nesting xs)) (drop-drop s.0 start text ∙ ap (λ k. drop k text) (sym h)))
+at_dest around text start at s e h =
+    rw e (ap (λ xs. option_and_then (target_from around s.0 xs) (destination_at deepest_nesting xs)) (drop-drop s.0 start text ∙ ap (λ k. drop k text) (sym h)))
 
-pub no_dest : (path : List Container) (text : List ℕ) (start at lines : ℕ) → Some (at, lines) ≡ shifted start (space_at path (drop start text))
-    → IsDest (destination_at deepest_nesting (drop at text)) None → target_at path (drop start text) ≡ None
-no_dest path text start at lines h k =
-    let s = space_found (space_at path (drop start text)) start at lines h in
-    at_dest path text start at s.0 s.1 s.2
-    ∙ ap (option_and_then (target_from path s.0.0 (drop at text))) (dest_none (destination_at deepest_nesting (drop at text)) k)
+pub no_dest : (around : Context) (text : List ℕ) (start at lines : ℕ) → Some (at, lines) ≡ shifted start (space_at around (drop start text))
+    → IsDest (destination_at deepest_nesting (drop at text)) None → target_at around (drop start text) ≡ None
+no_dest around text start at lines h k =
+    let s = space_found (space_at around (drop start text)) start at lines h in
+    at_dest around text start at s.0 s.1 s.2
+    ∙ ap (option_and_then (target_from around s.0.0 (drop at text))) (dest_none (destination_at deepest_nesting (drop at text)) k)
 
-behind_dest : (path : List Container) (text : List ℕ) (start at n : ℕ) (s : ℕ × ℕ) (d : ℕ × List ℕ) → space_at path (drop start text) ≡ Some s
+behind_dest : (around : Context) (text : List ℕ) (start at n : ℕ) (s : ℕ × ℕ) (d : ℕ × List ℕ) → space_at around (drop start text) ≡ Some s
     → at ≡ start + s.0 → destination_at deepest_nesting (drop at text) ≡ Some d → n ≡ d.0
-    → target_at path (drop start text) ≡ option_map (target_of s.0 d) (behind_destination path (drop (at + n) text))
-behind_dest path text start at n s d e h k l =
-    at_dest path text start at s e h ∙ ap (option_and_then (target_from path s.0 (drop at text))) k
-    ∙ ap (λ xs. option_map (target_of s.0 d) (behind_destination path xs)) (drop-drop d.0 at text ∙ ap (λ m. drop (at + m) text) (sym l))
+    → target_at around (drop start text) ≡ option_map (target_of s.0 d) (behind_destination around (drop (at + n) text))
+behind_dest around text start at n s d e h k l =
+    at_dest around text start at s e h ∙ ap (option_and_then (target_from around s.0 (drop at text))) k
+    ∙ ap (λ xs. option_map (target_of s.0 d) (behind_destination around xs)) (drop-drop d.0 at text ∙ ap (λ m. drop (at + m) text) (sym l))
 
-pub no_further : (path : List Container) (text : List ℕ) (start at lines n : ℕ) (b : Bor (List ℕ))
-    → Some (at, lines) ≡ shifted start (space_at path (drop start text)) → IsDest (destination_at deepest_nesting (drop at text)) (Some (n, b))
-    → IsFurther (at + n) (behind_destination path (drop (at + n) text)) None → target_at path (drop start text) ≡ None
-no_further path text start at lines n b h k f =
-    let s = space_found (space_at path (drop start text)) start at lines h in
+pub no_further : (around : Context) (text : List ℕ) (start at lines n : ℕ) (b : Bor (List ℕ))
+    → Some (at, lines) ≡ shifted start (space_at around (drop start text)) → IsDest (destination_at deepest_nesting (drop at text)) (Some (n, b))
+    → IsFurther (at + n) (behind_destination around (drop (at + n) text)) None → target_at around (drop start text) ≡ None
+no_further around text start at lines n b h k f =
+    let s = space_found (space_at around (drop start text)) start at lines h in
     let d = dest_found (destination_at deepest_nesting (drop at text)) n b k in
-    behind_dest path text start at n s.0 d.0 s.1 s.2 d.1 d.2
-    ∙ ap (option_map (target_of s.0.0 d.0)) (further_none (behind_destination path (drop (at + n) text)) (at + n) f)
+    behind_dest around text start at n s.0 d.0 s.1 s.2 d.1 d.2
+    ∙ ap (option_map (target_of s.0.0 d.0)) (further_none (behind_destination around (drop (at + n) text)) (at + n) f)
 
 -- a target that is found
-pub record TargetFound (path : List Container) (text : List ℕ) (start e : ℕ) (b : Bor (List ℕ)) (title : Option CowStr) : Type 0 where
+pub record TargetFound (around : Context) (text : List ℕ) (start e : ℕ) (b : Bor (List ℕ)) (title : Option CowStr) : Type 0 where
   pub size : ℕ
   pub target : Target
-  pub is : target_at path (drop start text) ≡ Some (size, target)
+  pub is : target_at around (drop start text) ≡ Some (size, target)
   pub end_is : e ≡ start + size
   pub dest_is : b.now ≡ target.dest
   pub title_is : IsReadTitle target.title title
 
-pub target_found : (path : List Container) (text : List ℕ) (start at lines n e : ℕ) (b : Bor (List ℕ)) (title : Option CowStr)
-    → Some (at, lines) ≡ shifted start (space_at path (drop start text))
+pub target_found : (around : Context) (text : List ℕ) (start at lines n e : ℕ) (b : Bor (List ℕ)) (title : Option CowStr)
+    → Some (at, lines) ≡ shifted start (space_at around (drop start text))
     → IsDest (destination_at deepest_nesting (drop at text)) (Some (n, b))
-    → IsFurther (at + n) (behind_destination path (drop (at + n) text)) (Some (e, title)) → TargetFound path text start e b title
-target_found path text start at lines n e b title h k f =
-    let s = space_found (space_at path (drop start text)) start at lines h in
+    → IsFurther (at + n) (behind_destination around (drop (at + n) text)) (Some (e, title)) → TargetFound around text start e b title
+target_found around text start at lines n e b title h k f =
+    let s = space_found (space_at around (drop start text)) start at lines h in
     let d = dest_found (destination_at deepest_nesting (drop at text)) n b k in
-    let r = further_found (behind_destination path (drop (at + n) text)) (at + n) e title f in
+    let r = further_found (behind_destination around (drop (at + n) text)) (at + n) e title f in
     let i = s.2 in
     let j = d.2 in
     let l = r.2 in
     record {
       size = s.0.0 + d.0.0 + r.0.0;
       target = record { dest = d.0.1; title = r.0.1 };
-      is = behind_dest path text start at n s.0 d.0 s.1 s.2 d.1 d.2 ∙ ap (option_map (target_of s.0.0 d.0)) r.1;
+      is = behind_dest around text start at n s.0 d.0 s.1 s.2 d.1 d.2 ∙ ap (option_map (target_of s.0.0 d.0)) r.1;
       end_is = omega arith;
       dest_is = d.3;
       title_is = r.3;
@@ -148,11 +208,11 @@ target_found path text start at lines n e b title h k f =
 abbrev pub IsTargetAnswer : Bool → ℕ → ℕ → Option (ℕ × Target) → Option (ℕ × LinkDef) → Type 0
 IsTargetAnswer in_table from start o answer = MatchOption o (answer ≡ None) (λ target. IsSomeAnd answer (IsTarget in_table from start target))
 
-pub is_target : (path : List Container) (text : List ℕ) (start e from : ℕ) (b : Bor (List ℕ)) (title : Option CowStr) (in_table : Bool) (found : LinkDef)
-    → TargetFound path text start e b title → IsUnescaped in_table b.now found.dest
+pub is_target : (around : Context) (text : List ℕ) (start e from : ℕ) (b : Bor (List ℕ)) (title : Option CowStr) (in_table : Bool) (found : LinkDef)
+    → TargetFound around text start e b title → IsUnescaped in_table b.now found.dest
     → ((t : Option (List ℕ)) → IsReadTitle t title → HasTitle in_table t found.title) → found.span.start ≡ from → found.span.«end» ≡ e
-    → IsTargetAnswer in_table from start (target_at path (drop start text)) (Some (e - start, found))
-is_target path text start e from b title in_table found t dest read h k =
+    → IsTargetAnswer in_table from start (target_at around (drop start text)) (Some (e - start, found))
+is_target around text start e from b title in_table found t dest read h k =
     let i = t.end_is in
     rw t.is (record {
       size = omega arith;
@@ -165,16 +225,16 @@ is_target path text start e from b title in_table found t dest read h k =
     })
 
 -- the definition step by step
-pub no_bracket : (in_table : Bool) (path : List Container) (bs : List ℕ) → begins 91 bs ≡ false → reference_at in_table path bs ≡ None
+pub no_bracket : (in_table : Bool) (around : Context) (bs : List ℕ) → begins 91 bs ≡ false → reference_at in_table around bs ≡ None
 unfolding reference_at
-no_bracket in_table path bs h = rw h refl
+no_bracket in_table around bs h = rw h refl
 
-at_label : (in_table : Bool) (path : List Container) (text : List ℕ) (start : ℕ) → begins 91 (drop start text) ≡ true
-    → reference_at in_table path (drop start text) ≡ option_and_then (reference_behind path (drop (start + 1) text))
-    (label_at (prefix_crossed true path) in_table (drop (start + 1) text))
+at_label : (in_table : Bool) (around : Context) (text : List ℕ) (start : ℕ) → begins 91 (drop start text) ≡ true
+    → reference_at in_table around (drop start text) ≡ option_and_then (reference_behind around (drop (start + 1) text))
+    (label_at (prefix_crossed true around) in_table (drop (start + 1) text))
 unfolding reference_at
-at_label in_table path text start h =
-    rw h (ap (λ xs. option_and_then (reference_behind path xs) (label_at (prefix_crossed true path) in_table xs)) (drop-drop 1 start text))
+at_label in_table around text start h =
+    rw h (ap (λ xs. option_and_then (reference_behind around xs) (label_at (prefix_crossed true around) in_table xs)) (drop-drop 1 start text))
 
 -- answers about labels
 abbrev pub IsLabelAnswer : Option (ℕ × List ℕ) → Option (ℕ × CowStr) → Type 0
@@ -189,44 +249,44 @@ label_none : (o : Option (ℕ × List ℕ)) → IsLabelAnswer o None → o ≡ N
 label_none None h = refl
 label_none (Some l) h = absurd h
 
-pub no_label : (in_table : Bool) (path : List Container) (text : List ℕ) (start : ℕ) → begins 91 (drop start text) ≡ true
-    → IsLabelAnswer (label_at (prefix_crossed true path) in_table (drop (start + 1) text)) None
-    → reference_at in_table path (drop start text) ≡ None
-no_label in_table path text start h k =
-    at_label in_table path text start h ∙ ap (option_and_then (reference_behind path (drop (start + 1) text)))
-    (label_none (label_at (prefix_crossed true path) in_table (drop (start + 1) text)) k)
+pub no_label : (in_table : Bool) (around : Context) (text : List ℕ) (start : ℕ) → begins 91 (drop start text) ≡ true
+    → IsLabelAnswer (label_at (prefix_crossed true around) in_table (drop (start + 1) text)) None
+    → reference_at in_table around (drop start text) ≡ None
+no_label in_table around text start h k =
+    at_label in_table around text start h ∙ ap (option_and_then (reference_behind around (drop (start + 1) text)))
+    (label_none (label_at (prefix_crossed true around) in_table (drop (start + 1) text)) k)
 
-colon_by : (t : Bool) (in_table : Bool) (path : List Container) (text : List ℕ) (start n : ℕ) (l : ℕ × List ℕ) → begins 91 (drop start text) ≡ true
-    → label_at (prefix_crossed true path) in_table (drop (start + 1) text) ≡ Some l → n ≡ l.0
+colon_by : (t : Bool) (in_table : Bool) (around : Context) (text : List ℕ) (start n : ℕ) (l : ℕ × List ℕ) → begins 91 (drop start text) ≡ true
+    → label_at (prefix_crossed true around) in_table (drop (start + 1) text) ≡ Some l → n ≡ l.0
     → begins 58 (drop (start + 1 + n) text) ≡ t
-    → reference_at in_table path (drop start text) ≡ (if t then option_map (reference_of (l.0 + 2) l.1) (target_at path (drop (start + 1 + n + 1) text))
+    → reference_at in_table around (drop start text) ≡ (if t then option_map (reference_of (l.0 + 2) l.1) (target_at around (drop (start + 1 + n + 1) text))
     else None)
-colon_by t in_table path text start n l h k e f =
+colon_by t in_table around text start n l h k e f =
     let a : drop l.0 (drop (start + 1) text) ≡ drop (start + 1 + n) text = drop-drop l.0 (start + 1) text ∙ ap (λ m. drop (start + 1 + m) text) (sym e) in
     let i : start + 1 + (l.0 + 1) ≡ start + 1 + n + 1 = omega arith in
     let b : drop (l.0 + 1) (drop (start + 1) text) ≡ drop (start + 1 + n + 1) text = drop-drop (l.0 + 1) (start + 1) text ∙ ap (λ m. drop m text) i in
-    at_label in_table path text start h ∙ ap (option_and_then (reference_behind path (drop (start + 1) text))) k
+    at_label in_table around text start h ∙ ap (option_and_then (reference_behind around (drop (start + 1) text))) k
     ∙ rw (ap (begins 58) a ∙ f) (rw b refl)
 
-pub no_colon : (in_table : Bool) (path : List Container) (text : List ℕ) (start n : ℕ) (label : CowStr) → begins 91 (drop start text) ≡ true
-    → IsLabelAnswer (label_at (prefix_crossed true path) in_table (drop (start + 1) text)) (Some (n, label))
-    → begins 58 (drop (start + 1 + n) text) ≡ false → reference_at in_table path (drop start text) ≡ None
-no_colon in_table path text start n label h k f =
-    let l = label_found (label_at (prefix_crossed true path) in_table (drop (start + 1) text)) n label k in
-    colon_by false in_table path text start n l.0 h l.1 l.2 f
+pub no_colon : (in_table : Bool) (around : Context) (text : List ℕ) (start n : ℕ) (label : CowStr) → begins 91 (drop start text) ≡ true
+    → IsLabelAnswer (label_at (prefix_crossed true around) in_table (drop (start + 1) text)) (Some (n, label))
+    → begins 58 (drop (start + 1 + n) text) ≡ false → reference_at in_table around (drop start text) ≡ None
+no_colon in_table around text start n label h k f =
+    let l = label_found (label_at (prefix_crossed true around) in_table (drop (start + 1) text)) n label k in
+    colon_by false in_table around text start n l.0 h l.1 l.2 f
 
 target_none : (in_table : Bool) (from start : ℕ) (o : Option (ℕ × Target)) → IsTargetAnswer in_table from start o None → o ≡ None
 target_none in_table from start None h = refl
 target_none in_table from start (Some t) h = absurd h
 
-pub no_target : (in_table : Bool) (path : List Container) (text : List ℕ) (start n : ℕ) (label : CowStr) → begins 91 (drop start text) ≡ true
-    → IsLabelAnswer (label_at (prefix_crossed true path) in_table (drop (start + 1) text)) (Some (n, label))
-    → begins 58 (drop (start + 1 + n) text) ≡ true → IsTargetAnswer in_table start (start + 1 + n + 1) (target_at path (drop (start + 1 + n + 1) text)) None
-    → reference_at in_table path (drop start text) ≡ None
-no_target in_table path text start n label h k f t =
-    let l = label_found (label_at (prefix_crossed true path) in_table (drop (start + 1) text)) n label k in
-    colon_by true in_table path text start n l.0 h l.1 l.2 f
-    ∙ ap (option_map (reference_of (l.0.0 + 2) l.0.1)) (target_none in_table start (start + 1 + n + 1) (target_at path (drop (start + 1 + n + 1) text)) t)
+pub no_target : (in_table : Bool) (around : Context) (text : List ℕ) (start n : ℕ) (label : CowStr) → begins 91 (drop start text) ≡ true
+    → IsLabelAnswer (label_at (prefix_crossed true around) in_table (drop (start + 1) text)) (Some (n, label))
+    → begins 58 (drop (start + 1 + n) text) ≡ true → IsTargetAnswer in_table start (start + 1 + n + 1) (target_at around (drop (start + 1 + n + 1) text)) None
+    → reference_at in_table around (drop start text) ≡ None
+no_target in_table around text start n label h k f t =
+    let l = label_found (label_at (prefix_crossed true around) in_table (drop (start + 1) text)) n label k in
+    colon_by true in_table around text start n l.0 h l.1 l.2 f
+    ∙ ap (option_map (reference_of (l.0.0 + 2) l.0.1)) (target_none in_table start (start + 1 + n + 1) (target_at around (drop (start + 1 + n + 1) text)) t)
 
 abbrev pub IsReferenceAnswer : Bool → ℕ → Option LinkReference → Option (ℕ × CowStr × LinkDef) → Type 0
 IsReferenceAnswer in_table start o answer = MatchOption o (answer ≡ None) (λ reference. IsSomeAnd answer (IsReference in_table start reference))
@@ -244,16 +304,16 @@ reference_by in_table start n m l label definition (Some t) e h found =
       definition = subst (λ to. IsDefinition in_table t.1 start to definition) i found.definition;
     }
 
-pub is_reference : (in_table : Bool) (path : List Container) (text : List ℕ) (start n m : ℕ) (label : CowStr) (definition : LinkDef)
+pub is_reference : (in_table : Bool) (around : Context) (text : List ℕ) (start n m : ℕ) (label : CowStr) (definition : LinkDef)
     → begins 91 (drop start text) ≡ true
-    → IsLabelAnswer (label_at (prefix_crossed true path) in_table (drop (start + 1) text)) (Some (n, label)) → begins 58 (drop (start + 1 + n) text) ≡ true
-    → IsTargetAnswer in_table start (start + 1 + n + 1) (target_at path (drop (start + 1 + n + 1) text)) (Some (m, definition))
-    → IsReferenceAnswer in_table start (reference_at in_table path (drop start text)) (Some (n + 2 + m, label, definition))
-is_reference in_table path text start n m label definition h k f t =
-    let l = label_found (label_at (prefix_crossed true path) in_table (drop (start + 1) text)) n label k in
-    let e = colon_by true in_table path text start n l.0 h l.1 l.2 f in
+    → IsLabelAnswer (label_at (prefix_crossed true around) in_table (drop (start + 1) text)) (Some (n, label)) → begins 58 (drop (start + 1 + n) text) ≡ true
+    → IsTargetAnswer in_table start (start + 1 + n + 1) (target_at around (drop (start + 1 + n + 1) text)) (Some (m, definition))
+    → IsReferenceAnswer in_table start (reference_at in_table around (drop start text)) (Some (n + 2 + m, label, definition))
+is_reference in_table around text start n m label definition h k f t =
+    let l = label_found (label_at (prefix_crossed true around) in_table (drop (start + 1) text)) n label k in
+    let e = colon_by true in_table around text start n l.0 h l.1 l.2 f in
     subst (λ o. IsReferenceAnswer in_table start o (Some (n + 2 + m, label, definition))) (sym e)
-    (reference_by in_table start n m l.0 label definition (target_at path (drop (start + 1 + n + 1) text)) l.2 l.3 t)
+    (reference_by in_table start n m l.0 label definition (target_at around (drop (start + 1 + n + 1) text)) l.2 l.3 t)
 
 -- behind an ASCII byte
 pub behind_byte : (byte : ℕ) (text : List ℕ) (at : ℕ) → byte < 128 → IsUtf8 text → begins byte (drop at text) ≡ true → IsCharBoundary text (at + 1)

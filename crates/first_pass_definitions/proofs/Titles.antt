@@ -16,7 +16,7 @@ use Rattle.first_pass_links.specs.Labels.{joined, bytes_of, offsets_of}
 use Rattle.first_pass_links.specs.Units.{part}
 use Rattle.first_pass_links.proofs.Destinations.{upto-nil, upto-stop, upto-byte, upto-escape}
 use Rattle.std.proofs.lemmas.Str.{IsCharBoundary-after_ascii}
-use Rattle.first_pass_grammar.specs.declared.kind.Container.{Container}
+use Rattle.first_pass_grammar.specs.Containers.{Context}
 use Rattle.first_pass_grammar.specs.Definitions.{with_line_feeds, ends_title, title_end, title_text, title_prefix, title_at}
 use Rattle.first_pass_definitions.specs.Reading.{ClosesTitle, stops_title, goes_on_at}
 
@@ -548,16 +548,16 @@ closes-low close (inr (inl h)) = omega (arith, h)
 closes-low close (inr (inr h)) = omega (arith, h)
 
 -- the title that begins with a byte
-pub title_none : (path : List Container) (bs : List ℕ) → None ≡ option_and_then title_end (slice_get bs 0) → title_at path bs ≡ None
+pub title_none : (around : Context) (bs : List ℕ) → None ≡ option_and_then title_end (slice_get bs 0) → title_at around bs ≡ None
 unfolding title_at
-title_none path [] h = refl
-title_none path (b ∷ bs) h = rw (← h) refl
+title_none around [] h = refl
+title_none around (b ∷ bs) h = rw (← h) refl
 
-pub title_some : (path : List Container) (bs : List ℕ) (close : ℕ) → Some close ≡ option_and_then title_end (slice_get bs 0)
-    → title_at path bs ≡ option_map (λ (t : ℕ × List ℕ). (t.0 + 1, t.1)) (title_text (title_prefix path) close (drop 1 bs))
+pub title_some : (around : Context) (bs : List ℕ) (close : ℕ) → Some close ≡ option_and_then title_end (slice_get bs 0)
+    → title_at around bs ≡ option_map (λ (t : ℕ × List ℕ). (t.0 + 1, t.1)) (title_text (title_prefix around) close (drop 1 bs))
 unfolding title_at
-title_some path [] close h = cc
-title_some path (b ∷ bs) close h = rw (← h) refl
+title_some around [] close h = cc
+title_some around (b ∷ bs) close h = rw (← h) refl
 
 -- what begins a title is an ASCII byte
 begin_by : (t u v : Bool) (b close : ℕ) → (b == 39) ≡ t → (b == 34) ≡ u → (b == 40) ≡ v → title_end b ≡ Some close → b < 128

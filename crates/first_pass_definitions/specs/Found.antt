@@ -8,7 +8,7 @@ use Rattle.first_pass_lines.specs.Lines.{is_line_end}
 use Rattle.first_pass_links.specs.Escapes.{unescaped}
 use Rattle.first_pass_links.specs.Texts.{Borrows}
 use Rattle.first_pass_links.specs.Labels.{label_at}
-use Rattle.first_pass_grammar.specs.declared.kind.Container.{Container}
+use Rattle.first_pass_grammar.specs.Containers.{Context}
 use Rattle.first_pass_grammar.specs.Definitions.{Target, LinkReference, prefix_crossed}
 
 -- The text is this one without its escapes and references, and borrowed where it has none (CommonMark 2.4, 2.5).
@@ -47,5 +47,5 @@ pub record IsReference (in_table : Bool) (at : ℕ) (reference : LinkReference) 
   pub definition : IsDefinition in_table reference.target at (at + reference.size) found.2
 
 -- the label of which these bytes are the text and the `]`, and more, has so many bytes (CommonMark 4.7)
-abbrev pub IsLabelLen : List Container → Bool → List ℕ → ℕ → Type 0
-IsLabelLen path in_table bs n = (label : List ℕ) × (label_at (prefix_crossed true path) in_table bs ≡ Some (n + 1, label))
+abbrev pub IsLabelLen : Context → Bool → List ℕ → ℕ → Type 0
+IsLabelLen around in_table bs n = (label : List ℕ) × (label_at (prefix_crossed true around) in_table bs ≡ Some (n + 1, label))

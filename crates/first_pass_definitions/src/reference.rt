@@ -7,7 +7,7 @@ ghost use Rattle.first_pass_lines.specs.Lines.{begins};
 ghost use Rattle.first_pass_links.specs.Texts.{Borrows};
 ghost use Rattle.first_pass_tree.specs.Forest.{in_table};
 ghost use Rattle.first_pass_grammar.specs.Definitions.{reference_at};
-ghost use Rattle.first_pass_open.specs.Path.{path_of};
+ghost use Rattle.first_pass_open.specs.Path.{context_of};
 ghost use Rattle.first_pass_definitions.specs.Found.{IsLabelLen, IsReference};
 
 use crate::label::parse_refdef_label;
@@ -36,13 +36,13 @@ pub fn parse_refdef_total<'a>(
 ) -> Result<Option<(usize, LabelKey<'a>, LinkDef<'a>)>, AllocError>
     requires { IsCharBoundary source.text.now start }
     ensures value { IfOk result (λ answer. let nested = in_table tree.now.nodes tree.now.spine in
-        MatchOption (reference_at nested (path_of tree.now) (drop start source.entry.text.now))
+        MatchOption (reference_at nested (context_of source.entry.options tree.now) (drop start source.entry.text.now))
         (answer ≡ None)
         (λ reference. IsSomeAnd answer (IsReference nested start reference))) }
     ensures fits { IfOk result (λ answer. IfSome answer (λ found.
         (0 < found.0) × IsCharBoundary source.entry.text.now (start + found.0))) }
     ensures borrowed { IfOk result (λ answer. IfSome answer (λ found. (n : ℕ)
-        → IsLabelLen (path_of tree.now) (in_table tree.now.nodes tree.now.spine)
+        → IsLabelLen (context_of source.entry.options tree.now) (in_table tree.now.nodes tree.now.spine)
         (drop (start + 1) source.entry.text.now) n
         → text_of found.1 ≡ take n (drop (start + 1) source.entry.text.now)
         → Borrows (take n (drop (start + 1) source.entry.text.now)) found.1)) }
@@ -63,13 +63,13 @@ fn parse_behind_bracket<'a>(
     requires place { IsCharBoundary source.text.now start }
     requires bracket { begins left_bracket (drop start source.text.now) ≡ true }
     ensures value { IfOk result (λ answer. let nested = in_table tree.now.nodes tree.now.spine in
-        MatchOption (reference_at nested (path_of tree.now) (drop start source.entry.text.now))
+        MatchOption (reference_at nested (context_of source.entry.options tree.now) (drop start source.entry.text.now))
         (answer ≡ None)
         (λ reference. IsSomeAnd answer (IsReference nested start reference))) }
     ensures fits { IfOk result (λ answer. IfSome answer (λ found.
         (0 < found.0) × IsCharBoundary source.entry.text.now (start + found.0))) }
     ensures borrowed { IfOk result (λ answer. IfSome answer (λ found. (n : ℕ)
-        → IsLabelLen (path_of tree.now) (in_table tree.now.nodes tree.now.spine)
+        → IsLabelLen (context_of source.entry.options tree.now) (in_table tree.now.nodes tree.now.spine)
         (drop (start + 1) source.entry.text.now) n
         → text_of found.1 ≡ take n (drop (start + 1) source.entry.text.now)
         → Borrows (take n (drop (start + 1) source.entry.text.now)) found.1)) }

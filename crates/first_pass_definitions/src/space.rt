@@ -3,7 +3,7 @@
 ghost use Rattle.std.specs.Prelude.{◌≡◌, ◌+◌, drop, IfOk, IfSome, IsCharBoundary};
 ghost use Rattle.std.specs.Option.{option_map};
 ghost use Rattle.first_pass_grammar.specs.Definitions.{space_at, space_beyond};
-ghost use Rattle.first_pass_open.specs.Path.{path_of};
+ghost use Rattle.first_pass_open.specs.Path.{context_of};
 
 use first_pass_items::item::Item;
 use first_pass_lines::lines::{scan_eol, scan_whitespace_no_nl};
@@ -27,7 +27,7 @@ pub fn scan_refdef_space(
     requires { IsCharBoundary source.text.now start }
     ensures value { IfOk result (λ answer.
         answer ≡ option_map (λ s. (start + s.0, s.1))
-        (space_at (path_of tree.now) (drop start source.entry.text.now))) }
+        (space_at (context_of source.entry.options tree.now) (drop start source.entry.text.now))) }
     ensures place { IfOk result (λ answer. IfSome answer (λ s. IsCharBoundary source.entry.text.now s.0)) }
 {
     source.is_short();

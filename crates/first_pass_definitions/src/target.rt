@@ -6,7 +6,7 @@ ghost use Rattle.first_pass_items.specs.CowText.{text_of};
 ghost use Rattle.first_pass_tree.specs.Forest.{in_table};
 ghost use Rattle.first_pass_grammar.specs.Definitions.{target_at, behind_destination, title_behind, deepest_nesting};
 ghost use Rattle.first_pass_links.specs.Escapes.{unescaped};
-ghost use Rattle.first_pass_open.specs.Path.{path_of};
+ghost use Rattle.first_pass_open.specs.Path.{context_of};
 ghost use Rattle.first_pass_definitions.specs.Found.{HasTitle, IsTarget};
 ghost use Rattle.first_pass_definitions.specs.Reading.{IsReadText, IsReadTitle};
 
@@ -42,7 +42,7 @@ pub fn scan_refdef<'a>(
 ) -> Result<Option<(usize, LinkDef<'a>)>, AllocError>
     requires { IsCharBoundary source.text.now start }
     ensures value { IfOk result (λ answer. MatchOption
-        (target_at (path_of tree.now) (drop start source.entry.text.now))
+        (target_at (context_of source.entry.options tree.now) (drop start source.entry.text.now))
         (answer ≡ None)
         (λ target. IsSomeAnd answer
         (IsTarget (in_table tree.now.nodes tree.now.spine) span_start start target))) }
@@ -78,7 +78,7 @@ fn scan_behind_destination<'a>(
 ) -> Result<Option<(usize, Option<CowStr<'a>>)>, AllocError>
     requires { IsCharBoundary source.text.now at }
     ensures value { IfOk result (λ answer. MatchOption
-        (behind_destination (path_of tree.now) (drop at source.entry.text.now))
+        (behind_destination (context_of source.entry.options tree.now) (drop at source.entry.text.now))
         (answer ≡ None)
         (λ further. IsSomeAnd answer (λ found. (found.0 ≡ at + further.0) × IsReadTitle further.1 found.1))) }
     ensures fits { IfOk result (λ answer. IfSome answer (λ found.
@@ -103,7 +103,7 @@ fn scan_title_behind<'a>(
 ) -> Result<Option<(usize, CowStr<'a>)>, AllocError>
     requires { IsCharBoundary source.text.now at }
     ensures value { IfOk result (λ answer. MatchOption
-        (title_behind (path_of tree.now) (drop at source.entry.text.now))
+        (title_behind (context_of source.entry.options tree.now) (drop at source.entry.text.now))
         (answer ≡ None)
         (λ title. IsSomeAnd answer (λ found. (found.0 ≡ at + title.0) × IsReadText title.1 found.1))) }
     ensures fits { IfOk result (λ answer. IfSome answer (λ found.

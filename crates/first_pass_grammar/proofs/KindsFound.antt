@@ -15,6 +15,7 @@ use Rattle.first_pass_html.specs.Starts.{html_end}
 use Rattle.first_pass_html.specs.Tags.{BeginsTagLine}
 use Rattle.first_pass_html.proofs.TagDecisions.{tag_line_decided}
 use Rattle.first_pass_grammar.specs.declared.kind.Container.{Container}
+use Rattle.first_pass_grammar.specs.Containers.{Context, context}
 use Rattle.first_pass_grammar.specs.Names.{Names, Extends}
 use Rattle.first_pass_grammar.specs.Kinds.{Kind, Blank, IndentedCode, Metadata, HtmlToEnd, HtmlToBlank, ThematicBreak, AtxHeading, FencedCode, LinkDefinitions, Paragraph, all_taken, unindented, is_blank_rest, heading_or, rule_or, fence_or, metadata_or, metadata_at, begins_html_to_end, begins_html_to_blank, html_kind, first_kind, last_kind, IsKindBy, IsKind}
 use Rattle.first_pass_grammar.specs.Leaves.{document, block_with, heading_text_at, heading_block, paragraph_block, rule_block, marker_items}
@@ -289,7 +290,7 @@ leads_run : (text : List ℕ) (options : Options) (names : Names) (most : ℕ) (
     → Leads names most lines (λ later o. OpensAs (document text options later) path p lines LinkDefinitions o)
 unfolding OpensAs OpensRun
 leads_run text options names most path p lines =
-    let found = run_found path (unindented p) lines in
+    let found = run_found (context options path) (unindented p) lines in
     leads_also (leads_beyond text options names most path lines found.definitions found.beyond found.shorter) (λ later o opens. (found.definitions, found.beyond, found.run, opens))
 
 leads_kind : (text : List ℕ) (options : Options) (names : Names) (most : ℕ) (path : List Container) (p : Place) (lines : List Place) (kind : Kind)
@@ -321,13 +322,14 @@ ends_text : (bs : List ℕ) (t : Bool) → HasEnd bs (if t then LinkDefinitions 
 ends_text bs true = tt
 ends_text bs false = tt
 
-ends_in : (path : List Container) (p : Place) (bs : List ℕ) (kind : Kind) → HasEnd bs kind → HasEnd bs (kind_in path p kind)
-ends_in path p bs Paragraph ends = ends_text bs (is_some (definition_at path (unindented p)))
-ends_in path p bs kind ends = ends
+ends_in : (c : Context) (p : Place) (bs : List ℕ) (kind : Kind) → HasEnd bs kind → HasEnd bs (kind_in c p kind)
+ends_in c p bs Paragraph ends = ends_text bs (is_some (definition_at c (unindented p)))
+ends_in c p bs kind ends = ends
 
 -- where no container may begin
 pub leads_block : (text : List ℕ) (options : Options) (names : Names) (most : ℕ) (path : List Container) (p : Place) (lines : List Place)
     → Leads names most lines (λ later o. OpensBlockAt (document text options later) path p lines o)
 leads_block text options names most path p lines =
     let kind = kind_found options p.rest in
-    leads_also (leads_kind text options names most path p lines (kind_in path p kind.0) (ends_in path p (all_taken p.rest).left kind.0 kind.2)) (λ later o opens. (kind.0, kind.1, opens))
+    leads_also (leads_kind text options names most path p lines (kind_in (context options path) p kind.0)
+    (ends_in (context options path) p (all_taken p.rest).left kind.0 kind.2)) (λ later o opens. (kind.0, kind.1, opens))

@@ -10,7 +10,7 @@ use Rattle.first_pass_tokens.specs.Chains.{add_tokens, close_break}
 use Rattle.first_pass_tokens.specs.LineTokens.{IsLine}
 use Rattle.first_pass_grammar.specs.declared.kind.Container.{Container}
 use Rattle.first_pass_grammar.specs.Names.{Names}
-use Rattle.first_pass_grammar.specs.Containers.{at_rest, front}
+use Rattle.first_pass_grammar.specs.Containers.{context, at_rest, front}
 use Rattle.first_pass_grammar.specs.Kinds.{unindented, ends_paragraph}
 use Rattle.first_pass_grammar.specs.Leaves.{document, add_break, IsParagraph, kept_len, heading_chain, IsHeading}
 
@@ -25,7 +25,7 @@ source_at : List ℕ → Options → ℕ → Source
 source_at text options start = record { options = options; text = text; start = start }
 
 paragraph_by : (text : List ℕ) (options : Options) (path : List Container) (start : ℕ) (chain tokens : List Item) (answer : ℕ × Option Item) (line : Place)
-    (lines : List Place) (t : Bool) → ends_paragraph path line.rest ≡ t
+    (lines : List Place) (t : Bool) → ends_paragraph (context options path) line.rest ≡ t
     → IsLine (source_at text options start) tokens answer
     → ParagraphFrom text options path (offset (unindented (at_rest line (front path line.rest)))) (add_break answer.1 (add_tokens chain tokens)) lines
     → ParagraphFrom text options path start chain (line ∷ lines)
@@ -56,7 +56,7 @@ paragraph_found text options path [] start chain =
     }
 paragraph_found text options path (line ∷ lines) start chain =
     let first = line_found (source_at text options start) in
-    paragraph_by text options path start chain first.0 first.1 line lines (ends_paragraph path line.rest) refl first.2
+    paragraph_by text options path start chain first.0 first.1 line lines (ends_paragraph (context options path) line.rest) refl first.2
     (paragraph_found text options path lines (offset (unindented (at_rest line (front path line.rest))))
     (add_break first.1.1 (add_tokens chain first.0)))
 

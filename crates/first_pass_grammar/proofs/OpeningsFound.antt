@@ -17,7 +17,7 @@ use Rattle.first_pass_scan.proofs.MarkerPlaces.{IsMarked, item-marked, task-mark
 use Rattle.first_pass_grammar.specs.declared.kind.Container.{Container}
 use Rattle.first_pass_grammar.specs.declared.kind.Container.TheVariants.{BlockQuote, ListItem}
 use Rattle.first_pass_grammar.specs.Names.{Names}
-use Rattle.first_pass_grammar.specs.Containers.{at_rest, prefix, front}
+use Rattle.first_pass_grammar.specs.Containers.{Context, context, at_rest, prefix, front}
 use Rattle.first_pass_grammar.specs.Kinds.{Paragraph, all_taken, unindented, is_blank_rest, quote_inside, item_at, ends_tag}
 use Rattle.first_pass_grammar.specs.Leaves.{Document, document}
 use Rattle.first_pass_grammar.specs.Skeleton.{leaf_block, Head, From, Line, At, May, Anything, ALeafAlone, TextOf, MarkAlone, Inside, behind_marker, Opening, OpensNode, next_is_blank, item_head, task_by, task_behind, behind_task, task_alone, item_opening, quote_head, tag_behind, behind_tag, quote_opening, OpensQuote, OpensFrom, Opens, OpensIf}
@@ -122,14 +122,14 @@ tag_shrinks_by : (most : ℕ) (line p : Place) (lines : List Place) (t : Bool)
 tag_shrinks_by most line p lines true = (omega arith, inl (omega arith))
 tag_shrinks_by most line p lines false = (omega arith, inr (omega arith))
 
-tag_shrinks : (most : ℕ) (path : List Container) (lines : List Place) → IsBehind most lines (behind_tag path lines)
-tag_shrinks most path [] = (omega arith, inl (omega arith))
-tag_shrinks most path (line ∷ lines) = tag_shrinks_by most line (unindented (at_rest line (front path line.rest))) lines (ends_tag path line.rest)
+tag_shrinks : (most : ℕ) (c : Context) (lines : List Place) → IsBehind most lines (behind_tag c lines)
+tag_shrinks most c [] = (omega arith, inl (omega arith))
+tag_shrinks most c (line ∷ lines) = tag_shrinks_by most line (unindented (at_rest line (front c.path line.rest))) lines (ends_tag c line.rest)
 
-quote_shrinks : (most : ℕ) (path : List Container) (p inside : Place) (lines : List Place) (kind : Option BlockQuoteKind)
-    → suc (length inside.rest.left) ≤ most → Shrinks most lines (quote_opening path p inside lines kind)
-quote_shrinks most path p inside lines None h = node_shrinks most lines (quote_head p None) (Inside inside) h
-quote_shrinks most path p inside lines (Some kind) h = tag_shrinks most (BlockQuote (Some kind) ∷ path) lines
+quote_shrinks : (most : ℕ) (c : Context) (p inside : Place) (lines : List Place) (kind : Option BlockQuoteKind)
+    → suc (length inside.rest.left) ≤ most → Shrinks most lines (quote_opening c p inside lines kind)
+quote_shrinks most c p inside lines None h = node_shrinks most lines (quote_head p None) (Inside inside) h
+quote_shrinks most c p inside lines (Some kind) h = tag_shrinks most (context c.options (BlockQuote (Some kind) ∷ c.path)) lines
 
 -- what opens at a place
 leads_quote : (text : List ℕ) (options : Options) (names : Names) (path : List Container) (p : Place) (lines : List Place) (o : Option Place)
@@ -139,7 +139,7 @@ leads_quote text options names path p lines None less = leads_block text options
 leads_quote text options names path p lines (Some inside) less =
     let kind : Option BlockQuoteKind = tag_behind options inside.rest in
     let shorter = less inside refl in
-    leads_alone (quote_opening path p inside lines kind) (λ later. refl) (quote_shrinks (length p.rest.left) path p inside lines kind (omega arith))
+    leads_alone (quote_opening (context options path) p inside lines kind) (λ later. refl) (quote_shrinks (length p.rest.left) (context options path) p inside lines kind (omega arith))
 
 leads_from : (text : List ℕ) (options : Options) (names : Names) (path : List Container) (p : Place) (lines : List Place)
     (o : Option ((ℕ × ℕ × ℕ) × Rest)) → ((item : (ℕ × ℕ × ℕ) × Rest) → o ≡ Some item → length item.1.left < length p.rest.left)

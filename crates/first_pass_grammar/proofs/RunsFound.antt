@@ -2,8 +2,7 @@
 use Rattle.std.proofs.Common.{◌≡◌, inl, inr, ℕ, zero, suc, ◌≤◌, Bool, true, false, nat_lt, List, [], ◌∷◌, length, Option, Some, None, refl, ap, ◌∙◌, arith, if◌then◌else◌}
 use Rattle.std.proofs.lemmas.Bool.{true≢false}
 use Rattle.first_pass_lines.specs.Places.{Place}
-use Rattle.first_pass_grammar.specs.declared.kind.Container.{Container}
-use Rattle.first_pass_grammar.specs.Containers.{at_rest, front}
+use Rattle.first_pass_grammar.specs.Containers.{Context, at_rest, front}
 use Rattle.first_pass_grammar.specs.Kinds.{unindented}
 use Rattle.first_pass_grammar.specs.LinkTables.{LinkEntry}
 use Rattle.first_pass_grammar.specs.LinkRuns.{definition_at, lines_beyond, ends_run, Beyond, Ended, FlowsOn, IsRun}
@@ -22,24 +21,24 @@ abbrev pub left_beyond : Beyond → List Place
 left_beyond (Ended q left) = left
 left_beyond (FlowsOn q lines) = lines
 
-pub record RunFound (path : List Container) (p : Place) (lines : List Place) : Type 0 where
+pub record RunFound (around : Context) (p : Place) (lines : List Place) : Type 0 where
   pub definitions : List LinkEntry
   pub beyond : Beyond
-  pub run : IsRun path p lines definitions beyond
+  pub run : IsRun around p lines definitions beyond
   pub shorter : length (left_beyond beyond) ≤ length lines
 
-further_by : (path : List Container) (p : Place) (lines rest : List Place) (x : LinkEntry) (t : Bool) → definition_at path p ≡ Some x → lines_beyond x.«end» lines ≡ rest → ends_run path rest ≡ t → length rest ≤ length lines
-    → ((q : Place) (left : List Place) → suc (length left) ≤ length lines → RunFound path q left) → RunFound path p lines
+further_by : (around : Context) (p : Place) (lines rest : List Place) (x : LinkEntry) (t : Bool) → definition_at around p ≡ Some x → lines_beyond x.«end» lines ≡ rest → ends_run around rest ≡ t → length rest ≤ length lines
+    → ((q : Place) (left : List Place) → suc (length left) ≤ length lines → RunFound around q left) → RunFound around p lines
 unfolding IsRun
-further_by path p lines rest x true here is ends less further = record {
+further_by around p lines rest x true here is ends less further = record {
   definitions = x ∷ [];
   beyond = Ended p (lines_beyond x.«end» lines);
-  run = (here, inl (ap (ends_run path) is ∙ ends, refl, refl));
+  run = (here, inl (ap (ends_run around) is ∙ ends, refl, refl));
   shorter = (let same = ap length is in omega arith);
 }
-further_by path p lines [] x false here is ends less further = absurd (true≢false ends)
-further_by path p lines (line ∷ left) x false here is ends less further =
-    let r = further (unindented (at_rest line (front path line.rest))) left less in
+further_by around p lines [] x false here is ends less further = absurd (true≢false ends)
+further_by around p lines (line ∷ left) x false here is ends less further =
+    let r = further (unindented (at_rest line (front around.path line.rest))) left less in
     let low = r.shorter in
     record {
       definitions = x ∷ r.definitions;
@@ -48,16 +47,16 @@ further_by path p lines (line ∷ left) x false here is ends less further =
       shorter = omega arith;
     }
 
-found_by : (path : List Container) (p : Place) (lines : List Place) (o : Option LinkEntry) → definition_at path p ≡ o
-    → ((q : Place) (left : List Place) → suc (length left) ≤ length lines → RunFound path q left) → RunFound path p lines
+found_by : (around : Context) (p : Place) (lines : List Place) (o : Option LinkEntry) → definition_at around p ≡ o
+    → ((q : Place) (left : List Place) → suc (length left) ≤ length lines → RunFound around q left) → RunFound around p lines
 unfolding IsRun
-found_by path p lines None is further = record { definitions = []; beyond = FlowsOn p lines; run = (is, refl); shorter = omega arith }
-found_by path p lines (Some x) is further =
-    further_by path p lines (lines_beyond x.«end» lines) x (ends_run path (lines_beyond x.«end» lines)) is refl refl (beyond_shorter x.«end» lines) further
+found_by around p lines None is further = record { definitions = []; beyond = FlowsOn p lines; run = (is, refl); shorter = omega arith }
+found_by around p lines (Some x) is further =
+    further_by around p lines (lines_beyond x.«end» lines) x (ends_run around (lines_beyond x.«end» lines)) is refl refl (beyond_shorter x.«end» lines) further
 
-run_within : (fuel : ℕ) (path : List Container) (p : Place) (lines : List Place) → length lines ≤ fuel → RunFound path p lines
-run_within zero path p lines few = found_by path p lines (definition_at path p) refl (λ q left less. absurd (omega arith))
-run_within (suc fuel) path p lines few = found_by path p lines (definition_at path p) refl (λ q left less. run_within fuel path q left (omega arith))
+run_within : (fuel : ℕ) (around : Context) (p : Place) (lines : List Place) → length lines ≤ fuel → RunFound around p lines
+run_within zero around p lines few = found_by around p lines (definition_at around p) refl (λ q left less. absurd (omega arith))
+run_within (suc fuel) around p lines few = found_by around p lines (definition_at around p) refl (λ q left less. run_within fuel around q left (omega arith))
 
-pub run_found : (path : List Container) (p : Place) (lines : List Place) → RunFound path p lines
-run_found path p lines = run_within (length lines) path p lines (omega arith)
+pub run_found : (around : Context) (p : Place) (lines : List Place) → RunFound around p lines
+run_found around p lines = run_within (length lines) around p lines (omega arith)

@@ -16,9 +16,9 @@ use Rattle.first_pass_tokens.proofs.LineLemmas.{one_line}
 use Rattle.first_pass_grammar.specs.declared.kind.Container.{Container}
 use Rattle.first_pass_grammar.specs.declared.kind.Container.TheVariants.{BlockQuote, ListItem}
 use Rattle.first_pass_grammar.specs.Names.{Names, read_nodes}
-use Rattle.first_pass_grammar.specs.Containers.{at_rest, after, front}
+use Rattle.first_pass_grammar.specs.Containers.{Context, context, at_rest, after, front}
 use Rattle.first_pass_grammar.specs.Kinds.{Kind, Blank, IndentedCode, Metadata, HtmlToEnd, HtmlToBlank, ThematicBreak, AtxHeading, FencedCode, LinkDefinitions, Paragraph, unindented, is_blank_rest, quote_inside, item_at, first_kind, IsKindBy, IsKind, ends_tag}
-use Rattle.first_pass_grammar.specs.Leaves.{Document, document, add_break, IsParagraph, IsHeading, heading_text_at, heading_block, paragraph_block, marker_items}
+use Rattle.first_pass_grammar.specs.Leaves.{Document, document, around, add_break, IsParagraph, IsHeading, heading_text_at, heading_block, paragraph_block, marker_items}
 use Rattle.first_pass_grammar.specs.CodeBlocks.{code_lines, without_blanks, last_end, IsIndentedCode, metadata_lines, metadata_kind, IsMetadata, fenced_lines, info_string, IsFencedCode}
 use Rattle.first_pass_grammar.specs.HtmlBlocks.{until_end, until_blank, first_owing, IsHtml}
 use Rattle.first_pass_grammar.specs.Extents.{Extent}
@@ -134,27 +134,27 @@ head_of line line' left left' e = cc
 tail_of : (line line' : Place) (left left' : List Place) → line ∷ left ≡ line' ∷ left' → left ≡ left'
 tail_of line line' left left' e = cc
 
-ends_not : (path : List Container) (a b : List Place) → ends_run path a ≡ true → a ≡ b → ends_run path b ≡ false → ⊥
-ends_not path a b stops is on = true≢false (sym stops ∙ ap (ends_run path) is ∙ on)
+ends_not : (around : Context) (a b : List Place) → ends_run around a ≡ true → a ≡ b → ends_run around b ≡ false → ⊥
+ends_not around a b stops is on = true≢false (sym stops ∙ ap (ends_run around) is ∙ on)
 
-one_run : (path : List Container) (p : Place) (lines : List Place) (xs ys : List LinkEntry) (b c : Beyond) → IsRun path p lines xs b → IsRun path p lines ys c → (xs ≡ ys) × (b ≡ c)
+one_run : (around : Context) (p : Place) (lines : List Place) (xs ys : List LinkEntry) (b c : Beyond) → IsRun around p lines xs b → IsRun around p lines ys c → (xs ≡ ys) × (b ≡ c)
 unfolding IsRun
-one_run path p lines [] [] b c (h, e) (k, f) = (refl, e ∙ sym f)
-one_run path p lines [] (y ∷ ys) b c (h, e) (k, f) = absurd (none-some y (sym h ∙ k))
-one_run path p lines (x ∷ xs) [] b c (h, e) (k, f) = absurd (none-some x (sym k ∙ h))
-one_run path p lines (x ∷ xs) (y ∷ ys) b c (h, inl (stops, m, e)) (k, inl (stops', m', f)) =
+one_run around p lines [] [] b c (h, e) (k, f) = (refl, e ∙ sym f)
+one_run around p lines [] (y ∷ ys) b c (h, e) (k, f) = absurd (none-some y (sym h ∙ k))
+one_run around p lines (x ∷ xs) [] b c (h, e) (k, f) = absurd (none-some x (sym k ∙ h))
+one_run around p lines (x ∷ xs) (y ∷ ys) b c (h, inl (stops, m, e)) (k, inl (stops', m', f)) =
     let s : x ≡ y = same_Some x y (sym h ∙ k) in
     (ap (λ z. z ∷ xs) s ∙ ap (λ z. y ∷ z) (m ∙ sym m'), e ∙ ap (λ (z : LinkEntry). Ended p (lines_beyond z.«end» lines)) s ∙ sym f)
-one_run path p lines (x ∷ xs) (y ∷ ys) b c (h, inl (stops, m, e)) (k, inr (line, left, is, on, more)) =
-    let s : x ≡ y = same_Some x y (sym h ∙ k) in absurd (ends_not path _ _ stops (ap (λ (z : LinkEntry). lines_beyond z.«end» lines) s ∙ is) on)
-one_run path p lines (x ∷ xs) (y ∷ ys) b c (h, inr (line, left, is, on, more)) (k, inl (stops, m, e)) =
-    let s : y ≡ x = same_Some y x (sym k ∙ h) in absurd (ends_not path _ _ stops (ap (λ (z : LinkEntry). lines_beyond z.«end» lines) s ∙ is) on)
-one_run path p lines (x ∷ xs) (y ∷ ys) b c (h, inr (line, left, is, on, more)) (k, inr (line', left', is', on', more')) =
+one_run around p lines (x ∷ xs) (y ∷ ys) b c (h, inl (stops, m, e)) (k, inr (line, left, is, on, more)) =
+    let s : x ≡ y = same_Some x y (sym h ∙ k) in absurd (ends_not around _ _ stops (ap (λ (z : LinkEntry). lines_beyond z.«end» lines) s ∙ is) on)
+one_run around p lines (x ∷ xs) (y ∷ ys) b c (h, inr (line, left, is, on, more)) (k, inl (stops, m, e)) =
+    let s : y ≡ x = same_Some y x (sym k ∙ h) in absurd (ends_not around _ _ stops (ap (λ (z : LinkEntry). lines_beyond z.«end» lines) s ∙ is) on)
+one_run around p lines (x ∷ xs) (y ∷ ys) b c (h, inr (line, left, is, on, more)) (k, inr (line', left', is', on', more')) =
     let s : x ≡ y = same_Some x y (sym h ∙ k) in
     let both : line' ∷ left' ≡ line ∷ left = sym is' ∙ ap (λ (z : LinkEntry). lines_beyond z.«end» lines) (sym s) ∙ is in
-    let r = one_run path (unindented (at_rest line (front path line.rest))) left xs ys b c more
-    (subst (λ (z : Place). IsRun path (unindented (at_rest z (front path z.rest))) left ys c) (head_of line' line left' left both)
-    (subst (λ z. IsRun path (unindented (at_rest line' (front path line'.rest))) z ys c) (tail_of line' line left' left both) more')) in
+    let r = one_run around (unindented (at_rest line (front around.path line.rest))) left xs ys b c more
+    (subst (λ (z : Place). IsRun around (unindented (at_rest z (front around.path z.rest))) left ys c) (head_of line' line left' left both)
+    (subst (λ z. IsRun around (unindented (at_rest line' (front around.path line'.rest))) z ys c) (tail_of line' line left' left both) more')) in
     (ap (λ z. z ∷ xs) s ∙ ap (λ z. y ∷ z) r.0, r.1)
 
 -- what stands behind a run reads alike
@@ -171,7 +171,7 @@ one_beyond d n path xs (FlowsOn p lines) o o' (c, l, h, f) (c', l', h', f') =
 one_run_opening : (d : Document) (n : Names) (path : List Container) (p : Place) (lines : List Place) (o o' : Opening) → OpensRun d path p lines o → OpensRun (with_names d n) path p lines o' → AlikeOpening d.names n o o'
 unfolding OpensRun
 one_run_opening d n path p lines o o' (xs, b, run, e) (ys, c, run', f) =
-    let s = one_run path (unindented p) lines xs ys b c run run' in
+    let s = one_run (around d path) (unindented p) lines xs ys b c run run' in
     one_beyond d n path xs b o o' e
     (subst (λ z. OpensBeyond (with_names d n) path z b o') (sym s.0) (subst (λ z. OpensBeyond (with_names d n) path ys z o') (sym s.1) f))
 
@@ -215,7 +215,7 @@ opens_once d n path p lines Paragraph o o' e f = one_paragraph_opening d n path 
 
 opens_block : (d : Document) (n : Names) (path : List Container) (p : Place) (lines : List Place) (o o' : Opening) → OpensBlockAt d path p lines o → OpensBlockAt (with_names d n) path p lines o' → AlikeOpening d.names n o o'
 opens_block d n path p lines o o' (k, is, e) (k', is', f) =
-    opens_once d n path p lines (kind_in path p k) o o' e (subst (λ z. OpensAs (with_names d n) path p lines (kind_in path p z) o') (one_kind d.options p.rest k' k is' is) f)
+    opens_once d n path p lines (kind_in (around d path) p k) o o' e (subst (λ z. OpensAs (with_names d n) path p lines (kind_in (around d path) p z) o') (one_kind d.options p.rest k' k is' is) f)
 
 -- a container that opens, in which blocks go on where no item with an index stands
 abbrev OpensFree : Opening → Type 0
@@ -258,17 +258,17 @@ first_free : (t : Bool) (x y : From × List Place) → HoldsNoIndex x.0 → Hold
 first_free true x y h k = h
 first_free false x y h k = k
 
-tag_free : (path : List Container) (lines : List Place) → HoldsNoIndex (behind_tag path lines).0
-tag_free path [] = tt
-tag_free path (line ∷ lines) = first_free (ends_tag path line.rest) (Line, line ∷ lines) (At (unindented (at_rest line (front path line.rest))) ALeafAlone, lines) tt tt
+tag_free : (c : Context) (lines : List Place) → HoldsNoIndex (behind_tag c lines).0
+tag_free c [] = tt
+tag_free c (line ∷ lines) = first_free (ends_tag c line.rest) (Line, line ∷ lines) (At (unindented (at_rest line (front c.path line.rest))) ALeafAlone, lines) tt tt
 
-quote_free : (path : List Container) (p inside : Place) (lines : List Place) (kind : Option BlockQuoteKind) → OpensFree (quote_opening path p inside lines kind)
-quote_free path p inside lines None = tt
-quote_free path p inside lines (Some kind) = tag_free (BlockQuote (Some kind) ∷ path) lines
+quote_free : (c : Context) (p inside : Place) (lines : List Place) (kind : Option BlockQuoteKind) → OpensFree (quote_opening c p inside lines kind)
+quote_free c p inside lines None = tt
+quote_free c p inside lines (Some kind) = tag_free (context c.options (BlockQuote (Some kind) ∷ c.path)) lines
 
 opens_quote : (d : Document) (n : Names) (path : List Container) (p : Place) (lines : List Place) (q : Option Place) (o o' : Opening)
     → OpensQuote d path p lines q o → OpensQuote (with_names d n) path p lines q o' → AlikeOpening d.names n o o'
-opens_quote d n path p lines (Some inside) o o' e f = alike_by d.names n o o' _ _ e f (node_alike d.names n _ (quote_free path p inside lines (tag_behind d.options inside.rest)))
+opens_quote d n path p lines (Some inside) o o' e f = alike_by d.names n o o' _ _ e f (node_alike d.names n _ (quote_free (around d path) p inside lines (tag_behind d.options inside.rest)))
 opens_quote d n path p lines None o o' e f = opens_block d n path p lines o o' e f
 
 opens_from : (d : Document) (n : Names) (path : List Container) (p : Place) (lines : List Place) (i : Option ((ℕ × ℕ × ℕ) × Rest)) (o o' : Opening)

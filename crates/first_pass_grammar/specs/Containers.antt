@@ -1,11 +1,20 @@
 -- Which lines go on with the containers that are open (CommonMark 5).
 use Rattle.std.specs.Prelude.{ℕ, nat_le, Bool, false, ◌||◌, Option, Some, None, List, [], ◌∷◌, is_some, if◌then◌else◌}
 use Rattle.std.specs.Option.{option_map, option_and_then}
+use Rattle.first_pass_items.specs.declared.option_set.Options.{Options}
 use Rattle.first_pass_lines.specs.Lines.{at_line_end}
 use Rattle.first_pass_lines.specs.Rest.{Rest, indent, after_columns, past_quote}
 use Rattle.first_pass_lines.specs.Places.{Place}
 use Rattle.first_pass_grammar.specs.declared.kind.Container.{Container}
 use Rattle.first_pass_grammar.specs.declared.kind.Container.TheVariants.{BlockQuote, ListItem}
+
+-- what a line is read in: the options, and the path of containers that are open, the innermost first
+pub record Context : Type 0 where
+  pub options : Options
+  pub path : List Container
+
+abbrev pub context : Options → List Container → Context
+context options path = record { options = options; path = path }
 
 -- a place in the same line, of which this is left
 abbrev pub at_rest : Place → Rest → Place

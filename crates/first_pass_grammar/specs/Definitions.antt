@@ -9,8 +9,7 @@ use Rattle.first_pass_lines.specs.Places.{line_rest}
 use Rattle.first_pass_scan.specs.LeafLines.{setext_underline}
 use Rattle.first_pass_links.specs.Destinations.{unescaped_upto, destination_at}
 use Rattle.first_pass_links.specs.Labels.{joined, bytes_of, offsets_of, label_at}
-use Rattle.first_pass_grammar.specs.declared.kind.Container.{Container}
-use Rattle.first_pass_grammar.specs.Containers.{after, front}
+use Rattle.first_pass_grammar.specs.Containers.{Context, after, front}
 use Rattle.first_pass_grammar.specs.Kinds.{all_taken, is_blank_rest, ends_paragraph}
 
 -- the underline of a setext heading begins here, at under four columns (CommonMark 4.3)
@@ -20,25 +19,27 @@ is_underline r = nat_lt (indent r) 4 && is_some (setext_underline (all_taken r).
 -- Where a definition that began before goes on in the line of which this is left: behind the prefixes of the containers that the line goes on with, and four
 -- columns or fewer. It doesn't in a line that would end a paragraph, or that is an underline; to a label a line is one only where it goes on with the whole
 -- path (CommonMark 4.7, and 4.3, 4.8 for what a definition can't hold).
-unfoldable pub crossed : Bool → List Container → Rest → Option Rest
-crossed in_label path line =
-    if ends_paragraph path line || (is_underline (front path line) && (not in_label || is_some (after path line))) then None else Some (after_columns 4 (front path line))
+unfoldable pub crossed : Bool → Context → Rest → Option Rest
+crossed in_label around line =
+    if ends_paragraph around line || (is_underline (front around.path line) && (not in_label || is_some (after around.path line)))
+    then None
+    else Some (after_columns 4 (front around.path line))
 
 -- how many bytes the line has before the place where a definition goes on in it, where it does; the line begins with these bytes
-abbrev pub prefix_crossed : Bool → List Container → List ℕ → Option ℕ
-prefix_crossed in_label path bs = option_map (λ (r : Rest). r.taken) (crossed in_label path (line_rest bs))
+abbrev pub prefix_crossed : Bool → Context → List ℕ → Option ℕ
+prefix_crossed in_label around bs = option_map (λ (r : Rest). r.taken) (crossed in_label around (line_rest bs))
 
 -- White space with at most one line end: how many bytes it has, what stands before the place where the next line goes on too, and how many line ends. There is
 -- none where a second line end follows, or where no line follows in which the definition goes on (CommonMark 4.7).
 abbrev pub space_beyond : ℕ → List ℕ → ℕ → Option (ℕ × ℕ)
 space_beyond n bs k = let m = k + prefix_len is_white (drop k bs) in if at_line_end (drop m bs) then None else Some (n + m, 1)
 
-abbrev pub space_behind : List Container → List ℕ → ℕ → Option ℕ → Option (ℕ × ℕ)
-space_behind path bs n None = Some (n, 0)
-space_behind path bs n (Some e) = option_and_then (space_beyond (n + e) (drop (n + e) bs)) (prefix_crossed false path (drop (n + e) bs))
+abbrev pub space_behind : Context → List ℕ → ℕ → Option ℕ → Option (ℕ × ℕ)
+space_behind around bs n None = Some (n, 0)
+space_behind around bs n (Some e) = option_and_then (space_beyond (n + e) (drop (n + e) bs)) (prefix_crossed false around (drop (n + e) bs))
 
-unfoldable pub space_at : List Container → List ℕ → Option (ℕ × ℕ)
-space_at path bs = let n = prefix_len is_white bs in space_behind path bs n (eol_len (drop n bs))
+unfoldable pub space_at : Context → List ℕ → Option (ℕ × ℕ)
+space_at around bs = let n = prefix_len is_white bs in space_behind around bs n (eol_len (drop n bs))
 
 -- what ends a title that this byte begins: `'`, `"`, or for `(` its `)` (CommonMark 6.3, link title)
 abbrev pub title_end : ℕ → Option ℕ
@@ -52,8 +53,8 @@ ends_title close b = b == close || (close == right_parenthesis && b == left_pare
 abbrev pub text_crossed : Rest → Option ℕ
 text_crossed r = if is_blank_rest (all_taken r) then None else Some (all_taken r).taken
 
-abbrev pub title_prefix : List Container → List ℕ → Option ℕ
-title_prefix path bs = option_and_then text_crossed (crossed false path (line_rest bs))
+abbrev pub title_prefix : Context → List ℕ → Option ℕ
+title_prefix around bs = option_and_then text_crossed (crossed false around (line_rest bs))
 
 -- bytes behind their offsets, with a line feed for each line end (this project)
 unfoldable pub with_line_feeds : List (ℕ × ℕ) → List (ℕ × ℕ)
@@ -72,24 +73,24 @@ title_text prefix close bs =
     if begins close (drop n (bytes_of whole)) then Some (slice_index (offsets_of whole) n + 1, take n (bytes_of whole)) else None
 
 -- the title that begins here: how many bytes it has, and its text (CommonMark 4.7, 6.3)
-unfoldable pub title_at : List Container → List ℕ → Option (ℕ × List ℕ)
-title_at path [] = None
-title_at path (b ∷ bs) = option_and_then (λ close. option_map (λ (t : ℕ × List ℕ). (t.0 + 1, t.1)) (title_text (title_prefix path) close bs)) (title_end b)
+unfoldable pub title_at : Context → List ℕ → Option (ℕ × List ℕ)
+title_at around [] = None
+title_at around (b ∷ bs) = option_and_then (λ close. option_map (λ (t : ℕ × List ℕ). (t.0 + 1, t.1)) (title_text (title_prefix around) close bs)) (title_end b)
 
 -- The title behind a destination: white space parts them, and behind the title the rest of its line is blank (CommonMark 4.7).
 abbrev pub alone_behind : ℕ → List ℕ → ℕ × List ℕ → Option (ℕ × List ℕ)
 alone_behind n bs t = if is_some (blank_len (drop (n + t.0) bs)) then Some (n + t.0, t.1) else None
 
-abbrev pub title_beyond : List Container → List ℕ → ℕ × ℕ → Option (ℕ × List ℕ)
-title_beyond path bs space = if space.0 == 0 then None else option_and_then (alone_behind space.0 bs) (title_at path (drop space.0 bs))
+abbrev pub title_beyond : Context → List ℕ → ℕ × ℕ → Option (ℕ × List ℕ)
+title_beyond around bs space = if space.0 == 0 then None else option_and_then (alone_behind space.0 bs) (title_at around (drop space.0 bs))
 
-abbrev pub title_behind : List Container → List ℕ → Option (ℕ × List ℕ)
-title_behind path bs = option_and_then (title_beyond path bs) (space_at path bs)
+abbrev pub title_behind : Context → List ℕ → Option (ℕ × List ℕ)
+title_behind around bs = option_and_then (title_beyond around bs) (space_at around bs)
 
 -- What ends a definition behind its destination: a title, or nothing where the rest of the destination's line is blank (CommonMark 4.7).
-unfoldable pub behind_destination : List Container → List ℕ → Option (ℕ × Option (List ℕ))
-behind_destination path bs =
-    option_map_or (λ (t : ℕ × List ℕ). Some (t.0, Some t.1)) (title_behind path bs) (if is_some (blank_len bs) then Some (0, None) else None)
+unfoldable pub behind_destination : Context → List ℕ → Option (ℕ × Option (List ℕ))
+behind_destination around bs =
+    option_map_or (λ (t : ℕ × List ℕ). Some (t.0, Some t.1)) (title_behind around bs) (if is_some (blank_len bs) then Some (0, None) else None)
 
 -- how deep parentheses may be nested in a destination (CommonMark 6.3 asks for three levels at least)
 abbrev pub deepest_nesting : ℕ
@@ -104,14 +105,14 @@ pub record Target : Type 0 where
 abbrev pub target_of : ℕ → ℕ × List ℕ → ℕ × Option (List ℕ) → ℕ × Target
 target_of n dest further = (n + dest.0 + further.0, record { dest = dest.1; title = further.1 })
 
-abbrev pub target_from : List Container → ℕ → List ℕ → ℕ × List ℕ → Option (ℕ × Target)
-target_from path n bs dest = option_map (target_of n dest) (behind_destination path (drop dest.0 bs))
+abbrev pub target_from : Context → ℕ → List ℕ → ℕ × List ℕ → Option (ℕ × Target)
+target_from around n bs dest = option_map (target_of n dest) (behind_destination around (drop dest.0 bs))
 
-abbrev pub target_beyond : List Container → List ℕ → ℕ × ℕ → Option (ℕ × Target)
-target_beyond path bs space = option_and_then (target_from path space.0 (drop space.0 bs)) (destination_at deepest_nesting (drop space.0 bs))
+abbrev pub target_beyond : Context → List ℕ → ℕ × ℕ → Option (ℕ × Target)
+target_beyond around bs space = option_and_then (target_from around space.0 (drop space.0 bs)) (destination_at deepest_nesting (drop space.0 bs))
 
-unfoldable pub target_at : List Container → List ℕ → Option (ℕ × Target)
-target_at path bs = option_and_then (target_beyond path bs) (space_at path bs)
+unfoldable pub target_at : Context → List ℕ → Option (ℕ × Target)
+target_at around bs = option_and_then (target_beyond around bs) (space_at around bs)
 
 -- a link reference definition: how many bytes it has, its label as it is read, and its target (CommonMark 4.7)
 pub record LinkReference : Type 0 where
@@ -123,16 +124,16 @@ abbrev pub reference_of : ℕ → List ℕ → ℕ × Target → LinkReference
 reference_of n label target = record { size = n + target.0; label = label; target = target.1 }
 
 -- The definition of which the label behind the `[` is read: a colon is directly behind the label.
-abbrev pub reference_behind : List Container → List ℕ → ℕ × List ℕ → Option LinkReference
-reference_behind path bs label =
+abbrev pub reference_behind : Context → List ℕ → ℕ × List ℕ → Option LinkReference
+reference_behind around bs label =
     if begins colon (drop label.0 bs)
-    then option_map (reference_of (label.0 + 2) label.1) (target_at path (drop (label.0 + 1) bs))
+    then option_map (reference_of (label.0 + 2) label.1) (target_at around (drop (label.0 + 1) bs))
     else None
 
 -- The definition that begins here: a label in square brackets, a colon, and a target (CommonMark 4.7); in a table, backslashes before pipes are no part of
 -- its label (GFM 4.10).
-unfoldable pub reference_at : Bool → List Container → List ℕ → Option LinkReference
-reference_at in_table path bs =
+unfoldable pub reference_at : Bool → Context → List ℕ → Option LinkReference
+reference_at in_table around bs =
     if begins left_bracket bs
-    then option_and_then (reference_behind path (drop 1 bs)) (label_at (prefix_crossed true path) in_table (drop 1 bs))
+    then option_and_then (reference_behind around (drop 1 bs)) (label_at (prefix_crossed true around) in_table (drop 1 bs))
     else None

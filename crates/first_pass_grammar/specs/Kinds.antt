@@ -14,7 +14,8 @@ use Rattle.first_pass_lines.specs.Places.{Place, offset, moved_columns}
 use Rattle.first_pass_scan.specs.Markers.{is_bullet, listitem, item_of}
 use Rattle.first_pass_grammar.specs.declared.kind.Container.{Container}
 use Rattle.first_pass_grammar.specs.declared.kind.Container.TheVariants.{BlockQuote}
-use Rattle.first_pass_grammar.specs.Containers.{at_rest, prefix, after, front}
+use Rattle.first_pass_grammar.specs.Containers.{Context, at_rest, prefix, after, front}
+use Rattle.first_pass_grammar.specs.TableHeads.{table_interrupts}
 
 -- what begins at a place of a line where no container begins
 pub data Kind : Type 0 where
@@ -132,15 +133,19 @@ interrupts_with whole bs =
     || begins greater_than bs || item_interrupts whole bs (listitem bs)
     || begins_html_to_end bs || begins_html_to_blank bs
 
+-- the same, or a table (GFM 4.10)
+abbrev pub interrupts_in : Context → Bool → List ℕ → Bool
+interrupts_in around whole bs = interrupts_with whole bs || table_interrupts around bs
+
 -- A line ends a paragraph before it where its text interrupts the paragraph; at four columns or more only where nothing but spaces and tabs is left.
-unfoldable pub interrupts : Bool → Rest → Bool
-interrupts whole r = if nat_lt (indent r) 4 then interrupts_with whole (all_taken r).left else at_line_end (all_taken r).left
+unfoldable pub interrupts : Context → Bool → Rest → Bool
+interrupts around whole r = if nat_lt (indent r) 4 then interrupts_in around whole (all_taken r).left else at_line_end (all_taken r).left
 
 -- the line of which this is left ends a paragraph in the containers of a path (CommonMark 4.8, and 5.1 on lazy continuation lines)
-abbrev pub ends_paragraph : List Container → Rest → Bool
-ends_paragraph path r = interrupts (is_some (after path r)) (front path r)
+abbrev pub ends_paragraph : Context → Rest → Bool
+ends_paragraph around r = interrupts around (is_some (after around.path r)) (front around.path r)
 
 -- Behind the tag of a block quote, the line of which this is left is read as any other where, at under four columns, it would end a paragraph. Else it
 -- belongs to the quote, whatever containers of the path it goes on with (this project).
-abbrev pub ends_tag : List Container → Rest → Bool
-ends_tag path r = nat_lt (indent (front path r)) 4 && ends_paragraph path r
+abbrev pub ends_tag : Context → Rest → Bool
+ends_tag around r = nat_lt (indent (front around.path r)) 4 && ends_paragraph around r

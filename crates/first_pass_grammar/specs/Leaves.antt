@@ -16,7 +16,7 @@ use Rattle.first_pass_tokens.specs.TreeTokens.{leaves}
 use Rattle.first_pass_tokens.specs.Chains.{add_tokens, close_break, cut}
 use Rattle.first_pass_grammar.specs.declared.kind.Container.{Container}
 use Rattle.first_pass_grammar.specs.Names.{Names}
-use Rattle.first_pass_grammar.specs.Containers.{at_rest, front}
+use Rattle.first_pass_grammar.specs.Containers.{Context, context, at_rest, front}
 use Rattle.first_pass_grammar.specs.Kinds.{unindented, ends_paragraph}
 
 -- a text, the options under which it is read, and what the indices of the tree's items name
@@ -31,6 +31,10 @@ document text options names = record { text = text; options = options; names = n
 -- the content that begins at an offset
 abbrev pub content_at : Document → ℕ → Source
 content_at d start = record { options = d.options; text = d.text; start = start }
+
+-- what the text is read in, inside the containers of a path
+abbrev pub around : Document → List Container → Context
+around d path = context d.options path
 
 -- a block: its item, and a chain of tokens as its children
 abbrev pub block_with : ℕ → ℕ → ItemBody → List Item → List (ℕ × Item)
@@ -50,8 +54,8 @@ IsParagraph d path start chain [] whole left =
     × (whole ≡ close_break answer.1 (add_tokens chain tokens)) × (left ≡ [])
 IsParagraph d path start chain (line ∷ lines) whole left =
     (tokens : List Item) × (answer : ℕ × Option Item) × IsLine (content_at d start) tokens answer
-    × (((ends_paragraph path line.rest ≡ true) × (whole ≡ close_break answer.1 (add_tokens chain tokens)) × (left ≡ line ∷ lines))
-    ⊎ ((ends_paragraph path line.rest ≡ false)
+    × (((ends_paragraph (around d path) line.rest ≡ true) × (whole ≡ close_break answer.1 (add_tokens chain tokens)) × (left ≡ line ∷ lines))
+    ⊎ ((ends_paragraph (around d path) line.rest ≡ false)
     × IsParagraph d path (offset (unindented (at_rest line (front path line.rest)))) (add_break answer.1 (add_tokens chain tokens)) lines whole left))
 
 -- spaces and line ends

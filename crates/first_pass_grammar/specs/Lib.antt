@@ -15,3 +15,4 @@ pub mod Order
 pub mod RawLines
 pub mod Rows
 pub mod Skeleton
+pub mod TableHeads

@@ -11,7 +11,7 @@ use Rattle.first_pass_lines.specs.Rest.{Rest, indent}
 use Rattle.first_pass_lines.specs.Places.{Place, place_at, offset, start_of, moved_columns}
 use Rattle.first_pass_grammar.specs.declared.kind.Container.{Container}
 use Rattle.first_pass_grammar.specs.declared.kind.Container.TheVariants.{BlockQuote, ListItem}
-use Rattle.first_pass_grammar.specs.Containers.{at_rest, after, front, taken, next_goes_on}
+use Rattle.first_pass_grammar.specs.Containers.{Context, context, at_rest, after, front, taken, next_goes_on}
 use Rattle.first_pass_grammar.specs.Kinds.{Kind, Blank, IndentedCode, Metadata, HtmlToEnd, HtmlToBlank, ThematicBreak, AtxHeading, FencedCode, LinkDefinitions, Paragraph, all_taken, unindented, is_blank_rest, quote_inside, quote_start, item_at, IsKind, ends_tag}
 use Rattle.std.specs.Option.{option_map}
 use Rattle.first_pass_html.specs.Starts.{html_end}
@@ -20,7 +20,7 @@ use Rattle.first_pass_grammar.specs.Extents.{Extent}
 use Rattle.first_pass_grammar.specs.LinkTables.{LinkEntry}
 use Rattle.first_pass_grammar.specs.LinkRuns.{kind_in, Beyond, Ended, FlowsOn, IsRun}
 use Rattle.first_pass_grammar.specs.HtmlBlocks.{until_end, until_blank, IsHtml}
-use Rattle.first_pass_grammar.specs.Leaves.{Document, IsParagraph, IsHeading, heading_text_at, rule_block, heading_block, paragraph_block, marker_items}
+use Rattle.first_pass_grammar.specs.Leaves.{Document, around, IsParagraph, IsHeading, heading_text_at, rule_block, heading_block, paragraph_block, marker_items}
 
 -- A block with no blocks in it (CommonMark 4): what begins at its place, where its line starts and its first byte that is no space or tab stands, its
 -- items with their depths below it, whether blank lines that count are at the end of what it takes, and the link definitions that it has.
@@ -117,7 +117,7 @@ OpensBeyond d path definitions (FlowsOn p lines) opening =
 
 unfoldable pub OpensRun : Document → List Container → Place → List Place → Opening → Type 0
 OpensRun d path p lines opening =
-    (definitions : List LinkEntry) × (beyond : Beyond) × IsRun path (unindented p) lines definitions beyond × OpensBeyond d path definitions beyond opening
+    (definitions : List LinkEntry) × (beyond : Beyond) × IsRun (around d path) (unindented p) lines definitions beyond × OpensBeyond d path definitions beyond opening
 
 -- What a kind opens at a place that has these lines behind it, inside the containers of the path. The blank lines at the end of indented code count
 -- (CommonMark 4.4, and this project).
@@ -145,7 +145,7 @@ OpensAs d path p lines Paragraph opening = OpensParagraph d path p lines None op
 
 -- What a leaf opens at a place: what its kind says there.
 abbrev pub OpensBlockAt : Document → List Container → Place → List Place → Opening → Type 0
-OpensBlockAt d path p lines opening = (kind : Kind) × IsKind d.options p.rest kind × OpensAs d path p lines (kind_in path p kind) opening
+OpensBlockAt d path p lines opening = (kind : Kind) × IsKind d.options p.rest kind × OpensAs d path p lines (kind_in (around d path) p kind) opening
 
 -- the next line goes on with the path, and is blank behind what the path takes of it
 abbrev pub is_blank_behind : Option Rest → Bool
@@ -199,19 +199,19 @@ tag_behind options r = option_map (λ tag. tag.0) (if has options gfm then past_
 
 -- Where blocks go on behind the line of a block quote's tag, of which this is the path, and the lines then: the next line is read as any other, or
 -- belongs to the quote, and a leaf begins behind its columns (this project).
-abbrev pub behind_tag : List Container → List Place → From × List Place
-behind_tag path [] = (Line, [])
-behind_tag path (line ∷ lines) = if ends_tag path line.rest then (Line, line ∷ lines) else (At (unindented (at_rest line (front path line.rest))) ALeafAlone, lines)
+abbrev pub behind_tag : Context → List Place → From × List Place
+behind_tag c [] = (Line, [])
+behind_tag c (line ∷ lines) = if ends_tag c line.rest then (Line, line ∷ lines) else (At (unindented (at_rest line (front c.path line.rest))) ALeafAlone, lines)
 
 -- The block quote inside which a place is, behind its marker and with a tag there or none.
-abbrev pub quote_opening : List Container → Place → Place → List Place → Option BlockQuoteKind → Opening
-quote_opening path p inside lines None = OpensNode (quote_head p None) (Inside inside) lines
-quote_opening path p inside lines (Some kind) =
-    OpensNode (quote_head p (Some kind)) (behind_tag (BlockQuote (Some kind) ∷ path) lines).0 (behind_tag (BlockQuote (Some kind) ∷ path) lines).1
+abbrev pub quote_opening : Context → Place → Place → List Place → Option BlockQuoteKind → Opening
+quote_opening c p inside lines None = OpensNode (quote_head p None) (Inside inside) lines
+quote_opening c p inside lines (Some kind) =
+    let from : From × List Place = behind_tag (context c.options (BlockQuote (Some kind) ∷ c.path)) lines in OpensNode (quote_head p (Some kind)) from.0 from.1
 
 -- What begins at a place: a list item where one does, else a block quote where one does, else what the kind of the place says.
 abbrev pub OpensQuote : Document → List Container → Place → List Place → Option Place → Opening → Type 0
-OpensQuote d path p lines (Some inside) opening = opening ≡ quote_opening path p inside lines (tag_behind d.options inside.rest)
+OpensQuote d path p lines (Some inside) opening = opening ≡ quote_opening (around d path) p inside lines (tag_behind d.options inside.rest)
 OpensQuote d path p lines None opening = OpensBlockAt d path p lines opening
 
 unfoldable pub OpensFrom : Document → List Container → Place → List Place → Option ((ℕ × ℕ × ℕ) × Rest) → Opening → Type 0

@@ -9,7 +9,8 @@ use Rattle.first_pass_tree.specs.Forest.{Forest, body_at}
 use Rattle.first_pass_lines.specs.Rest.{Rest}
 use Rattle.first_pass_grammar.specs.declared.kind.Container.{Container}
 use Rattle.first_pass_grammar.specs.declared.kind.Container.TheVariants.{BlockQuote, ListItem}
-use Rattle.first_pass_grammar.specs.Containers.{prefix}
+use Rattle.first_pass_items.specs.declared.option_set.Options.{Options}
+use Rattle.first_pass_grammar.specs.Containers.{Context, context, prefix}
 
 -- the container that a node is, if it is one
 abbrev pub container_of : ItemBody → Option Container
@@ -36,6 +37,10 @@ path_in ns (ix ∷ spine) = with_container (container_at ns ix) (path_in ns spin
 
 abbrev pub path_of : Forest Item → List Container
 path_of f = path_in f.nodes f.spine
+
+-- what a line is read in, under these options, where these are open
+abbrev pub context_of : Options → Forest Item → Context
+context_of options f = context options (path_of f)
 
 -- the outermost m open nodes
 abbrev pub outer : ℕ → List TreeIndex → List TreeIndex

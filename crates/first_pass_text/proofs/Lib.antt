@@ -4,3 +4,4 @@ pub mod OrderHeading
 pub mod OrderParagraph
 pub mod ParagraphLemmas
 pub mod PlainKinds
+pub mod TableLemmas

@@ -16,9 +16,9 @@ use Rattle.first_pass_tokens.specs.LineTokens.{IsLine, EndsLine, IsBreak}
 use Rattle.first_pass_tokens.specs.Chains.{add_tokens, close_break, is_backslash_break}
 use Rattle.first_pass_tokens.specs.TreeTokens.{chained, with_tokens, JoinsNone, AppendsLine}
 use Rattle.first_pass_tokens.proofs.ChainLemmas.{with_tokens-chained, with_text-chained, appended-chained}
-use Rattle.first_pass_grammar.specs.Containers.{after, front}
+use Rattle.first_pass_grammar.specs.Containers.{Context, context, after, front}
 use Rattle.first_pass_grammar.specs.Kinds.{unindented, interrupts, ends_paragraph}
-use Rattle.first_pass_grammar.specs.Leaves.{Document, document, content_at, add_break, IsParagraph}
+use Rattle.first_pass_grammar.specs.Leaves.{Document, document, around, content_at, add_break, IsParagraph}
 use Rattle.first_pass_grammar.specs.Completion.{lines_from}
 use Rattle.first_pass_text.specs.Appends.{line_end_at, with_closed_break, AppendsParagraph}
 use Rattle.first_pass_open.specs.OpenBlock.{with_child}
@@ -28,9 +28,9 @@ use Rattle.first_pass_open.proofs.PathLemmas.{AreIn, front-end, path_in-append, 
 use Rattle.first_pass_open.proofs.PlaceLemmas.{text_place}
 
 -- At the end of the text a paragraph ends.
-interrupts-end : (whole : Bool) → interrupts whole (line_rest []) ≡ true
+interrupts-end : (around : Context) (whole : Bool) → interrupts around whole (line_rest []) ≡ true
 unfolding interrupts
-interrupts-end whole = refl
+interrupts-end around whole = refl
 
 pub ends_past : (text : List ℕ) (n : ℕ) → length text ≤ n → drop n text ≡ []
 ends_past [] zero h = refl
@@ -38,11 +38,13 @@ ends_past [] (suc n) h = refl
 ends_past (b ∷ bs) zero h = absurd (omega arith)
 ends_past (b ∷ bs) (suc n) h = ends_past bs n (omega arith)
 
-pub goes_within : (path : List Container) (text : List ℕ) (n : ℕ) → ends_paragraph path (line_rest (drop n text)) ≡ false → n < length text
-goes_within path text n h =
+pub goes_within : (around : Context) (text : List ℕ) (n : ℕ) → ends_paragraph around (line_rest (drop n text)) ≡ false → n < length text
+goes_within around text n h =
     elim (cases_lt n (length text)) [
       | inl more ↦ more
-      | inr past ↦ absurd (false≢true (sym h ∙ ap (λ bs. ends_paragraph path (line_rest bs)) (ends_past text n past) ∙ ap (interrupts (is_some (after path (line_rest [])))) (front-end path) ∙ interrupts-end (is_some (after path (line_rest [])))))
+      | inr past ↦ absurd (false≢true (sym h ∙ ap (λ bs. ends_paragraph around (line_rest bs)) (ends_past text n past)
+            ∙ ap (interrupts around (is_some (after around.path (line_rest [])))) (front-end around.path)
+            ∙ interrupts-end around (is_some (after around.path (line_rest [])))))
     ]
 
 -- The text of a line ends where the line ends.
@@ -55,12 +57,12 @@ line_end-text path text n u b =
 
 -- one more line of a paragraph
 paragraph_more : (path : List Container) (d : Document) (ix n : ℕ) (chain tokens whole : List Item) (line_break : Option Item) (left : List Place) → IsLine (content_at d ix) tokens (n, line_break) → n ≡ line_end_at d.text ix
-    → ends_paragraph path (line_rest (drop n d.text)) ≡ false → IsUtf8 d.text → IsCharBoundary d.text n
+    → ends_paragraph (around d path) (line_rest (drop n d.text)) ≡ false → IsUtf8 d.text → IsCharBoundary d.text n
     → (let at : ℕ = offset (unindented (place_at n (front path (line_rest (drop n d.text))))) in IsParagraph d path at (add_break line_break (add_tokens chain tokens)) (lines_from d.text (line_end_at d.text at)) whole left)
     → IsParagraph d path ix chain (lines_from d.text (line_end_at d.text ix)) whole left
 unfolding IsParagraph front
 paragraph_more path d ix n chain tokens whole line_break left line place goes u b more =
-    let within = goes_within path d.text n goes in
+    let within = goes_within (around d path) d.text n goes in
     let first : lines_from d.text n ≡ line_place n (drop n d.text) ∷ lines_from d.text (line_end_at d.text n) = lines_at-line d.text n within in
     let rest : IsParagraph d path (offset (unindented (place_at n (front path (line_rest (drop n d.text)))))) (add_break line_break (add_tokens chain tokens)) (lines_from d.text (line_end_at d.text n)) whole left =
     subst (λ e. IsParagraph d path (offset (unindented (place_at n (front path (line_rest (drop n d.text)))))) (add_break line_break (add_tokens chain tokens)) (lines_from d.text e) whole left) (line_end-text path d.text n u b) more in
@@ -69,7 +71,7 @@ paragraph_more path d ix n chain tokens whole line_break left line place goes u 
 
 -- the last line of a paragraph
 last_by : (path : List Container) (d : Document) (ix n : ℕ) (chain tokens : List Item) (line_break : Option Item) (lines : List Place) → IsLine (content_at d ix) tokens (n, line_break)
-    → (lines ≡ []) ⊎ ((more : List Place) × (lines ≡ line_place n (drop n d.text) ∷ more)) → ends_paragraph path (line_rest (drop n d.text)) ≡ true
+    → (lines ≡ []) ⊎ ((more : List Place) × (lines ≡ line_place n (drop n d.text) ∷ more)) → ends_paragraph (around d path) (line_rest (drop n d.text)) ≡ true
     → IsParagraph d path ix chain lines (close_break line_break (add_tokens chain tokens)) lines
 unfolding IsParagraph front
 last_by path d ix n chain tokens line_break lines line (inl none) ends =
@@ -83,7 +85,7 @@ last_by path d ix n chain tokens line_break lines line (inr (more, some)) ends =
     subst (λ ls. IsParagraph d path ix chain ls whole ls) (sym some) p
 
 paragraph_last : (path : List Container) (d : Document) (ix n : ℕ) (chain tokens : List Item) (line_break : Option Item) → IsLine (content_at d ix) tokens (n, line_break) → n ≡ line_end_at d.text ix
-    → ends_paragraph path (line_rest (drop n d.text)) ≡ true
+    → ends_paragraph (around d path) (line_rest (drop n d.text)) ≡ true
     → IsParagraph d path ix chain (lines_from d.text (line_end_at d.text ix)) (close_break line_break (add_tokens chain tokens)) (lines_from d.text n)
 paragraph_last path d ix n chain tokens line_break line place ends =
     let lines : (lines_from d.text n ≡ []) ⊎ ((more : List Place) × (lines_from d.text n ≡ line_place n (drop n d.text) ∷ more)) =
@@ -130,11 +132,11 @@ read_path d start ix old now read answer s apart line there =
 -- behind a line, where the paragraph goes on
 pub so_far_more : (path : List Container) (d : Document) (start ix n at : ℕ) (old now read new : Forest Item) (line_break : Option Item) → path ≡ path_of old → IsUtf8 d.text → ParagraphSoFar d start old now ix → JoinsNone old
     → AppendsLine (content_at d ix) now read (n, line_break) → EndsLine (content_at d ix) (n, line_break)
-    → ends_paragraph path (line_rest (drop n d.text)) ≡ false → at ≡ offset (unindented (place_at n (front path (line_rest (drop n d.text))))) → IsPlaceOf d.text (unindented (place_at n (front path (line_rest (drop n d.text)))))
+    → ends_paragraph (around d path) (line_rest (drop n d.text)) ≡ false → at ≡ offset (unindented (place_at n (front path (line_rest (drop n d.text))))) → IsPlaceOf d.text (unindented (place_at n (front path (line_rest (drop n d.text)))))
     → new ≡ with_child read line_break → (ParagraphSoFar d start old new at) × (ix < at)
 so_far_more path d start ix n at old now read new line_break path_is u s apart line ends goes at_is i new_is =
     let b = next_boundary d ix n line_break u s.boundary ends in
-    let within = goes_within path d.text n goes in
+    let within = goes_within (around d path) d.text n goes in
     let later : ix < length d.text → ix < n = ends.later in
     let from : ix ≤ n = ends.from in
     let chain : List Item = add_tokens s.chain line.tokens in
@@ -155,7 +157,7 @@ so_far_more path d start ix n at old now read new line_break path_is u s apart l
 -- behind the last line
 pub so_far_end : (path : List Container) (d : Document) (start ix n : ℕ) (old now read new : Forest Item) (line_break : Option Item) → path ≡ path_of old → ParagraphSoFar d start old now ix → JoinsNone old
     → AppendsLine (content_at d ix) now read (n, line_break) → EndsLine (content_at d ix) (n, line_break)
-    → ends_paragraph path (line_rest (drop n d.text)) ≡ true → IsCharBoundary d.text n
+    → ends_paragraph (around d path) (line_rest (drop n d.text)) ≡ true → IsCharBoundary d.text n
     → new ≡ with_closed_break read line_break → AppendsParagraph d start old new n
 so_far_end path d start ix n old now read new line_break path_is s apart line ends stops boundary new_is =
     let chain : List Item = add_tokens s.chain line.tokens in
@@ -201,24 +203,24 @@ same_end t u o w ix answer e f ends = subst (λ z. EndsLine (record { options = 
 pub so_far_next : (first text now_text : List ℕ) (o w : Options) (start ix n at : ℕ) (old now read new : Forest Item) (line_break : Option Item) (found : Option ℕ) (path : List Container)
     → text ≡ first → o ≡ w → now_text ≡ text → path ≡ path_of read → AreIn (length old.nodes) old.spine → IsUtf8 first → ParagraphSoFar (document first w no_names) start old now ix → JoinsNone old
     → AppendsLine (record { options = o; text = text; start = ix }) now read (n, line_break) → EndsLine (record { options = o; text = text; start = ix }) (n, line_break)
-    → found ≡ (if ends_paragraph path ((line_rest (drop n now_text))) then None else Some (offset (unindented (place_at n (front path (line_rest (drop n now_text))))))) → found ≡ Some at
+    → found ≡ (if ends_paragraph (context w path) ((line_rest (drop n now_text))) then None else Some (offset (unindented (place_at n (front path (line_rest (drop n now_text))))))) → found ≡ Some at
     → IsPlaceOf now_text (unindented (place_at n (front path (line_rest (drop n now_text))))) → new ≡ with_child read line_break
     → (ParagraphSoFar (document first w no_names) start old new at) × (ix < at)
 so_far_next first text now_text o w start ix n at old now read new line_break found path same same_options kept path_is there u s apart line ends value is place new_is =
     let e : now_text ≡ first = kept ∙ same in
-    let goes = goes_by _ _ _ _ (subst (λ t. found ≡ (if ends_paragraph path ((line_rest (drop n t))) then None else Some (offset (unindented (place_at n (front path (line_rest (drop n t)))))))) e value) is in
+    let goes = goes_by _ _ _ _ (subst (λ t. found ≡ (if ends_paragraph (context w path) ((line_rest (drop n t))) then None else Some (offset (unindented (place_at n (front path (line_rest (drop n t)))))))) e value) is in
     so_far_more path (document first w no_names) start ix n at old now read new line_break (path_is ∙ read_path (document first w no_names) start ix old now read (n, line_break) s apart (same_line text first o w ix now read (n, line_break) same same_options line) there) u s apart (same_line text first o w ix now read (n, line_break) same same_options line)
     (same_end text first o w ix (n, line_break) same same_options ends) goes.0 goes.1 (subst (λ t. IsPlaceOf t (unindented (place_at n (front path (line_rest (drop n t)))))) e place) new_is
 
 pub so_far_stop : (first text now_text : List ℕ) (o w : Options) (start ix n : ℕ) (old now read new : Forest Item) (line_break : Option Item) (found : Option ℕ) (path : List Container)
     → text ≡ first → o ≡ w → now_text ≡ text → path ≡ path_of read → AreIn (length old.nodes) old.spine → IsUtf8 first → ParagraphSoFar (document first w no_names) start old now ix → JoinsNone old
     → AppendsLine (record { options = o; text = text; start = ix }) now read (n, line_break) → EndsLine (record { options = o; text = text; start = ix }) (n, line_break)
-    → found ≡ (if ends_paragraph path ((line_rest (drop n now_text))) then None else Some (offset (unindented (place_at n (front path (line_rest (drop n now_text))))))) → found ≡ None
+    → found ≡ (if ends_paragraph (context w path) ((line_rest (drop n now_text))) then None else Some (offset (unindented (place_at n (front path (line_rest (drop n now_text))))))) → found ≡ None
     → IsCharBoundary text n → new ≡ with_closed_break read line_break
     → AppendsParagraph (document first w no_names) start old new n
 so_far_stop first text now_text o w start ix n old now read new line_break found path same same_options kept path_is there u s apart line ends value is boundary new_is =
     let e : now_text ≡ first = kept ∙ same in
-    let stops = stops_by _ _ _ (subst (λ t. found ≡ (if ends_paragraph path ((line_rest (drop n t))) then None else Some (offset (unindented (place_at n (front path (line_rest (drop n t)))))))) e value) is in
+    let stops = stops_by _ _ _ (subst (λ t. found ≡ (if ends_paragraph (context w path) ((line_rest (drop n t))) then None else Some (offset (unindented (place_at n (front path (line_rest (drop n t)))))))) e value) is in
     so_far_end path (document first w no_names) start ix n old now read new line_break (path_is ∙ read_path (document first w no_names) start ix old now read (n, line_break) s apart (same_line text first o w ix now read (n, line_break) same same_options line) there) s apart (same_line text first o w ix now read (n, line_break) same same_options line)
     (same_end text first o w ix (n, line_break) same same_options ends) stops (subst (λ t. IsCharBoundary t n) same boundary) new_is
 

@@ -7,12 +7,14 @@ ghost use Rattle.first_pass_lines.specs.Rest.{indent};
 ghost use Rattle.first_pass_scan.specs.LeafLines.{setext_underline};
 ghost use Rattle.first_pass_scan.specs.Markers.{is_bullet, listitem};
 ghost use Rattle.first_pass_grammar.specs.Containers.{after, front};
-ghost use Rattle.first_pass_grammar.specs.Kinds.{all_taken, interrupts_with, interrupts, item_interrupts, ends_paragraph, ends_tag, unindented};
+ghost use Rattle.first_pass_grammar.specs.Kinds.{all_taken, interrupts_with, interrupts_in, interrupts, item_interrupts, ends_paragraph, ends_tag, unindented};
 ghost use Rattle.first_pass_grammar.specs.Definitions.{is_underline, crossed};
-ghost use Rattle.first_pass_open.specs.Path.{path_of};
+ghost use Rattle.first_pass_open.specs.Path.{path_of, context_of};
+ghost use Rattle.first_pass_tree.specs.Forest.{in_table};
 ghost use Rattle.first_pass_text.specs.Rests.{IsRestOf};
 
 use crate::kinds::html_kind;
+use crate::table_start::interrupts_as_table;
 use first_pass_items::item::Item;
 use first_pass_lines::lines::{
     begins, is_plain_front, scan_atx_heading, scan_blank_line, scan_eol,
@@ -48,35 +50,61 @@ fn is_bullet(byte: u8) -> bool
     matches!(byte, b'-' | b'+' | b'*')
 }
 
+// Whether a paragraph is interrupted by these bytes, but for tables, in a line that goes on with all containers or not.
+#[inline(always)]
+fn interrupts_without_table(bytes: &[u8], current_container: bool) -> bool
+    ensures { result ≡ interrupts_with current_container bytes.now }
+{
+    if is_plain_front(bytes) {
+        return false;
+    }
+    scan_eol(bytes).is_some()
+        || scan_hrule(bytes).is_some()
+        || scan_atx_heading(bytes).is_some()
+        || scan_code_fence(bytes).is_some()
+        || begins(b'>', bytes)
+        || interrupts_as_item(bytes, current_container)
+        || html_kind(bytes).is_some()
+}
+
 /// Whether `text`, what is left of a line behind its indentation of under four columns, interrupts a
 /// paragraph: its line ends, or a thematic break, an ATX heading, a code fence, a block quote, a list item or an HTML
-/// block of the kinds 1 to 6 begins. An item interrupts where the line doesn't go on with all containers; else only a
-/// bullet or the number 1 does, and only with a rest that isn't blank (CommonMark 4.8, 4.1, 4.2, 4.5, 5.1, 5.2, 4.6).
-/// The tree so far makes no difference yet.
+/// block of the kinds 1 to 6 begins. An item interrupts where the line doesn't go on with all containers, and in a
+/// table; else only a bullet or the number 1 does, and only with a rest that isn't blank (CommonMark 4.8, 4.1, 4.2,
+/// 4.5, 5.1, 5.2, 4.6; GFM 4.10).
 pub fn scan_paragraph_interrupt_no_table(
     _alloc: Global,
     text: &str,
     current_container: bool,
     _has_footnote: bool,
     _definition_list: bool,
-    _tree: &Tree<Item>,
+    tree: &Tree<Item>,
     _tree_position: usize,
 ) -> Result<bool, AllocError>
-    ensures { IfOk result (λ yes. yes ≡ interrupts_with current_container text.now) }
+    ensures { IfOk result (λ yes. yes
+        ≡ interrupts_with (current_container && not (in_table tree.now.nodes tree.now.spine)) text.now) }
 {
-    let bytes = text.as_bytes();
-    if is_plain_front(bytes) {
-        return Ok(false);
+    let whole = current_container && !tree.is_in_table();
+    Ok(interrupts_without_table(text.as_bytes(), whole))
+}
+
+/// Whether `bytes`, what is left of a line behind its indentation of under four columns and all that the text has
+/// behind it, interrupt a paragraph that is read inside the open containers: as above, in a line that goes on with all
+/// of them or not, or as a table does that the line heads (CommonMark 4.8, GFM 4.10).
+pub fn scan_interruption(
+    alloc: Global,
+    source: Source<'_>,
+    tree: &Tree<Item>,
+    bytes: &[u8],
+    whole: bool,
+) -> Result<bool, AllocError>
+    ensures { IfOk result (λ yes. yes
+        ≡ interrupts_in (context_of source.entry.options tree.now) whole bytes.now) }
+{
+    if interrupts_without_table(bytes, whole) {
+        return Ok(true);
     }
-    Ok(
-        scan_eol(bytes).is_some()
-            || scan_hrule(bytes).is_some()
-            || scan_atx_heading(bytes).is_some()
-            || scan_code_fence(bytes).is_some()
-            || begins(b'>', bytes)
-            || interrupts_as_item(bytes, current_container)
-            || html_kind(bytes).is_some(),
-    )
+    interrupts_as_table(alloc, source.options, tree, bytes)
 }
 
 // Whether the line that begins at the offset `start`, where the text goes on with `bytes`, goes on with all open
@@ -121,7 +149,7 @@ pub fn next_paragraph_text(
 ) -> Result<Option<usize>, AllocError>
     requires { IsCharBoundary source.text.now start }
     ensures value { IfOk result (λ next.
-        next ≡ (if ends_paragraph (path_of tree.now) (line_rest (drop start source.entry.text.now))
+        next ≡ (if ends_paragraph (context_of source.entry.options tree.now) (line_rest (drop start source.entry.text.now))
         then None
         else Some (offset (unindented (place_at start (front (path_of tree.now)
         (line_rest (drop start source.entry.text.now)))))))) }
@@ -134,7 +162,7 @@ pub fn next_paragraph_text(
     let (whole, columns, place) = scan_prefixes(source, start, bytes, tree);
     let at = place.offset();
     let interrupted = if columns < 4 {
-        scan_paragraph_interrupt_no_table(alloc, &source.text[at..], whole, false, false, tree, 0)?
+        scan_interruption(alloc, source, tree, rest_of(source.text.as_bytes(), at), whole)?
     } else {
         scan_eol(rest_of(source.text.as_bytes(), at)).is_some()
     };
@@ -153,7 +181,7 @@ pub fn scan_line_behind_tag<'b>(
 ) -> Result<Option<LineStart<'b>>, AllocError>
     requires { IsRestOf source.text.now bytes.now }
     ensures value { IfOk result (λ rest.
-        rest ≡ (if ends_tag (path_of tree.now) (line_rest bytes.now)
+        rest ≡ (if ends_tag (context_of source.entry.options tree.now) (line_rest bytes.now)
         then None
         else Some (all_taken (front (path_of tree.now) (line_rest bytes.now))))) }
     ensures utf8 { IsUtf8 source.entry.text.now }
@@ -164,8 +192,7 @@ pub fn scan_line_behind_tag<'b>(
     if columns >= 4 {
         return Ok(Some(place.rest));
     }
-    let rest = &source.text[place.offset()..];
-    if scan_paragraph_interrupt_no_table(alloc, rest, whole, false, false, tree, 0)? {
+    if scan_interruption(alloc, source, tree, place.rest.left(), whole)? {
         return Ok(None);
     }
     Ok(Some(place.rest))
@@ -183,11 +210,11 @@ fn scan_paragraph_end(
 ) -> Result<bool, AllocError>
     requires { IsCharBoundary source.text.now at }
     ensures { IfOk result (λ yes. yes ≡ (if nat_lt columns 4
-        then interrupts_with whole (drop at source.entry.text.now)
+        then interrupts_in (context_of source.entry.options tree.now) whole (drop at source.entry.text.now)
         else at_line_end (drop at source.entry.text.now))) }
 {
     if columns < 4 {
-        scan_paragraph_interrupt_no_table(alloc, &source.text[at..], whole, false, false, tree, 0)
+        scan_interruption(alloc, source, tree, rest_of(source.text.as_bytes(), at), whole)
     } else {
         Ok(scan_eol(rest_of(source.text.as_bytes(), at)).is_some())
     }
@@ -228,7 +255,7 @@ fn scan_definition_end(
 ) -> Result<bool, AllocError>
     requires utf8 { IsUtf8 source.text.now }
     requires place { IsPlaceOf source.text.now (place_at start rest.now) }
-    ensures { IfOk result (λ yes. yes ≡ (interrupts whole rest.now
+    ensures { IfOk result (λ yes. yes ≡ (interrupts (context_of source.entry.options tree.now) whole rest.now
         || (is_underline rest.now && (not in_label || whole)))) }
 {
     source.is_short();
@@ -259,7 +286,7 @@ pub fn scan_line_crossed<'a>(
 ) -> Result<Option<LineStart<'a>>, AllocError>
     requires { IsCharBoundary source.text.now start }
     ensures value { IfOk result (λ rest.
-        rest ≡ crossed in_label (path_of tree.now) (line_rest (drop start source.entry.text.now))) }
+        rest ≡ crossed in_label (context_of source.entry.options tree.now) (line_rest (drop start source.entry.text.now))) }
     ensures place { IfOk result (λ rest. IfSome rest (λ r. IsPlaceOf source.entry.text.now (place_at start r))) }
     ensures utf8 { IsUtf8 source.entry.text.now }
 {

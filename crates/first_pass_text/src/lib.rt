@@ -7,3 +7,4 @@ pub mod interrupt;
 pub mod kinds;
 pub mod paragraph;
 pub mod rule;
+pub mod table_start;

@@ -1,6 +1,6 @@
 use Rattle.std.proofs.Common.{◌≡◌, ◌+◌, drop, IsUtf8, refl, sym, ap, subst, ◌∙◌, arith}
 use Rattle.first_pass_lines.specs.Lines.{begins}
-use Rattle.first_pass_open.specs.Path.{path_of}
+use Rattle.first_pass_open.specs.Path.{context_of}
 use Rattle.first_pass_definitions.proofs.Targets.{no_label, no_colon, no_target, is_reference, behind_byte}
 use Rattle.first_pass_definitions.proofs.reference.parse_behind_bracket.Goals as goal
 use Rattle.first_pass_definitions.proofs.reference.parse_behind_bracket.Goals.{After-begins}
@@ -18,13 +18,13 @@ colon_is c =
 
 pub returns-in_default-clause-value : goal.returns-in_default-clause-value
 returns-in_default-clause-value c =
-    let e = no_label _ (path_of c.args.tree.now) c.args.source.text.now c.args.start c.requires.bracket
+    let e = no_label _ (context_of c.args.source.options c.args.tree.now) c.args.source.text.now c.args.start c.requires.bracket
     (rw c.in_default.is at c.in_ok-label_len.ensures.value) in
     rw e refl
 
 pub returns-then-not-begins-clause-value : goal.returns-then-not-begins-clause-value
 returns-then-not-begins-clause-value c =
-    let e = no_colon _ (path_of c.args.tree.now) c.args.source.text.now c.args.start c.in-Some.label_len c.in-Some.label c.requires.bracket
+    let e = no_colon _ (context_of c.args.source.options c.args.tree.now) c.args.source.text.now c.args.start c.in-Some.label_len c.in-Some.label c.requires.bracket
     (rw c.in-Some.is at c.in_ok-label_len.ensures.value)
     (colon_is (goal.at.returns-then-not-begins-clause-value c).After-begins ∙ c.if-not-begins.true) in
     rw e refl
@@ -37,14 +37,14 @@ scan_refdef-requires c =
 
 pub returns-in_default-2-clause-value : goal.returns-in_default-2-clause-value
 returns-in_default-2-clause-value c =
-    let e = no_target _ (path_of c.args.tree.now) c.args.source.text.now c.args.start c.in-Some.label_len c.in-Some.label c.requires.bracket
+    let e = no_target _ (context_of c.args.source.options c.args.tree.now) c.args.source.text.now c.args.start c.in-Some.label_len c.in-Some.label c.requires.bracket
     (rw c.in-Some.is at c.in_ok-label_len.ensures.value)
     (colon_is (goal.at.returns-in_default-2-clause-value c).After-begins ∙ c.if-not-begins.false) (rw c.in_default-2.is at c.in_ok-len.ensures.value) in
     rw e refl
 
 pub returns-clause-value : goal.returns-clause-value
 returns-clause-value c =
-    rw c.in_ok-new.ensures (is_reference _ (path_of c.args.tree.now) c.args.source.text.now c.args.start c.in-Some.label_len c.in-Some-2.len c.in-Some.label
+    rw c.in_ok-new.ensures (is_reference _ (context_of c.args.source.options c.args.tree.now) c.args.source.text.now c.args.start c.in-Some.label_len c.in-Some-2.len c.in-Some.label
     c.in-Some-2.definition c.requires.bracket
     (rw c.in-Some.is at c.in_ok-label_len.ensures.value) (colon_is (goal.at.returns-clause-value c).After-begins ∙ c.if-not-begins.false)
     (rw c.in-Some-2.is at c.in_ok-len.ensures.value))

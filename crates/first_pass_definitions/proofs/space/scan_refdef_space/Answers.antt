@@ -1,7 +1,7 @@
 use Rattle.std.proofs.Common.{◌≡◌, ℕ, ◌+◌, true, false, List, drop, Some, is_some, IsUtf8, IsCharBoundary, sym, ap, subst, ◌∙◌}
 use Rattle.std.specs.List.{prefix_len}
 use Rattle.first_pass_lines.specs.Lines.{is_white, eol_len, at_line_end}
-use Rattle.first_pass_open.specs.Path.{path_of}
+use Rattle.first_pass_open.specs.Path.{context_of}
 use Rattle.first_pass_definitions.proofs.Spaces.{white_behind, eol_behind, place_white, space_plain, space_stops, space_over}
 use Rattle.first_pass_definitions.proofs.space.scan_refdef_space.Goals as goal
 use Rattle.first_pass_definitions.proofs.space.scan_refdef_space.Goals.{After-scan_eol, After-is_some}
@@ -37,7 +37,7 @@ pub returns-in_default-clause-value : goal.returns-in_default-clause-value
 unfolding text
 returns-in_default-clause-value c =
     let at = (goal.at.returns-in_default-clause-value c).After-scan_eol in
-    space_plain (path_of c.args.tree.now) c.args.source.text.now c.args.start c.scan_whitespace_no_nl.result (white_is at) (sym (eol_is at) ∙ c.in_default.is)
+    space_plain (context_of c.args.source.options c.args.tree.now) c.args.source.text.now c.args.start c.scan_whitespace_no_nl.result (white_is at) (sym (eol_is at) ∙ c.in_default.is)
 
 pub returns-in_default-clause-place : goal.returns-in_default-clause-place
 unfolding text
@@ -53,7 +53,7 @@ pub returns-in_default-2-clause-value : goal.returns-in_default-2-clause-value
 unfolding text
 returns-in_default-2-clause-value c =
     let at = (goal.at.returns-in_default-2-clause-value c).After-scan_eol in
-    space_stops (path_of c.args.tree.now) c.args.source.text.now c.args.start c.scan_whitespace_no_nl.result c.in-Some.line_end (white_is at)
+    space_stops (context_of c.args.source.options c.args.tree.now) c.args.source.text.now c.args.start c.scan_whitespace_no_nl.result c.in-Some.line_end (white_is at)
     (sym (eol_is at) ∙ c.in-Some.is)
     (sym c.in_default-2.is ∙ c.in_ok-rest.ensures.value)
 
@@ -78,7 +78,7 @@ unfolding text
 returns-then-is_some-clause-value c =
     let at = (goal.at.returns-then-is_some-clause-value c).After-scan_eol in
     let last = (goal.at.returns-then-is_some-clause-value c).After-is_some in
-    space_over true (path_of c.args.tree.now) c.args.source.text.now c.args.start c.scan_whitespace_no_nl.result c.in-Some.line_end
+    space_over true (context_of c.args.source.options c.args.tree.now) c.args.source.text.now c.args.start c.scan_whitespace_no_nl.result c.in-Some.line_end
     c.scan_whitespace_no_nl-2.result c.in-Some-2.rest
     (white_is at) (sym (eol_is at) ∙ c.in-Some.is) (sym c.in-Some-2.is ∙ c.in_ok-rest.ensures.value) (behind_is last)
     (sym (ends_is last) ∙ sym c.is_some.ensures ∙ c.if-is_some.true)
@@ -89,7 +89,7 @@ returns-clause-value c =
     let at = (goal.at.returns-clause-value c).After-scan_eol in
     let last = (goal.at.returns-clause-value c).After-is_some in
     ap (λ k. Some (c.args.start + c.scan_whitespace_no_nl.result + c.in-Some.line_end + k + c.scan_whitespace_no_nl-2.result, 1)) c.bytes_scanned.ensures
-    ∙ space_over false (path_of c.args.tree.now) c.args.source.text.now c.args.start c.scan_whitespace_no_nl.result c.in-Some.line_end
+    ∙ space_over false (context_of c.args.source.options c.args.tree.now) c.args.source.text.now c.args.start c.scan_whitespace_no_nl.result c.in-Some.line_end
     c.scan_whitespace_no_nl-2.result c.in-Some-2.rest
     (white_is at) (sym (eol_is at) ∙ c.in-Some.is) (sym c.in-Some-2.is ∙ c.in_ok-rest.ensures.value) (behind_is last)
     (sym (ends_is last) ∙ sym c.is_some.ensures ∙ c.if-is_some.false)

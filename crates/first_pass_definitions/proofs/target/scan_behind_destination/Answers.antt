@@ -1,13 +1,13 @@
 use Rattle.std.proofs.Common.{◌≡◌, drop, is_some, sym, ap, ◌∙◌}
 use Rattle.first_pass_lines.specs.Lines.{blank_len}
-use Rattle.first_pass_open.specs.Path.{path_of}
+use Rattle.first_pass_open.specs.Path.{context_of}
 use Rattle.first_pass_definitions.proofs.Targets.{titled, alone, not_alone}
 use Rattle.first_pass_definitions.proofs.target.scan_behind_destination.Goals as goal
 use Rattle.first_pass_definitions.proofs.target.scan_behind_destination.Goals.{After-is_some}
 
 pub returns-in-Some-clause-value : goal.returns-in-Some-clause-value
 returns-in-Some-clause-value c =
-    titled (path_of c.args.tree.now) (drop c.args.at c.args.source.text.now) c.args.at c.in-Some.end c.in-Some.title
+    titled (context_of c.args.source.options c.args.tree.now) (drop c.args.at c.args.source.text.now) c.args.at c.in-Some.end c.in-Some.title
     (rw c.in-Some.is at c.in_ok-end.ensures.value)
 
 blank_is : (c : After-is_some) → is_some (blank_len (drop c.args.at c.args.source.text.now)) ≡ c.is_some.result
@@ -17,10 +17,10 @@ blank_is c =
 
 pub returns-then-is_some-clause-value : goal.returns-then-is_some-clause-value
 returns-then-is_some-clause-value c =
-    alone (path_of c.args.tree.now) (drop c.args.at c.args.source.text.now) c.args.at (rw c.in_default.is at c.in_ok-end.ensures.value)
+    alone (context_of c.args.source.options c.args.tree.now) (drop c.args.at c.args.source.text.now) c.args.at (rw c.in_default.is at c.in_ok-end.ensures.value)
     (blank_is (goal.at.returns-then-is_some-clause-value c).After-is_some ∙ c.if-is_some.true)
 
 pub returns-clause-value : goal.returns-clause-value
 returns-clause-value c =
-    not_alone (path_of c.args.tree.now) (drop c.args.at c.args.source.text.now) c.args.at (rw c.in_default.is at c.in_ok-end.ensures.value)
+    not_alone (context_of c.args.source.options c.args.tree.now) (drop c.args.at c.args.source.text.now) c.args.at (rw c.in_default.is at c.in_ok-end.ensures.value)
     (blank_is (goal.at.returns-clause-value c).After-is_some ∙ c.if-is_some.false)

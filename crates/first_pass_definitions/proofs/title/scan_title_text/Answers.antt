@@ -7,7 +7,7 @@ use Rattle.first_pass_links.specs.Destinations.{unescaped_upto}
 use Rattle.first_pass_links.specs.Units.{part}
 use Rattle.first_pass_links.proofs.Destinations.{first_byte}
 use Rattle.first_pass_grammar.specs.Definitions.{title_prefix}
-use Rattle.first_pass_open.specs.Path.{path_of}
+use Rattle.first_pass_open.specs.Path.{context_of}
 use Rattle.first_pass_definitions.specs.Reading.{stops_title, goes_on_at}
 use Rattle.first_pass_definitions.proofs.Titles.{behind_nothing, whole_title, stop_place, title_found, no_title, title_further, any_last, closes-low}
 use Rattle.first_pass_definitions.proofs.title.scan_title_text.Goals as goal
@@ -19,7 +19,7 @@ loop-bytes-init c =
       boundary = IsCharBoundary-start c.args.text.now c.utf8.text;
       nothing = λ h. c.new-written.ensures.bytes;
       lines = λ l. absurd (omega arith);
-      title = rw c.new-written.ensures.bytes (behind_nothing _ ∙ whole_title (title_prefix (path_of c.args.tree.now)) c.args.close c.args.text.now);
+      title = rw c.new-written.ensures.bytes (behind_nothing _ ∙ whole_title (title_prefix (context_of c.args.source.options c.args.tree.now)) c.args.close c.args.text.now);
     }
 
 -- where the line stops
@@ -45,7 +45,7 @@ stop_at c =
 pub returns-then-begins-clause-value : goal.returns-then-begins-clause-value
 returns-then-begins-clause-value c =
     let at = (goal.at.returns-then-begins-clause-value c).After-begins in
-    let e = title_found (title_prefix (path_of c.args.tree.now)) c.args.close c.loop-bytes.from (c.loop-bytes.from + c.scan_title_line.result)
+    let e = title_found (title_prefix (context_of c.args.source.options c.args.tree.now)) c.args.close c.loop-bytes.from (c.loop-bytes.from + c.scan_title_line.result)
     (string_bytes c.loop-bytes.written) c.args.text.now
     c.requires.close c.loop-bytes.invariant.title (line_stops at) (sym (stop_is at) ∙ c.if-begins.true) in
     rw e (refl, c.in_ok-finish.ensures.value)
@@ -65,9 +65,9 @@ scan_title_break-requires-clause-at c =
 pub returns-in_default-clause-value : goal.returns-in_default-clause-value
 returns-in_default-clause-value c =
     let at = (goal.at.returns-in_default-clause-value c).After-begins in
-    let k = sym c.in_default.is ∙ c.in_ok-next.ensures.value ∙ ap (λ xs. goes_on_at (title_prefix (path_of c.args.tree.now)) xs
+    let k = sym c.in_default.is ∙ c.in_ok-next.ensures.value ∙ ap (λ xs. goes_on_at (title_prefix (context_of c.args.source.options c.args.tree.now)) xs
     (c.loop-bytes.from + c.scan_title_line.result)) c.as_bytes-bytes.ensures.value in
-    let e = no_title (title_prefix (path_of c.args.tree.now)) c.args.close c.loop-bytes.from (c.loop-bytes.from + c.scan_title_line.result)
+    let e = no_title (title_prefix (context_of c.args.source.options c.args.tree.now)) c.args.close c.loop-bytes.from (c.loop-bytes.from + c.scan_title_line.result)
     (string_bytes c.loop-bytes.written) c.args.text.now
     c.requires.close c.loop-bytes.invariant.title (line_stops at) (sym (stop_is at) ∙ c.if-begins.false) k in
     rw e refl
@@ -83,7 +83,7 @@ loop-bytes-preserved c =
     let further = place.0 in
     let plain : begins 10 (drop c.in-Some.next text) ≡ false = ap (λ xs. begins 10 (drop c.in-Some.next xs)) (sym c.as_bytes-bytes.ensures.value) ∙
     (rw c.in-Some.is at c.in_ok-next.ensures.texts) in
-    let k = sym c.in-Some.is ∙ c.in_ok-next.ensures.value ∙ ap (λ xs. goes_on_at (title_prefix (path_of c.args.tree.now)) xs stop)
+    let k = sym c.in-Some.is ∙ c.in_ok-next.ensures.value ∙ ap (λ xs. goes_on_at (title_prefix (context_of c.args.source.options c.args.tree.now)) xs stop)
     c.as_bytes-bytes.ensures.value in
     let written : string_bytes c.push.new.self ≡ (string_bytes c.loop-bytes.written ++ part text c.loop-bytes.from stop) ++ 10 ∷ [] =
     c.in_ok-push.ensures.bytes ∙ ap (λ xs. string_bytes c.push_str.new.self ++ xs) (encode_ascii 10 (omega arith))
@@ -93,7 +93,7 @@ loop-bytes-preserved c =
       boundary = place.1;
       nothing = λ h. absurd (omega arith);
       lines = λ l. ap (list_any is_line_end) written ∙ any_last (string_bytes c.loop-bytes.written ++ part text c.loop-bytes.from stop);
-      title = title_further (title_prefix (path_of c.args.tree.now)) c.args.close c.loop-bytes.from stop c.in-Some.next (string_bytes c.push.new.self)
+      title = title_further (title_prefix (context_of c.args.source.options c.args.tree.now)) c.args.close c.loop-bytes.from stop c.in-Some.next (string_bytes c.push.new.self)
           (string_bytes c.loop-bytes.written) text
           c.requires.close c.loop-bytes.invariant.title (line_stops at) (omega arith) k plain written;
     }

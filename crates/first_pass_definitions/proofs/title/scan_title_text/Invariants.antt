@@ -3,7 +3,7 @@ use Rattle.std.specs.List.{list_any}
 use Rattle.std.specs.String.{string_bytes}
 use Rattle.first_pass_lines.specs.Lines.{is_line_end}
 use Rattle.first_pass_grammar.specs.Definitions.{title_text, title_prefix}
-use Rattle.first_pass_open.specs.Path.{path_of}
+use Rattle.first_pass_open.specs.Path.{context_of}
 use Rattle.first_pass_definitions.proofs.Titles.{left_of, title_of, behind_text}
 use Rattle.first_pass_definitions.proofs.title.scan_title_text.Given as goal
 
@@ -13,8 +13,8 @@ invariant-loop-bytes l = record {
   boundary : IsCharBoundary l.text l.from;
   nothing : (l.from ≡ 0) → (string_bytes l.written ≡ []);
   lines : (0 < l.from) → (list_any is_line_end (string_bytes l.written) ≡ true);
-  title : behind_text (string_bytes l.written) (title_of l.close (left_of (title_prefix (path_of l.tree)) l.from (drop l.from l.text))) ≡ title_text
-      (title_prefix (path_of l.tree)) l.close l.text;
+  title : behind_text (string_bytes l.written) (title_of l.close (left_of (title_prefix (context_of l.source.options l.tree)) l.from (drop l.from l.text))) ≡ title_text
+      (title_prefix (context_of l.source.options l.tree)) l.close l.text;
 }
 
 abbrev pub decreases-loop-bytes : goal.decreases-loop-bytes

@@ -4,7 +4,9 @@ use Rattle.first_pass_lines.specs.Lines.{at_line_end}
 use Rattle.first_pass_lines.specs.Rest.{Rest, indent}
 use Rattle.first_pass_lines.specs.Places.{place_at, IsPlaceOf}
 use Rattle.first_pass_scan.specs.LeafLines.{setext_underline}
-use Rattle.first_pass_grammar.specs.Kinds.{all_taken, interrupts_with, interrupts}
+use Rattle.first_pass_grammar.specs.Kinds.{all_taken, interrupts_in, interrupts}
+use Rattle.first_pass_grammar.specs.Containers.{Context}
+use Rattle.first_pass_open.specs.Path.{context_of}
 use Rattle.first_pass_grammar.specs.Definitions.{is_underline}
 use Rattle.first_pass_open.proofs.PlaceLemmas.{all_keep}
 use Rattle.first_pass_text.proofs.interrupt.scan_definition_end.Goals as goal
@@ -13,10 +15,10 @@ use Rattle.first_pass_text.proofs.interrupt.scan_definition_end.Goals.{After-byt
 few : (n m : ℕ) → n ≡ min 4 m → nat_lt n 4 ≡ nat_lt m 4
 few n m e = grind (arith, nat_tests, e)
 
-interrupts_at : (whole : Bool) (r : Rest) (columns : ℕ) (bs : List ℕ) → columns ≡ min 4 (indent r) → bs ≡ (all_taken r).left →
-    (if nat_lt columns 4 then interrupts_with whole bs else at_line_end bs) ≡ interrupts whole r
+interrupts_at : (around : Context) (whole : Bool) (r : Rest) (columns : ℕ) (bs : List ℕ) → columns ≡ min 4 (indent r) → bs ≡ (all_taken r).left →
+    (if nat_lt columns 4 then interrupts_in around whole bs else at_line_end bs) ≡ interrupts around whole r
 unfolding interrupts
-interrupts_at whole r columns bs e f = let t : nat_lt columns 4 ≡ nat_lt (indent r) 4 = few columns (indent r) e in rw (t, f) refl
+interrupts_at around whole r columns bs e f = let t : nat_lt columns 4 ≡ nat_lt (indent r) 4 = few columns (indent r) e in rw (t, f) refl
 
 underline_at : (r : Rest) (columns : ℕ) (bs : List ℕ) → columns ≡ min 4 (indent r) → bs ≡ (all_taken r).left →
     (nat_lt columns 4 && is_some (setext_underline bs)) ≡ is_underline r
@@ -57,11 +59,14 @@ text_at c = all_keep c.args.source.text.now c.args.start c.args.rest.now c.requi
 offset_is : (c : After-bytes_scanned) → c.args.start + c.bytes_scanned.result ≡ c.args.start + (all_taken c.args.rest.now).taken
 offset_is c = ap (λ n. c.args.start + n) (c.bytes_scanned.ensures ∙ ap (λ (r : Rest). r.taken) (text_is c))
 
-ends_is : (c : After-bytes_scanned) → (if nat_lt c.scan_indentation-columns.result 4 then interrupts_with c.args.whole
+abbrev around_it : After-bytes_scanned → Context
+around_it c = context_of c.args.source.options c.args.tree.now
+
+ends_is : (c : After-bytes_scanned) → (if nat_lt c.scan_indentation-columns.result 4 then interrupts_in (around_it c) c.args.whole
     (drop (c.args.start + c.bytes_scanned.result) c.args.source.text.now) else at_line_end
     (drop (c.args.start + c.bytes_scanned.result) c.args.source.text.now))
-    ≡ interrupts c.args.whole c.args.rest.now
-ends_is c = interrupts_at c.args.whole c.args.rest.now c.scan_indentation-columns.result (drop (c.args.start + c.bytes_scanned.result) c.args.source.text.now)
+    ≡ interrupts (around_it c) c.args.whole c.args.rest.now
+ends_is c = interrupts_at (around_it c) c.args.whole c.args.rest.now c.scan_indentation-columns.result (drop (c.args.start + c.bytes_scanned.result) c.args.source.text.now)
     (c.scan_indentation-columns.ensures.columns ∙ ap (λ r. min 4 (indent r)) c.copy-text.ensures)
     (ap (λ n. drop n c.args.source.text.now) (offset_is c) ∙ sym (text_at c).left)
 

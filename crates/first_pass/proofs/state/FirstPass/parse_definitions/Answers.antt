@@ -13,7 +13,8 @@ use Rattle.first_pass_open.proofs.PlaceLemmas.{text_place}
 use Rattle.first_pass_text.specs.Rests.{IsRestOf}
 use Rattle.first_pass_grammar.specs.Definitions.{reference_at}
 use Rattle.first_pass_names.specs.TableEntries.{tables, names_of, link_entry}
-use Rattle.first_pass_open.specs.Path.{path_of}
+use Rattle.first_pass_open.specs.Path.{context_of}
+use Rattle.first_pass.specs.Views.{context_in}
 use Rattle.first_pass.specs.declared.state.FirstPass.{FirstPass}
 use Rattle.first_pass.specs.declared.definition.RunEnd.TheVariants.{NextLine, Paragraph}
 use Rattle.first_pass.specs.Runs.{RunSoFar, ReadsRun}
@@ -35,16 +36,16 @@ returns-clause-run c = λ p line at i.
     let first : FirstPass = c.args.self.now in
     let now : FirstPass = c.loop-size.self in
     let text = first.source.text.now in
-    let path = path_of first.reading.tree in
+    let around = context_in first in
     let nested = in_table first.reading.tree.nodes first.reading.tree.spine in
     let inv = c.loop-size.invariant in
     let e = c.in_ok-size.ensures in
     let r = inv.so_far p line at i in
     let none = none_here first now c.loop-size.at c.in_ok-size.field-0 inv.same_source inv.same_reading e.value c.in_default.is in
     let same : tables now.allocs ≡ tables c.parse_refdef_total.new.self.allocs = ap (λ (z : FirstPass). tables z.allocs) (sym e.unchanged) in
-    subst (λ z. ReadsRun text path nested p (tables first.allocs) z (Paragraph c.loop-size.at)) same
-    (run_flows text path nested p r.0 c.loop-size.at (tables first.allocs) (tables now.allocs) (sym r.2)
-    (λ plain. defined_none text path r.0 r.3.stands (ap (λ n. reference_at false path (drop n text)) r.2 ∙ subst (λ z. reference_at z path (drop c.loop-size.at text) ≡ None) plain none)) r.3)
+    subst (λ z. ReadsRun text around nested p (tables first.allocs) z (Paragraph c.loop-size.at)) same
+    (run_flows text around nested p r.0 c.loop-size.at (tables first.allocs) (tables now.allocs) (sym r.2)
+    (λ plain. defined_none text around r.0 r.3.stands (ap (λ n. reference_at false around (drop n text)) r.2 ∙ subst (λ z. reference_at z around (drop c.loop-size.at text) ≡ None) plain none)) r.3)
 
 pub scan_next_line_or_lazy_continuation-requires : goal.scan_next_line_or_lazy_continuation-requires
 scan_next_line_or_lazy_continuation-requires c =
@@ -79,21 +80,22 @@ returns-in_default-rest-clause-run c = λ p line begins i.
     let next_is : next ≡ at + size + line_len (drop (at + size) text) = c.next_line-next.ensures.value ∙ ap (λ bs. at + size + line_len (drop (at + size) bs)) bytes_are in
     let fits = subst (λ z. IfSome z (λ found. (0 < found.0) × IsCharBoundary now.source.text.now (at + found.0))) c.in-Some.is e.fits in
     let ends : IsCharBoundary text (at + size) = subst (λ (z : Source). IsCharBoundary z.text.now (at + size)) inv.same_source fits.1 in
-    let path = path_of first.reading.tree in
+    let around = context_in first in
     let nested = in_table first.reading.tree.nodes first.reading.tree.spine in
     let found : ℕ × CowStr × LinkDef = (size, c.in-Some.label, c.in-Some.definition) in
     let w = found_here first now at c.in_ok-size.field-0 found inv.same_source inv.same_reading e.value c.in-Some.is in
     let f = c.in_ok-rest.ensures in
     let told_is = c.in_ok-define_link.ensures.tables ∙ ap (λ (z : FirstPass). told (tables z.allocs) (link_entry (c.in-Some.label, c.in-Some.definition) ∷ [])) e.unchanged in
-    let path_is = ap (λ (z : FirstPass). path_of z.reading.tree) e.unchanged ∙ ap (λ (z : Reading). path_of z.tree) inv.same_reading in
+    let path_is = ap context_in e.unchanged ∙ ap (λ (z : Source). context_of z.options now.reading.tree) inv.same_source
+    ∙ ap (λ (z : Reading). context_of first.source.options z.tree) inv.same_reading in
     let rest_is : c.rest_of.result.now ≡ drop next text = c.rest_of.ensures.value ∙ ap (drop next) bytes_are in
-    let said = answered (path_of c.parse_refdef_total.new.self.reading.tree) path c.rest_of.result.now (drop next text) c.in_ok-rest.rest path_is rest_is f.value in
+    let said = answered (context_in c.parse_refdef_total.new.self) around c.rest_of.result.now (drop next text) c.in_ok-rest.rest path_is rest_is f.value in
     let allocs_are : c.define_link.new.self ≡ c.scan_next_line_or_lazy_continuation.new.self.allocs = ap (λ (z : FirstPass). z.allocs) (sym f.unchanged) in
     let r = inv.so_far p line begins i in
-    let one = one_more text path nested r.0 at w.0 found (tables now.allocs) (tables c.define_link.new.self) c.requires.utf8 r.3.stands r.2 w.1 w.2 fits.0 ends told_is in
-    let stops = stops_by (stops_at path (drop next text)) (rest_at path (drop next text)) c.in_ok-rest.rest said c.in_default-rest.is in
-    subst (λ (z : Allocations). ReadsRun text path nested p (tables first.allocs) (tables z) (NextLine c.loop-size.line next)) allocs_are
-    (run_ends text path nested p r.0 (at + size) c.loop-size.line next (tables first.allocs) (tables now.allocs) (tables c.define_link.new.self) next_is (sym r.1) (λ within. stops) r.3 one)
+    let one = one_more text around nested r.0 at w.0 found (tables now.allocs) (tables c.define_link.new.self) c.requires.utf8 r.3.stands r.2 w.1 w.2 fits.0 ends told_is in
+    let stops = stops_by (stops_at around (drop next text)) (rest_at around (drop next text)) c.in_ok-rest.rest said c.in_default-rest.is in
+    subst (λ (z : Allocations). ReadsRun text around nested p (tables first.allocs) (tables z) (NextLine c.loop-size.line next)) allocs_are
+    (run_ends text around nested p r.0 (at + size) c.loop-size.line next (tables first.allocs) (tables now.allocs) (tables c.define_link.new.self) next_is (sym r.1) (λ within. stops) r.3 one)
 
 pub loop-size-preserved : goal.loop-size-preserved
 loop-size-preserved c =
@@ -110,21 +112,22 @@ loop-size-preserved c =
     let next_is : next ≡ at + size + line_len (drop (at + size) text) = c.next_line-next.ensures.value ∙ ap (λ bs. at + size + line_len (drop (at + size) bs)) bytes_are in
     let fits = subst (λ z. IfSome z (λ found. (0 < found.0) × IsCharBoundary now.source.text.now (at + found.0))) c.in-Some.is e.fits in
     let ends : IsCharBoundary text (at + size) = subst (λ (z : Source). IsCharBoundary z.text.now (at + size)) inv.same_source fits.1 in
-    let path = path_of first.reading.tree in
+    let around = context_in first in
     let nested = in_table first.reading.tree.nodes first.reading.tree.spine in
     let found : ℕ × CowStr × LinkDef = (size, c.in-Some.label, c.in-Some.definition) in
     let w = found_here first now at c.in_ok-size.field-0 found inv.same_source inv.same_reading e.value c.in-Some.is in
     let f = c.in_ok-rest.ensures in
     let told_is = c.in_ok-define_link.ensures.tables ∙ ap (λ (z : FirstPass). told (tables z.allocs) (link_entry (c.in-Some.label, c.in-Some.definition) ∷ [])) e.unchanged in
-    let path_is = ap (λ (z : FirstPass). path_of z.reading.tree) e.unchanged ∙ ap (λ (z : Reading). path_of z.tree) inv.same_reading in
+    let path_is = ap context_in e.unchanged ∙ ap (λ (z : Source). context_of z.options now.reading.tree) inv.same_source
+    ∙ ap (λ (z : Reading). context_of first.source.options z.tree) inv.same_reading in
     let rest_is : c.rest_of.result.now ≡ drop next text = c.rest_of.ensures.value ∙ ap (drop next) bytes_are in
-    let said = answered (path_of c.parse_refdef_total.new.self.reading.tree) path c.rest_of.result.now (drop next text) c.in_ok-rest.rest path_is rest_is f.value in
+    let said = answered (context_in c.parse_refdef_total.new.self) around c.rest_of.result.now (drop next text) c.in_ok-rest.rest path_is rest_is f.value in
     let allocs_are : c.define_link.new.self ≡ c.scan_next_line_or_lazy_continuation.new.self.allocs = ap (λ (z : FirstPass). z.allocs) (sym f.unchanged) in
-    let goes = goes_by (stops_at path (drop next text)) (rest_at path (drop next text)) c.in-Some-rest.rest c.in_ok-rest.rest said c.in-Some-rest.is in
-    let within = line_is_there text path next goes.0 in
+    let goes = goes_by (stops_at around (drop next text)) (rest_at around (drop next text)) c.in-Some-rest.rest c.in_ok-rest.rest said c.in-Some-rest.is in
+    let within = line_is_there text around next goes.0 in
     let begins : IsCharBoundary text next = subst (IsCharBoundary text) (sym next_is) (behind_boundary text (at + size) c.requires.utf8 ends) in
-    let there = (text_place text next path c.requires.utf8 begins).0 in
-    let here : offset (text_at text path next) ≡ next + c.bytes_scanned.result = ap (λ (z : Rest). next + z.taken) (sym goes.1) ∙ ap (λ n. next + n) (sym c.bytes_scanned.ensures) in
+    let there = (text_place text next around.path c.requires.utf8 begins).0 in
+    let here : offset (text_at text around.path next) ≡ next + c.bytes_scanned.result = ap (λ (z : Rest). next + z.taken) (sym goes.1) ∙ ap (λ n. next + n) (sym c.bytes_scanned.ensures) in
     record {
       same_source = ap (λ (z : FirstPass). z.source) f.unchanged ∙ ap (λ (z : FirstPass). z.source) e.unchanged ∙ inv.same_source;
       same_reading = ap (λ (z : FirstPass). z.reading) f.unchanged ∙ ap (λ (z : FirstPass). z.reading) e.unchanged ∙ inv.same_reading;
@@ -132,11 +135,11 @@ loop-size-preserved c =
       boundary = subst (IsCharBoundary text) here there.boundary;
       so_far = λ p line first_at i.
           let r = inv.so_far p line first_at i in
-          let one = one_more text path nested r.0 at w.0 found (tables now.allocs) (tables c.define_link.new.self) c.requires.utf8 r.3.stands r.2 w.1 w.2 fits.0 ends told_is in (
-            text_at text path next,
+          let one = one_more text around nested r.0 at w.0 found (tables now.allocs) (tables c.define_link.new.self) c.requires.utf8 r.3.stands r.2 w.1 w.2 fits.0 ends told_is in (
+            text_at text around.path next,
             refl,
             here,
-            subst (λ (z : Allocations). RunSoFar text path nested p (text_at text path next) (tables first.allocs) (tables z)) allocs_are
-                (run_goes_on text path nested p r.0 (at + size) next (tables first.allocs) (tables now.allocs) (tables c.define_link.new.self) c.requires.utf8 next_is within goes.0 r.3 one),
+            subst (λ (z : Allocations). RunSoFar text around nested p (text_at text around.path next) (tables first.allocs) (tables z)) allocs_are
+                (run_goes_on text around nested p r.0 (at + size) next (tables first.allocs) (tables now.allocs) (tables c.define_link.new.self) c.requires.utf8 next_is within goes.0 r.3 one),
           );
     }

@@ -3,7 +3,8 @@ use Rattle.first_pass_lines.specs.Lines.{line_len}
 use Rattle.first_pass_lines.specs.Rest.{Rest}
 use Rattle.first_pass_lines.specs.Places.{Place, line_rest, place_at, line_end, IsPlaceOf}
 use Rattle.first_pass_grammar.specs.Containers.{front}
-use Rattle.first_pass_grammar.specs.declared.kind.Container.{Container}
+use Rattle.first_pass_grammar.specs.Containers.{Context}
+use Rattle.first_pass.specs.Views.{context_in}
 use Rattle.first_pass_grammar.specs.Kinds.{all_taken, ends_tag, unindented}
 use Rattle.first_pass_grammar.specs.Leaves.{document}
 use Rattle.first_pass_grammar.specs.Completion.{lines_from}
@@ -19,11 +20,11 @@ use Rattle.first_pass.proofs.TagLemmas.{ready_any_line, ready_its_line}
 use Rattle.first_pass.proofs.state.FirstPass.parse_tagged.Goals as goal
 
 -- what was said of the line that bytes begin with, read from the text
-said : (found : Option Rest) (path : List Container) (text all bytes : List ℕ) (at : ℕ) → all ≡ text → bytes ≡ drop at all
-    → found ≡ (if ends_tag path (line_rest bytes) then None else Some (all_taken (front path (line_rest bytes))))
-    → found ≡ (if ends_tag path (line_rest (drop at text)) then None else Some (all_taken (front path (line_rest (drop at text)))))
-said found path text all bytes at a b h =
-    subst (λ bs. found ≡ (if ends_tag path (line_rest bs) then None else Some (all_taken (front path (line_rest bs))))) (b ∙ ap (drop at) a) h
+said : (found : Option Rest) (around : Context) (text all bytes : List ℕ) (at : ℕ) → all ≡ text → bytes ≡ drop at all
+    → found ≡ (if ends_tag around (line_rest bytes) then None else Some (all_taken (front around.path (line_rest bytes))))
+    → found ≡ (if ends_tag around (line_rest (drop at text)) then None else Some (all_taken (front around.path (line_rest (drop at text)))))
+said found around text all bytes at a b h =
+    subst (λ bs. found ≡ (if ends_tag around (line_rest bs) then None else Some (all_taken (front around.path (line_rest bs))))) (b ∙ ap (drop at) a) h
 
 any_by : (t : Bool) (r : Rest) (found : Option Rest) → found ≡ None → found ≡ (if t then None else Some r) → t ≡ true
 any_by true r found none h = refl
@@ -39,8 +40,8 @@ returns-in-None c =
     let at = c.args.start in
     let text = self.source.text.now in
     let path = path_of self.reading.tree in
-    let h = said _ path text _ _ at c.as_bytes.ensures.value c.rest_of-bytes.ensures.value c.in_ok-scan_line_behind_tag.ensures.value in
-    let any = any_by (ends_tag path (line_rest (drop at text))) _ _ c.in-None.is h in
+    let h = said _ (context_in self) text _ _ at c.as_bytes.ensures.value c.rest_of-bytes.ensures.value c.in_ok-scan_line_behind_tag.ensures.value in
+    let any = any_by (ends_tag (context_in self) (line_rest (drop at text))) _ _ c.in-None.is h in
     record {
       read = record {
         source = refl;
@@ -64,8 +65,8 @@ returns-in_ok-next-in-Some c =
     let p : Place = unindented (place_at at (front path (line_rest (drop at text)))) in
     let q : Place = place_at at c.in-Some.rest in
     let e = c.in_ok-next-in-Some.ensures in
-    let h = said _ path text _ _ at c.as_bytes.ensures.value c.rest_of-bytes.ensures.value c.in_ok-scan_line_behind_tag.ensures.value in
-    let its = its_by (ends_tag path (line_rest (drop at text))) _ c.in-Some.rest _ c.in-Some.is h in
+    let h = said _ (context_in self) text _ _ at c.as_bytes.ensures.value c.rest_of-bytes.ensures.value c.in_ok-scan_line_behind_tag.ensures.value in
+    let its = its_by (ends_tag (context_in self) (line_rest (drop at text))) _ c.in-Some.rest _ c.in-Some.is h in
     let same : q ≡ p = ap (place_at at) its.1 in
     let here = text_place text at path c.in_ok-scan_line_behind_tag.ensures.utf8 c.requires.boundary in
     let ends : line_end p ≡ at + line_len (drop at text) = here.1 in
@@ -92,6 +93,6 @@ parse_leaf-requires-clause-place c =
     let text = c.args.self.now.source.text.now in
     let at = c.args.start in
     let path = path_of c.args.self.now.reading.tree in
-    let h = said _ path text _ _ at c.as_bytes.ensures.value c.rest_of-bytes.ensures.value c.in_ok-scan_line_behind_tag.ensures.value in
-    let its = its_by (ends_tag path (line_rest (drop at text))) _ c.in-Some.rest _ c.in-Some.is h in
+    let h = said _ (context_in c.args.self.now) text _ _ at c.as_bytes.ensures.value c.rest_of-bytes.ensures.value c.in_ok-scan_line_behind_tag.ensures.value in
+    let its = its_by (ends_tag (context_in c.args.self.now) (line_rest (drop at text))) _ c.in-Some.rest _ c.in-Some.is h in
     subst (λ r. IsPlaceOf text (place_at at r)) (sym its.1) (text_place text at path c.in_ok-scan_line_behind_tag.ensures.utf8 c.requires.boundary).0

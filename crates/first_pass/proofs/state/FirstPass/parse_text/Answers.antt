@@ -5,7 +5,7 @@ use Rattle.first_pass_grammar.specs.Leaves.{document}
 use Rattle.first_pass_names.specs.TableEntries.{tables, no_names}
 use Rattle.first_pass_lists.specs.Closing.{list_finished, with_block}
 use Rattle.first_pass_lists.specs.declared.reading.Reading.{Reading}
-use Rattle.first_pass_open.specs.Path.{path_of}
+use Rattle.first_pass.specs.Views.{context_in}
 use Rattle.first_pass_open.specs.declared.source.Source.{Source}
 use Rattle.first_pass_open.proofs.PlaceLemmas.{all_keep}
 use Rattle.first_pass_tree.specs.Forest.{in_table}
@@ -29,7 +29,7 @@ returns-in-NextLine c =
     let e = c.in_ok-line.ensures in
     let i = all_keep text p.line p.rest c.requires.utf8 c.requires.place in
     let nested = in_table r.tree.nodes r.tree.spine in
-    let run = subst (ReadsRun text (path_of r.tree) nested (unindented p) (tables self.allocs) (tables mid.allocs)) c.in-NextLine.is (e.run (unindented p) (ap (λ (q : Place). q.line) (sym c.place.view_is)) (sym c.requires.at) i) in
+    let run = subst (ReadsRun text (context_in self) nested (unindented p) (tables self.allocs) (tables mid.allocs)) c.in-NextLine.is (e.run (unindented p) (ap (λ (q : Place). q.line) (sym c.place.view_is)) (sym c.requires.at) i) in
     let w = run_line self mid _ p nested c.in-NextLine.line c.in-NextLine.next c.requires.utf8 c.requires.place c.requires.no_empty c.is_forest.ensures c.requires.kind refl e.source e.names run refl refl
     (c.finish_list.ensures ∙ ap (list_finished c.in-NextLine.line) e.reading) in
     record { read = w.read; few = w.few }
@@ -41,7 +41,7 @@ parse_paragraph-requires-clause-boundary c =
     let p = c.args.place in
     let e = c.in_ok-line.ensures in
     let i = all_keep text p.line p.rest c.requires.utf8 c.requires.place in
-    let run = subst (ReadsRun text (path_of self.reading.tree) (in_table self.reading.tree.nodes self.reading.tree.spine) (unindented p) (tables self.allocs) (tables c.parse_definitions.new.self.allocs)) c.in-Paragraph.is
+    let run = subst (ReadsRun text (context_in self) (in_table self.reading.tree.nodes self.reading.tree.spine) (unindented p) (tables self.allocs) (tables c.parse_definitions.new.self.allocs)) c.in-Paragraph.is
     (e.run (unindented p) (ap (λ (q : Place). q.line) (sym c.place.view_is)) (sym c.requires.at) i) in
     subst (λ (z : Source). IsCharBoundary z.text.now c.in-Paragraph.text) (sym e.source) (subst (IsCharBoundary text) (sym run.says) run.stands.boundary)
 
@@ -60,7 +60,7 @@ returns c =
     let f = c.in_ok-next-in-Paragraph.ensures in
     let i = all_keep text p.line p.rest c.requires.utf8 c.requires.place in
     let nested = in_table r.tree.nodes r.tree.spine in
-    let run = subst (ReadsRun text (path_of r.tree) nested (unindented p) (tables self.allocs) (tables mid.allocs)) c.in-Paragraph.is
+    let run = subst (ReadsRun text (context_in self) nested (unindented p) (tables self.allocs) (tables mid.allocs)) c.in-Paragraph.is
     (e.run (unindented p) (ap (λ (q : Place). q.line) (sym c.place.view_is)) (sym c.requires.at) i) in
     let done : c.finish_list-in-Paragraph.new.self ≡ list_finished at r = c.finish_list-in-Paragraph.ensures ∙ ap (list_finished at) e.reading in
     let block : AddsParagraph (document text options no_names) at None (list_finished at r).tree new.reading.tree next =

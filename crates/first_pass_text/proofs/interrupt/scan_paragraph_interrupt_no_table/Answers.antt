@@ -1,9 +1,0 @@
-use Rattle.std.proofs.Common.{sym, ap, ◌∙◌}
-use Rattle.first_pass_lines.specs.Plain.{begins_plain}
-use Rattle.first_pass_text.proofs.PlainKinds.{plain_interrupts}
-use Rattle.first_pass_text.proofs.interrupt.scan_paragraph_interrupt_no_table.Goals as goal
-
-pub returns-then-is_plain_front : goal.returns-then-is_plain_front
-returns-then-is_plain_front c =
-    sym (plain_interrupts c.args.current_container c.args.text.now
-    (ap begins_plain (sym c.as_bytes-bytes.ensures.value) ∙ sym c.is_plain_front.ensures ∙ c.if-is_plain_front.true))
