@@ -9,11 +9,11 @@ use Rattle.first_pass_tokens.specs.declared.pieces.Piece.{Piece}
 use Rattle.first_pass_tokens.specs.declared.pieces.Piece.TheVariants.{Left, Begins, Token}
 use Rattle.first_pass_tokens.specs.Pieces.{Source, size}
 use Rattle.first_pass_tokens.specs.Chains.{text_token, token, touches, add_token, add_tokens, add_text, is_backslash_break, close_break, cut}
-use Rattle.first_pass_tokens.specs.LineTokens.{ArePieces, IsLine, add_piece, add_pieces, text_end, line_end_len}
-use Rattle.first_pass_tokens.specs.TreeTokens.{with_token, with_tokens, AppendsLine}
+use Rattle.first_pass_tokens.specs.LineTokens.{ArePieces, IsLine, IsCell, add_piece, add_pieces, text_end, line_end_len, blanks_at_end}
+use Rattle.first_pass_tokens.specs.TreeTokens.{with_token, with_tokens, AppendsLine, AppendsCell}
 use Rattle.first_pass_tokens.specs.Order.{AreInOrder, HaveBytes}
 use Rattle.first_pass_tokens.proofs.PieceFacts.{IsPieceAt}
-use Rattle.first_pass_tokens.proofs.LineLemmas.{piece_of}
+use Rattle.first_pass_tokens.proofs.LineLemmas.{piece_of, piece_some}
 
 -- a chain in order has at most as many items as bytes
 pub few_in_order : (text : List ℕ) (from to : ℕ) (chain : List Item) → AreInOrder text from to chain → HaveBytes chain → length chain + from ≤ to
@@ -67,6 +67,11 @@ pub bytes_append : (xs ys : List Item) → HaveBytes xs → HaveBytes ys → Hav
 bytes_append [] ys h k = k
 bytes_append (x ∷ xs) ys h k = (h.0, bytes_append xs ys h.1 k)
 
+-- the tokens of a cell
+pub cell_has_bytes : {s : Source} {tokens : List Item} {end : ℕ} → IsCell s tokens end → HaveBytes tokens
+cell_has_bytes {s} {tokens} {end} cell =
+    subst HaveBytes (sym cell.tokens_are) (bytes_pieces s (end - blanks_at_end s end) s.start cell.pieces end [] cell.division.divided tt)
+
 -- the tokens of a line
 pub line_has_bytes : {s : Source} {tokens : List Item} {answer : ℕ × Option Item} → IsLine s tokens answer → HaveBytes tokens
 line_has_bytes {s} {tokens} {answer} line =
@@ -81,13 +86,7 @@ cut_few e (x ∷ xs) =
     (λ b. omega arith)
     (λ b. cond_both (is_escaped x.body && (x.start == e)) (text_token (e - 1) e false ∷ []) [] (λ (ys : List Item). length ys ≤ length (x ∷ xs)) (λ c. omega arith) (λ c. omega arith))
 
--- a piece takes a byte at least
-piece_some : (text : List ℕ) (at : ℕ) (p : Piece) → IsPieceAt text at p → 0 < size p
-piece_some text at (Left n) facts = omega (arith, facts.0)
-piece_some text at (Begins dropped escaped) facts = omega arith
-piece_some text at (Token dropped n body) facts = omega (arith, facts.some)
-
--- so there are at most as many pieces as bytes
+-- there are at most as many pieces as bytes
 few_pieces : (s : Source) (at : ℕ) (ps : List Piece) (end : ℕ) → ArePieces s at ps end → length ps + at ≤ end
 few_pieces s at [] end is = omega arith
 few_pieces s at (p ∷ ps) end is =
@@ -119,12 +118,25 @@ few_by_pieces stop at (p ∷ ps) chain =
     let rest = few_by_pieces stop (at + size p) ps (add_piece stop at p chain) in
     omega arith
 
+-- a content has at most as many tokens as bytes
+few_in_content : (s : Source) (pieces : List Piece) (end stop : ℕ) → ArePieces s s.start pieces end → length (add_pieces stop s.start pieces []) + s.start ≤ end
+few_in_content s pieces end stop are =
+    let few = few_pieces s s.start pieces end are in
+    let each = few_by_pieces stop s.start pieces [] in
+    omega arith
+
+-- A cell has at most as many tokens as bytes.
+pub few_in_cell : {s : Source} {tokens : List Item} {end : ℕ} → IsCell s tokens end → length tokens + s.start ≤ end
+few_in_cell {s} {tokens} {end} cell =
+    let few = few_in_content s cell.pieces end (end - blanks_at_end s end) cell.division.divided in
+    let same = ap (λ (ts : List Item). length ts) cell.tokens_are in
+    omega arith
+
 -- A line has at most as many tokens as bytes.
 pub few_in_line : {s : Source} {tokens : List Item} {answer : ℕ × Option Item} → IsLine s tokens answer → length tokens + s.start ≤ answer.0
 few_in_line {s} {tokens} {answer} line =
     let end = line.content_end in
-    let pieces = few_pieces s s.start line.pieces end line.division.divided in
-    let each = few_by_pieces (text_end s end) s.start line.pieces [] in
+    let few = few_in_content s line.pieces end (text_end s end) line.division.divided in
     let same = ap (λ (ts : List Item). length ts) line.tokens_are in
     let answer_is : answer.0 ≡ end + line_end_len s end = ap (λ (a : ℕ × Option Item). a.0) line.answer_is in
     omega arith
@@ -157,4 +169,12 @@ few_of_line {s} {old} {new} {answer} line =
     let few = few_in_line line.line in
     let tree = few_tokens old line.tokens in
     let same = ap (λ (f : Forest Item). length f.nodes) line.tree_is in
+    omega arith
+
+-- and so has what is appended of a cell
+pub few_of_cell : {s : Source} {old new : Forest Item} {end : ℕ} → AppendsCell s old new end → length new.nodes ≤ length old.nodes + (end - s.start)
+few_of_cell {s} {old} {new} {end} cell =
+    let few = few_in_cell cell.cell in
+    let tree = few_tokens old cell.tokens in
+    let same = ap (λ (f : Forest Item). length f.nodes) cell.tree_is in
     omega arith

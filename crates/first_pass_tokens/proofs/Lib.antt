@@ -1,5 +1,6 @@
 pub mod PieceFacts
 pub mod BytesLemmas
+pub mod CellPipes
 pub mod ChainLemmas
 pub mod CutOrder
 pub mod LineLemmas

@@ -1,21 +1,15 @@
--- Each line has tokens.
-use Rattle.std.proofs.Common.{◌≡◌, ◌⊎◌, inl, inr, ℕ, zero, suc, ◌+◌, ◌<◌, ◌≤◌, Bool, true, false, List, [], ◌∷◌, length, Option, refl, arith}
+-- Each line has tokens, and so has each cell.
+use Rattle.std.proofs.Common.{◌⊎◌, inl, inr, ℕ, zero, suc, ◌+◌, ◌-◌, ◌<◌, ◌≤◌, ◌≡◌, Bool, true, false, List, [], ◌∷◌, length, Option, refl, arith}
 use Rattle.std.proofs.lemmas.Bool.{cases_lt, or_left, le-leb}
 use Rattle.first_pass_items.specs.declared.item.Item.{Item}
 use Rattle.first_pass_tokens.specs.declared.pieces.Piece.{Piece}
-use Rattle.first_pass_tokens.specs.declared.pieces.Piece.TheVariants.{Left, Begins, Token}
 use Rattle.first_pass_tokens.specs.Pieces.{Source, piece_at, size}
-use Rattle.first_pass_tokens.proofs.PieceFacts.{IsPieceAt, piece_facts}
-use Rattle.first_pass_tokens.specs.LineTokens.{ends_at, ArePieces, text_end, add_pieces, line_end_len, line_break, IsLine}
-
--- a piece has bytes
-sized_by : (text : List ℕ) (at : ℕ) (p : Piece) → IsPieceAt text at p → 0 < size p
-sized_by text at (Left n) facts = let one = facts.0 in omega arith
-sized_by text at (Begins dropped escaped) facts = omega arith
-sized_by text at (Token dropped n body) facts = let some = facts.some in omega arith
+use Rattle.first_pass_tokens.proofs.PieceFacts.{piece_facts}
+use Rattle.first_pass_tokens.proofs.LineLemmas.{piece_some}
+use Rattle.first_pass_tokens.specs.LineTokens.{ends_at, ArePieces, text_end, add_pieces, line_end_len, line_break, blanks_at_end, IsLine, IsCell}
 
 piece_sized : (s : Source) (at : ℕ) → at < length s.text → 0 < size (piece_at s at)
-piece_sized s at within = sized_by s.text at (piece_at s at) (piece_facts s at within)
+piece_sized s at within = piece_some s.text at (piece_at s at) (piece_facts s at within)
 
 -- the pieces of a content from a place on
 record Division (s : Source) (at : ℕ) : Type 0 where
@@ -46,10 +40,26 @@ division s zero at h = record { pieces = []; to = at; divided = refl; ended = pa
 division s (suc most) at h = division_at s at most h (cases_lt at (length s.text)) (λ next k. division s most next k)
 
 -- the tokens of a line
-pub line_found : (s : Source) → (tokens : List Item) × (answer : ℕ × Option Item) × IsLine s tokens answer
-line_found s =
+pub line_found : (s : Source) → s.row ≡ false → (tokens : List Item) × (answer : ℕ × Option Item) × IsLine s tokens answer
+line_found s plain =
     let d = division s (length s.text) s.start (omega arith) in (
       add_pieces (text_end s d.to) s.start d.pieces [],
       (d.to + line_end_len s d.to, line_break s d.to),
-      record { pieces = d.pieces; content_end = d.to; division = record { divided = d.divided; ended = d.ended }; tokens_are = refl; answer_is = refl },
+      record {
+        no_cell = plain;
+        pieces = d.pieces;
+        content_end = d.to;
+        division = record { divided = d.divided; ended = d.ended };
+        tokens_are = refl;
+        answer_is = refl;
+      },
+    )
+
+-- the tokens of a cell
+pub cell_found : (s : Source) → (tokens : List Item) × (end : ℕ) × IsCell s tokens end
+cell_found s =
+    let d = division s (length s.text) s.start (omega arith) in (
+      add_pieces (d.to - blanks_at_end s d.to) s.start d.pieces [],
+      d.to,
+      record { pieces = d.pieces; division = record { divided = d.divided; ended = d.ended }; tokens_are = refl },
     )

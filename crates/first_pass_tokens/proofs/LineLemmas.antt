@@ -1,18 +1,19 @@
 -- The division of a content: one more piece, that there is one division, that no line end stands in it, and where the line ends.
-use Rattle.std.proofs.Common.{ℕ, min, zero, suc, ◌≡◌, ◌⊎◌, ◌+◌, ◌-◌, ◌≤◌, ◌<◌, ◌==◌, ◌&&◌, ◌%◌, if◌then◌else◌, Bool, true, false, List, [], ◌∷◌, ◌++◌, length, take, drop, get_or, slice_index, nat_lt, nat_le, Option, None, IfSome, Result, Ok, Err, IfOk, unwrap_or, refl, sym, ap, subst, ◌∙◌, inl, inr, arith, length-drop}
+use Rattle.std.proofs.Common.{ℕ, min, zero, suc, ◌≡◌, ◌⊎◌, ◌+◌, ◌-◌, ◌≤◌, ◌<◌, ◌==◌, ◌&&◌, ◌||◌, ◌%◌, if◌then◌else◌, Bool, true, false, List, [], ◌∷◌, ◌++◌, length, take, drop, get_or, slice_index, nat_lt, nat_le, Option, None, IfSome, Result, Ok, Err, IfOk, unwrap_or, refl, sym, ap, subst, ◌∙◌, inl, inr, arith, length-drop}
 use Rattle.std.specs.List.{suffix_len, slice_range, prefix_len}
 use Rattle.std.specs.declared.alloc.AllocError.{AllocError}
 use Rattle.std.proofs.lemmas.List.{get_or-drop, get_or_past, drop-drop, at_drop_all, at_drop_more}
-use Rattle.std.proofs.lemmas.List.Sums.{suffix_len-le-length, suffix_len-take_yes, suffix_len-take_no, prefix_len_is}
-use Rattle.std.proofs.lemmas.Bool.{true≢false, false≢true, cases_lt, cases_Bool, cond_both, cond-true, cond-false, eqb-true, or_parts, or_cases, and_parts, lt-leb, le-leb, leb-false, leb-true, not_from_true, not_from_false}
+use Rattle.std.proofs.lemmas.List.Sums.{suffix_len-le-length, suffix_len-take_yes, suffix_len-take_no, prefix_len_is, prefix_len_stops}
+use Rattle.std.proofs.lemmas.Bool.{true≢false, false≢true, cases_lt, cases_Bool, cond_both, cond-true, cond-false, eqb-true, or_parts, or_cases, and_parts, and_cases, lt-leb, le-leb, leb-false, leb-true, not_from_true, not_from_false}
+use Rattle.first_pass_items.specs.OptionWords.{has, tables}
 use Rattle.first_pass_items.specs.declared.item.Item.{Item}
 use Rattle.first_pass_tree.specs.Forest.{Forest}
 use Rattle.first_pass_lines.specs.Lines.{is_line_end, is_content, is_white, begins, eol_len, line_len}
 use Rattle.first_pass_tokens.specs.declared.pieces.Piece.{Piece}
 use Rattle.first_pass_tokens.specs.declared.pieces.Piece.TheVariants.{Left, Begins, Token}
 use Rattle.first_pass_tokens.specs.Pieces.{Source, piece_at, size}
-use Rattle.first_pass_tokens.specs.LineTokens.{text_end, ends_at, ArePieces, IsDivision, IsLine, IsBreak, EndsLine, add_piece, add_pieces, line_end_len, line_break, breaks_by_backslash, backslashes_at_end, blanks_at_end}
-use Rattle.first_pass_tokens.specs.TreeTokens.{AppendsLine, with_tokens, chained, JoinsNone}
+use Rattle.first_pass_tokens.specs.LineTokens.{text_end, ends_at, ends_cell, ArePieces, IsDivision, IsLine, IsCell, IsBreak, EndsLine, EndsCell, add_piece, add_pieces, line_end_len, line_break, breaks_by_backslash, backslashes_at_end, blanks_at_end}
+use Rattle.first_pass_tokens.specs.TreeTokens.{AppendsLine, AppendsCell, with_tokens, chained, JoinsNone}
 use Rattle.first_pass_tokens.specs.Chains.{token, add_tokens, AreApart}
 use Rattle.first_pass_tokens.proofs.PieceFacts.{IsPieceAt, piece_facts, visible_plain, visible_fits}
 use Rattle.first_pass_tokens.proofs.ChainLemmas.{add_token-apart, add_text-apart, add_tokens-none, with_tokens-chained}
@@ -52,16 +53,43 @@ one_line h k =
     let same = one_division h.division k.division in
     (h.tokens_are ∙ rw (same.0, same.1) (sym k.tokens_are), h.answer_is ∙ rw same.1 (sym k.answer_is))
 
+-- a cell has one list of tokens, and one end
+pub one_cell : {s : Source} {tokens others : List Item} {a b : ℕ} → IsCell s tokens a → IsCell s others b → (tokens ≡ others) × (a ≡ b)
+one_cell h k =
+    let same = one_division h.division k.division in
+    (h.tokens_are ∙ rw (same.0, same.1) (sym k.tokens_are), same.1)
+
 -- where no content ends
-pub not_ended : (s : Source) (at : ℕ) → ends_at s at ≡ false → (at < length s.text) × (is_line_end (slice_index s.text at) ≡ false)
+not_ended_cell : (s : Source) (at : ℕ) → ends_at s at ≡ false
+    → (at < length s.text) × (is_line_end (slice_index s.text at) ≡ false) × (ends_cell s (slice_index s.text at) ≡ false)
 unfolding ends_at
-not_ended s at on =
-    let parts = or_parts (nat_le (length s.text) at) (is_line_end (slice_index s.text at)) on in
-    (leb-false (length s.text) at parts.0, parts.1)
+not_ended_cell s at on =
+    let b = slice_index s.text at in
+    let parts = or_parts (nat_le (length s.text) at) (is_line_end b || ends_cell s b) on in
+    let byte = or_parts (is_line_end b) (ends_cell s b) parts.1 in
+    (leb-false (length s.text) at parts.0, byte.0, byte.1)
+
+pub not_ended : (s : Source) (at : ℕ) → ends_at s at ≡ false → (at < length s.text) × (is_line_end (slice_index s.text at) ≡ false)
+not_ended s at on = (let h = not_ended_cell s at on in (h.0, h.1))
+
+-- with tables no pipe stands there in a row
+pub not_ended_pipe : (s : Source) (at : ℕ) → s.row ≡ true → has s.options tables ≡ true → ends_at s at ≡ false → (slice_index s.text at == 124) ≡ false
+not_ended_pipe s at row on runs =
+    let b = slice_index s.text at in
+    elim (and_cases s.row (has s.options tables && b == 124) (not_ended_cell s at runs).2) [
+      | inl plain ↦ absurd (false≢true (sym plain ∙ row))
+      | inr rest ↦ elim (and_cases (has s.options tables) (b == 124) rest) [ inl off ↦ absurd (false≢true (sym off ∙ on)) | inr other ↦ other ]
+    ]
 
 -- the piece at a place of a content
 pub piece_of : (s : Source) (at : ℕ) (p : Piece) → ends_at s at ≡ false → p ≡ piece_at s at → IsPieceAt s.text at p
 piece_of s at p on is = subst (IsPieceAt s.text at) (sym is) (piece_facts s at (not_ended s at on).0)
+
+-- a piece takes a byte at least
+pub piece_some : (text : List ℕ) (at : ℕ) (p : Piece) → IsPieceAt text at p → 0 < size p
+piece_some text at (Left n) facts = omega (arith, facts.0)
+piece_some text at (Begins dropped escaped) facts = omega arith
+piece_some text at (Token dropped n body) facts = omega (arith, facts.some)
 
 -- a piece lies in the text, and no line end stands in it
 pub record IsInLine (text : List ℕ) (at : ℕ) (p : Piece) : Type 0 where
@@ -109,12 +137,25 @@ pub content_of : {s : Source} {ps : List Piece} {end : ℕ} → s.start ≤ leng
 content_of within d = content_from _ _ _ _ within d.divided
 
 -- where a content ends
-pub ended_by : (s : Source) (end : ℕ) → ends_at s end ≡ true → (length s.text ≤ end) ⊎ (is_line_end (slice_index s.text end) ≡ true)
+pub ended_by : (s : Source) (end : ℕ) → ends_at s end ≡ true
+    → (length s.text ≤ end) ⊎ ((is_line_end (slice_index s.text end) ≡ true) ⊎ (ends_cell s (slice_index s.text end) ≡ true))
 unfolding ends_at
 ended_by s end h =
-    elim (or_cases (nat_le (length s.text) end) (is_line_end (slice_index s.text end)) h) [
+    let b = slice_index s.text end in
+    elim (or_cases (nat_le (length s.text) end) (is_line_end b || ends_cell s b) h) [
       | inl text ↦ inl (leb-true (length s.text) end text)
-      | inr byte ↦ inr byte
+      | inr byte ↦ inr (or_cases (is_line_end b) (ends_cell s b) byte)
+    ]
+
+-- the same of a line
+line_ended_by : (s : Source) (end : ℕ) → s.row ≡ false → ends_at s end ≡ true → (length s.text ≤ end) ⊎ (is_line_end (slice_index s.text end) ≡ true)
+line_ended_by s end plain h =
+    elim (ended_by s end h) [
+      | inl text ↦ inl text
+      | inr byte ↦ elim byte [
+        | inl line ↦ inr line
+        | inr cell ↦ absurd (false≢true (sym plain ∙ (and_parts s.row _ cell).0))
+      ]
     ]
 
 -- the line end in what is left of a text
@@ -132,13 +173,13 @@ begins_drop text at =
       | inr past ↦ at_drop_all (begins 10) text at past ∙ ap (λ (b : ℕ). b == 10) (sym (get_or_past text at 0 past))
     ]
 
-line_end_at : (s : Source) (end : ℕ) → ends_at s end ≡ true → unwrap_or (eol_len (drop end s.text)) 0 ≡ line_end_len s end
+line_end_at : (s : Source) (end : ℕ) → s.row ≡ false → ends_at s end ≡ true → unwrap_or (eol_len (drop end s.text)) 0 ≡ line_end_len s end
 unfolding line_end_len
-line_end_at s end h =
+line_end_at s end plain h =
     elim (cases_lt end (length s.text)) [
       | inl within ↦
           let b = slice_index s.text end in
-          elim (ended_by s end h) [
+          elim (line_ended_by s end plain h) [
             | inl past ↦ absurd (omega arith)
             | inr line ↦
                 at_drop_more (λ (bs : List ℕ). unwrap_or (eol_len bs) 0) s.text end 0 within ∙ end_here b (drop (end + 1) s.text) line
@@ -147,8 +188,9 @@ line_end_at s end h =
       | inr past ↦ at_drop_all (λ (bs : List ℕ). unwrap_or (eol_len bs) 0) s.text end past ∙ sym (cond-true _ _ _ (le-leb (length s.text) end past))
     ]
 
-content_len : (s : Source) (end : ℕ) → IsContent s.text s.start end → ends_at s end ≡ true → prefix_len is_content (drop s.start s.text) ≡ end - s.start
-content_len s end c ended =
+content_len : (s : Source) (end : ℕ) → s.row ≡ false → IsContent s.text s.start end → ends_at s end ≡ true
+    → prefix_len is_content (drop s.start s.text) ≡ end - s.start
+content_len s end plain c ended =
     let order = c.order in
     let within = c.within in
     let len = length-drop s.start s.text in
@@ -157,19 +199,20 @@ content_len s end c ended =
     (λ below.
     let place : s.start + (end - s.start) ≡ end = omega arith in
     ap is_content (get_or-drop s.start s.text (end - s.start) 0 ∙ ap (slice_index s.text) place)
-    ∙ elim (ended_by s end ended) [ inl past ↦ absurd (omega arith) | inr line ↦ not_from_true _ line ])
+    ∙ elim (line_ended_by s end plain ended) [ inl past ↦ absurd (omega arith) | inr line ↦ not_from_true _ line ])
 
 -- a line goes up to the end of its content, and takes its line end
-line_place : (s : Source) (end : ℕ) → IsContent s.text s.start end → ends_at s end ≡ true → end + line_end_len s end ≡ s.start + line_len (drop s.start s.text)
+line_place : (s : Source) (end : ℕ) → s.row ≡ false → IsContent s.text s.start end → ends_at s end ≡ true
+    → end + line_end_len s end ≡ s.start + line_len (drop s.start s.text)
 unfolding line_len
-line_place s end c ended =
+line_place s end plain c ended =
     let order = c.order in
-    let n = content_len s end c ended in
+    let n = content_len s end plain c ended in
     let place : s.start + (end - s.start) ≡ end = omega arith in
     let rest : drop (prefix_len is_content (drop s.start s.text)) (drop s.start s.text) ≡ drop end s.text =
     ap (λ (k : ℕ). drop k (drop s.start s.text)) n ∙ drop-drop (end - s.start) s.start s.text ∙ ap (λ (k : ℕ). drop k s.text) place in
     let behind : unwrap_or (eol_len (drop (prefix_len is_content (drop s.start s.text)) (drop s.start s.text))) 0 ≡ line_end_len s end =
-    ap (λ (bs : List ℕ). unwrap_or (eol_len bs) 0) rest ∙ line_end_at s end ended in
+    ap (λ (bs : List ℕ). unwrap_or (eol_len bs) 0) rest ∙ line_end_at s end plain ended in
     omega arith
 
 -- a line end lies in the text, and is not empty
@@ -260,7 +303,7 @@ ends_line {s} {tokens} {answer} within line =
         | inl more ↦ omega (arith, c.order, line_end_some s end more)
         | inr past ↦ omega arith
       ];
-      place = line_place s end c line.division.ended;
+      place = line_place s end line.no_cell c line.division.ended;
       broken = break_in_line s end c.order c.within;
     })
 
@@ -269,7 +312,40 @@ pub ends_line-if : (s : Source) (old new : Forest Item) (r : Result (ℕ × Opti
 ends_line-if s old new (Ok a) within h = ends_line within h.line
 ends_line-if s old new (Err e) within h = tt
 
--- no token of a line touches the one before it
+-- where a cell ends
+content_reach : (s : Source) (end : ℕ) → IsContent s.text s.start end → end ≤ s.start + prefix_len is_content (drop s.start s.text)
+content_reach s end c =
+    let order = c.order in
+    let within = c.within in
+    let len = length-drop s.start s.text in
+    elim (cases_lt (prefix_len is_content (drop s.start s.text)) (end - s.start)) [
+      | inl short ↦
+          let n = prefix_len is_content (drop s.start s.text) in
+          let stops = prefix_len_stops is_content (drop s.start s.text) 0 (omega arith) in
+          let here = ap is_content (get_or-drop s.start s.text n 0) ∙ not_from_false _ (c.plain (s.start + n) (omega arith) (omega arith)) in
+          absurd (false≢true (sym stops ∙ here))
+      | inr whole ↦ omega arith
+    ]
+
+begun : (s : Source) (at : ℕ) (ps : List Piece) (end : ℕ) → ArePieces s at ps end → ends_at s end ≡ true → ends_at s at ≡ false → at < end
+begun s at [] end same ended on = absurd (false≢true (sym on ∙ ap (ends_at s) same ∙ ended))
+begun s at (p ∷ ps) end h ended on =
+    let some = piece_some s.text at p (piece_of s at p h.0 h.1) in
+    let rest = pieces_reach s (at + size p) ps end h.2 in
+    omega arith
+
+pub cell_ends : {s : Source} {tokens : List Item} {end : ℕ} → s.start ≤ length s.text → IsCell s tokens end → EndsCell s end
+cell_ends {s} {tokens} {end} within cell =
+    let c = content_of within cell.division in
+    record {
+      from = c.order;
+      within = c.within;
+      in_line = content_reach s end c;
+      ended = cell.division.ended;
+      later = begun s s.start cell.pieces end cell.division.divided cell.division.ended;
+    }
+
+-- no token of a line or a cell touches the one before it
 add_pieces-apart : (stop at : ℕ) (ps : List Piece) (chain : List Item) → AreApart chain → AreApart (add_pieces stop at ps chain)
 add_pieces-apart stop at [] chain h = h
 add_pieces-apart stop at (Left n ∷ ps) chain h = add_pieces-apart stop (at + n) ps _ (add_text-apart at (min (at + n) stop) false chain h)
@@ -277,12 +353,24 @@ add_pieces-apart stop at (Begins dropped escaped ∷ ps) chain h = add_pieces-ap
 add_pieces-apart stop at (Token dropped n body ∷ ps) chain h =
     add_pieces-apart stop (at + (dropped + n)) ps _ (add_token-apart chain (token (at + dropped) n body) h)
 
+pub cell_apart : {s : Source} {tokens : List Item} {end : ℕ} → IsCell s tokens end → AreApart tokens
+cell_apart {s} {tokens} {end} cell = subst AreApart (sym cell.tokens_are) (add_pieces-apart (end - blanks_at_end s end) s.start cell.pieces [] tt)
+
 pub line_apart : {s : Source} {tokens : List Item} {answer : ℕ × Option Item} → IsLine s tokens answer → AreApart tokens
 line_apart {s} line = subst AreApart (sym line.tokens_are) (add_pieces-apart (text_end s line.content_end) s.start line.pieces [] tt)
 
 -- the tokens of a line alone
 pub line_alone : {s : Source} {tokens : List Item} {answer : ℕ × Option Item} → IsLine s tokens answer → add_tokens [] tokens ≡ tokens
 line_alone {s} {tokens} line = add_tokens-none tokens (line_apart line)
+
+-- a cell appended behind a chain
+pub appended_cell : {s : Source} {old new : Forest Item} {end : ℕ} (f : Forest Item) (chain : List Item) (h : AppendsCell s old new end)
+    → old ≡ chained f chain → JoinsNone f → new ≡ chained f (add_tokens chain h.tokens)
+appended_cell f chain h is none = h.tree_is ∙ ap (λ (g : Forest Item). with_tokens g h.tokens) is ∙ with_tokens-chained f chain h.tokens none
+
+-- a cell appended where no text can be joined
+pub appended_cell_alone : {s : Source} {old new : Forest Item} {end : ℕ} (h : AppendsCell s old new end) → JoinsNone old → new ≡ chained old h.tokens
+appended_cell_alone {s} {old} h none = appended_cell old [] h refl none ∙ ap (chained old) (add_tokens-none h.tokens (cell_apart h.cell))
 
 -- a line appended behind a chain
 pub appended_line : {s : Source} {old new : Forest Item} {answer : ℕ × Option Item} (f : Forest Item) (chain : List Item) (h : AppendsLine s old new answer) → old ≡ chained f chain → JoinsNone f → new ≡ chained f (add_tokens chain h.tokens)

@@ -1,5 +1,5 @@
 -- The tokens of possible markup in a line stand over the bytes of their kinds, and no backquote is left to a text.
-use Rattle.std.proofs.Common.{◌≡◌, ℕ, ◌+◌, ◌≤◌, ◌==◌, ◌&&◌, Bool, true, false, nat_lt, min, List, [], ◌∷◌, Option, slice_index, sym, ap, subst, ◌∙◌, inl, inr, arith}
+use Rattle.std.proofs.Common.{◌≡◌, ℕ, ◌+◌, ◌-◌, ◌≤◌, ◌==◌, ◌&&◌, Bool, true, false, nat_lt, min, List, [], ◌∷◌, Option, slice_index, sym, ap, subst, ◌∙◌, inl, inr, arith}
 use Rattle.std.proofs.lemmas.Bool.{cases_lt, cond_both, and_parts, eqb-true, false≢true}
 use Rattle.first_pass_items.specs.declared.item.Item.{Item}
 use Rattle.first_pass_items.specs.declared.item.ItemBody.{ItemBody}
@@ -10,7 +10,7 @@ use Rattle.first_pass_tokens.specs.declared.pieces.Piece.TheVariants.{Left, Begi
 use Rattle.first_pass_tokens.specs.Pieces.{Source, size}
 use Rattle.first_pass_tokens.specs.MarkupBytes.{StandsOver, StandOver, HasNoBackquote, TextsHaveNoBackquote}
 use Rattle.first_pass_tokens.specs.Chains.{text_token, token, touches, add_token, add_text}
-use Rattle.first_pass_tokens.specs.LineTokens.{ArePieces, IsLine, add_piece, add_pieces, text_end}
+use Rattle.first_pass_tokens.specs.LineTokens.{ArePieces, IsLine, IsCell, add_piece, add_pieces, text_end, blanks_at_end}
 use Rattle.first_pass_tokens.proofs.PieceFacts.{IsPieceAt, markup_plain}
 use Rattle.first_pass_tokens.proofs.LineLemmas.{piece_of}
 
@@ -47,6 +47,11 @@ over_pieces : (s : Source) (stop at : ℕ) (ps : List Piece) (end : ℕ) (chain 
 over_pieces s stop at [] end chain are h = h
 over_pieces s stop at (p ∷ ps) end chain are h =
     over_pieces s stop (at + size p) ps end (add_piece stop at p chain) are.2 (over_piece s.text stop at p chain (piece_of s at p are.0 are.1) h)
+
+-- the tokens of a cell
+pub cell_over : {s : Source} {tokens : List Item} {end : ℕ} → IsCell s tokens end → StandOver s.text tokens
+cell_over {s} {tokens} {end} cell =
+    subst (StandOver s.text) (sym cell.tokens_are) (over_pieces s (end - blanks_at_end s end) s.start cell.pieces end [] cell.division.divided tt)
 
 -- the tokens of a line
 pub line_over : {s : Source} {tokens : List Item} {answer : ℕ × Option Item} → IsLine s tokens answer → StandOver s.text tokens
@@ -94,6 +99,12 @@ spare_pieces : (s : Source) (stop at : ℕ) (ps : List Piece) (end : ℕ) (chain
 spare_pieces s stop at [] end chain are h = h
 spare_pieces s stop at (p ∷ ps) end chain are h =
     spare_pieces s stop (at + size p) ps end (add_piece stop at p chain) are.2 (spare_piece s.text stop at p chain (piece_of s at p are.0 are.1) h)
+
+-- the texts of a cell
+pub cell_spares : {s : Source} {tokens : List Item} {end : ℕ} → IsCell s tokens end → TextsHaveNoBackquote s.text tokens
+cell_spares {s} {tokens} {end} cell =
+    subst (TextsHaveNoBackquote s.text) (sym cell.tokens_are)
+    (spare_pieces s (end - blanks_at_end s end) s.start cell.pieces end [] cell.division.divided tt)
 
 -- the texts of a line
 pub line_spares : {s : Source} {tokens : List Item} {answer : ℕ × Option Item} → IsLine s tokens answer → TextsHaveNoBackquote s.text tokens

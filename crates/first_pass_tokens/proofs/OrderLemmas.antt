@@ -1,4 +1,4 @@
--- Tokens one behind the other: a chain in order stays so with a token behind it, and the tokens of a line are in order.
+-- Tokens one behind the other: a chain in order stays so with a token behind it, and the tokens of a line or a cell are in order.
 use Rattle.std.proofs.Common.{ℕ, zero, suc, ◌≡◌, ◌⊎◌, ◌+◌, ◌-◌, ◌≤◌, ◌<◌, ◌==◌, ◌%◌, min, Bool, true, false, List, [], ◌∷◌, ◌++◌, length, take, drop, get_or, slice_index, nat_lt, nat_le, if◌then◌else◌, Option, Some, None, IfSome, IsUtf8, IsCharBoundary, refl, sym, ap, subst, ◌∙◌, inl, inr, arith, length-drop}
 use Rattle.std.specs.List.{suffix_len, slice_range}
 use Rattle.std.proofs.lemmas.List.{get_or-drop}
@@ -6,20 +6,20 @@ use Rattle.std.proofs.lemmas.List.Sums.{suffix_len-le-length, suffix_len-take_ye
 use Rattle.std.proofs.lemmas.Str.{IsCharBoundary-after_ascii, IsCharBoundary-before_ascii, IsCharBoundary-end}
 use Rattle.std.proofs.lemmas.Bool.{cases_lt, cases_Bool, cond_both, eqb-true, and_parts, false≢true}
 use Rattle.std.proofs.lemmas.Bool.Decides.{nat_tests}
+use Rattle.first_pass_items.specs.OptionWords.{has, tables}
 use Rattle.first_pass_items.specs.declared.item.Item.{Item}
-use Rattle.first_pass_items.specs.declared.item.ItemBody.{ItemBody}
 use Rattle.first_pass_lines.specs.Lines.{is_line_end, is_white}
 use Rattle.first_pass_lines.proofs.PlaceFacts.{line_end_boundary}
 use Rattle.first_pass_tokens.specs.declared.pieces.Piece.{Piece}
 use Rattle.first_pass_tokens.specs.declared.pieces.Piece.TheVariants.{Left, Begins, Token}
 use Rattle.first_pass_tokens.specs.Pieces.{Source}
-use Rattle.first_pass_tokens.specs.LineTokens.{ends_at, ArePieces, IsLine, EndsLine, add_pieces, text_end, breaks_by_backslash, backslashes_at_end, blanks_at_end, line_end_len, break_of, line_break}
+use Rattle.first_pass_tokens.specs.LineTokens.{ends_at, ends_cell, ArePieces, IsLine, IsCell, EndsLine, add_pieces, text_end, breaks_by_backslash, backslashes_at_end, blanks_at_end, line_end_len, break_of, line_break}
 use Rattle.first_pass_tokens.specs.Chains.{text_token, token, touches, add_token, add_tokens, add_text, is_backslash_break, close_break}
 use Rattle.first_pass_tokens.specs.Order.{AreInOrder}
 use Rattle.first_pass_tokens.proofs.ChainLemmas.{add_text-none}
 use Rattle.first_pass_tokens.proofs.PieceFacts.{IsVisible, IsEscape, IsMarkup, at_byte, visible_solid}
 use Rattle.first_pass_tokens.proofs.LineLemmas.{piece_of, pieces_reach, ended_by, content_of, ends_line}
-use Rattle.first_pass_tokens.proofs.SoFar.{add_text_grows, begins_before, text_end_within}
+use Rattle.first_pass_tokens.proofs.SoFar.{IsTextEnd, add_text_grows, line_text_end, cell_text_end}
 
 -- the first of two offsets is not behind the other
 pub order_bound : (text : List ℕ) (from to : ℕ) (chain : List Item) → AreInOrder text from to chain → from ≤ to
@@ -62,36 +62,8 @@ order_text text from mid a b escaped chain h behind order starts ends =
     (λ some. order_add text from mid chain (text_token a b escaped) h behind order starts ends)
     (λ none. order_to text from mid b chain h (omega arith))
 
--- the tokens of a content end before an offset or there
-abbrev pub IsBehindTokens : Source → ℕ → ℕ → Type 0
-IsBehindTokens s end stop =
-    (at dropped n : ℕ) (body : ItemBody) → s.start ≤ at → at + dropped + n ≤ end → IsMarkup s.text at dropped n body → at + dropped + n ≤ stop
-
--- they end before the white space at its end, and before the backslash that breaks its line
-pub text_end_behind : (s : Source) (end : ℕ) → end ≤ length s.text → IsBehindTokens s end (text_end s end)
-text_end_behind s end within at dropped n body from inside markup =
-    let last = markup.bytes (at + dropped + n - 1) (omega (arith, markup.some)) (omega (arith, markup.some)) in
-    begins_before s (at + dropped + n) end (omega arith) inside within
-    (inr (omega (arith, markup.some), visible_solid (slice_index s.text (at + dropped + n - 1)) last, inr markup.last))
-
--- a chain in order, the text that grows behind it, and pieces; texts stop at an offset, and all tokens end before it
-module _ (s : Source) (utf8 : IsUtf8 s.text) (stop end from : ℕ) (stops : IsCharBoundary s.text stop) (within : stop ≤ end)
-    (tokens : IsBehindTokens s end stop) where
-  -- past that offset, no piece adds anything
-  stopped : (at : ℕ) (ps : List Piece) (chain : List Item) → ArePieces s at ps end → s.start ≤ at → stop ≤ at → add_pieces stop at ps chain ≡ chain
-  stopped at [] chain pieces low past = refl
-  stopped at (Left n ∷ ps) chain pieces low past =
-      ap (add_pieces stop (at + n) ps) (add_text-none at (min (at + n) stop) false chain (omega arith))
-      ∙ stopped (at + n) ps chain pieces.2 (omega arith) (omega arith)
-  stopped at (Begins dropped escaped ∷ ps) chain pieces low past =
-      ap (add_pieces stop (at + (dropped + 1)) ps) (add_text-none (at + dropped) (min (at + (dropped + 1)) stop) escaped chain (omega arith))
-      ∙ stopped (at + (dropped + 1)) ps chain pieces.2 (omega arith) (omega arith)
-  stopped at (Token dropped n body ∷ ps) chain pieces low past =
-      let facts : IsMarkup s.text at dropped n body = piece_of s at (Token dropped n body) pieces.0 pieces.1 in
-      let reach = pieces_reach s (at + (dropped + n)) ps end pieces.2 in
-      let before = tokens at dropped n body low (omega arith) facts in
-      absurd (omega (arith, facts.some))
-
+-- a chain in order, the text that grows behind it, and pieces; texts stop at an offset
+module _ (s : Source) (utf8 : IsUtf8 s.text) (stop end from : ℕ) (stops : IsCharBoundary s.text stop) (last_text : IsTextEnd s end stop) where
   -- a visible byte stands between two characters
   place_before : (at : ℕ) → IsVisible (slice_index s.text at) → IsCharBoundary s.text at
   place_before at h = IsCharBoundary-before_ascii s.text at (at_byte s.text at (omega (arith, h.0))) (omega (arith, h.1))
@@ -115,27 +87,24 @@ module _ (s : Source) (utf8 : IsUtf8 s.text) (stop end from : ℕ) (stops : IsCh
       let facts : IsEscape s.text at dropped = piece_of s at (Begins dropped mark_next) pieces.0 pieces.1 in
       let here = place_before at (facts.bytes at (omega arith) (omega arith)) in
       let behind = place_before (at + dropped) (facts.bytes (at + dropped) (omega arith) (omega arith)) in
-      elim (cases_lt at stop) [
-        | inl more ↦
-            let cut : min at stop ≡ at = omega arith in
-            pieces_in_order (at + (dropped + 1)) ps (at + dropped) mark_next (add_text begin (min at stop) escaped chain) pieces.2
-            (omega arith) (omega arith) (inl (omega arith)) (omega (arith, facts.one)) behind
-            (rw cut (order_to s.text from at (at + dropped) (add_text begin at escaped chain) (order_text s.text from begin begin at escaped chain h (omega arith) upto starts here) (omega arith)))
-        | inr past ↦
-            let cut : min at stop ≡ stop = omega arith in
-            subst (AreInOrder s.text from stop)
-            (sym (stopped at (Begins dropped mark_next ∷ ps) (add_text begin (min at stop) escaped chain) pieces (omega arith) past))
-            (rw cut (order_text s.text from begin begin stop escaped chain h (omega arith) ahead starts stops))
-      ]
+      let reach = pieces_reach s (at + (dropped + 1)) ps end pieces.2 in
+      let backslash = facts.backslashes (at + dropped - 1) (omega (arith, facts.some)) (omega (arith, facts.some)) in
+      let before : at + dropped ≤ stop = last_text.behind (at + dropped) (omega arith) (omega arith)
+      (inr (omega (arith, facts.some), ap is_white backslash, inl (omega arith))) in
+      let cut : min at stop ≡ at = omega arith in
+      pieces_in_order (at + (dropped + 1)) ps (at + dropped) mark_next (add_text begin (min at stop) escaped chain) pieces.2
+      (omega arith) (omega arith) (inl (omega arith)) before behind
+      (rw cut (order_to s.text from at (at + dropped) (add_text begin at escaped chain)
+      (order_text s.text from begin begin at escaped chain h (omega arith) upto starts here) (omega arith)))
   pieces_in_order at (Token dropped n body ∷ ps) begin escaped chain pieces low upto mark ahead starts h =
       let facts : IsMarkup s.text at dropped n body = piece_of s at (Token dropped n body) pieces.0 pieces.1 in
       let reach = pieces_reach s (at + (dropped + n)) ps end pieces.2 in
-      let before : at + dropped + n ≤ stop = tokens at dropped n body (omega arith) (omega arith) facts in
+      let byte = facts.bytes (at + dropped + n - 1) (omega (arith, facts.some)) (omega (arith, facts.some)) in
+      let before : at + dropped + n ≤ stop = last_text.behind (at + dropped + n) (omega arith) (omega arith)
+      (inr (omega (arith, facts.some), visible_solid (slice_index s.text (at + dropped + n - 1)) byte, inr facts.last)) in
       let here = place_before at (facts.bytes at (omega arith) (omega (arith, facts.some))) in
       let first = place_before (at + dropped) (facts.bytes (at + dropped) (omega arith) (omega (arith, facts.some))) in
-      let last =
-      place_behind (at + dropped + n) (omega (arith, facts.some))
-      (facts.bytes (at + dropped + n - 1) (omega (arith, facts.some)) (omega (arith, facts.some))) in
+      let last = place_behind (at + dropped + n) (omega (arith, facts.some)) byte in
       let cut : min at stop ≡ at = omega arith in
       let more = add_token (add_text begin at escaped chain) (token (at + dropped) n body) in
       let none = add_text-none (at + dropped + n) (min (at + (dropped + n)) stop) false more (omega arith) in
@@ -197,6 +166,9 @@ content_last p text start end order within some =
 line_end_small : (b : ℕ) → is_line_end b ≡ true → b < 128
 line_end_small b h = grind (arith, nat_tests, h)
 
+cell_end_small : (s : Source) (b : ℕ) → ends_cell s b ≡ true → b < 128
+cell_end_small s b h = (let pipe = eqb-true b 124 (and_parts (has s.options tables) (b == 124) (and_parts s.row _ h).1).1 in omega arith)
+
 white_small : (b : ℕ) → is_white b ≡ true → b < 128
 white_small b h = grind (arith, nat_tests, h)
 
@@ -205,12 +177,13 @@ abbrev IsPlaceFrom : List ℕ → ℕ → ℕ → Type 0
 IsPlaceFrom text start at = (start ≤ at) × IsCharBoundary text at
 
 -- a content ends between two characters
-content_boundary : (s : Source) (end : ℕ) → end ≤ length s.text → ends_at s end ≡ true → IsCharBoundary s.text end
+pub content_boundary : (s : Source) (end : ℕ) → end ≤ length s.text → ends_at s end ≡ true → IsCharBoundary s.text end
 content_boundary s end within ended =
     elim (cases_lt end (length s.text)) [
       | inl more ↦ elim (ended_by s end ended) [
         | inl past ↦ absurd (omega arith)
-        | inr line ↦ IsCharBoundary-before_ascii s.text end more (line_end_small (slice_index s.text end) line)
+        | inr byte ↦ IsCharBoundary-before_ascii s.text end more
+            (elim byte [ inl line ↦ line_end_small (slice_index s.text end) line | inr cell ↦ cell_end_small s (slice_index s.text end) cell ])
       ]
       | inr past ↦ let e : end ≡ length s.text = omega arith in subst (IsCharBoundary s.text) (sym e) (IsCharBoundary-end s.text)
     ]
@@ -292,6 +265,30 @@ pub record LineInOrder (s : Source) (stop : ℕ) (tokens : List Item) (answer : 
   pub ends : IsCharBoundary s.text answer.0
   pub break_fits : IfSome answer.1 (StandsBehind s.text stop answer.0)
 
+-- the tokens of a content whose texts stop at an offset
+content_in_order : (s : Source) (pieces : List Piece) (end stop : ℕ) → IsUtf8 s.text → IsCharBoundary s.text s.start → ArePieces s s.start pieces end
+    → IsTextEnd s end stop → IsPlaceFrom s.text s.start stop → AreInOrder s.text s.start stop (add_pieces stop s.start pieces [])
+content_in_order s pieces end stop utf8 boundary are last_text place =
+    let empty : add_text s.start (min s.start stop) false [] ≡ [] = add_text-none s.start (min s.start stop) false [] (omega arith) in
+    subst (AreInOrder s.text s.start stop) (ap (add_pieces stop s.start pieces) empty)
+    (pieces_in_order s utf8 stop end s.start place.1 last_text s.start pieces s.start false [] are
+    (omega arith) (omega arith) (inr refl) place.0 boundary (omega arith))
+
+-- The tokens of a cell are in order from its start up to its end, which stands between two characters.
+pub cell_in_order : {s : Source} {tokens : List Item} {end : ℕ} → IsUtf8 s.text → IsCharBoundary s.text s.start → s.start ≤ length s.text → IsCell s tokens end
+    → AreInOrder s.text s.start end tokens
+cell_in_order {s} {tokens} {end} utf8 boundary within cell =
+    let c = content_of within cell.division in
+    let stop = end - blanks_at_end s end in
+    let finish = content_boundary s end c.within cell.division.ended in
+    subst (AreInOrder s.text s.start end) (sym cell.tokens_are)
+    (order_to s.text s.start stop end (add_pieces stop s.start cell.pieces [])
+    (content_in_order s cell.pieces end stop utf8 boundary cell.division.divided (cell_text_end s end c.within)
+    (blanks_by s end (blanks_at_end s end) refl c.order c.within finish)) (omega arith))
+
+pub cell_end_place : {s : Source} {tokens : List Item} {end : ℕ} → s.start ≤ length s.text → IsCell s tokens end → IsCharBoundary s.text end
+cell_end_place {s} {tokens} {end} within cell = content_boundary s end (content_of within cell.division).within cell.division.ended
+
 -- the tokens and the break of a line
 pub line_in_order : {s : Source} {tokens : List Item} {answer : ℕ × Option Item} → IsUtf8 s.text → IsCharBoundary s.text s.start → s.start ≤ length s.text → (line : IsLine s tokens answer) → LineInOrder s (text_end s line.content_end) tokens answer
 line_in_order {s} {tokens} {answer} utf8 boundary within line =
@@ -299,15 +296,14 @@ line_in_order {s} {tokens} {answer} utf8 boundary within line =
     let c = content_of within line.division in
     let finish = content_boundary s end c.within line.division.ended in
     let place = text_end_place s end c.order c.within finish in
-    let short = text_end_within s end in
+    let last_text = line_text_end s end c.within in
+    let short = last_text.short in
     let next = line_end_place utf8 boundary (ends_line within line) in
     let answer_is : answer.0 ≡ end + line_end_len s end = ap (λ (a : ℕ × Option Item). a.0) line.answer_is in
     let break_is : answer.1 ≡ line_break s end = ap (λ (a : ℕ × Option Item). a.1) line.answer_is in
-    let empty : add_text s.start (min s.start (text_end s end)) false [] ≡ [] = add_text-none s.start (min s.start (text_end s end)) false [] (omega arith) in
     record {
-      tokens_fit = subst (AreInOrder s.text s.start (text_end s end)) (ap (add_pieces (text_end s end) s.start line.pieces) empty ∙ sym line.tokens_are)
-          (pieces_in_order s utf8 (text_end s end) end s.start place.1 short (text_end_behind s end c.within)
-          s.start line.pieces s.start false [] line.division.divided (omega arith) (omega arith) (inr refl) place.0 boundary (omega arith));
+      tokens_fit = subst (AreInOrder s.text s.start (text_end s end)) (sym line.tokens_are)
+          (content_in_order s line.pieces end (text_end s end) utf8 boundary line.division.divided last_text place);
       before = omega arith;
       ends = next;
       break_fits = subst (λ (o : Option Item). IfSome o (StandsBehind s.text (text_end s end) answer.0)) (sym break_is) (break_stands s end answer.0 answer_is c.order c.within finish next);

@@ -1,5 +1,5 @@
 -- The piece at a place, case by case: which bytes it has, and which token. What else is said of pieces rests on these facts alone.
-use Rattle.std.proofs.Common.{◌≡◌, ℕ, ◌+◌, ◌-◌, ◌≤◌, ◌<◌, ◌==◌, ◌&&◌, not, Bool, true, false, List, length, drop, get_or, slice_index, refl, sym, ap, subst, ◌∙◌, inl, inr, arith, length-drop}
+use Rattle.std.proofs.Common.{◌≡◌, ℕ, ◌+◌, ◌-◌, ◌≤◌, ◌<◌, ◌==◌, ◌&&◌, not, Bool, true, false, List, length, drop, get_or, slice_index, Option, unwrap_or, refl, sym, ap, subst, ◌∙◌, inl, inr, arith, length-drop}
 use Rattle.std.specs.Char.{is_ascii_punctuation}
 use Rattle.std.specs.List.{prefix_len}
 use Rattle.std.proofs.lemmas.List.{get_or-drop, get_or_past}
@@ -15,7 +15,7 @@ use Rattle.first_pass_walk.specs.Walk.{is_special}
 use Rattle.first_pass_tokens.specs.declared.pieces.Piece.{Piece}
 use Rattle.first_pass_tokens.specs.declared.pieces.Piece.TheVariants.{Left, Begins, Token}
 use Rattle.first_pass_tokens.specs.MarkupBytes.{AreBackquotes, StandsOver}
-use Rattle.first_pass_tokens.specs.Pieces.{Source, piece_at, special_piece, backslash_piece, backquote_piece, run_at}
+use Rattle.first_pass_tokens.specs.Pieces.{Source, piece_at, special_piece, backslash_piece, backslash_piece_in, backquote_piece, run_at}
 
 -- a visible character of ASCII
 abbrev pub IsVisible : ℕ → Type 0
@@ -43,17 +43,18 @@ pub markup_unescaped : (body : ItemBody) → is_markup body ≡ true → is_esca
 markup_unescaped (Text escaped) h = absurd (false≢true h)
 markup_unescaped _ h = refl
 
--- a backslash that is dropped, and a punctuation character
+-- backslashes that are dropped, and a punctuation character
 pub record IsEscape (text : List ℕ) (at dropped : ℕ) : Type 0 where
-  pub one : dropped ≡ 1
+  pub some : 0 < dropped
   pub bytes : AreVisible text at (dropped + 1)
-  pub backslash : slice_index text at ≡ 92
+  pub backslashes : (k : ℕ) → at ≤ k → k < at + dropped → slice_index text k ≡ 92
   pub punctuation : is_ascii_punctuation (slice_index text (at + dropped)) ≡ true
   pub other : (slice_index text (at + dropped) == 96) ≡ false
 
 -- a token's bytes, behind those that are dropped
 pub record IsMarkup (text : List ℕ) (at dropped n : ℕ) (body : ItemBody) : Type 0 where
   pub some : 0 < n
+  pub few : dropped ≤ 1
   pub bytes : AreVisible text at (dropped + n)
   pub last : (slice_index text (at + dropped + n - 1) == 92) ≡ false
   pub kind : is_markup body ≡ true
@@ -79,6 +80,24 @@ module _ (text : List ℕ) (at : ℕ) where
       elim (cases_lt k (at + 1)) [
         | inl first ↦ one_visible here k low first
         | inr later ↦ let same : at + 1 ≡ k = omega arith in subst (λ (x : ℕ). IsVisible (slice_index text x)) same next
+      ]
+
+  three_visible : IsVisible (slice_index text at) → IsVisible (slice_index text (at + 1)) → IsVisible (slice_index text (at + 2)) → AreVisible text at 3
+  three_visible here next behind k low high =
+      elim (cases_lt k (at + 2)) [
+        | inl before ↦ two_visible here next k low before
+        | inr later ↦ let same : at + 2 ≡ k = omega arith in subst (λ (x : ℕ). IsVisible (slice_index text x)) same behind
+      ]
+
+  -- one backslash, and two
+  one_backslash : slice_index text at ≡ 92 → (k : ℕ) → at ≤ k → k < at + 1 → slice_index text k ≡ 92
+  one_backslash is k low high = (let same : k ≡ at = omega arith in ap (slice_index text) same ∙ is)
+
+  two_backslashes : slice_index text at ≡ 92 → slice_index text (at + 1) ≡ 92 → (k : ℕ) → at ≤ k → k < at + 2 → slice_index text k ≡ 92
+  two_backslashes is next k low high =
+      elim (cases_lt k (at + 1)) [
+        | inl first ↦ one_backslash is k low first
+        | inr later ↦ let same : k ≡ at + 1 = omega arith in ap (slice_index text) same ∙ next
       ]
 
   -- a run of a byte
@@ -113,6 +132,7 @@ module _ (text : List ℕ) (at : ℕ) where
       → StandsOver text at (at + 1) body → IsMarkup text at 0 1 body
   one_byte b body is visible other kind over = record {
     some = omega arith;
+    few = omega arith;
     bytes = one_visible (subst IsVisible (sym is) visible);
     last = let place : at + 0 + 1 - 1 ≡ at = omega arith in ap (λ (k : ℕ). slice_index text k == 92) place ∙ ap (λ (x : ℕ). x == 92) is ∙ other;
     kind = kind;
@@ -123,6 +143,7 @@ module _ (text : List ℕ) (at : ℕ) where
   image_facts : slice_index text at ≡ 33 → slice_index text (at + 1) ≡ 91 → IsMarkup text at 0 2 MaybeImage
   image_facts is next = record {
     some = omega arith;
+    few = omega arith;
     bytes = two_visible (omega (arith, is), omega (arith, is)) (omega (arith, next), omega (arith, next));
     last = let place : at + 0 + 2 - 1 ≡ at + 1 = omega arith in ap (λ (k : ℕ). slice_index text k == 92) place ∙ ap (λ (x : ℕ). x == 92) next;
     kind = refl;
@@ -140,6 +161,7 @@ module _ (text : List ℕ) (at : ℕ) where
   run_facts : slice_index text at ≡ 96 → 0 < run_at text at → (n : ℕ) → n ≡ run_at text at → IsMarkup text at 0 n (MaybeCode n false)
   run_facts is some n same = record {
     some = omega arith;
+    few = omega arith;
     bytes = λ k low high. run_visible (omega (arith, is), omega (arith, is)) k low (omega arith);
     last =
         let place = run_same (at + 0 + n - 1) (omega arith) (omega arith) in
@@ -206,6 +228,7 @@ module _ (text : List ℕ) (at : ℕ) (within : at < length text) where
       let run = run_facts text (at + 1) next (run_some text (at + 1) (at_byte text (at + 1) (omega arith))) (run_at text (at + 1)) refl in
       record {
         some = run.some;
+        few = omega arith;
         bytes = λ k low high. elim (cases_lt k (at + 1)) [
           | inl first ↦ one_visible text at (omega (arith, is), omega (arith, is)) k low first
           | inr later ↦ run.bytes k later (omega arith)
@@ -218,21 +241,49 @@ module _ (text : List ℕ) (at : ℕ) (within : at < length text) where
       })
       (λ other. cond_both (is_ascii_punctuation (slice_index text (at + 1))) (Begins 1 true) (Left 1) (IsPieceAt text at)
       (λ punctuation. record {
-        one = refl;
+        some = omega arith;
         bytes = two_visible text at (omega (arith, is), omega (arith, is)) (punctuation_visible (slice_index text (at + 1)) punctuation);
-        backslash = is;
+        backslashes = one_backslash text at is;
         punctuation = punctuation;
         other = other;
       })
       (λ left. (refl, ap (λ (x : ℕ). x == 96) is)))
 
+  -- in a row it is dropped before a pipe, and so are two of them
+  backslash_in_facts : (row : Bool) → slice_index text at ≡ 92 → IsPieceAt text at (backslash_piece_in row text at)
+  backslash_in_facts false is = backslash_facts is
+  backslash_in_facts true is =
+      let holds : Option Piece → Type 0 = λ o. IsPieceAt text at (unwrap_or o (backslash_piece text at)) in
+      cond_both (slice_index text (at + 1) == 124) _ _ holds
+      (λ h. let pipe = eqb-true (slice_index text (at + 1)) 124 h in
+      record {
+        some = omega arith;
+        bytes = two_visible text at (omega (arith, is), omega (arith, is)) (omega (arith, pipe), omega (arith, pipe));
+        backslashes = one_backslash text at is;
+        punctuation = ap is_ascii_punctuation pipe;
+        other = ap (λ (x : ℕ). x == 96) pipe;
+      })
+      (λ other. cond_both (slice_index text (at + 1) == 92 && slice_index text (at + 2) == 124) _ _ holds
+      (λ h. let both = and_parts (slice_index text (at + 1) == 92) (slice_index text (at + 2) == 124) h in
+      let next = eqb-true (slice_index text (at + 1)) 92 both.0 in
+      let pipe = eqb-true (slice_index text (at + 2)) 124 both.1 in
+      record {
+        some = omega arith;
+        bytes = three_visible text at (omega (arith, is), omega (arith, is)) (omega (arith, next), omega (arith, next))
+            (omega (arith, pipe), omega (arith, pipe));
+        backslashes = two_backslashes text at is next;
+        punctuation = ap is_ascii_punctuation pipe;
+        other = ap (λ (x : ℕ). x == 96) pipe;
+      })
+      (λ none. backslash_facts is))
+
   -- the piece at a special byte
-  special_facts : IsPieceAt text at (special_piece text at)
+  special_facts : (row : Bool) → IsPieceAt text at (special_piece row text at)
   unfolding special_piece
-  special_facts =
+  special_facts row =
       let holds : Piece → Type 0 = IsPieceAt text at in
       let b = slice_index text at in
-      cond_both (b == 92) _ _ holds (λ h. backslash_facts (eqb-true b 92 h))
+      cond_both (b == 92) _ _ holds (λ h. backslash_in_facts row (eqb-true b 92 h))
       (λ h₁. cond_both (b == 96) _ _ holds (λ h. backquote_facts (eqb-true b 96 h))
       (λ h₂. cond_both (b == 60 && not (slice_index text (at + 1) == 92)) _ _ holds
       (λ h. let is = eqb-true b 60 (and_parts (b == 60) _ h).0 in
@@ -262,5 +313,5 @@ special_backquote options = refl
 pub piece_facts : (s : Source) (at : ℕ) → at < length s.text → IsPieceAt s.text at (piece_at s at)
 unfolding piece_at
 piece_facts s at within =
-    cond_both (is_special s.options (slice_index s.text at)) (special_piece s.text at) (Left 1) (IsPieceAt s.text at)
-    (λ b. special_facts s.text at within) (λ b. (refl, off (slice_index s.text at) 96 s.options (special_backquote s.options) b))
+    cond_both (is_special s.options (slice_index s.text at)) (special_piece s.row s.text at) (Left 1) (IsPieceAt s.text at)
+    (λ b. special_facts s.text at within s.row) (λ b. (refl, off (slice_index s.text at) 96 s.options (special_backquote s.options) b))

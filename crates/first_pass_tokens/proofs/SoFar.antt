@@ -2,20 +2,20 @@
 use Rattle.std.proofs.Common.{ℕ, zero, suc, ◌≡◌, ◌⊎◌, ◌+◌, ◌-◌, ◌≤◌, ◌<◌, ◌==◌, ◌%◌, min, Bool, true, false, List, [], ◌∷◌, ◌++◌, length, slice_index, nat_lt, Option, Result, Ok, Err, OnOk, IfOk, refl, sym, ap, subst, ◌∙◌, inl, inr, arith}
 use Rattle.std.specs.List.{suffix_len, slice_range}
 use Rattle.std.specs.declared.alloc.AllocError.{AllocError}
-use Rattle.std.proofs.lemmas.Bool.{cases_lt, cases_Bool, lt-leb, le-leb, or_from, or_left, or_right, cond_both, cond-true, cond-false, and_parts, eqb-true}
+use Rattle.std.proofs.lemmas.Bool.{cases_lt, cases_Bool, lt-leb, le-leb, or_from, or_parts, or_left, and_right, cond_both, cond-true, cond-false, and_parts, eqb-true}
 use Rattle.first_pass_items.specs.declared.item.Item.{Item}
 use Rattle.first_pass_items.specs.declared.option_set.Options.{Options}
 use Rattle.first_pass_tree.specs.Forest.{Forest, appended, with_text}
-use Rattle.first_pass_lines.specs.Lines.{is_line_end, is_white}
-use Rattle.first_pass_walk.specs.Walk.{is_special}
+use Rattle.first_pass_lines.specs.Lines.{is_white}
+use Rattle.first_pass_walk.specs.Walk.{is_special, begins_token, begins_cell}
 use Rattle.first_pass_tokens.specs.declared.line.Pending.{Pending}
 use Rattle.first_pass_tokens.specs.declared.pieces.Piece.{Piece}
 use Rattle.first_pass_tokens.specs.declared.pieces.Piece.TheVariants.{Left, Begins, Token}
 use Rattle.first_pass_tokens.specs.Chains.{token, add_token, add_text}
 use Rattle.first_pass_tokens.specs.Pieces.{Source, piece_at, special_piece, size, EndsSolid}
 use Rattle.first_pass_tokens.specs.LineTokens.{ends_at, ArePieces, add_piece, add_pieces, text_end, breaks_by_backslash, backslashes_at_end, blanks_at_end, line_end_len, line_break}
-use Rattle.first_pass_tokens.specs.TreeTokens.{with_tokens, AppendsLine}
-use Rattle.first_pass_tokens.specs.Pending.{pending_after, tree_after}
+use Rattle.first_pass_tokens.specs.TreeTokens.{with_tokens, AppendsLine, AppendsCell}
+use Rattle.first_pass_tokens.specs.Pending.{pending_after, tree_after, IsReadTo}
 use Rattle.first_pass_tokens.proofs.PieceFacts.{IsPieceAt, IsMarkup, markup_plain, visible_solid, off}
 use Rattle.first_pass_tokens.proofs.ChainLemmas.{add_text-none, add_text-joined, with_tokens-text, with_tokens-add, with_token-plain}
 use Rattle.first_pass_tokens.proofs.LineLemmas.{are_more, add_pieces_more, end_bounded, piece_of}
@@ -50,16 +50,22 @@ special_cr : (options : Options) → is_special options 13 ≡ true
 unfolding is_special
 special_cr options = refl
 
+-- with tables a pipe is special
+plain_cell : (options : Options) (b : ℕ) → is_special options b ≡ false → begins_cell options b ≡ false
+unfolding is_special
+plain_cell options b plain = (or_parts (begins_cell options b) _ (or_parts (begins_token b) _ plain).1).0
+
 -- a byte that is not special is a piece by itself, and ends no content
 plain_piece : (z : Source) (at : ℕ) → at < length z.text → is_special z.options (slice_index z.text at) ≡ false → (ends_at z at ≡ false) × (piece_at z at ≡ Left 1)
 unfolding ends_at piece_at
 plain_piece z at within plain =
     let b = slice_index z.text at in
     let line = or_from _ _ (off b 10 z.options (special_lf z.options) plain) (off b 13 z.options (special_cr z.options) plain) in
-    (or_from _ _ (lt-leb (length z.text) at within) line, cond-false _ _ _ plain)
+    let cell = and_right z.row _ (plain_cell z.options b plain) in
+    (or_from _ _ (lt-leb (length z.text) at within) (or_from _ _ line cell), cond-false _ _ _ plain)
 
 -- the piece at a special byte
-pub piece_special : (z : Source) (at : ℕ) → is_special z.options (slice_index z.text at) ≡ true → special_piece z.text at ≡ piece_at z at
+pub piece_special : (z : Source) (at : ℕ) → is_special z.options (slice_index z.text at) ≡ true → special_piece z.row z.text at ≡ piece_at z at
 unfolding piece_at
 piece_special z at special = sym (cond-true _ _ _ special)
 
@@ -180,11 +186,20 @@ so_far_upto z chain pending at to s order within plain =
     subst (SoFar z chain pending) there
     (so_far_bytes z chain pending (to - at) at s (omega arith) (λ k low high. plain_piece z k (omega arith) (plain k low (omega arith))))
 
--- the text that is left ends where it begins or behind that
-pub begins_before : (z : Source) (begin end : ℕ) → z.start ≤ begin → begin ≤ end → end ≤ length z.text
+-- the text that is left begins before the white space at the end
+begins_before_white : (z : Source) (begin end : ℕ) → z.start ≤ begin → begin ≤ end → end ≤ length z.text
+    → BeginsText z.text z.start begin end → begin ≤ end - blanks_at_end z end
+unfolding blanks_at_end
+begins_before_white z begin end low high within begins =
+    let bound : suffix_len is_white (slice_range z.text z.start end) ≤ end - begin =
+    end_bounded is_white z.text z.start begin end low high within (elim begins [ inl same ↦ inl same | inr at ↦ inr (at.0, at.1) ]) in
+    omega arith
+
+-- and before the backslash that breaks a line
+begins_before_break : (z : Source) (begin end : ℕ) → z.start ≤ begin → begin ≤ end → end ≤ length z.text
     → BeginsText z.text z.start begin end → begin ≤ text_end z end
-unfolding text_end breaks_by_backslash backslashes_at_end blanks_at_end
-begins_before z begin end low high within begins =
+unfolding text_end breaks_by_backslash backslashes_at_end
+begins_before_break z begin end low high within begins =
     elim (cases_Bool (breaks_by_backslash z end)) [
       | inl breaks ↦
           rw breaks
@@ -201,15 +216,24 @@ begins_before z begin end low high within begins =
             ]
           ])
       | inr plain ↦
-          rw plain
-          (let bound : suffix_len is_white (slice_range z.text z.start end) ≤ end - begin = end_bounded is_white z.text z.start begin end low high within (elim begins [ inl same ↦ inl same | inr at ↦ inr (at.0, at.1) ]) in
-          omega arith)
+          rw plain (begins_before_white z begin end low high within begins)
     ]
 
 -- the last text of a content ends in it
-pub text_end_within : (z : Source) (end : ℕ) → text_end z end ≤ end
+text_end_within : (z : Source) (end : ℕ) → text_end z end ≤ end
 unfolding text_end
 text_end_within z end = cond_both (breaks_by_backslash z end) (end - 1) (end - blanks_at_end z end) (λ (x : ℕ). x ≤ end) (λ b. omega arith) (λ b. omega arith)
+
+-- an offset where the last text of a content may end: a text of it that is pending begins there or before
+pub record IsTextEnd (z : Source) (end stop : ℕ) : Type 0 where
+  pub short : stop ≤ end
+  pub behind : (begin : ℕ) → z.start ≤ begin → begin ≤ end → BeginsText z.text z.start begin end → begin ≤ stop
+
+pub line_text_end : (z : Source) (end : ℕ) → end ≤ length z.text → IsTextEnd z end (text_end z end)
+line_text_end z end within = record { short = text_end_within z end; behind = λ begin low high begins. begins_before_break z begin end low high within begins }
+
+pub cell_text_end : (z : Source) (end : ℕ) → end ≤ length z.text → IsTextEnd z end (end - blanks_at_end z end)
+cell_text_end z end within = record { short = omega arith; behind = λ begin low high begins. begins_before_white z begin end low high within begins }
 
 -- The content is read up to a place, and its tokens up to there are in the tree, but for a text that is not appended yet.
 pub record IsRead (z : Source) (old tree : Forest Item) (pending : Pending) (at : ℕ) : Type 0 where
@@ -249,45 +273,48 @@ read_piece {z} {old} {tree} {new} {pending} {next} {at} p r on is fits ends tree
     })
 
 -- the whole content
-read_end : (z : Source) (old tree new : Forest Item) (pending : Pending) (end : ℕ) → IsRead z old tree pending end → ends_at z end ≡ true → new ≡ with_text tree pending.begin (text_end z end) pending.escaped
-    → AppendsLine z old new (end + line_end_len z end, line_break z end)
-read_end z old tree new pending end r ended new_is =
+pub read_all : (z : Source) (old tree : Forest Item) (pending : Pending) (end : ℕ) → IsRead z old tree pending end
+    → ends_at z end ≡ true → IsReadTo z old tree end pending
+read_all z old tree pending end r ended =
     let s = r.read in
-    let before = begins_before z pending.begin end s.from s.upto s.within s.begins in
     record {
-      tokens = add_text pending.begin (text_end z end) pending.escaped r.tokens;
-      line = record {
-        pieces = s.pieces;
-        content_end = end;
-        division = record { divided = s.divided; ended = ended };
-        tokens_are =
-            let here : min end (text_end z end) ≡ text_end z end = omega (arith, text_end_within z end) in
-            sym (s.shown (text_end z end) before ∙ ap (λ (x : ℕ). add_text pending.begin x pending.escaped r.tokens) here);
-        answer_is = refl;
-      };
-      tree_is = new_is ∙ ap (λ (f : Forest Item). with_text f pending.begin (text_end z end) pending.escaped) r.tree_is
-          ∙ sym (with_tokens-text old r.tokens pending.begin (text_end z end) pending.escaped before);
+      pieces = s.pieces;
+      division = record { divided = s.divided; ended = ended };
+      before_break = (line_text_end z end s.within).behind pending.begin s.from s.upto s.begins;
+      before_white = (cell_text_end z end s.within).behind pending.begin s.from s.upto s.begins;
+      appended = λ stop ahead inside.
+          let here : min end stop ≡ stop = omega arith in
+          ap (λ (f : Forest Item). with_text f pending.begin stop pending.escaped) r.tree_is
+          ∙ sym (with_tokens-text old r.tokens pending.begin stop pending.escaped ahead)
+          ∙ ap (with_tokens old) (sym (s.shown stop ahead ∙ ap (λ (x : ℕ). add_text pending.begin x pending.escaped r.tokens) here));
     }
 
+-- a line whose content is read, once the text that is pending is appended
+read_line : (z : Source) (old tree new : Forest Item) (pending : Pending) (end : ℕ) → z.row ≡ false → IsReadTo z old tree end pending
+    → new ≡ with_text tree pending.begin (text_end z end) pending.escaped → AppendsLine z old new (end + line_end_len z end, line_break z end)
+read_line z old tree new pending end plain r new_is = record {
+  tokens = add_pieces (text_end z end) z.start r.pieces [];
+  line = record { no_cell = plain; pieces = r.pieces; content_end = end; division = r.division; tokens_are = refl; answer_is = refl };
+  tree_is = new_is ∙ r.appended (text_end z end) r.before_break (text_end_within z end);
+}
+
 -- the same of what a line's end answers
-pub read_ended : (z : Source) (old tree new : Forest Item) (pending : Pending) (end : ℕ) (r : Result (ℕ × Option Item) AllocError) → IsRead z old tree pending end → ends_at z end ≡ true
+pub read_ended : (z : Source) (old tree new : Forest Item) (pending : Pending) (end : ℕ) (r : Result (ℕ × Option Item) AllocError)
+    → z.row ≡ false → IsReadTo z old tree end pending
     → OnOk r (new ≡ with_text tree pending.begin (text_end z end) pending.escaped) → IfOk r (λ a. a ≡ (end + line_end_len z end, line_break z end)) → IfOk r (λ a. AppendsLine z old new a)
-read_ended z old tree new pending end (Ok a) read ended new_is is = subst (λ (b : ℕ × Option Item). AppendsLine z old new b) (sym is) (read_end z old tree new pending end read ended new_is)
-read_ended z old tree new pending end (Err e) read ended new_is is = tt
+read_ended z old tree new pending end (Ok a) plain read new_is is =
+    subst (λ (b : ℕ × Option Item). AppendsLine z old new b) (sym is) (read_line z old tree new pending end plain read new_is)
+read_ended z old tree new pending end (Err e) plain read new_is is = tt
 
-pub runs_on : (z : Source) (at : ℕ) → at < length z.text → is_line_end (slice_index z.text at) ≡ false → ends_at z at ≡ false
-unfolding ends_at
-runs_on z at within plain = or_from _ _ (lt-leb (length z.text) at within) plain
-
-pub ended_by_byte : (z : Source) (at : ℕ) → is_line_end (slice_index z.text at) ≡ true → ends_at z at ≡ true
-unfolding ends_at
-ended_by_byte z at byte = or_right _ _ byte
+-- a cell whose content is read, once the text that is pending is appended
+pub read_cell : (z : Source) (old tree new : Forest Item) (pending : Pending) (end : ℕ) → IsReadTo z old tree end pending
+    → new ≡ with_text tree pending.begin (end - blanks_at_end z end) pending.escaped → AppendsCell z old new end
+read_cell z old tree new pending end r new_is = record {
+  tokens = add_pieces (end - blanks_at_end z end) z.start r.pieces [];
+  cell = record { pieces = r.pieces; division = r.division; tokens_are = refl };
+  tree_is = new_is ∙ r.appended (end - blanks_at_end z end) r.before_white (omega arith);
+}
 
 pub ended_by_text : (z : Source) → ends_at z (length z.text) ≡ true
 unfolding ends_at
 ended_by_text z = or_left _ _ (le-leb (length z.text) (length z.text) (omega arith))
-
-pub size_positive : (text : List ℕ) (at : ℕ) (p : Piece) → EndsSolid text at p → 0 < size p
-size_positive text at (Left n) ends = ends
-size_positive text at (Begins dropped escaped) ends = omega arith
-size_positive text at (Token dropped n body) ends = omega (arith, ends)

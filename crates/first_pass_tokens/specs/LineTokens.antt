@@ -1,19 +1,24 @@
 -- The tokens of a line: its content divided into pieces, the texts and other tokens that they give, and the break behind them.
 use Rattle.std.specs.Prelude.{◌≡◌, ℕ, ◌+◌, ◌-◌, ◌%◌, ◌==◌, ◌<◌, ◌≤◌, ◌&&◌, ◌||◌, Bool, true, false, List, [], ◌∷◌, length, drop, slice_index, Option, Some, None, IfSome, nat_lt, nat_le, min, if◌then◌else◌}
-use Rattle.std.specs.List.{slice_range, suffix_len}
-use Rattle.first_pass_items.specs.Bytes.{line_feed, carriage_return, backslash}
+use Rattle.std.specs.List.{slice_range, prefix_len, suffix_len}
+use Rattle.first_pass_items.specs.Bytes.{line_feed, carriage_return, backslash, pipe}
+use Rattle.first_pass_items.specs.OptionWords.{has, tables}
 use Rattle.first_pass_items.specs.declared.item.Item.{Item}
 use Rattle.first_pass_items.specs.declared.item.ItemBody.{ItemBody}
 use Rattle.first_pass_items.specs.declared.item.ItemBody.TheVariants.{SoftBreak, HardBreak}
-use Rattle.first_pass_lines.specs.Lines.{is_line_end, is_white, line_len}
+use Rattle.first_pass_lines.specs.Lines.{is_line_end, is_content, is_white, line_len}
 use Rattle.first_pass_tokens.specs.declared.pieces.Piece.{Piece}
 use Rattle.first_pass_tokens.specs.declared.pieces.Piece.TheVariants.{Left, Begins, Token}
 use Rattle.first_pass_tokens.specs.Chains.{token, add_token, add_text}
 use Rattle.first_pass_tokens.specs.Pieces.{Source, piece_at, size}
 
--- a line end stands there, or the text ends (CommonMark 2.1)
+-- with tables, a pipe ends the content of a cell (GFM 4.10)
+abbrev pub ends_cell : Source → ℕ → Bool
+ends_cell s b = s.row && (has s.options tables && b == pipe)
+
+-- a line end stands there, or the text ends (CommonMark 2.1), or a pipe ends a cell: one that is escaped stands inside a piece (GFM 4.10)
 unfoldable pub ends_at : Source → ℕ → Bool
-ends_at s at = nat_le (length s.text) at || is_line_end (slice_index s.text at)
+ends_at s at = nat_le (length s.text) at || (is_line_end (slice_index s.text at) || ends_cell s (slice_index s.text at))
 
 -- the pieces of a content from one place up to another: each is the piece that begins at its place, and the next one begins behind it (this project)
 abbrev pub ArePieces : Source → ℕ → List Piece → ℕ → Type 0
@@ -71,14 +76,22 @@ line_break s end =
     if nat_le (length s.text) end then None
     else Some (break_of end (end + line_end_len s end) (breaks_by_backslash s end) (blanks_at_end s end))
 
--- The tokens of the line whose content begins there, and the answer: where the line ends, behind its line end, and its break
+-- The tokens of the line whose content begins there, which is no cell's, and the answer: where the line ends, behind its line end, and its break
 -- (CommonMark 2.4, 6.1, 6.3 to 6.8).
 pub record IsLine (s : Source) (tokens : List Item) (answer : ℕ × Option Item) : Type 0 where
+  pub no_cell : s.row ≡ false
   pub pieces : List Piece
   pub content_end : ℕ
   pub division : IsDivision s pieces content_end
   pub tokens_are : tokens ≡ add_pieces (text_end s content_end) s.start pieces []
   pub answer_is : answer ≡ (content_end + line_end_len s content_end, line_break s content_end)
+
+-- The tokens of the cell whose content begins there, and where the content ends: at a pipe that is not escaped, or with its line. White space at its end
+-- is in no text, and no break is behind it (GFM 4.10).
+pub record IsCell (s : Source) (tokens : List Item) (end : ℕ) : Type 0 where
+  pub pieces : List Piece
+  pub division : IsDivision s pieces end
+  pub tokens_are : tokens ≡ add_pieces (end - blanks_at_end s end) s.start pieces []
 
 -- a soft or a hard break (CommonMark 6.7, 6.8)
 abbrev pub is_break : ItemBody → Bool
@@ -100,3 +113,11 @@ pub record EndsLine (s : Source) (answer : ℕ × Option Item) : Type 0 where
   pub later : s.start < length s.text → s.start < answer.0
   pub place : answer.0 ≡ s.start + line_len (drop s.start s.text)
   pub broken : IfSome answer.1 (λ x. IsBreak s.start answer.0 x)
+
+-- where the content of a cell ends: at a pipe that is not escaped or with its line, and behind its first byte unless it is empty (GFM 4.10)
+pub record EndsCell (s : Source) (end : ℕ) : Type 0 where
+  pub from : s.start ≤ end
+  pub within : end ≤ length s.text
+  pub in_line : end ≤ s.start + prefix_len is_content (drop s.start s.text)
+  pub ended : ends_at s end ≡ true
+  pub later : ends_at s s.start ≡ false → s.start < end

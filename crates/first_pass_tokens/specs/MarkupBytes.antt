@@ -1,6 +1,6 @@
 -- Which bytes the tokens of possible markup stand over.
 use Rattle.std.specs.Prelude.{◌≡◌, ℕ, ◌+◌, ◌-◌, ◌==◌, ◌<◌, ◌≤◌, true, false, List, [], ◌∷◌, slice_index}
-use Rattle.first_pass_items.specs.Bytes.{exclamation_mark, less_than, left_bracket, backslash, right_bracket, backquote}
+use Rattle.first_pass_items.specs.Bytes.{exclamation_mark, less_than, left_bracket, backslash, right_bracket, backquote, pipe}
 use Rattle.first_pass_items.specs.declared.item.Item.{Item}
 use Rattle.first_pass_items.specs.declared.item.ItemBody.{ItemBody}
 use Rattle.first_pass_items.specs.declared.item.ItemBody.TheVariants.{MaybeCode, MaybeHtml, MaybeLinkOpen, MaybeLinkClose, MaybeImage}
@@ -35,3 +35,7 @@ HasNoBackquote text start end = (k : ℕ) → start ≤ k → k < end → (slice
 abbrev pub TextsHaveNoBackquote : List ℕ → List Item → Type 0
 TextsHaveNoBackquote text [] = Unit {0}
 TextsHaveNoBackquote text (x ∷ xs) = (is_text x.body ≡ true → HasNoBackquote text x.start x.«end») × TextsHaveNoBackquote text xs
+
+-- each pipe from one offset up to another stands directly behind a backslash there (GFM 4.10)
+abbrev pub PipesAreEscaped : List ℕ → ℕ → ℕ → Type 0
+PipesAreEscaped text start end = (k : ℕ) → start ≤ k → k < end → slice_index text k ≡ pipe → (start < k) × (slice_index text (k - 1) ≡ backslash)

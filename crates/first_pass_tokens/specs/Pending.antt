@@ -1,5 +1,5 @@
 -- The text that is pending between two pieces of a content: it began before, and may go on behind. Contracts of private functions alone cite this.
-use Rattle.std.specs.Prelude.{ℕ, ◌+◌, false, List}
+use Rattle.std.specs.Prelude.{◌≡◌, ℕ, ◌+◌, ◌-◌, ◌≤◌, false, List, []}
 use Rattle.first_pass_items.specs.declared.item.Item.{Item}
 use Rattle.first_pass_tree.specs.Forest.{Forest, appended, with_text}
 use Rattle.first_pass_tokens.specs.declared.pieces.Piece.{Piece}
@@ -7,11 +7,13 @@ use Rattle.first_pass_tokens.specs.declared.pieces.Piece.TheVariants.{Left, Begi
 use Rattle.first_pass_tokens.specs.declared.line.Pending.{Pending}
 use Rattle.first_pass_tokens.specs.declared.line.Content.{Content}
 use Rattle.first_pass_tokens.specs.Pieces.{Source}
+use Rattle.first_pass_tokens.specs.LineTokens.{IsDivision, add_pieces, text_end, blanks_at_end}
+use Rattle.first_pass_tokens.specs.TreeTokens.{with_tokens}
 use Rattle.first_pass_tokens.specs.Chains.{token}
 
 -- the content that begins there in a text (this project)
 abbrev pub source : List ℕ → Content → Source
-source text c = record { options = c.options; text = text; start = c.start }
+source text c = record { options = c.options; text = text; start = c.start; row = c.row }
 
 -- the text that is pending behind a piece: bytes that are left over belong to the one before, a piece that begins a text leaves that one,
 -- and behind a token another one begins (this project)
@@ -25,3 +27,13 @@ abbrev pub tree_after : ℕ → Piece → Pending → Forest Item → Forest Ite
 tree_after at (Left n) p f = f
 tree_after at (Begins dropped escaped) p f = with_text f p.begin at p.escaped
 tree_after at (Token dropped n body) p f = appended (with_text f p.begin at p.escaped) (token (at + dropped) n body)
+
+-- A content is read up to its end, where a text is pending. Up to whatever offset that text goes on, the tree then has the content's tokens up to there; and it
+-- begins before the white space at the content's end, and before the backslash that breaks a line there (this project).
+pub record IsReadTo (s : Source) (old new : Forest Item) (end : ℕ) (p : Pending) : Type 0 where
+  pub pieces : List Piece
+  pub division : IsDivision s pieces end
+  pub before_break : p.begin ≤ text_end s end
+  pub before_white : p.begin ≤ end - blanks_at_end s end
+  pub appended : (stop : ℕ) → p.begin ≤ stop → stop ≤ end
+      → with_text new p.begin stop p.escaped ≡ with_tokens old (add_pieces stop s.start pieces [])

@@ -1,19 +1,20 @@
 -- The pieces that the content of a line is divided into. Places are offsets into the text.
-use Rattle.std.specs.Prelude.{◌≡◌, ℕ, ◌+◌, ◌-◌, ◌==◌, ◌<◌, ◌&&◌, not, true, false, List, drop, slice_index, if◌then◌else◌}
+use Rattle.std.specs.Prelude.{◌≡◌, ℕ, ◌+◌, ◌-◌, ◌==◌, ◌<◌, ◌&&◌, not, Bool, true, false, List, drop, slice_index, Option, Some, None, unwrap_or, if◌then◌else◌}
 use Rattle.std.specs.Char.{is_ascii_punctuation}
 use Rattle.std.specs.List.{prefix_len}
-use Rattle.first_pass_items.specs.Bytes.{exclamation_mark, less_than, left_bracket, backslash, right_bracket, backquote}
+use Rattle.first_pass_items.specs.Bytes.{exclamation_mark, less_than, left_bracket, backslash, right_bracket, backquote, pipe}
 use Rattle.first_pass_items.specs.declared.item.ItemBody.TheVariants.{MaybeCode, MaybeHtml, MaybeLinkOpen, MaybeLinkClose, MaybeImage}
 use Rattle.first_pass_items.specs.declared.option_set.Options.{Options}
 use Rattle.first_pass_walk.specs.Walk.{is_special}
 use Rattle.first_pass_tokens.specs.declared.pieces.Piece.{Piece}
 use Rattle.first_pass_tokens.specs.declared.pieces.Piece.TheVariants.{Left, Begins, Token}
 
--- a content: the options that it is read under, the text that it stands in, and where it begins (this project)
+-- a content: the options that it is read under, the text that it stands in, where it begins, and whether it is that of a cell in a table's row (this project)
 pub record Source : Type 0 where
   pub options : Options
   pub text : List ℕ
   pub start : ℕ
+  pub row : Bool
 
 -- how many bytes like the one at a place stand there in a row (CommonMark 6.1, backtick string)
 unfoldable pub run_at : List ℕ → ℕ → ℕ
@@ -23,6 +24,12 @@ run_at text at = prefix_len (λ b. b == slice_index text at) (drop at text)
 unfoldable pub backquote_piece : List ℕ → ℕ → Piece
 backquote_piece text at = Token 0 (run_at text at) (MaybeCode (run_at text at) false)
 
+-- at a backslash in a row: a pipe behind it begins a text that is not escaped, and a pipe behind two of them one that is; they are dropped (GFM 4.10)
+abbrev pub pipe_piece : List ℕ → ℕ → Option Piece
+pipe_piece text at =
+    if slice_index text (at + 1) == pipe then Some (Begins 1 false)
+    else (if slice_index text (at + 1) == backslash && slice_index text (at + 2) == pipe then Some (Begins 2 true) else None)
+
 -- at a backslash: before a run of backquotes it is dropped, and the token of the run keeps that it stood there; before other ASCII punctuation
 -- it is dropped, and that byte begins an escaped text; else it stands for itself (CommonMark 2.4, 6.1)
 unfoldable pub backslash_piece : List ℕ → ℕ → Piece
@@ -30,10 +37,14 @@ backslash_piece text at =
     if slice_index text (at + 1) == backquote then Token 1 (run_at text (at + 1)) (MaybeCode (run_at text (at + 1)) true)
     else (if is_ascii_punctuation (slice_index text (at + 1)) then Begins 1 true else Left 1)
 
+-- at a backslash in a row or elsewhere (CommonMark 2.4, GFM 4.10)
+abbrev pub backslash_piece_in : Bool → List ℕ → ℕ → Piece
+backslash_piece_in row text at = unwrap_or (if row then pipe_piece text at else None) (backslash_piece text at)
+
 -- at a special byte: the first case that fits, else the byte is left over (CommonMark 2.4, 6.1, 6.3 to 6.6)
-unfoldable pub special_piece : List ℕ → ℕ → Piece
-special_piece text at =
-    if slice_index text at == backslash then backslash_piece text at
+unfoldable pub special_piece : Bool → List ℕ → ℕ → Piece
+special_piece row text at =
+    if slice_index text at == backslash then backslash_piece_in row text at
     else (if slice_index text at == backquote then backquote_piece text at
     else (if slice_index text at == less_than && not (slice_index text (at + 1) == backslash) then Token 0 1 MaybeHtml
     else (if slice_index text at == exclamation_mark && slice_index text (at + 1) == left_bracket then Token 0 2 MaybeImage
@@ -43,7 +54,7 @@ special_piece text at =
 
 -- the piece that begins at a place: a byte that is not special is left over (CommonMark 6, textual content)
 unfoldable pub piece_at : Source → ℕ → Piece
-piece_at s at = if is_special s.options (slice_index s.text at) then special_piece s.text at else Left 1
+piece_at s at = if is_special s.options (slice_index s.text at) then special_piece s.row s.text at else Left 1
 
 -- how many bytes a piece takes (this project)
 abbrev pub size : Piece → ℕ

@@ -3,7 +3,7 @@ use Rattle.std.specs.Prelude.{◌≡◌, ℕ, ◌&&◌, false, List, [], ◌∷�
 use Rattle.first_pass_items.specs.declared.item.Item.{Item}
 use Rattle.first_pass_tree.specs.Forest.{Forest, appended, is_text, joins_at, with_end}
 use Rattle.first_pass_tokens.specs.Pieces.{Source}
-use Rattle.first_pass_tokens.specs.LineTokens.{IsLine}
+use Rattle.first_pass_tokens.specs.LineTokens.{IsLine, IsCell}
 
 -- the tree with a token behind its nodes: a text is joined to the current node, where that is a text that ends where it begins (this project)
 abbrev pub with_token : Forest Item → Item → Forest Item
@@ -31,4 +31,10 @@ JoinsNone f = (at : ℕ) → joins_at f at f.current ≡ false
 pub record AppendsLine (s : Source) (old new : Forest Item) (answer : ℕ × Option Item) : Type 0 where
   pub tokens : List Item
   pub line : IsLine s tokens answer
+  pub tree_is : new ≡ with_tokens old tokens
+
+-- the new tree is the old one with the tokens of the cell whose content begins there (GFM 4.10)
+pub record AppendsCell (s : Source) (old new : Forest Item) (end : ℕ) : Type 0 where
+  pub tokens : List Item
+  pub cell : IsCell s tokens end
   pub tree_is : new ≡ with_tokens old tokens

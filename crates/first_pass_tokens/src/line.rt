@@ -1,14 +1,15 @@
 //! The tokens of a line, appended to the tree.
 
-ghost use Rattle.std.specs.Prelude.{◌≡◌, ◌==◌, ◌+◌, ◌<◌, ◌≤◌, ◌^◌, true, IsTrue, length, OnOk, IfOk};
+ghost use Rattle.std.specs.Prelude.{◌≡◌, ◌==◌, ◌+◌, ◌<◌, ◌≤◌, ◌^◌, true, false, IsTrue, length, slice_index, OnOk, IfOk};
 ghost use Rattle.first_pass_walk.specs.Walk.{MarksSpecial};
 ghost use Rattle.first_pass_tree.specs.Forest.{with_text};
 ghost use Rattle.first_pass_tokens.specs.Pieces.{Source, size};
-ghost use Rattle.first_pass_tokens.specs.LineTokens.{line_end_len, blanks_at_end, backslashes_at_end, breaks_by_backslash, text_end, break_of, line_break, EndsLine};
-ghost use Rattle.first_pass_tokens.specs.TreeTokens.{AppendsLine};
-ghost use Rattle.first_pass_tokens.specs.Pending.{source, pending_after, tree_after};
+ghost use Rattle.first_pass_tokens.specs.LineTokens.{line_end_len, blanks_at_end, backslashes_at_end, breaks_by_backslash, text_end, break_of, line_break, ends_at, EndsLine, EndsCell};
+ghost use Rattle.first_pass_tokens.specs.TreeTokens.{AppendsLine, AppendsCell};
+ghost use Rattle.first_pass_tokens.specs.Pending.{source, pending_after, tree_after, IsReadTo};
 
 use crate::pieces::{Piece, piece_len, special_piece};
+use bitflags::Flags;
 use first_pass_items::item::{Item, ItemBody};
 use first_pass_items::option_set::Options;
 use first_pass_lines::lines::{is_line_end, is_white};
@@ -35,32 +36,59 @@ pub fn append_line(
     requires within { start ≤ length text.now }
     requires marks { MarksSpecial lut.now options }
     ensures line { IfOk result (λ answer. AppendsLine
-        (record { options = options; text = text.now; start = start }) tree.old tree.new answer) }
+        (record { options = options; text = text.now; start = start; row = false }) tree.old tree.new answer) }
     ensures ends { IfOk result (λ answer. EndsLine
-        (record { options = options; text = text.now; start = start }) answer) }
+        (record { options = options; text = text.now; start = start; row = false }) answer) }
 {
-    let content = Content { options, start };
-    let mut pending = Pending {
-        begin: start,
-        escaped: false,
+    let content = Content {
+        options,
+        start,
+        row: false,
     };
-    let mut from = start;
-    while let Some(at) = next_special_in_words(lut, text, from) {
-        if is_line_end(text[at]) {
-            return end_line(text, content, at, pending, tree);
-        }
-        let piece = special_piece(text, at);
-        append_piece(tree, &mut pending, at, piece)?;
-        from = at + piece_len(piece);
-    }
-    end_line(text, content, text.len(), pending, tree)
+    let (end, pending) = append_pieces(text, content, lut, tree)?;
+    end_line(text, content, end, pending, tree)
 }
 
-// How a content is read, and where it begins in the text.
+/// Appends the tokens of one cell of a table's row to the innermost open node: those of a line (see
+/// `append_line`), of the content that begins at `start`, an offset into `text`, up to the first line end,
+/// the text's end, or, where `options` has tables, the first pipe that is not escaped. A backslash before
+/// a pipe is dropped, and so are two of them (GFM 4.10). `lut` is the table of the bytes that are special
+/// under `options`.
+///
+/// Answers the offset where the content ends: that of the pipe, the line end or the text's end. White
+/// space before it is in no text. The error is want of memory.
+#[inline(always)]
+pub fn append_cell(
+    text: &[u8],
+    start: usize,
+    options: Options,
+    lut: &[bool; 256],
+    tree: &mut Tree<Item>,
+) -> Result<usize, AllocError>
+    requires within { start ≤ length text.now }
+    requires marks { MarksSpecial lut.now options }
+    ensures cell { IfOk result (λ end. AppendsCell
+        (record { options = options; text = text.now; start = start; row = true }) tree.old tree.new end) }
+    ensures ends { IfOk result (λ end. EndsCell
+        (record { options = options; text = text.now; start = start; row = true }) end) }
+{
+    let content = Content {
+        options,
+        start,
+        row: true,
+    };
+    let (end, pending) = append_pieces(text, content, lut, tree)?;
+    let blanks = blanks_at_end(text, content, end);
+    tree.append_text(pending.begin, end - blanks, pending.escaped)?;
+    Ok(end)
+}
+
+// How a content is read, where it begins in the text, and whether it is a cell's.
 #[derive(Clone, Copy, Drop)]
 struct Content {
     options: Options,
     start: usize,
+    row: bool,
 }
 
 // A text that began at an offset and may go on, and is not in the tree yet.
@@ -68,6 +96,48 @@ struct Content {
 struct Pending {
     begin: usize,
     escaped: bool,
+}
+
+// Appends the tokens of a content, but for a text that is pending. Answers where the content ends.
+#[inline(always)]
+fn append_pieces(
+    text: &[u8],
+    content: Content,
+    lut: &[bool; 256],
+    tree: &mut Tree<Item>,
+) -> Result<(usize, Pending), AllocError>
+    requires within { content.start ≤ length text.now }
+    requires marks { MarksSpecial lut.now content.options }
+    ensures read { IfOk result (λ answer. IsReadTo (source text.now content) tree.old tree.new answer.0 answer.1) }
+    ensures order { IfOk result (λ answer. content.start ≤ answer.0) }
+    ensures within { IfOk result (λ answer. answer.0 ≤ length text.now) }
+{
+    let mut pending = Pending {
+        begin: content.start,
+        escaped: false,
+    };
+    let mut from = content.start;
+    while let Some(at) = next_special_in_words(lut, text, from) {
+        if ends_at(text, content, at) {
+            return Ok((at, pending));
+        }
+        let piece = special_piece(text, at, content.row);
+        append_piece(tree, &mut pending, at, piece)?;
+        from = at + piece_len(piece);
+    }
+    Ok((text.len(), pending))
+}
+
+// Whether the content ends at a byte: at a line end, or at a pipe in a row.
+#[inline(always)]
+#[tactic(auto, unfolding(crate::specs::LineTokens::ends_at))]
+fn ends_at(text: &[u8], content: Content, at: usize) -> bool
+    requires { at < length text.now }
+    ensures { result ≡ ends_at (source text.now content) at }
+{
+    let byte = text[at];
+    is_line_end(byte)
+        || (content.row && content.options.contains(Options::ENABLE_TABLES) && byte == b'|')
 }
 
 // Appends the pending text, where the piece at `at` begins another one, and the piece's token.

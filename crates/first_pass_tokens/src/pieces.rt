@@ -2,7 +2,7 @@
 
 ghost use Rattle.std.specs.Prelude.{◌≡◌, ◌+◌, ◌<◌, ◌≤◌, ◌^◌, length, slice_index};
 ghost use Rattle.first_pass_items.specs.Bytes.{backslash, backquote};
-ghost use Rattle.first_pass_tokens.specs.Pieces.{special_piece, backslash_piece, backquote_piece, run_at, size, EndsSolid};
+ghost use Rattle.first_pass_tokens.specs.Pieces.{special_piece, backslash_piece, backslash_piece_in, backquote_piece, run_at, size, EndsSolid};
 
 use first_pass_items::item::ItemBody;
 use first_pass_lines::places::rest_of;
@@ -21,16 +21,17 @@ pub enum Piece {
 /// The piece at a special byte of a text; `at` is its offset. All backquotes in a row are a token of
 /// possible code (CommonMark 6.1), `<` with no backslash behind it is one of possible HTML or an autolink
 /// (6.5, 6.6), `[`, `]` and `![` are tokens of possible links and images (6.3, 6.4). A backslash before
-/// backquotes or other ASCII punctuation is dropped (2.4). Any other byte is left over.
+/// backquotes or other ASCII punctuation is dropped (2.4). In a `row` of a table a backslash before a pipe
+/// is dropped, and so are two of them (GFM 4.10). Any other byte is left over.
 #[tactic(auto, unfolding(crate::specs::Pieces::special_piece))]
-pub fn special_piece(text: &[u8], at: usize) -> Piece
+pub fn special_piece(text: &[u8], at: usize, row: bool) -> Piece
     requires { at < length text.now }
-    ensures value { result ≡ special_piece text.now at }
+    ensures value { result ≡ special_piece row text.now at }
     ensures fits { at + size result ≤ length text.now }
     ensures ends { EndsSolid text.now at result }
 {
     match text[at] {
-        b'\\' => backslash_piece(text, at),
+        b'\\' => backslash_piece_in(text, at, row),
         b'`' => backquote_piece(text, at),
         b'<' if byte_at(text, at + 1) != b'\\' => Piece::Token(0, 1, ItemBody::MaybeHtml),
         b'!' if byte_at(text, at + 1) == b'[' => Piece::Token(0, 2, ItemBody::MaybeImage),
@@ -52,7 +53,24 @@ pub fn piece_len(piece: Piece) -> usize
     }
 }
 
-// The piece at a backslash.
+// The piece at a backslash, in a row of a table or elsewhere: `\|` is a pipe that ends no cell, and so is `\\|`.
+fn backslash_piece_in(text: &[u8], at: usize, row: bool) -> Piece
+    requires within { at < length text.now }
+    requires here { slice_index text.now at ≡ backslash }
+    ensures value { result ≡ backslash_piece_in row text.now at }
+    ensures fits { at + size result ≤ length text.now }
+    ensures ends { EndsSolid text.now at result }
+{
+    if row && byte_at(text, at + 1) == b'|' {
+        return Piece::Begins(1, false);
+    }
+    if row && byte_at(text, at + 1) == b'\\' && byte_at(text, at + 2) == b'|' {
+        return Piece::Begins(2, true);
+    }
+    backslash_piece(text, at)
+}
+
+// The piece at a backslash that no pipe is behind.
 #[tactic(auto, unfolding(crate::specs::Pieces::backslash_piece))]
 fn backslash_piece(text: &[u8], at: usize) -> Piece
     requires within { at < length text.now }

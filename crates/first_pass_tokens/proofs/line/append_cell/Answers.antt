@@ -1,0 +1,24 @@
+use Rattle.std.proofs.Common.{◌-◌, true, ap, ◌∙◌}
+use Rattle.first_pass_tree.specs.Forest.{with_text}
+use Rattle.first_pass_tokens.specs.Pieces.{Source}
+use Rattle.first_pass_tokens.specs.TreeTokens.{AppendsCell}
+use Rattle.first_pass_tokens.proofs.LineLemmas.{cell_ends}
+use Rattle.first_pass_tokens.proofs.SoFar.{read_cell}
+use Rattle.first_pass_tokens.proofs.line.append_cell.Goals as goal
+use Rattle.first_pass_tokens.proofs.line.append_cell.Goals.{In_ok-append_text}
+
+appended : (c : In_ok-append_text)
+    → AppendsCell (record { options = c.args.options; text = c.args.text.now; start = c.args.start; row = true }) c.args.tree.now
+    c.append_text.new.self c.in_ok-end.end
+appended c =
+    let z : Source = record { options = c.args.options; text = c.args.text.now; start = c.args.start; row = true } in
+    read_cell z c.args.tree.now _ _ c.in_ok-end.pending c.in_ok-end.end c.in_ok-end.ensures.read
+    (c.in_ok-append_text.ensures.ok
+    ∙ ap (λ n. with_text c.append_pieces.new.tree c.in_ok-end.pending.begin (c.in_ok-end.end - n) c.in_ok-end.pending.escaped)
+    c.blanks_at_end-blanks.ensures.value)
+
+pub returns-clause-cell : goal.returns-clause-cell
+returns-clause-cell c = appended c
+
+pub returns-clause-ends : goal.returns-clause-ends
+returns-clause-ends c = cell_ends c.requires.within (appended c).cell
