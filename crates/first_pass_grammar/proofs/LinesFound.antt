@@ -22,7 +22,7 @@ pub record ParagraphFrom (text : List ℕ) (options : Options) (path : List Cont
   pub shorter : length left ≤ length lines
 
 source_at : List ℕ → Options → ℕ → Source
-source_at text options start = record { options = options; text = text; start = start }
+source_at text options start = record { options = options; text = text; start = start; row = false }
 
 paragraph_by : (text : List ℕ) (options : Options) (path : List Container) (start : ℕ) (chain tokens : List Item) (answer : ℕ × Option Item) (line : Place)
     (lines : List Place) (t : Bool) → ends_paragraph (context options path) line.rest ≡ t
@@ -47,7 +47,7 @@ pub paragraph_found : (text : List ℕ) (options : Options) (path : List Contain
     → ParagraphFrom text options path start chain lines
 unfolding IsParagraph source_at
 paragraph_found text options path [] start chain =
-    let line = line_found (source_at text options start) in
+    let line = line_found (source_at text options start) refl in
     record {
       whole = close_break line.1.1 (add_tokens chain line.0);
       left = [];
@@ -55,7 +55,7 @@ paragraph_found text options path [] start chain =
       shorter = omega arith;
     }
 paragraph_found text options path (line ∷ lines) start chain =
-    let first = line_found (source_at text options start) in
+    let first = line_found (source_at text options start) refl in
     paragraph_by text options path start chain first.0 first.1 line lines (ends_paragraph (context options path) line.rest) refl first.2
     (paragraph_found text options path lines (offset (unindented (at_rest line (front path line.rest))))
     (add_break first.1.1 (add_tokens chain first.0)))
@@ -65,7 +65,7 @@ pub heading_found : (text : List ℕ) (options : Options) (start : ℕ)
     → (chain : List Item) × (end_of_line : ℕ) × ((names : Names) → IsHeading (document text options names) start chain end_of_line)
 unfolding source_at
 heading_found text options start =
-    let line = line_found (source_at text options start) in
+    let line = line_found (source_at text options start) refl in
     let kept : ℕ = kept_len (take (line_len (drop start text)) (drop start text)) in
     let chain : List Item = heading_chain kept start (close_break line.1.1 (add_tokens [] line.0)) in
     (chain, line.1.0, λ names. record { tokens = line.0; break = line.1.1; line = line.2; chain_is = refl })

@@ -30,7 +30,7 @@ document text options names = record { text = text; options = options; names = n
 
 -- the content that begins at an offset
 abbrev pub content_at : Document → ℕ → Source
-content_at d start = record { options = d.options; text = d.text; start = start }
+content_at d start = record { options = d.options; text = d.text; start = start; row = false }
 
 -- what the text is read in, inside the containers of a path
 abbrev pub around : Document → List Container → Context

@@ -12,6 +12,7 @@ use Rattle.first_pass_lines.proofs.LineFacts.{lines_at-line, lines_at-end}
 use Rattle.first_pass_lines.proofs.PlaceFacts.{line_end_boundary}
 use Rattle.first_pass_names.specs.TableEntries.{no_names}
 use Rattle.first_pass_grammar.specs.declared.kind.Container.{Container}
+use Rattle.first_pass_tokens.specs.Pieces.{Source}
 use Rattle.first_pass_tokens.specs.LineTokens.{IsLine, EndsLine, IsBreak}
 use Rattle.first_pass_tokens.specs.Chains.{add_tokens, close_break, is_backslash_break}
 use Rattle.first_pass_tokens.specs.TreeTokens.{chained, with_tokens, JoinsNone, AppendsLine}
@@ -190,19 +191,25 @@ break_fits d ix n (Some x) small ends =
     let q = b.to in
     omega arith
 
+-- the content of a line from an offset on
+abbrev pub line_source : Options → List ℕ → ℕ → Source
+line_source options text start = record { options = options; text = text; start = start; row = false }
+
 -- the same source, where the text and the options are still those
 pub same_line : (t u : List ℕ) (o w : Options) (ix : ℕ) (old new : Forest Item) (answer : ℕ × Option Item) → t ≡ u → o ≡ w
-    → AppendsLine (record { options = o; text = t; start = ix }) old new answer → AppendsLine (content_at (document u w no_names) ix) old new answer
-same_line t u o w ix old new answer e f line = subst (λ z. AppendsLine (record { options = z; text = u; start = ix }) old new answer) f (subst (λ z. AppendsLine (record { options = o; text = z; start = ix }) old new answer) e line)
+    → AppendsLine (line_source o t ix) old new answer → AppendsLine (content_at (document u w no_names) ix) old new answer
+same_line t u o w ix old new answer e f line =
+    subst (λ z. AppendsLine (line_source z u ix) old new answer) f (subst (λ z. AppendsLine (line_source o z ix) old new answer) e line)
 
 pub same_end : (t u : List ℕ) (o w : Options) (ix : ℕ) (answer : ℕ × Option Item) → t ≡ u → o ≡ w
-    → EndsLine (record { options = o; text = t; start = ix }) answer → EndsLine (content_at (document u w no_names) ix) answer
-same_end t u o w ix answer e f ends = subst (λ z. EndsLine (record { options = z; text = u; start = ix }) answer) f (subst (λ z. EndsLine (record { options = o; text = z; start = ix }) answer) e ends)
+    → EndsLine (line_source o t ix) answer → EndsLine (content_at (document u w no_names) ix) answer
+same_end t u o w ix answer e f ends =
+    subst (λ z. EndsLine (line_source z u ix) answer) f (subst (λ z. EndsLine (line_source o z ix) answer) e ends)
 
 -- the two steps, of a text that is held by other names before and after the line is read
 pub so_far_next : (first text now_text : List ℕ) (o w : Options) (start ix n at : ℕ) (old now read new : Forest Item) (line_break : Option Item) (found : Option ℕ) (path : List Container)
     → text ≡ first → o ≡ w → now_text ≡ text → path ≡ path_of read → AreIn (length old.nodes) old.spine → IsUtf8 first → ParagraphSoFar (document first w no_names) start old now ix → JoinsNone old
-    → AppendsLine (record { options = o; text = text; start = ix }) now read (n, line_break) → EndsLine (record { options = o; text = text; start = ix }) (n, line_break)
+    → AppendsLine (line_source o text ix) now read (n, line_break) → EndsLine (line_source o text ix) (n, line_break)
     → found ≡ (if ends_paragraph (context w path) ((line_rest (drop n now_text))) then None else Some (offset (unindented (place_at n (front path (line_rest (drop n now_text))))))) → found ≡ Some at
     → IsPlaceOf now_text (unindented (place_at n (front path (line_rest (drop n now_text))))) → new ≡ with_child read line_break
     → (ParagraphSoFar (document first w no_names) start old new at) × (ix < at)
@@ -214,7 +221,7 @@ so_far_next first text now_text o w start ix n at old now read new line_break fo
 
 pub so_far_stop : (first text now_text : List ℕ) (o w : Options) (start ix n : ℕ) (old now read new : Forest Item) (line_break : Option Item) (found : Option ℕ) (path : List Container)
     → text ≡ first → o ≡ w → now_text ≡ text → path ≡ path_of read → AreIn (length old.nodes) old.spine → IsUtf8 first → ParagraphSoFar (document first w no_names) start old now ix → JoinsNone old
-    → AppendsLine (record { options = o; text = text; start = ix }) now read (n, line_break) → EndsLine (record { options = o; text = text; start = ix }) (n, line_break)
+    → AppendsLine (line_source o text ix) now read (n, line_break) → EndsLine (line_source o text ix) (n, line_break)
     → found ≡ (if ends_paragraph (context w path) ((line_rest (drop n now_text))) then None else Some (offset (unindented (place_at n (front path (line_rest (drop n now_text))))))) → found ≡ None
     → IsCharBoundary text n → new ≡ with_closed_break read line_break
     → AppendsParagraph (document first w no_names) start old new n
