@@ -3,7 +3,7 @@
 use bitflags::Flags;
 use first_pass_items::item::{Item, ItemBody};
 use first_pass_items::option_set::Options;
-use first_pass_tokens::line::append_line;
+use first_pass_tokens::line::{append_cell, append_line};
 use first_pass_tree::forest::Tree;
 use first_pass_walk::walk::special_bytes;
 use std::alloc::{AllocError, Global};
@@ -21,11 +21,13 @@ fn name(body: &ItemBody) -> &'static str {
         ItemBody::HardBreak(true) => "HardBreak(true)",
         ItemBody::HardBreak(false) => "HardBreak(false)",
         ItemBody::MaybeCode(1, false) => "MaybeCode(1,false)",
+        ItemBody::MaybeCode(1, true) => "MaybeCode(1,true)",
         ItemBody::MaybeCode(2, true) => "MaybeCode(2,true)",
         ItemBody::MaybeHtml => "MaybeHtml",
         ItemBody::MaybeLinkOpen => "MaybeLinkOpen",
         ItemBody::MaybeLinkClose(true) => "MaybeLinkClose(true)",
         ItemBody::MaybeImage => "MaybeImage",
+        ItemBody::TableCell => "end",
         _ => "other",
     }
 }
@@ -102,5 +104,67 @@ fn texts_have_their_tokens(rt: HostRuntime) -> Result<(), Fail> {
         let tree = paragraph(rt.alloc(), text.as_bytes())?;
         assert_eq!(rt; printed(rt.alloc(), &tree)?.as_str(), wanted, "{text:?}");
     }
+    Ok(())
+}
+
+// The cells of a row: a text without the pipe that its first cell begins behind. Each begins behind the pipe that
+// ends the one before it.
+fn row(alloc: Global, text: &[u8], options: Options) -> Result<Tree<Item>, AllocError> {
+    let lut = special_bytes(&options);
+    let mut tree = Tree::with_capacity(alloc, 8)?;
+    tree.append(Item {
+        start: 0,
+        end: text.len(),
+        body: ItemBody::TableRow,
+    })?;
+    tree.push()?;
+    let mut at = 0;
+    while at < text.len() {
+        at = append_cell(text, at, options, &lut, &mut tree)?;
+        tree.append(Item {
+            start: at,
+            end: at,
+            body: ItemBody::TableCell,
+        })?;
+        at = at.saturating_add(1);
+    }
+    Ok(tree)
+}
+
+#[test]
+fn cells_have_their_tokens(rt: HostRuntime) -> Result<(), Fail> {
+    for (text, wanted) in [
+        ("a|b", "Text 0..1, end 1..1, Text 2..3, end 3..3"),
+        (
+            "a \t|| b\n",
+            "Text 0..1, end 3..3, end 4..4, Text 5..7, end 7..7",
+        ),
+        (
+            "a\\|b|c",
+            "Text 0..1, Text 2..4, end 4..4, Text 5..6, end 6..6",
+        ),
+        ("a\\\\|b", "Text 0..1, Text(escaped) 3..5, end 5..5"),
+        ("\\|\\|", "Text 1..2, Text 3..4, end 4..4"),
+        (
+            "`a\\|b`|",
+            "MaybeCode(1,false) 0..1, Text 1..2, Text 3..5, MaybeCode(1,false) 5..6, end 6..6",
+        ),
+        ("\\`|", "MaybeCode(1,true) 1..2, end 2..2"),
+        (
+            "[a]|\\*",
+            "MaybeLinkOpen 0..1, Text 1..2, MaybeLinkClose(true) 2..3, end 3..3, Text(escaped) 5..6, end 6..6",
+        ),
+        ("a\\", "Text 0..2, end 2..2"),
+    ] {
+        let tree = row(rt.alloc(), text.as_bytes(), Options::ENABLE_TABLES)?;
+        assert_eq!(rt; printed(rt.alloc(), &tree)?.as_str(), wanted, "{text:?}");
+    }
+    Ok(())
+}
+
+#[test]
+fn without_tables_no_pipe_ends_a_cell(rt: HostRuntime) -> Result<(), Fail> {
+    let tree = row(rt.alloc(), b"a|b", Options::empty())?;
+    assert_eq!(rt; printed(rt.alloc(), &tree)?.as_str(), "Text 0..3, end 3..3");
     Ok(())
 }
