@@ -1,8 +1,8 @@
 -- Raw leaf blocks fit where they stand.
-use Rattle.std.proofs.Common.{◌≡◌, ℕ, ◌+◌, ◌<◌, ◌≤◌, Bool, true, List, ◌∷◌, length, drop, Some, IsUtf8, IsCharBoundary, refl, sym, ap, subst, ◌∙◌, arith, length-append}
+use Rattle.std.proofs.Common.{◌≡◌, ℕ, ◌+◌, ◌<◌, ◌≤◌, Bool, true, List, ◌∷◌, length, drop, Some, IsUtf8, IsCharBoundary, refl, sym, ap, subst, ◌∙◌, arith}
 use Rattle.first_pass_items.specs.declared.option_set.Options.{Options}
 use Rattle.first_pass_items.specs.declared.item.Item.{Item}
-use Rattle.first_pass_tree.specs.Forest.{Forest, at_depth}
+use Rattle.first_pass_tree.specs.Forest.{Forest}
 use Rattle.first_pass_lines.specs.Lines.{is_content}
 use Rattle.first_pass_scan.specs.LeafLines.{code_fence}
 use Rattle.first_pass_lines.specs.Places.{Place, offset, start_of, IsPlaceOf}
@@ -20,7 +20,9 @@ use Rattle.first_pass_raw.proofs.RawOrder.{ArePlaced, AreFew, IsPlaced, html_few
 use Rattle.first_pass_text.specs.Between.{AddsBetween}
 use Rattle.first_pass_grammar.specs.OpenOrder.{within_top}
 use Rattle.first_pass_grammar.specs.Order.{GrowsBy}
-use Rattle.first_pass_grammar.proofs.Orders.{between-any, length-at_depth}
+use Rattle.first_pass_grammar.specs.Counting.{own_nodes}
+use Rattle.first_pass_grammar.proofs.Orders.{between-any}
+use Rattle.first_pass_grammar.proofs.OwnNodes.{own_added}
 
 -- a place at an offset between characters
 place_of : (text : List ℕ) (start : ℕ) (p : Place) → IsCharBoundary text start → IsPlaceAt text start p → IsPlaceOf text p
@@ -78,7 +80,7 @@ module _ (text : List ℕ) (options : Options) (names : Names) (old new : Forest
         fits = between-any text (within_top old) from _ a.items (html_fits (document text options names) start columns e a.items u (a.are names (extends_none names)) b (subst (λ n. IsPlaced text n e) i.offset_is (to_blank_placed text u (path_of old) p (place_of text start p b i))) from e.«end» low (omega arith));
       }
 
-  -- up to where the lines begin that it leaves, at most four nodes are new for each byte
+  -- up to where the lines begin that it leaves, at most four nodes of the tree's own are new for each byte
   pub to_blank_few : (columns : ℕ) (p : Place) → IsPlaceAt text start p → (let e : Extent = html_to_blank text (path_of old) p in AddsRaw text options names (λ d. IsHtml d start columns e.places e.«end») e.left old new next)
       → (from : ℕ) → from ≤ start → from < next → GrowsBy from next old.nodes new.nodes
   to_blank_few columns p i a from low apart =
@@ -88,9 +90,8 @@ module _ (text : List ℕ) (options : Options) (names : Names) (old new : Forest
       let placed : ArePlaced text start e.places next = subst (ArePlaced text start e.places) stop (subst (λ n. ArePlaced text n e.places (start_of (length text) e.left)) i.offset_is (to_blank_left text u (path_of old) p stands)) in
       let few = subst (λ n. AreFew n e.places) i.offset_is (to_blank_placed text u (path_of old) p stands).few in
       let some = html_few (document text options names) start columns next e a.items (a.are names (extends_none names)) placed few from next low (omega arith) apart in
-      let tree = ap (λ (f : Forest Item). length f.nodes) a.tree_is in
-      let more = length-append old.nodes (at_depth (length old.spine + 1) a.items) in
-      let size = length-at_depth (length old.spine + 1) a.items in
+      let tree = ap (λ (f : Forest Item). own_nodes f.nodes) a.tree_is in
+      let more = own_added old.nodes a.items (length old.spine + 1) in
       omega arith
 
   -- where it ends is between characters

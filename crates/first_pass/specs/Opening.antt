@@ -106,7 +106,7 @@ abbrev pub OrderedIn : List ℕ → Reading → ℕ → ℕ → Option Behind �
 OrderedIn text r line at None = IsOrderedTo text r.tree (line_or r.tree line at)
 OrderedIn text r line at (Some behind) = OrderedBehind text r line at behind
 
--- Nodes became others, at most four more for each byte of a line up to where a task list item marker may stand, which is before an offset.
+-- Nodes became others, at most four more of their own for each byte of a line up to where a task list item marker may stand, which is before an offset.
 pub record GrowsText (text : List ℕ) (line : ℕ) (old new : List (ℕ × Item)) (marker : Item) (at : ℕ) : Type 0 where
   pub from : ℕ
   pub grows : GrowsBy line from old new

@@ -16,6 +16,7 @@ ghost use Rattle.first_pass_grammar.specs.Skeleton.{Inside, task_behind, tag_beh
 ghost use Rattle.first_pass_grammar.specs.Completion.{lines_from};
 ghost use Rattle.first_pass.specs.State.{NoMore, Ready, ReadyAt};
 ghost use Rattle.first_pass.specs.Opening.{IsOpenedAt, ReadyIn, IsBehind, marker_of, task_text, ReadyBehind, line_or, OrderedIn, OrderedBehind, GrowsIn, GrowsBehind};
+ghost use Rattle.first_pass_grammar.specs.Counting.{own_nodes};
 ghost use Rattle.first_pass_grammar.specs.Order.{GrowsBy};
 ghost use Rattle.first_pass.specs.Ordered.{IsOrderedAt, IsOrderedFrom};
 ghost use Rattle.first_pass_grammar.specs.OpenOrder.{IsOrderedTo};
@@ -60,7 +61,7 @@ pub(crate) fn close_containers(reading: &mut Reading, kept: usize, ix: usize)
         → Ready d defined reading.new lines }
     ensures order { (text : List ℕ) → ix ≤ length text → IsCharBoundary text ix → IsOrderedAt text reading.old ix
         → IsOrderedAt text reading.new ix }
-    ensures none_added { length reading.new.tree.nodes ≡ length reading.old.tree.nodes }
+    ensures none_added { own_nodes reading.new.tree.nodes ≡ own_nodes reading.old.tree.nodes }
     ensures named { (names : Names) → AreNamed names reading.old.tree.nodes → AreNamed names reading.new.tree.nodes }
     ensures all_kept { kept ≡ length reading.old.tree.spine → reading.new ≡ reading.old }
 {
@@ -98,7 +99,7 @@ pub(crate) fn enter_line<'a>(
         → MatchOption result
         (IsOrderedAt source.entry.text.now reading.new (start_ix + line_len (drop start_ix source.entry.text.now)))
         (λ place. IsOrderedTo source.entry.text.now reading.new.tree start_ix) }
-    ensures none_added { length reading.new.tree.nodes ≡ length reading.old.tree.nodes }
+    ensures none_added { own_nodes reading.new.tree.nodes ≡ own_nodes reading.old.tree.nodes }
     ensures named { (names : Names) → AreNamed names reading.old.tree.nodes → AreNamed names reading.new.tree.nodes }
 {
     let mut line_start = LineStart::new(rest_of(source.text.as_bytes(), start_ix));

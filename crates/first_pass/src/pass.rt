@@ -23,6 +23,7 @@ ghost use Rattle.first_pass.specs.Ordered.{IsOrderedAt, IsOrderedFrom};
 ghost use Rattle.first_pass.specs.Progress.{ReadsLeaf, WentOn};
 ghost use Rattle.first_pass_text.specs.Found.{IsFoundAt, marked_kind};
 ghost use Rattle.first_pass_text.specs.Between.{StandsBefore};
+ghost use Rattle.first_pass_grammar.specs.Counting.{own_nodes};
 ghost use Rattle.first_pass_grammar.specs.Order.{IsOrdered, GrowsBy, is_task_marker};
 ghost use Rattle.first_pass_grammar.specs.OpenOrder.{IsOrderedTo, is_in_item};
 ghost use Rattle.first_pass.specs.State.{Ready, ReadyAt};
@@ -104,7 +105,8 @@ impl<'a> FirstPass<'a> {
     /// Open containers that the line doesn't go on with are closed, and those that begin in it are opened.
     ///
     /// Where the nodes so far begin a derivation of the text that goes on at `start_ix`, they begin one
-    /// then that goes on at the answer. At most four nodes are added for each byte that is read.
+    /// then that goes on at the answer. At most four nodes are added for each byte that is read, cells apart
+    /// that rows of tables are filled with.
     pub fn parse_block(&mut self, start_ix: usize) -> Result<usize, AllocError>
         requires within { start_ix < length (source_text self.old) }
         requires boundary { IsCharBoundary (source_text self.old) start_ix }
@@ -369,7 +371,7 @@ impl<'a> FirstPass<'a> {
 
 /// Reads the blocks of a text: the finished tree that the block grammar derives from the text's lines
 /// under these options, and the tables of what the text defines. The tree has at most four nodes for each
-/// byte, besides its root. The one error is that a request for memory was refused.
+/// byte, besides its root and cells that rows of tables are filled with. The one error is that a request for memory was refused.
 pub fn run_first_pass<'a>(
     alloc: Global,
     text: &'a str,
@@ -379,7 +381,7 @@ pub fn run_first_pass<'a>(
         (tables answer.1)) }
     ensures finished { IfOk result (λ answer. answer.0.spine ≡ []) }
     ensures order { IfOk result (λ answer. IsOrdered text.now answer.0.nodes) }
-    ensures few { IfOk result (λ answer. length answer.0.nodes ≤ 1 + 4 * length text.now) }
+    ensures few { IfOk result (λ answer. own_nodes answer.0.nodes ≤ 1 + 4 * length text.now) }
     ensures named { IfOk result (λ answer. AreNamed (names_of answer.1) answer.0.nodes) }
 {
     let mut pass = FirstPass::new(alloc, text, options)?;

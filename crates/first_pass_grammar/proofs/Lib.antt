@@ -11,6 +11,7 @@ pub mod NamedItems
 pub mod NoIndex
 pub mod OpeningsFound
 pub mod Orders
+pub mod OwnNodes
 pub mod RowLemmas
 pub mod RowsAlike
 pub mod RunsFound

@@ -1,5 +1,5 @@
 -- Rows of nodes and where they fit, as nodes are added, opened and closed.
-use Rattle.std.proofs.Common.{◌≡◌, inl, inr, ℕ, zero, suc, ◌+◌, ◌-◌, ◌*◌, ◌<◌, ◌≤◌, ◌==◌, ◌&&◌, Bool, true, false, if◌then◌else◌, List, [], ◌∷◌, ◌++◌, length, Some, IsCharBoundary, refl, sym, ap, subst, ◌∙◌, arith, append_assoc}
+use Rattle.std.proofs.Common.{◌≡◌, inl, inr, ℕ, zero, suc, ◌+◌, ◌-◌, ◌*◌, ◌<◌, ◌≤◌, ◌==◌, ◌&&◌, Bool, true, false, if◌then◌else◌, List, [], ◌∷◌, ◌++◌, length, Some, None, IsCharBoundary, refl, sym, ap, subst, ◌∙◌, arith, append_assoc}
 use Rattle.std.proofs.lemmas.List.{append-nil, map-append, length-map}
 use Rattle.first_pass_items.specs.declared.item.Item.{Item}
 use Rattle.first_pass_items.specs.declared.item.ItemBody.{ItemBody}
@@ -13,6 +13,7 @@ use Rattle.first_pass_tokens.proofs.OrderLemmas.{order_bound}
 use Rattle.first_pass_grammar.specs.Derivation.{tight_body, tightened}
 use Rattle.first_pass_grammar.specs.Order.{Extent, is_paragraph, is_task_marker, is_list_item, extent_of, extents, Row, Empty, Node, laid, IsBetween, Within, Elsewhere, InItem, InText, in_item, below, beyond, IsLead, Fits, FitsBetween}
 use Rattle.first_pass_grammar.specs.OpenOrder.{laid_open, AreAt, open_item, FitsOpen}
+use Rattle.first_pass_grammar.proofs.OwnNodes.{own_at_most}
 
 -- a row, and another behind it
 abbrev pub beside : Row → Row → Row
@@ -328,5 +329,5 @@ block_fits text w from to x chain between order few = (
   Node (extent_of x) (row_of chain) Empty,
   ap (λ (ns : List (ℕ × Extent)). (0, extent_of x) ∷ ns) (row_of-laid 1 chain ∙ sym (append-nil (laid 1 (row_of chain)))),
   inl (between, row_of-fits text (below (in_item w) from (extent_of x)) x.start x.«end» chain order, between.before),
-  λ apart. (let some = few apart in let size = length-block x chain in omega arith),
+  λ apart. (let some = few apart in let size = length-block x chain in let most = own_at_most None (block_of x (leaves chain)) in omega arith),
 )

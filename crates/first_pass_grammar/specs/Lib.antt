@@ -1,6 +1,7 @@
 pub mod CodeBlocks
 pub mod Completion
 pub mod Containers
+pub mod Counting
 pub mod Definitions
 pub mod Derivation
 pub mod Extents

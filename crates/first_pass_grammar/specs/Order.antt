@@ -3,6 +3,7 @@ use Rattle.std.specs.Prelude.{◌≡◌, ◌⊎◌, ℕ, suc, ◌+◌, ◌-◌, 
 use Rattle.first_pass_items.specs.declared.item.Item.{Item}
 use Rattle.first_pass_items.specs.declared.item.ItemBody.{ItemBody}
 use Rattle.first_pass_items.specs.declared.item.ItemBody.TheVariants.{Paragraph, TightParagraph, TaskListMarker, ListItem}
+use Rattle.first_pass_grammar.specs.Counting.{own_nodes}
 
 -- the range of a node, and whether it is a paragraph, the marker of a task list item, or a list item
 pub record Extent : Type 0 where
@@ -88,14 +89,14 @@ Fits text within from to (Node x kids next) =
     ⊎ (IsLead text within from x × Fits text Elsewhere x.start x.«end» kids × Fits text Elsewhere from to next)
 
 -- The items of a block, which stands so, each with its depth below it, lie between two offsets in order. Where these are apart, there are at most four
--- items for each byte between them.
+-- items of the block's own for each byte between them.
 abbrev pub FitsBetween : List ℕ → Within → ℕ → ℕ → List (ℕ × Item) → Type 0
 FitsBetween text within from to items =
-    (row : Row) × (extents items ≡ laid 0 row) × Fits text within from to row × (from < to → length items ≤ 4 * (to - from))
+    (row : Row) × (extents items ≡ laid 0 row) × Fits text within from to row × (from < to → own_nodes items ≤ 4 * (to - from))
 
--- Nodes became others, at most four more for each byte between two offsets.
+-- Nodes became others, at most four more of their own for each byte between two offsets.
 abbrev pub GrowsBy : ℕ → ℕ → List (ℕ × Item) → List (ℕ × Item) → Type 0
-GrowsBy from to old new = length new ≤ length old + 4 * (to - from)
+GrowsBy from to old new = own_nodes new ≤ own_nodes old + 4 * (to - from)
 
 -- The nodes of a finished tree, the root among them, lie in order between 0 and the text's length.
 abbrev pub IsOrdered : List ℕ → List (ℕ × Item) → Type 0

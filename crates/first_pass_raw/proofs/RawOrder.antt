@@ -28,8 +28,10 @@ use Rattle.first_pass_grammar.specs.Extents.{Extent as Lines, with_line, ends_at
 use Rattle.first_pass_grammar.specs.CodeBlocks.{code_place, code_by, code_lines, unless_blank, without_blanks, last_end, IsIndentedCode, closing_fence_end, fence_verdict, fence_judge, IsFencedCode, metadata_verdict, metadata_judge, metadata_kind, IsMetadata}
 use Rattle.first_pass_grammar.specs.HtmlBlocks.{holds, is_empty, tag_verdict, tag_judge, blank_judge, first_owing, IsHtml}
 use Rattle.first_pass_grammar.specs.Completion.{lines_from}
+use Rattle.first_pass_grammar.specs.Counting.{own_nodes}
 use Rattle.first_pass_grammar.specs.Order.{Elsewhere, FitsBetween}
 use Rattle.first_pass_grammar.proofs.Orders.{block_fits, length-block}
+use Rattle.first_pass_grammar.proofs.OwnNodes.{own_at_most}
 use Rattle.first_pass_raw.specs.RawBlocks.{behind_line_at, code_behind, fenced_behind, metadata_behind, html_to_end, html_to_blank}
 use Rattle.first_pass_open.proofs.PlaceLemmas.{all_keep, after_keeps, place_end, line_start_end}
 
@@ -314,15 +316,16 @@ html_fits d start columns e items u is b placed from to behind before =
     raw_fits range_html html_range d from to start e.«end» HtmlBlock (first_owing columns e.places) is.chain items u is.items_are is.lines b placed.boundary
     (owing_placed d.text columns start e.«end» e.places placed.places) (owing_few columns start e.places placed.few) behind before
 
--- Up to where the lines begin that it leaves, an HTML block has no more items than these.
+-- Up to where the lines begin that it leaves, an HTML block has no more items than these, all of them its own.
 pub html_few : (d : Document) (start columns stop : ℕ) (e : Lines) (items : List (ℕ × Item)) → IsHtml d start columns e.places e.«end» items → ArePlaced d.text start e.places stop → AreFew start e.places
-    → (from to : ℕ) → from ≤ start → stop ≤ to → from < to → length items ≤ 4 * (to - from)
+    → (from to : ℕ) → from ≤ start → stop ≤ to → from < to → own_nodes items ≤ 4 * (to - from)
 html_few d start columns stop e items is placed few from to behind before apart =
     let ps : List Place = first_owing columns e.places in
     let more = few_by d.text from to start stop (length is.chain) ps (lines_few range_html html_range d ps [] is.chain is.lines) (owing_few columns start e.places few)
     (owing_placed d.text columns start stop e.places placed) behind before apart in
     let size = length-block (record { start = start; «end» = e.«end»; body = HtmlBlock }) is.chain in
     let same = ap length is.items_are in
+    let most = own_at_most None items in
     omega arith
 
 -- Where lines end between characters: behind some of what is left at a place, where the line ends there.

@@ -19,6 +19,8 @@ use Rattle.first_pass_grammar.specs.Containers.{at_rest, front}
 use Rattle.first_pass_grammar.specs.Kinds.{unindented}
 use Rattle.first_pass_grammar.specs.Leaves.{Document, content_at, add_break, IsParagraph, paragraph_block, marker_items}
 use Rattle.first_pass_grammar.specs.Completion.{lines_from}
+use Rattle.first_pass_grammar.specs.Counting.{own_nodes}
+use Rattle.first_pass_grammar.proofs.OwnNodes.{own_at_most}
 use Rattle.first_pass_grammar.specs.Order.{Extent, Empty, Node, extent_of, extents, laid, Within, Elsewhere, InItem, InText, in_item, Fits, FitsBetween, IsBetween}
 use Rattle.first_pass_grammar.specs.OpenOrder.{is_in_item, within_top}
 use Rattle.first_pass_text.specs.Appends.{line_end_at, AddsParagraph}
@@ -126,11 +128,12 @@ few_marked : (marker : Option Item) (chain : List Item) → length (marker_items
 few_marked None chain = omega arith
 few_marked (Some x) chain = omega arith
 
--- a paragraph has at most four nodes for each byte: itself, a marker, and its tokens
-paragraph_few : (from start next : ℕ) (marker : Option Item) (chain : List Item) → from ≤ start → length chain + start ≤ next → from < next → length (paragraph_block start next (marker_items marker ++ chain)) ≤ 4 * (next - from)
+-- a paragraph has at most four nodes for each byte: itself, a marker, and its tokens, all of them its own
+paragraph_few : (from start next : ℕ) (marker : Option Item) (chain : List Item) → from ≤ start → length chain + start ≤ next → from < next → own_nodes (paragraph_block start next (marker_items marker ++ chain)) ≤ 4 * (next - from)
 paragraph_few from start next marker chain low few some =
     let size = length-block (record { start = start; «end» = next; body = Paragraph }) (marker_items marker ++ chain) in
     let marked = few_marked marker chain in
+    let most = own_at_most None (paragraph_block start next (marker_items marker ++ chain)) in
     omega arith
 
 -- a task list item marker stands in a list item

@@ -5,7 +5,7 @@ use Rattle.first_pass_tree.specs.Forest.{Forest, added}
 use Rattle.first_pass_grammar.specs.Order.{extent_of, is_task_marker, IsBetween, FitsBetween}
 use Rattle.first_pass_grammar.specs.OpenOrder.{is_in_item, within_top}
 
--- A block is a last child of the innermost open node, and its nodes lie between two offsets in order, at most four for each byte there.
+-- A block is a last child of the innermost open node, and its nodes lie between two offsets in order, at most four of its own for each byte there.
 pub record AddsBetween (text : List ℕ) (from to : ℕ) (old new : Forest Item) : Type 0 where
   pub items : List (ℕ × Item)
   pub tree_is : new ≡ added old items

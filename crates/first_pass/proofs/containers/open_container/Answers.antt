@@ -26,6 +26,7 @@ use Rattle.first_pass_open.proofs.PlaceLemmas.{item_keeps, item_shorter, behind_
 use Rattle.first_pass.proofs.LineLemmas.{same_place, list_finished_none, list_continued_none}
 use Rattle.first_pass.proofs.OrderLemmas.{ordered_later}
 use Rattle.first_pass_grammar.specs.Names.{AreNamed}
+use Rattle.first_pass_grammar.specs.Counting.{own_nodes}
 use Rattle.first_pass.proofs.NamedLemmas.{AreReadNamed, item_named, quote_named, child_named}
 use Rattle.first_pass.proofs.CountLemmas.{count, item_count, quote_count, child_count, left_before, offset_before, mark_shorter, container_count}
 use Rattle.first_pass.proofs.OrderSteps.{offset_later, ordered_on, top_begun, ordered_item, ordered_quote, mark_stands, ordered_container, ordered_empty_item, quote_stands, place_before_end}
@@ -388,7 +389,7 @@ returns-in-Some-clause-few c = rw (← c.place.view_is) (
     let two = item_count start c.in-Some.item.byte c.in-Some.item.number c.in-Some.item.indent old in
     let same = ap count now in
     let one = child_count item.tree marker in
-    let tree = ap (λ (f : Forest Item). length f.nodes) c.in_ok-append_item.ensures in
+    let tree = ap (λ (f : Forest Item). own_nodes f.nodes) c.in_ok-append_item.ensures in
     λ first grows. omega arith)
 
 pub returns-then-is_none-2-clause-few : goal.returns-then-is_none-2-clause-few
@@ -401,7 +402,8 @@ returns-then-is_none-2-clause-few c = rw (← c.place.view_is) (
     let i = same_place _ _ _ c.place.view_is c.requires.place in
     let j = (prefix_keeps text line (BlockQuote None) r inside c.requires.utf8 (quote_is c).1 i).0 in
     let later = offset_before text line r inside i j (quote_prefix_shorter r inside (quote_is c).1) in
-    let one = ap count c.in_ok-open_quote.ensures ∙ quote_count line (line + c.in-Some-scan_quote.quote) (BlockQuoteBody c.scan_tag-tag.result) old in
+    let same = ap count c.in_ok-open_quote.ensures in
+    let one = quote_count line (line + c.in-Some-scan_quote.quote) (BlockQuoteBody c.scan_tag-tag.result) old in
     λ first grows. omega arith)
 
 pub returns-in-Some-scan_quote-clause-few : goal.returns-in-Some-scan_quote-clause-few
@@ -412,7 +414,8 @@ returns-in-Some-scan_quote-clause-few c = rw (← c.place.view_is) (
     let shorter = quote_prefix_shorter r c.scan_quote.new.line_start (tagged_is c).1 in
     let some = left_before (place_at line r) (omega arith) in
     let ends = tag_line_end c in
-    let one = ap count c.in_ok-open_quote.ensures ∙ quote_count line (line + c.in-Some-scan_quote.quote) (BlockQuoteBody c.scan_tag-tag.result) old in
+    let same = ap count c.in_ok-open_quote.ensures in
+    let one = quote_count line (line + c.in-Some-scan_quote.quote) (BlockQuoteBody c.scan_tag-tag.result) old in
     λ first grows. omega arith)
 
 pub returns-then-is_none-clause-named : goal.returns-then-is_none-clause-named

@@ -1,4 +1,4 @@
-use Rattle.std.proofs.Common.{◌≡◌, ◌≤◌, inl, inr, ℕ, List, [], length, IsCharBoundary, arith, refl, sym, ap, ◌∙◌, subst}
+use Rattle.std.proofs.Common.{◌≡◌, ◌≤◌, inl, inr, ℕ, List, [], length, None, IsCharBoundary, arith, refl, sym, ap, ◌∙◌, subst}
 use Rattle.std.proofs.lemmas.Str.{IsCharBoundary-start, IsCharBoundary-end}
 use Rattle.first_pass_lines.proofs.LineFacts.{lines_at-end}
 use Rattle.first_pass_grammar.specs.Leaves.{document}
@@ -9,6 +9,7 @@ use Rattle.first_pass_open.specs.declared.source.Source.{Source}
 use Rattle.first_pass.specs.Ordered.{reached, IsOrderedAt, IsOrderedFrom}
 use Rattle.first_pass.specs.State.{Ready}
 use Rattle.first_pass_names.specs.TableEntries.{tables, names_of}
+use Rattle.first_pass_grammar.proofs.OwnNodes.{own_at_most}
 use Rattle.first_pass.proofs.OrderLemmas.{ordered_whole}
 use Rattle.first_pass_open.proofs.FrontLemmas.{outer-none}
 use Rattle.first_pass.proofs.StateLemmas.{ready_finish}
@@ -23,7 +24,7 @@ loop-ix-init c = record {
   ready = λ names more. subst (λ z. Ready (document c.args.text.now c.args.options names) z c.in_ok-pass.pass.reading (lines_from c.args.text.now 0)) (sym c.in_ok-pass.ensures.tables) (c.in_ok-pass.ensures.ready names);
   order = inl c.in_ok-pass.ensures.order;
   named = c.in_ok-pass.ensures.named;
-  few = (let root = c.in_ok-pass.ensures.root in omega arith);
+  few = (let root = c.in_ok-pass.ensures.root in let most = own_at_most None c.in_ok-pass.pass.reading.tree.nodes in omega arith);
 }
 
 both_same : {t u : List ℕ} {o w : Options} → t ≡ u → o ≡ w → ◌≡◌ {A = List ℕ × Options} (t, o) (u, w)

@@ -1,6 +1,7 @@
 use Rattle.std.proofs.Common.{◌≡◌, ◌+◌, ◌-◌, ◌*◌, ◌≤◌, length, IsCharBoundary}
 use Rattle.first_pass_grammar.specs.Names.{Names, Extends, AreNamed}
 use Rattle.first_pass_grammar.specs.Leaves.{document}
+use Rattle.first_pass_grammar.specs.Counting.{own_nodes}
 use Rattle.first_pass_grammar.specs.Completion.{lines_from}
 use Rattle.first_pass.specs.Ordered.{IsOrderedFrom}
 use Rattle.first_pass.specs.State.{Ready}
@@ -16,7 +17,7 @@ invariant-loop-ix l = record {
   ready : (names : Names) → Extends names (names_of l.pass.allocs) → Ready (document l.text l.fn.options names) (tables l.pass.allocs) l.pass.reading (lines_from l.text l.ix);
   order : IsOrderedFrom l.text l.pass.reading l.ix;
   named : AreNamed (names_of l.pass.allocs) l.pass.reading.tree.nodes;
-  few : length l.pass.reading.tree.nodes ≤ 1 + 4 * l.ix;
+  few : own_nodes l.pass.reading.tree.nodes ≤ 1 + 4 * l.ix;
 }
 
 abbrev pub decreases-loop-ix : goal.decreases-loop-ix

@@ -1,0 +1,35 @@
+-- How many nodes there are, the cells apart that a row of a table is filled with.
+use Rattle.std.specs.Prelude.{ℕ, ◌+◌, ◌==◌, ◌&&◌, Bool, true, false, List, [], ◌∷◌, Option, Some, None, if◌then◌else◌}
+use Rattle.first_pass_items.specs.declared.item.Item.{Item}
+use Rattle.first_pass_items.specs.declared.item.ItemBody.{ItemBody}
+use Rattle.first_pass_items.specs.declared.item.ItemBody.TheVariants.{TableHead, TableRow, TableCell}
+
+-- a row of a table, or its header row (GFM 4.10)
+abbrev pub is_row : ItemBody → Bool
+is_row TableHead = true
+is_row TableRow = true
+is_row _ = false
+
+-- a cell of a table (GFM 4.10)
+abbrev pub is_cell : ItemBody → Bool
+is_cell TableCell = true
+is_cell _ = false
+
+-- where the last cell of a row starts, if it has one yet, behind a node: a row begins with none (GFM 4.10)
+abbrev pub last_cell : Option ℕ → Item → Option ℕ
+last_cell cell x = if is_row x.body then None else (if is_cell x.body then Some x.start else cell)
+
+-- A filled cell behind another: a row with too few cells is filled with empty ones, which all start at the row's end, and no two cells that are written
+-- start at one offset. So such a cell starts where the cell before it in its row does (GFM 4.10, and this project).
+abbrev pub is_filled_behind : Option ℕ → Item → Bool
+is_filled_behind None x = false
+is_filled_behind (Some start) x = is_cell x.body && (x.start == start)
+
+-- how many of these nodes are no filled cells behind others, where a row's last cell so far starts at an offset, if it has one (this project)
+unfoldable pub own : Option ℕ → List (ℕ × Item) → ℕ
+own cell [] = 0
+own cell (n ∷ nodes) = (if is_filled_behind cell n.1 then 0 else 1) + own (last_cell cell n.1) nodes
+
+-- how many nodes a tree or a block has of its own: of the cells that a row is filled with, the first counts alone (this project)
+abbrev pub own_nodes : List (ℕ × Item) → ℕ
+own_nodes nodes = own None nodes
