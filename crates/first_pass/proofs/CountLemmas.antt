@@ -1,4 +1,5 @@
--- How many nodes a tree has of its own: what closes nodes and notes blank lines adds none, what opens a container adds one or two, and each is paid for by a byte.
+-- How many nodes a tree has of its own: what closes nodes and notes blank lines adds none, what opens a container adds one or
+-- two, and each is paid for by a byte.
 use Rattle.std.proofs.Common.{◌≡◌, ℕ, zero, suc, ◌+◌, ◌<◌, ◌≤◌, ◌==◌, ◌&&◌, Bool, true, false, if◌then◌else◌, List, [], ◌∷◌, length, nat_lt, slice_get, slice_index, Option, Some, None, is_some, refl, sym, ap, subst, ◌∙◌, inl, inr, arith}
 use Rattle.std.specs.Int.RustNames.{bit_and}
 use Rattle.std.specs.Option.{option_and_then}
@@ -35,7 +36,9 @@ abbrev pub count : Reading → ℕ
 count r = own_nodes r.tree.nodes
 
 -- paragraphs of a list made tight count alike
-run_by : (t : Bool) (depth : ℕ) (n : ℕ × Item) (nodes : List (ℕ × Item)) (cell : Option ℕ) → ((after : Option ℕ) → own after (tight_run depth nodes) ≡ own after nodes) → own cell (if t then tightened (depth + 2) n ∷ tight_run depth nodes else n ∷ nodes) ≡ own cell (n ∷ nodes)
+run_by : (t : Bool) (depth : ℕ) (n : ℕ × Item) (nodes : List (ℕ × Item)) (cell : Option ℕ)
+    → ((after : Option ℕ) → own after (tight_run depth nodes) ≡ own after nodes)
+    → own cell (if t then tightened (depth + 2) n ∷ tight_run depth nodes else n ∷ nodes) ≡ own cell (n ∷ nodes)
 run_by true depth n nodes cell h = alike_first cell n.0 n.0 n.1 (tightened (depth + 2) n).1 nodes (tight_run depth nodes) (alike_tightened (depth + 2) n) h
 run_by false depth n nodes cell h = refl
 
@@ -63,7 +66,8 @@ closed_count r f ix (Some b) = refl
 
 popped_at_count : (e : ℕ) (r : Reading) (s : List TreeIndex) → count (popped_at e r s) ≡ count r
 popped_at_count e r [] = refl
-popped_at_count e r (ix ∷ rest) = closed_count r (closed_by r.tree e (ix ∷ rest)) ix (body_at (closed_by r.tree e (ix ∷ rest)).nodes ix.0) ∙ own_ended r.tree.nodes ix.0 e
+popped_at_count e r (ix ∷ rest) =
+    closed_count r (closed_by r.tree e (ix ∷ rest)) ix (body_at (closed_by r.tree e (ix ∷ rest)).nodes ix.0) ∙ own_ended r.tree.nodes ix.0 e
 
 pub popped_count : (e : ℕ) (r : Reading) → count (popped e r) ≡ count r
 unfolding popped
@@ -81,7 +85,8 @@ item_finished_count r = finished_by_count r r.empty_item
 -- nor what makes a list loose
 loosened_count : (f : Forest Item) (ix : TreeIndex) (b : Option ItemBody) → body_at f.nodes ix.0 ≡ b → own_nodes (loosened_by f ix b).nodes ≡ own_nodes f.nodes
 loosened_count f ix None is = refl
-loosened_count f ix (Some (ListBody flags byte number)) is = own_changed f.nodes ix.0 (ListBody flags byte number) (ListBody (list_flags false) byte number) is refl refl
+loosened_count f ix (Some (ListBody flags byte number)) is =
+    own_changed f.nodes ix.0 (ListBody flags byte number) (ListBody (list_flags false) byte number) is refl refl
 loosened_count f ix (Some b) is = refl
 
 gap_tree_count : (f : Forest Item) (s : List TreeIndex) → own_nodes (gap_tree f s).nodes ≡ own_nodes f.nodes
@@ -108,7 +113,8 @@ kept_count : (r : Reading) → count (list_kept r) ≡ count r
 kept_count r = cond_both r.blank (record r { tree = loosened_top r.tree r.tree.spine; blank = false }) r (λ (q : Reading). count q ≡ count r) (λ b. top_count r.tree r.tree.spine) (λ b. refl)
 
 -- nor a blank line
-emptied_count : (f : Forest Item) (s : List TreeIndex) (columns : ℕ) → option_and_then (λ (ix : TreeIndex). body_at f.nodes ix.0) (slice_get s 0) ≡ Some (ListItemBody columns) → own_nodes (emptied f s).nodes ≡ own_nodes f.nodes
+emptied_count : (f : Forest Item) (s : List TreeIndex) (columns : ℕ)
+    → option_and_then (λ (ix : TreeIndex). body_at f.nodes ix.0) (slice_get s 0) ≡ Some (ListItemBody columns) → own_nodes (emptied f s).nodes ≡ own_nodes f.nodes
 emptied_count f [] columns top = refl
 emptied_count f (ix ∷ rest) columns top = own_changed f.nodes ix.0 (ListItemBody columns) (ListItemBody 0) top refl refl
 
@@ -116,7 +122,8 @@ blank_by_count : (r : Reading) (b : Option ItemBody) → top_body r.tree ≡ b �
 blank_by_count r None top = refl
 blank_by_count r (Some (BlockQuoteBody kind)) top = refl
 blank_by_count r (Some (ListItemBody columns)) top =
-    cond_both (is_some r.empty_item) (emptied r.tree r.tree.spine) r.tree (λ (f : Forest Item). own_nodes f.nodes ≡ count r) (λ b. emptied_count r.tree r.tree.spine columns top) (λ b. refl)
+    cond_both (is_some r.empty_item) (emptied r.tree r.tree.spine) r.tree (λ (f : Forest Item). own_nodes f.nodes ≡ count r)
+    (λ b. emptied_count r.tree r.tree.spine columns top) (λ b. refl)
 blank_by_count r (Some b) top = refl
 
 pub blank_count : (r : Reading) → count (blank_read r) ≡ count r
@@ -195,7 +202,8 @@ mark_shorter options line r s marker x is rest some =
     omega arith
 
 -- an item with something behind its markers, which stand up to two offsets
-pub container_count : (text : List ℕ) (line low mid at : ℕ) (first old new : List (ℕ × Item)) (marker : Option Item) → GrowsBy line low first old → own_nodes new ≤ own_nodes old + 2 → line ≤ low → low < mid → mid ≤ at
+pub container_count : (text : List ℕ) (line low mid at : ℕ) (first old new : List (ℕ × Item)) (marker : Option Item)
+    → GrowsBy line low first old → own_nodes new ≤ own_nodes old + 2 → line ≤ low → low < mid → mid ≤ at
     → ((x : Item) → marker ≡ Some x → StandsBefore text mid at (Some x) × (mid < at)) → GrowsIn text line first new at (task_text marker)
 container_count text line low mid at first old new None grows two begins some later stands = omega arith
 container_count text line low mid at first old new (Some x) grows two begins some later stands = record {

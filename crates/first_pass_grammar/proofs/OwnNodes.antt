@@ -1,5 +1,6 @@
--- How many nodes of its own a list of nodes has: no more than there are, as many at another depth or with what closes nodes changed, and those of the parts.
-use Rattle.std.proofs.Common.{◌≡◌, ℕ, zero, suc, ◌+◌, ◌≤◌, ◌==◌, ◌&&◌, Bool, true, false, if◌then◌else◌, List, [], ◌∷◌, ◌++◌, length, Option, Some, None, refl, sym, ap, ◌∙◌, arith, eq-eqb}
+-- How many nodes of its own a list of nodes has: no more than there are, as many at another depth or with what closes nodes changed, and no more than its
+-- parts have together.
+use Rattle.std.proofs.Common.{◌≡◌, ℕ, zero, suc, ◌+◌, ◌≤◌, ◌==◌, Bool, true, false, if◌then◌else◌, List, [], ◌∷◌, ◌++◌, length, Option, Some, None, refl, sym, ap, ◌∙◌, arith, eq-eqb}
 use Rattle.first_pass_items.specs.declared.item.Item.{Item}
 use Rattle.first_pass_items.specs.declared.item.ItemBody.{ItemBody}
 use Rattle.first_pass_items.specs.declared.item.ItemBody.TheVariants.{Paragraph, TableCell}
@@ -8,7 +9,7 @@ use Rattle.first_pass_grammar.specs.Derivation.{tight_body, tightened}
 use Rattle.first_pass_grammar.specs.Counting.{is_row, is_cell, last_cell, is_filled_behind, own, own_nodes}
 
 -- a node counts once at most
-one_at_most : (t : Bool) (m n : ℕ) → m ≤ n → (if t then 0 else 1) + m ≤ suc n
+one_at_most : (t : Bool) (m n : ℕ) → m ≤ n → (if t then 0 else 1) + m ≤ 1 + n
 one_at_most true m n h = omega arith
 one_at_most false m n h = omega arith
 
@@ -16,7 +17,7 @@ one_at_most false m n h = omega arith
 pub own_at_most : (cell : Option ℕ) (nodes : List (ℕ × Item)) → own cell nodes ≤ length nodes
 unfolding own
 own_at_most cell [] = omega arith
-own_at_most cell (n ∷ nodes) = one_at_most (is_filled_behind cell n.1) _ _ (own_at_most (last_cell cell n.1) nodes)
+own_at_most cell (n ∷ nodes) = (let h = one_at_most (is_filled_behind cell n.1) _ _ (own_at_most (last_cell cell n.1) nodes) in omega arith)
 
 -- behind a cell no more nodes count than behind none
 fresh_by : (row is : Bool) (start : ℕ) (cell : Option ℕ) (nodes : List (ℕ × Item)) → own cell nodes ≤ own None nodes
@@ -25,15 +26,11 @@ fresh_by true is start cell nodes h = omega arith
 fresh_by false true start cell nodes h = omega arith
 fresh_by false false start cell nodes h = h
 
-fresh_one : (t : Bool) (m n : ℕ) → m ≤ n → (if t then 0 else 1) + m ≤ 1 + n
-fresh_one true m n h = omega arith
-fresh_one false m n h = omega arith
-
 pub own_fresh : (cell : Option ℕ) (nodes : List (ℕ × Item)) → own cell nodes ≤ own_nodes nodes
 unfolding own
 own_fresh cell [] = omega arith
 own_fresh cell (n ∷ nodes) =
-    fresh_one (is_filled_behind cell n.1) _ _ (fresh_by (is_row n.1.body) (is_cell n.1.body) n.1.start cell nodes (own_fresh cell nodes))
+    one_at_most (is_filled_behind cell n.1) _ _ (fresh_by (is_row n.1.body) (is_cell n.1.body) n.1.start cell nodes (own_fresh cell nodes))
 
 -- a list with more behind it has no more than both
 join_one : (t : Bool) (m a b : ℕ) → m ≤ a + b → (if t then 0 else 1) + m ≤ (if t then 0 else 1) + a + b
@@ -76,8 +73,9 @@ filled_alike x y (Some start) h = (let s = h.start in let c = h.cell in cc)
 last_alike : (x y : Item) (cell : Option ℕ) → CountAlike x y → last_cell cell y ≡ last_cell cell x
 last_alike x y cell h = (let s = h.start in let c = h.cell in let r = h.row in cc)
 
--- nodes whose items count alike
-pub alike_first : (cell : Option ℕ) (d e : ℕ) (x y : Item) (nodes more : List (ℕ × Item)) → CountAlike x y → ((after : Option ℕ) → own after more ≡ own after nodes) → own cell ((e, y) ∷ more) ≡ own cell ((d, x) ∷ nodes)
+-- a node that counts alike before nodes that do
+pub alike_first : (cell : Option ℕ) (d e : ℕ) (x y : Item) (nodes more : List (ℕ × Item)) → CountAlike x y
+    → ((after : Option ℕ) → own after more ≡ own after nodes) → own cell ((e, y) ∷ more) ≡ own cell ((d, x) ∷ nodes)
 unfolding own
 alike_first cell d e x y nodes more h same =
     ap (λ (t : Bool). (if t then 0 else 1) + own (last_cell cell y) more) (filled_alike x y cell h)
@@ -85,11 +83,13 @@ alike_first cell d e x y nodes more h same =
     ∙ ap (λ (k : ℕ). (if is_filled_behind cell x then 0 else 1) + k) (same (last_cell cell x))
 
 -- behind the same node
-pub own_first : (cell : Option ℕ) (n : ℕ × Item) (nodes more : List (ℕ × Item)) → ((after : Option ℕ) → own after more ≡ own after nodes) → own cell (n ∷ more) ≡ own cell (n ∷ nodes)
+pub own_first : (cell : Option ℕ) (n : ℕ × Item) (nodes more : List (ℕ × Item))
+    → ((after : Option ℕ) → own after more ≡ own after nodes) → own cell (n ∷ more) ≡ own cell (n ∷ nodes)
 own_first cell n nodes more same = alike_first cell n.0 n.0 n.1 n.1 nodes more (record { start = refl; cell = refl; row = refl }) same
 
 -- a change at a place by which the item there counts alike
-pub own_modified : (cell : Option ℕ) (nodes : List (ℕ × Item)) (i : ℕ) (g : Item → Item) → ((x : Item) → body_at nodes i ≡ Some x.body → CountAlike x (g x)) → own cell (modify nodes i g) ≡ own cell nodes
+pub own_modified : (cell : Option ℕ) (nodes : List (ℕ × Item)) (i : ℕ) (g : Item → Item)
+    → ((x : Item) → body_at nodes i ≡ Some x.body → CountAlike x (g x)) → own cell (modify nodes i g) ≡ own cell nodes
 own_modified cell [] i g alike = refl
 own_modified cell (n ∷ nodes) zero g alike = alike_first cell n.0 n.0 n.1 (g n.1) nodes nodes (alike n.1 refl) (λ after. refl)
 own_modified cell (n ∷ nodes) (suc i) g alike = own_first cell n nodes (modify nodes i g) (λ after. own_modified after nodes i g alike)
@@ -98,10 +98,12 @@ own_modified cell (n ∷ nodes) (suc i) g alike = own_first cell n nodes (modify
 pub own_ended : (nodes : List (ℕ × Item)) (i e : ℕ) → own_nodes (modify nodes i (λ x. record x { «end» = e })) ≡ own_nodes nodes
 own_ended nodes i e = own_modified None nodes i (λ x. record x { «end» = e }) (λ x at. alike_ended x e)
 
--- with another body at a place, neither of which is that of a cell or a row
-pub own_changed : (nodes : List (ℕ × Item)) (i : ℕ) (b c : ItemBody) → body_at nodes i ≡ Some b → is_cell c ≡ is_cell b → is_row c ≡ is_row b → own_nodes (modify nodes i (λ x. record x { body = c })) ≡ own_nodes nodes
+-- with another body at a place, where both or neither are those of a cell, and of a row
+pub own_changed : (nodes : List (ℕ × Item)) (i : ℕ) (b c : ItemBody) → body_at nodes i ≡ Some b
+    → is_cell c ≡ is_cell b → is_row c ≡ is_row b → own_nodes (modify nodes i (λ x. record x { body = c })) ≡ own_nodes nodes
 own_changed nodes i b c is cell row =
-    own_modified None nodes i (λ x. record x { body = c }) (λ x at. (let same : x.body ≡ b = cc in record { start = refl; cell = cell ∙ ap is_cell (sym same); row = row ∙ ap is_row (sym same) }))
+    own_modified None nodes i (λ x. record x { body = c })
+    (λ x at. (let same : x.body ≡ b = cc in record { start = refl; cell = cell ∙ ap is_cell (sym same); row = row ∙ ap is_row (sym same) }))
 
 -- a paragraph made tight
 cell_tight : (b : ItemBody) → is_cell (tight_body b) ≡ is_cell b
@@ -118,7 +120,6 @@ alike_by false x = record { start = refl; cell = refl; row = refl }
 
 pub alike_tightened : (depth : ℕ) (n : ℕ × Item) → CountAlike n.1 (tightened depth n).1
 alike_tightened depth n = alike_by (n.0 == depth) n.1
-
 
 -- cells that all start at one offset
 unfoldable pub AreCellsAt : ℕ → List (ℕ × Item) → Type 0
@@ -148,4 +149,4 @@ unfolding own AreCellsAt
 own_filled cell start [] h = omega arith
 own_filled cell start (n ∷ nodes) h =
     let none = own_refilled start nodes h.2 in
-    rw (cell_next cell start n.1 h.0 h.1, none) (fresh_one (is_filled_behind cell n.1) 0 0 (omega arith))
+    rw (cell_next cell start n.1 h.0 h.1, none) (one_at_most (is_filled_behind cell n.1) 0 0 (omega arith))

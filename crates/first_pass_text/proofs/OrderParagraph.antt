@@ -129,7 +129,8 @@ few_marked None chain = omega arith
 few_marked (Some x) chain = omega arith
 
 -- a paragraph has at most four nodes for each byte: itself, a marker, and its tokens, all of them its own
-paragraph_few : (from start next : ℕ) (marker : Option Item) (chain : List Item) → from ≤ start → length chain + start ≤ next → from < next → own_nodes (paragraph_block start next (marker_items marker ++ chain)) ≤ 4 * (next - from)
+paragraph_few : (from start next : ℕ) (marker : Option Item) (chain : List Item) → from ≤ start → length chain + start ≤ next → from < next
+    → own_nodes (paragraph_block start next (marker_items marker ++ chain)) ≤ 4 * (next - from)
 paragraph_few from start next marker chain low few some =
     let size = length-block (record { start = start; «end» = next; body = Paragraph }) (marker_items marker ++ chain) in
     let marked = few_marked marker chain in
