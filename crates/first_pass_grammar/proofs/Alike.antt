@@ -1,17 +1,19 @@
--- Items that read alike: they differ at most in indices that name one text.
+-- Items that read alike: they differ at most in indices that name one text, or the same alignments.
 use Rattle.std.proofs.Common.{◌≡◌, ℕ, zero, suc, ◌+◌, ◌-◌, ◌==◌, Bool, true, false, nat_lt, List, [], ◌∷◌, ◌++◌, map, slice_get, Option, Some, refl, sym, ap, ◌∙◌, if◌then◌else◌}
-use Rattle.std.specs.Option.{option_map}
+use Rattle.std.specs.Option.{option_map, option_and_then}
 use Rattle.std.proofs.lemmas.List.{map-append}
 use Rattle.first_pass_items.specs.CowText.{text_of}
+use Rattle.first_pass_items.specs.declared.item.Alignment.{Alignment}
+use Rattle.first_pass_items.specs.declared.item.AlignmentIndex.{AlignmentIndex}
 use Rattle.first_pass_items.specs.declared.item.CowIndex.{CowIndex}
 use Rattle.first_pass_items.specs.declared.item.Item.{Item}
 use Rattle.first_pass_items.specs.declared.item.ItemBody.{ItemBody}
-use Rattle.first_pass_items.specs.declared.item.ItemBody.TheVariants.{SynthesizeText, FencedCodeBlock, Paragraph}
+use Rattle.first_pass_items.specs.declared.item.ItemBody.TheVariants.{SynthesizeText, FencedCodeBlock, Table, Paragraph}
 use Rattle.first_pass_tree.specs.Forest.{at_depth, is_text}
 use Rattle.first_pass_lines.specs.Places.{Place, offset, line_end}
 use Rattle.first_pass_tokens.specs.TreeTokens.{leaves}
 use Rattle.first_pass_tokens.specs.Chains.{text_token, touches, add_token, add_tokens}
-use Rattle.first_pass_grammar.specs.Names.{Names, NamesText, index_of, kind_alone, read, read_nodes}
+use Rattle.first_pass_grammar.specs.Names.{Names, NamesText, NamesAlignments, TextAt, AlignmentsAt, Named, AText, Alignments, index_of, kind_alone, named, read, read_nodes}
 use Rattle.first_pass_grammar.specs.Leaves.{Document, document, block_with}
 use Rattle.first_pass_grammar.specs.RawLines.{AreColumns, ends_with_both, Ranges, range_text, range_html, raw_items, AreRawLines, spaces}
 use Rattle.first_pass_grammar.specs.Skeleton.{LeafBlock, Leaf, BlankLine, Block, From, Line, Blanks, At, Anything, ALeafAlone, TextOf, MarkAlone, Opening, OpensLeaf, OpensNode, Skeleton, Nil, Then, Node}
@@ -78,18 +80,19 @@ nodes_append m n xs xs' ys ys' h k =
     cc
 
 -- a chain that was read, with one more item that was read: what is read of a chain and an item that are joined
-abbrev join_read : List (Item × Option (List ℕ)) → Item × Option (List ℕ) → List (Item × Option (List ℕ))
+abbrev join_read : List (Item × Option Named) → Item × Option Named → List (Item × Option Named)
 join_read [] y = y ∷ []
 join_read (x ∷ []) y = if touches x.0 y.0 then (record { start = x.0.start; «end» = y.0.«end»; body = x.0.body }, x.1) ∷ [] else x ∷ y ∷ []
 join_read (x ∷ z ∷ zs) y = x ∷ join_read (z ∷ zs) y
 
-abbrev join_reads : List (Item × Option (List ℕ)) → List (Item × Option (List ℕ)) → List (Item × Option (List ℕ))
+abbrev join_reads : List (Item × Option Named) → List (Item × Option Named) → List (Item × Option Named)
 join_reads chain [] = chain
 join_reads chain (x ∷ xs) = join_reads (join_read chain x) xs
 
 text_alone : (b : ItemBody) → is_text (kind_alone b) ≡ is_text b
 text_alone (SynthesizeText ix) = refl
 text_alone (FencedCodeBlock ix) = refl
+text_alone (Table ix) = refl
 text_alone b = refl
 
 touches_read : (m : Names) (x y : Item) → touches (read m x).0 (read m y).0 ≡ touches x y
@@ -116,8 +119,16 @@ tokens_alike : (m n : Names) (chain chain' tokens tokens' : List Item) → Alike
 tokens_alike m n chain chain' tokens tokens' h k = let a = read_tokens m chain tokens in let b = read_tokens n chain' tokens' in cc
 
 -- what an index names
-named_text : (names : Names) (ix : CowIndex) (text : List ℕ) → NamesText names ix text → option_map text_of (slice_get names.texts ix.0) ≡ Some text
-named_text names ix text (named, at, is) = rw at (ap (λ z. Some z) is)
+named_text : (names : Names) (ix : CowIndex) (text : List ℕ) → NamesText names ix text → named names (TextAt ix) ≡ Some (AText text)
+named_text names ix text (cow, at, is) = rw at (ap (λ z. Some (AText z)) is)
+
+named_alignments : (names : Names) (ix : AlignmentIndex) (alignments : List Alignment) → NamesAlignments names ix alignments → named names (AlignmentsAt ix) ≡ Some (Alignments alignments)
+named_alignments names ix alignments at = rw at refl
+
+-- Items that differ at most in their indices read alike, where these name the same.
+indexed_alike : (m n : Names) (start «end» : ℕ) (body body' : ItemBody) → kind_alone body ≡ kind_alone body' → option_and_then (named m) (index_of body) ≡ option_and_then (named n) (index_of body')
+    → read m (node_of start «end» body) ≡ read n (node_of start «end» body')
+indexed_alike m n start end body body' h k = λ i. (node_of start end (h i), k i)
 
 -- Columns read alike, and so do raw lines.
 columns_alike : (m n : Names) (owed at : ℕ) (xs ys : List Item) → AreColumns m owed at xs → AreColumns n owed at ys → AlikeChains m n xs ys
@@ -125,8 +136,7 @@ columns_alike m n zero at xs ys h k = let e : xs ≡ [] = h in let f : ys ≡ []
 columns_alike m n (suc owed) at xs ys (i, names, e) (j, names', f) =
     let a = named_text m i (spaces (suc owed)) names in
     let b = named_text n j (spaces (suc owed)) names' in
-    let z : Item = record { start = at; «end» = at; body = SynthesizeText (record { 0 = 0 }) } in
-    ap (map (read m)) e ∙ ap (λ (t : Option (List ℕ)). (z, t) ∷ []) (a ∙ sym b) ∙ sym (ap (map (read n)) f)
+    ap (map (read m)) e ∙ ap (λ (z : Item × Option Named). z ∷ []) (indexed_alike m n at at (SynthesizeText i) (SynthesizeText j) refl (a ∙ sym b)) ∙ sym (ap (map (read n)) f)
 
 -- a range has no index, and so the bytes of a raw line
 abbrev pub AreFree : Ranges → Type 0
@@ -160,7 +170,7 @@ raw_alike range free d n chain chain' (p ∷ ps) w w' a (line, is, more) (line',
     more more'
 
 -- blocks with chains that read alike
-read_below : (m : Names) (chain : List Item) → read_nodes m (at_depth 1 (leaves chain)) ≡ map (λ (z : Item × Option (List ℕ)). (1, z)) (map (read m) chain)
+read_below : (m : Names) (chain : List Item) → read_nodes m (at_depth 1 (leaves chain)) ≡ map (λ (z : Item × Option Named). (1, z)) (map (read m) chain)
 read_below m [] = refl
 read_below m (x ∷ xs) = ap (λ z. (1, read m x) ∷ z) (read_below m xs)
 
@@ -168,17 +178,21 @@ pub block_alike : (m n : Names) (start «end» : ℕ) (body body' : ItemBody) (c
     → AlikeChains m n chain chain' → AlikeNodes m n (block_with start «end» body chain) (block_with start «end» body' chain')
 block_alike m n start end body body' chain chain' h k =
     ap (λ z. (0, z) ∷ read_nodes m (at_depth 1 (leaves chain))) h
-    ∙ ap (λ z. (0, read n (node_of start end body')) ∷ z) (read_below m chain ∙ ap (map (λ (z : Item × Option (List ℕ)). (1, z))) k ∙ sym (read_below n chain'))
+    ∙ ap (λ z. (0, read n (node_of start end body')) ∷ z) (read_below m chain ∙ ap (map (λ (z : Item × Option Named). (1, z))) k ∙ sym (read_below n chain'))
 
 pub fence_alike : (m n : Names) (start «end» : ℕ) (i j : CowIndex) (info : List ℕ) → NamesText m i info → NamesText n j info → read m (node_of start «end» (FencedCodeBlock i)) ≡ read n (node_of start «end» (FencedCodeBlock j))
-fence_alike m n start end i j info h k =
-    let z : Item = node_of start end (FencedCodeBlock (record { 0 = 0 })) in ap (λ (t : Option (List ℕ)). (z, t)) (named_text m i info h ∙ sym (named_text n j info k))
+fence_alike m n start end i j info h k = indexed_alike m n start end (FencedCodeBlock i) (FencedCodeBlock j) refl (named_text m i info h ∙ sym (named_text n j info k))
+
+pub table_alike : (m n : Names) (start «end» : ℕ) (i j : AlignmentIndex) (alignments : List Alignment) → NamesAlignments m i alignments → NamesAlignments n j alignments
+    → read m (node_of start «end» (Table i)) ≡ read n (node_of start «end» (Table j))
+table_alike m n start end i j alignments h k = indexed_alike m n start end (Table i) (Table j) refl (named_alignments m i alignments h ∙ sym (named_alignments n j alignments k))
 
 -- Making a paragraph tight leaves an item's index as it is.
 tight_alone : (b : ItemBody) → kind_alone (tight_body b) ≡ tight_body (kind_alone b)
 tight_alone Paragraph = refl
 tight_alone (SynthesizeText ix) = refl
 tight_alone (FencedCodeBlock ix) = refl
+tight_alone (Table ix) = refl
 tight_alone b = refl
 
 tight_index : (b : ItemBody) → index_of (tight_body b) ≡ index_of b
@@ -186,7 +200,7 @@ tight_index Paragraph = refl
 tight_index b = refl
 
 -- a node read, made tight
-abbrev pub tight_read : ℕ → ℕ × (Item × Option (List ℕ)) → ℕ × (Item × Option (List ℕ))
+abbrev pub tight_read : ℕ → ℕ × (Item × Option Named) → ℕ × (Item × Option Named)
 tight_read depth x = (x.0, if x.0 == depth then (node_of x.1.0.start x.1.0.«end» (tight_body x.1.0.body), x.1.1) else x.1)
 
 read_tight_by : (m : Names) (t : Bool) (x : Item) → read m (if t then node_of x.start x.«end» (tight_body x.body) else x) ≡ (if t then (node_of x.start x.«end» (tight_body (read m x).0.body), (read m x).1) else read m x)

@@ -2,6 +2,8 @@
 use Rattle.std.proofs.Common.{◌≡◌, ℕ, zero, suc, false, List, [], ◌∷◌, ◌++◌, length, slice_get, Some, refl}
 use Rattle.first_pass_items.specs.declared.cow_str.CowStr.{CowStr}
 use Rattle.first_pass_items.specs.declared.cow_str.CowStr.TheVariants.{Borrowed}
+use Rattle.first_pass_items.specs.declared.item.Alignment.{Alignment}
+use Rattle.first_pass_items.specs.declared.item.AlignmentIndex.{AlignmentIndex}
 use Rattle.first_pass_items.specs.declared.item.CowIndex.{CowIndex}
 use Rattle.first_pass_items.specs.declared.item.Item.{Item}
 use Rattle.first_pass_items.specs.declared.item.ItemBody.TheVariants.{SynthesizeText}
@@ -9,10 +11,10 @@ use Rattle.first_pass_items.specs.declared.option_set.Options.{Options}
 use Rattle.first_pass_lines.specs.Places.{Place, offset, line_end}
 use Rattle.first_pass_links.specs.Escapes.{unescaped}
 use Rattle.first_pass_tokens.specs.Chains.{add_tokens}
-use Rattle.first_pass_grammar.specs.Names.{Names, NamesText, Extends}
+use Rattle.first_pass_grammar.specs.Names.{Names, NamesText, NamesAlignments, Extends, with_named, with_alignments}
 use Rattle.first_pass_grammar.specs.Leaves.{document}
 use Rattle.first_pass_grammar.specs.CodeBlocks.{NamesInfo}
-use Rattle.first_pass_grammar.proofs.MoreNames.{extends_none, extends_both, named_last, still_named}
+use Rattle.first_pass_grammar.proofs.MoreNames.{extends_none, extends_both, extends_named, extends_alignments, named_last, still_named, alignments_last}
 use Rattle.first_pass_grammar.specs.RawLines.{spaces, AreColumns, Ranges, raw_items, AreRawLines}
 
 -- A value, and names that go on with these, so that this holds of it for all names that go on with those.
@@ -26,26 +28,19 @@ pub record Found (names : Names) (A : Type 0) (Holds : Names → A → Type 0) :
 borrowed : List ℕ → CowStr
 borrowed text = Borrowed (record { ref_ptr = (0, 0); now = text })
 
-naming : Names → CowStr → Names
-naming names cow = record { texts = names.texts ++ cow ∷ [] }
-
 next_index : Names → CowIndex
 next_index names = record { 0 = length names.texts }
 
-next_named : (names later : Names) (cow : CowStr) → Extends later (naming names cow) → slice_get later.texts (next_index names).0 ≡ Some cow
-unfolding naming next_index
-next_named names later cow e = still_named later (naming names cow) (length names.texts) cow e (named_last names.texts cow (length names.texts) refl)
-
-naming_extends : (names : Names) (cow : CowStr) → Extends (naming names cow) names
-unfolding naming
-naming_extends names cow = record { more = cow ∷ []; texts = refl }
+next_named : (names later : Names) (cow : CowStr) → Extends later (with_named names cow) → slice_get later.texts (next_index names).0 ≡ Some cow
+unfolding next_index
+next_named names later cow e = still_named later (with_named names cow) (length names.texts) cow e (named_last names.texts cow (length names.texts) refl)
 
 named_text : (names : Names) (text : List ℕ) → Found names CowIndex (λ later ix. NamesText later ix text)
 unfolding borrowed
 named_text names text = record {
   value = next_index names;
-  more = naming names (borrowed text);
-  extends = naming_extends names (borrowed text);
+  more = with_named names (borrowed text);
+  extends = extends_named names (with_named names (borrowed text)) (borrowed text) refl;
   holds = λ later e. (borrowed text, next_named names later (borrowed text) e, refl);
 }
 
@@ -55,9 +50,20 @@ named_info names info =
     let cow : CowStr = borrowed (unescaped false info) in
     record {
       value = next_index names;
-      more = naming names cow;
-      extends = naming_extends names cow;
+      more = with_named names cow;
+      extends = extends_named names (with_named names cow) cow refl;
       holds = λ later e. record { named = cow; at = next_named names later cow e; text = refl; borrowed = λ same. same };
+    }
+
+-- the alignments of a table's columns
+pub named_alignments : (names : Names) (alignments : List Alignment) → Found names AlignmentIndex (λ later ix. NamesAlignments later ix alignments)
+named_alignments names alignments =
+    let ix : AlignmentIndex = record { 0 = length names.alignments } in
+    record {
+      value = ix;
+      more = with_alignments names alignments;
+      extends = extends_alignments names (with_alignments names alignments) alignments refl;
+      holds = λ later e. alignments_last names (with_alignments names alignments) later ix alignments refl refl e;
     }
 
 -- columns, and raw lines

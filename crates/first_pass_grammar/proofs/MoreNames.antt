@@ -3,30 +3,65 @@ use Rattle.std.proofs.Common.{◌≡◌, ℕ, zero, suc, ◌<◌, List, [], ◌�
 use Rattle.std.proofs.lemmas.List.{append-nil}
 use Rattle.std.proofs.lemmas.Option.{slice_get_within}
 use Rattle.first_pass_items.specs.declared.cow_str.CowStr.{CowStr}
-use Rattle.first_pass_grammar.specs.Names.{Names, Extends}
+use Rattle.first_pass_items.specs.declared.item.Alignment.{Alignment}
+use Rattle.first_pass_items.specs.declared.item.AlignmentIndex.{AlignmentIndex}
+use Rattle.first_pass_grammar.specs.Names.{Names, NamesAlignments, Extends, with_named, with_alignments}
 
 -- no more is named
 pub extends_none : (names : Names) → Extends names names
-extends_none names = record { more = []; texts = sym (append-nil names.texts) }
+extends_none names = record { more = record { texts = []; alignments = [] }; texts = sym (append-nil names.texts); alignments = sym (append-nil names.alignments) }
 
 -- more, and then more
+behind_both : {A : Type 0} (new mid old more others : List A) → new ≡ mid ++ more → mid ≡ old ++ others → new ≡ old ++ (others ++ more)
+behind_both new mid old more others e f = e ∙ ap (λ xs. xs ++ more) f ∙ append_assoc old others more
+
 pub extends_both : (new mid old : Names) → Extends new mid → Extends mid old → Extends new old
 extends_both new mid old e f = record {
-  more = f.more ++ e.more;
-  texts = e.texts ∙ ap (λ texts. texts ++ e.more) f.texts ∙ append_assoc old.texts f.more e.more;
+  more = record { texts = f.more.texts ++ e.more.texts; alignments = f.more.alignments ++ e.more.alignments };
+  texts = behind_both new.texts mid.texts old.texts e.more.texts f.more.texts e.texts f.texts;
+  alignments = behind_both new.alignments mid.alignments old.alignments e.more.alignments f.more.alignments e.alignments f.alignments;
 }
 
-named_front : (texts more : List CowStr) (i : ℕ) → i < length texts → slice_get (texts ++ more) i ≡ slice_get texts i
+-- one more text, and the alignments of one more table
+pub extends_named : (old new : Names) (cow : CowStr) → new ≡ with_named old cow → Extends new old
+extends_named old new cow e = record {
+  more = record { texts = cow ∷ []; alignments = [] };
+  texts = ap (λ (n : Names). n.texts) e;
+  alignments = ap (λ (n : Names). n.alignments) e ∙ sym (append-nil old.alignments);
+}
+
+pub extends_alignments : (old new : Names) (alignments : List Alignment) → new ≡ with_alignments old alignments → Extends new old
+extends_alignments old new alignments e = record {
+  more = record { texts = []; alignments = alignments ∷ [] };
+  texts = ap (λ (n : Names). n.texts) e ∙ sym (append-nil old.texts);
+  alignments = ap (λ (n : Names). n.alignments) e;
+}
+
+named_front : {A : Type 0} (xs more : List A) (i : ℕ) → i < length xs → slice_get (xs ++ more) i ≡ slice_get xs i
 named_front [] more i h = absurd (omega arith)
 named_front (x ∷ xs) more zero h = refl
 named_front (x ∷ xs) more (suc i) h = named_front xs more i (omega arith)
 
-pub named_last : (texts : List CowStr) (cow : CowStr) (i : ℕ) → i ≡ length texts → slice_get (texts ++ cow ∷ []) i ≡ Some cow
-named_last [] cow zero h = refl
-named_last [] cow (suc i) h = absurd (omega arith)
-named_last (x ∷ xs) cow zero h = absurd (omega arith)
-named_last (x ∷ xs) cow (suc i) h = named_last xs cow i (omega arith)
+-- the last of a list
+pub named_last : {A : Type 0} (xs : List A) (x : A) (i : ℕ) → i ≡ length xs → slice_get (xs ++ x ∷ []) i ≡ Some x
+named_last [] x zero h = refl
+named_last [] x (suc i) h = absurd (omega arith)
+named_last (y ∷ xs) x zero h = absurd (omega arith)
+named_last (y ∷ xs) x (suc i) h = named_last xs x i (omega arith)
+
+-- a place of a list has what it had before more came behind
+still_there : {A : Type 0} (new old more : List A) (i : ℕ) (x : A) → new ≡ old ++ more → slice_get old i ≡ Some x → slice_get new i ≡ Some x
+still_there new old more i x e h = ap (λ xs. slice_get xs i) e ∙ named_front old more i (slice_get_within old i x h) ∙ h
 
 -- an index names what it named
 pub still_named : (new old : Names) (i : ℕ) (named : CowStr) → Extends new old → slice_get old.texts i ≡ Some named → slice_get new.texts i ≡ Some named
-still_named new old i named e h = ap (λ texts. slice_get texts i) e.texts ∙ named_front old.texts e.more i (slice_get_within old.texts i named h) ∙ h
+still_named new old i named e h = still_there new.texts old.texts e.more.texts i named e.texts h
+
+pub still_aligned : (new old : Names) (ix : AlignmentIndex) (alignments : List Alignment) → Extends new old → NamesAlignments old ix alignments → NamesAlignments new ix alignments
+still_aligned new old ix alignments e h = still_there new.alignments old.alignments e.more.alignments ix.0 alignments e.alignments h
+
+-- The index of alignments that were put behind those that are named names them, whatever more is named.
+pub alignments_last : (old new more : Names) (ix : AlignmentIndex) (alignments : List Alignment) → ix.0 ≡ length old.alignments → new ≡ with_alignments old alignments
+    → Extends more new → NamesAlignments more ix alignments
+alignments_last old new more ix alignments at is e =
+    still_aligned more new ix alignments e (ap (λ (n : Names). slice_get n.alignments ix.0) is ∙ named_last old.alignments alignments ix.0 at)

@@ -1,7 +1,6 @@
 -- Each index that nodes keep names an entry: what keeps that, and the items of each leaf block.
 use Rattle.std.proofs.Common.{◌≡◌, ℕ, zero, suc, ◌-◌, Bool, true, false, nat_lt, List, [], ◌∷◌, ◌++◌, length, Option, Some, None, IfSome, refl, sym, ap, subst, ◌∙◌, arith, length-append, if◌then◌else◌}
 use Rattle.std.proofs.lemmas.Option.{slice_get_within}
-use Rattle.first_pass_items.specs.declared.item.CowIndex.{CowIndex}
 use Rattle.first_pass_items.specs.declared.item.Item.{Item}
 use Rattle.first_pass_items.specs.declared.item.ItemBody.{ItemBody}
 use Rattle.first_pass_tree.specs.Forest.{modify, at_depth}
@@ -9,7 +8,7 @@ use Rattle.first_pass_lines.specs.Places.{Place, offset, line_end}
 use Rattle.first_pass_tokens.specs.Chains.{text_token, touches, add_token, add_tokens}
 use Rattle.first_pass_tokens.specs.TreeTokens.{leaves}
 use Rattle.first_pass_grammar.specs.declared.kind.Container.{Container}
-use Rattle.first_pass_grammar.specs.Names.{Names, Extends, index_of, NamesEntry, AreNamed}
+use Rattle.first_pass_grammar.specs.Names.{Names, Extends, Index, TextAt, AlignmentsAt, index_of, NamesEntry, AreNamed}
 use Rattle.first_pass_grammar.specs.Kinds.{Kind, Blank, IndentedCode, Metadata, HtmlToEnd, HtmlToBlank, ThematicBreak, AtxHeading, FencedCode, LinkDefinitions, Paragraph}
 use Rattle.first_pass_grammar.specs.LinkRuns.{Ended, FlowsOn}
 use Rattle.first_pass_grammar.specs.Leaves.{Document, block_with, paragraph_block, marker_items}
@@ -22,9 +21,10 @@ abbrev pub IsNamed : Names → Item → Type 0
 IsNamed names x = NamesEntry names (index_of x.body)
 
 -- more entries
-entry_more : (new old : Names) (o : Option CowIndex) → Extends new old → NamesEntry old o → NamesEntry new o
+entry_more : (new old : Names) (o : Option Index) → Extends new old → NamesEntry old o → NamesEntry new o
 entry_more new old None e h = tt
-entry_more new old (Some ix) e h = (let size = ap length e.texts ∙ length-append old.texts e.more in omega arith)
+entry_more new old (Some (TextAt ix)) e h = (let size = ap length e.texts ∙ length-append old.texts e.more.texts in omega arith)
+entry_more new old (Some (AlignmentsAt ix)) e h = (let size = ap length e.alignments ∙ length-append old.alignments e.more.alignments in omega arith)
 
 pub named_more : (new old : Names) (nodes : List (ℕ × Item)) → Extends new old → AreNamed old nodes → AreNamed new nodes
 unfolding AreNamed
@@ -51,7 +51,7 @@ named_modified names (n ∷ nodes) zero g keeps h = (keeps n.1 h.0, h.1)
 named_modified names (n ∷ nodes) (suc i) g keeps h = (h.0, named_modified names nodes i g keeps h.1)
 
 -- a chain without indices
-free_entry : (names : Names) (o : Option CowIndex) → o ≡ None → NamesEntry names o
+free_entry : (names : Names) (o : Option Index) → o ≡ None → NamesEntry names o
 free_entry names None h = tt
 free_entry names (Some ix) h = cc
 

@@ -3,7 +3,7 @@ use Rattle.std.proofs.Common.{◌≡◌, ℕ, suc, ◌||◌, not, Bool, true, fa
 use Rattle.first_pass_items.specs.declared.item.Item.{Item}
 use Rattle.first_pass_items.specs.declared.item.ItemBody.TheVariants.{BlockQuote as BlockQuoteBody, List as ListBody, ListItem as ListItemBody}
 use Rattle.first_pass_tree.specs.Forest.{at_depth}
-use Rattle.first_pass_grammar.specs.Names.{Names, read_nodes}
+use Rattle.first_pass_grammar.specs.Names.{Names, Named, read_nodes}
 use Rattle.first_pass_grammar.specs.Kinds.{Kind}
 use Rattle.first_pass_grammar.specs.Skeleton.{LeafBlock, BlankLine, Block, Head, Opener, QuoteMarker, ItemMarker, Skeleton, Nil, Then, Node}
 use Rattle.first_pass_grammar.specs.Rows.{What, ALeaf, AQuote, AList, AnItem, Row, Rows, End, OneOf, behind, ends_in_gap, any_gap, is_loose, closing_place, is_list_of, end_of, list_until, items_behind, list_behind, row_of, container_row, is_quote_marker, begins_blank, counts_behind, rows_of}
@@ -172,7 +172,7 @@ rows_alike m n quoted last (Node head e kids next) (Node head' e' kids' next') a
     (behind_alike m n _ _ (rows_of quoted last next) (rows_of quoted last next') run (rows_alike m n quoted last next next' a.3))))
 
 -- a row read
-abbrev shown : ℕ → Bool → Bool → ℕ → What → List (ℕ × (Item × Option (List ℕ))) → List (ℕ × (Item × Option (List ℕ)))
+abbrev shown : ℕ → Bool → Bool → ℕ → What → List (ℕ × (Item × Option Named)) → List (ℕ × (Item × Option Named))
 shown depth tight loose start (ALeaf b) items = if tight then map (tight_read depth) (at_depth depth items) else at_depth depth items
 shown depth tight loose start (AQuote kind e) items = (depth, (node_of start e (BlockQuoteBody kind), None)) ∷ []
 shown depth tight loose start (AList byte number e) items = (depth, (node_of start e (ListBody (list_flags (not loose)) byte number), None)) ∷ []

@@ -15,7 +15,7 @@ use Rattle.first_pass_tokens.specs.Chains.{add_tokens}
 use Rattle.first_pass_tokens.proofs.LineLemmas.{one_line}
 use Rattle.first_pass_grammar.specs.declared.kind.Container.{Container}
 use Rattle.first_pass_grammar.specs.declared.kind.Container.TheVariants.{BlockQuote, ListItem}
-use Rattle.first_pass_grammar.specs.Names.{Names, read_nodes}
+use Rattle.first_pass_grammar.specs.Names.{Names, Named, read_nodes}
 use Rattle.first_pass_grammar.specs.Containers.{Context, context, at_rest, after, front}
 use Rattle.first_pass_grammar.specs.Kinds.{Kind, Blank, IndentedCode, Metadata, HtmlToEnd, HtmlToBlank, ThematicBreak, AtxHeading, FencedCode, LinkDefinitions, Paragraph, unindented, is_blank_rest, quote_inside, item_at, first_kind, IsKindBy, IsKind, ends_tag}
 use Rattle.first_pass_grammar.specs.Leaves.{Document, document, around, add_break, IsParagraph, IsHeading, heading_text_at, heading_block, paragraph_block, marker_items}
@@ -291,7 +291,7 @@ opens_at d n path (At q ALeafAlone) p lines o o' h e f = opens_block d n path p 
 opens_at d n path (Blanks x) p lines o o' h e f = one_opening d n path p lines o o' e f
 opens_at d n path (At q (TextOf marker)) p lines o o' h e f = one_paragraph_opening d n path p lines (Some marker) o o' h e f
 opens_at d n path (At q (MarkAlone marker blanks)) p lines o o' h e f =
-    alike_by d.names n o o' _ _ e f ((refl, ap (λ (z : List (Item × Option (List ℕ))). map (λ (r : Item × Option (List ℕ)). (0, r)) z) (read_alone d.names n (marker ∷ []) (h, tt)), refl, refl), refl, tt, refl)
+    alike_by d.names n o o' _ _ e f ((refl, ap (λ (z : List (Item × Option Named)). map (λ (r : Item × Option Named). (0, r)) z) (read_alone d.names n (marker ∷ []) (h, tt)), refl, refl), refl, tt, refl)
 
 -- a block begins at one place
 begins_once : (path : List Container) (from : From) (lines : List Place) (p q : Place) (a b : List Place) → Begins path from lines p a → Begins path from lines q b → (p ≡ q) × (a ≡ b)
@@ -370,7 +370,7 @@ pub one_forest : (text : List ℕ) (options : Options) (m n : Names) (f g : List
 one_forest text options m n f g t u x y =
     let d : Document = document text options m in
     let s = (one_sequence d n x.skeleton y.skeleton [] Line (lines_at 0 text) [] [] tt x.sequence y.sequence).0 in
-    let root : ℕ × (Item × Option (List ℕ)) = (0, (node_of 0 (length text) Root, None)) in (
+    let root : ℕ × (Item × Option Named) = (0, (node_of 0 (length text) Root, None)) in (
       ap (read_nodes m) x.forest_is
           ∙ ap (λ z. root ∷ z) (forest_alike m n false 1 (length text) x.skeleton y.skeleton s)
           ∙ sym (ap (read_nodes n) y.forest_is),

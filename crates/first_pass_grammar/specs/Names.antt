@@ -4,51 +4,89 @@ use Rattle.std.specs.Option.{option_map, option_and_then}
 use Rattle.first_pass_items.specs.declared.cow_str.CowStr.{CowStr}
 use Rattle.first_pass_items.specs.CowText.{text_of}
 use Rattle.first_pass_items.specs.declared.item.CowIndex.{CowIndex}
+use Rattle.first_pass_items.specs.declared.item.Alignment.{Alignment}
+use Rattle.first_pass_items.specs.declared.item.AlignmentIndex.{AlignmentIndex}
 use Rattle.first_pass_items.specs.declared.item.Item.{Item}
 use Rattle.first_pass_items.specs.declared.item.ItemBody.{ItemBody}
-use Rattle.first_pass_items.specs.declared.item.ItemBody.TheVariants.{SynthesizeText, FencedCodeBlock}
+use Rattle.first_pass_items.specs.declared.item.ItemBody.TheVariants.{SynthesizeText, FencedCodeBlock, Table}
 
--- the texts that items name by their indices (this project)
+-- the texts, and the alignments of tables' columns, that items name by their indices (this project)
 pub record Names : Type 0 where
   pub texts : List CowStr
+  pub alignments : List (List Alignment)
 
 -- an index names a text (this project)
 abbrev pub NamesText : Names → CowIndex → List ℕ → Type 0
 NamesText names ix text = (named : CowStr) × (slice_get names.texts ix.0 ≡ Some named) × (text_of named ≡ text)
 
--- more texts stand behind the old ones, so that each index names what it named (this project)
+-- an index names the alignments of a table's columns (GFM 4.10)
+abbrev pub NamesAlignments : Names → AlignmentIndex → List Alignment → Type 0
+NamesAlignments names ix alignments = slice_get names.alignments ix.0 ≡ Some alignments
+
+-- more texts and more alignments stand behind the old ones, so that each index names what it named (this project)
 pub record Extends (new old : Names) : Type 0 where
-  pub more : List CowStr
-  pub texts : new.texts ≡ old.texts ++ more
+  pub more : Names
+  pub texts : new.texts ≡ old.texts ++ more.texts
+  pub alignments : new.alignments ≡ old.alignments ++ more.alignments
+
+-- with one more text (this project)
+abbrev pub with_named : Names → CowStr → Names
+with_named names cow = record { texts = names.texts ++ cow ∷ []; alignments = names.alignments }
+
+-- with the alignments of one more table (this project)
+abbrev pub with_alignments : Names → List Alignment → Names
+with_alignments names alignments = record { texts = names.texts; alignments = names.alignments ++ alignments ∷ [] }
+
+-- an index that an item has: of a text, or of the alignments of a table's columns (this project)
+pub data Index : Type 0 where
+  TextAt : CowIndex → Index
+  AlignmentsAt : AlignmentIndex → Index
+
+-- what an index names: a text, or the alignments of a table's columns (this project)
+pub data Named : Type 0 where
+  AText : List ℕ → Named
+  Alignments : List Alignment → Named
 
 -- the index that an item has, if it has one (this project)
-abbrev pub index_of : ItemBody → Option CowIndex
-index_of (SynthesizeText ix) = Some ix
-index_of (FencedCodeBlock ix) = Some ix
+abbrev pub index_of : ItemBody → Option Index
+index_of (SynthesizeText ix) = Some (TextAt ix)
+index_of (FencedCodeBlock ix) = Some (TextAt ix)
+index_of (Table ix) = Some (AlignmentsAt ix)
 index_of _ = None
 
 -- what an item is, whatever its index is (this project)
 abbrev pub kind_alone : ItemBody → ItemBody
 kind_alone (SynthesizeText ix) = SynthesizeText (record { 0 = 0 })
 kind_alone (FencedCodeBlock ix) = FencedCodeBlock (record { 0 = 0 })
+kind_alone (Table ix) = Table (record { 0 = 0 })
 kind_alone body = body
 
--- an item read through its index: its range and what it is, and the text that its index names, if it has one (this project)
-abbrev pub read : Names → Item → Item × Option (List ℕ)
-read names x = (record { start = x.start; «end» = x.«end»; body = kind_alone x.body }, option_and_then (λ (ix : CowIndex). option_map text_of (slice_get names.texts ix.0)) (index_of x.body))
+-- what an index names, if it names something (this project)
+abbrev pub named : Names → Index → Option Named
+named names (TextAt ix) = option_map (λ cow. AText (text_of cow)) (slice_get names.texts ix.0)
+named names (AlignmentsAt ix) = option_map Alignments (slice_get names.alignments ix.0)
+
+-- an item read through its index: its range and what it is, and what its index names, if it has one (this project)
+abbrev pub read : Names → Item → Item × Option Named
+read names x = (record { start = x.start; «end» = x.«end»; body = kind_alone x.body }, option_and_then (named names) (index_of x.body))
 
 -- nodes read so, each with its depth (this project)
-abbrev pub read_nodes : Names → List (ℕ × Item) → List (ℕ × (Item × Option (List ℕ)))
+abbrev pub read_nodes : Names → List (ℕ × Item) → List (ℕ × (Item × Option Named))
 read_nodes names nodes = map (λ n. (n.0, read names n.1)) nodes
 
 -- the text that an index names, or nothing where it names none (this project)
 abbrev pub text_named : Names → CowIndex → List ℕ
 text_named names ix = unwrap_or (option_map text_of (slice_get names.texts ix.0)) []
 
+-- the alignments that an index names, or nothing where it names none (this project)
+abbrev pub alignments_named : Names → AlignmentIndex → List Alignment
+alignments_named names ix = unwrap_or (slice_get names.alignments ix.0) []
+
 -- an index, where there is one, names an entry (this project)
-abbrev pub NamesEntry : Names → Option CowIndex → Type 0
+abbrev pub NamesEntry : Names → Option Index → Type 0
 NamesEntry names None = Unit {0}
-NamesEntry names (Some ix) = ix.0 < length names.texts
+NamesEntry names (Some (TextAt ix)) = ix.0 < length names.texts
+NamesEntry names (Some (AlignmentsAt ix)) = ix.0 < length names.alignments
 
 -- each index that nodes keep names an entry (this project)
 unfoldable pub AreNamed : Names → List (ℕ × Item) → Type 0
