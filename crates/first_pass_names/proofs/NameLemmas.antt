@@ -7,7 +7,7 @@ use Rattle.first_pass_links.specs.Escapes.{unescaped}
 use Rattle.first_pass_links.specs.Texts.{Borrows}
 use Rattle.first_pass_grammar.specs.Names.{Names, Extends}
 use Rattle.first_pass_grammar.specs.CodeBlocks.{NamesInfo}
-pub use Rattle.first_pass_grammar.proofs.MoreNames.{extends_none, extends_both, named_last, still_named}
+pub use Rattle.first_pass_grammar.proofs.MoreNames.{extends_none, extends_both, extends_named, extends_alignments, named_last, still_named, still_aligned, alignments_last}
 use Rattle.first_pass_names.specs.TableEntries.{with_named}
 
 -- the same names

@@ -1,9 +1,9 @@
 -- What a contract sees of the tables beside a tree.
-use Rattle.std.specs.Prelude.{List, [], ◌∷◌, ◌++◌, map}
+use Rattle.std.specs.Prelude.{List, [], map}
 use Rattle.std.specs.Option.{option_map}
 use Rattle.first_pass_items.specs.declared.cow_str.CowStr.{CowStr}
 use Rattle.first_pass_items.specs.CowText.{text_of}
-use Rattle.first_pass_grammar.specs.Names.{Names}
+pub use Rattle.first_pass_grammar.specs.Names.{Names, with_named, with_alignments}
 use Rattle.first_pass_grammar.specs.LinkTables.{LinkEntry}
 use Rattle.first_pass_grammar.specs.Derivation.{Tables}
 use Rattle.first_pass_labels.specs.declared.label_table.LinkDef.{LinkDef}
@@ -25,14 +25,10 @@ refdefs_of a = a.refdefs
 abbrev pub footdefs_of : Allocations → List (CowStr × FootnoteDef)
 footdefs_of a = a.footdefs
 
--- the texts that nodes name by an index
+-- the texts, and the alignments of tables' columns, that nodes name by an index
 abbrev pub names_of : Allocations → Names
-names_of a = record { texts = a.texts.items }
+names_of a = record { texts = a.texts.items; alignments = map (λ columns. columns.items) a.alignments.items }
 
 -- none
 abbrev pub no_names : Names
-no_names = record { texts = [] }
-
--- with one more text
-abbrev pub with_named : Names → CowStr → Names
-with_named names cow = record { texts = names.texts ++ cow ∷ [] }
+no_names = record { texts = []; alignments = [] }

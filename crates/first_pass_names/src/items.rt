@@ -3,22 +3,23 @@
 ghost use Rattle.std.specs.Prelude.{◌≡◌, ◌<◌, ◌∷◌, ◌++◌, [], length, slice_get, Some, IfOk, OnOk, OnErr};
 ghost use Rattle.first_pass_grammar.specs.Names.{NamesText, Extends};
 ghost use Rattle.first_pass_items.specs.CowText.{text_of};
-ghost use Rattle.first_pass_names.specs.TableEntries.{tables, names_of, no_names, with_named, link_entry, refdefs_of, footdefs_of};
-ghost use Rattle.first_pass_grammar.specs.Names.{text_named};
+ghost use Rattle.first_pass_names.specs.TableEntries.{tables, names_of, no_names, with_named, with_alignments, link_entry, refdefs_of, footdefs_of};
+ghost use Rattle.first_pass_grammar.specs.Names.{text_named, alignments_named};
 ghost use Rattle.first_pass_grammar.specs.Derivation.{no_tables, told};
 
 use first_pass_items::cow_str::CowStr;
-use first_pass_items::item::CowIndex;
+use first_pass_items::item::{Alignment, AlignmentIndex, CowIndex};
 use first_pass_labels::label_key::LabelKey;
 use first_pass_labels::label_table::LabelTable;
 pub use first_pass_labels::label_table::{FootDefs, FootnoteDef, LinkDef, RefDefs};
 use std::alloc::{AllocError, Global};
 use std::ops::{DerefStr, Index};
 
-/// The tables beside a tree: what the text defines, and the texts that nodes name by an index.
+/// The tables beside a tree: what the text defines, and the texts and alignments that nodes name by an index.
 #[derive(Drop)]
 pub struct Allocations<'a> {
     texts: Vec<CowStr<'a>>,
+    alignments: Vec<Vec<Alignment>>,
     refdefs: RefDefs<'a>,
     footdefs: FootDefs<'a>,
 }
@@ -31,6 +32,7 @@ impl<'a> Allocations<'a> {
     {
         Allocations {
             texts: Vec::new(alloc),
+            alignments: Vec::new(alloc),
             refdefs: LabelTable::new(alloc),
             footdefs: LabelTable::new(alloc),
         }
@@ -63,6 +65,22 @@ impl<'a> Allocations<'a> {
         Ok(ix)
     }
 
+    /// Puts the alignments of a table's columns behind those that nodes name, and answers their index. The one error
+    /// is that a request for memory was refused; then nothing changes (GFM 4.10).
+    pub fn allocate_alignment(
+        &mut self,
+        alignment: Vec<Alignment>,
+    ) -> Result<AlignmentIndex, AllocError>
+        ensures index { IfOk result (λ ix. ix.0 ≡ length (names_of self.old).alignments) }
+        ensures names { OnOk result (names_of self.new ≡ with_alignments (names_of self.old) alignment.items) }
+        ensures tables { tables self.new ≡ tables self.old }
+        ensures refused { OnErr result (names_of self.new ≡ names_of self.old) }
+    {
+        let ix = AlignmentIndex(self.alignments.len());
+        self.alignments.push(alignment)?;
+        Ok(ix)
+    }
+
     /// Puts a link definition into the table of them, unless one of its label stands there: the first of several
     /// matching definitions stays (CommonMark 4.7). The one error is that a request for memory was refused; then
     /// nothing changes.
@@ -89,6 +107,16 @@ impl<'a> Allocations<'a> {
             None => "",
         }
     }
+
+    /// The alignments of a table's columns that a node names by this index; none where the index names none.
+    pub fn alignments_at(&self, ix: AlignmentIndex) -> &[Alignment]
+        ensures { result.now ≡ alignments_named (names_of self.now) ix }
+    {
+        match self.alignments.get(ix.0) {
+            Some(alignments) => alignments.as_slice(),
+            None => &[],
+        }
+    }
 }
 
 impl<'a> Index<CowIndex> for Allocations<'a> {
@@ -101,5 +129,18 @@ impl<'a> Index<CowIndex> for Allocations<'a> {
     /// The text that a node names by this index.
     fn index(&self, ix: CowIndex) -> &CowStr<'a> {
         &self.texts[ix.0]
+    }
+}
+
+impl<'a> Index<AlignmentIndex> for Allocations<'a> {
+    type Output = Vec<Alignment>;
+
+    ghost can_index = { λ allocs ix. ix.0 < length (names_of allocs).alignments };
+
+    ghost index_gives = { λ allocs ix named. slice_get (names_of allocs).alignments ix.0 ≡ Some named.items };
+
+    /// The alignments of a table's columns that a node names by this index.
+    fn index(&self, ix: AlignmentIndex) -> &Vec<Alignment> {
+        &self.alignments[ix.0]
     }
 }

@@ -1,4 +1,4 @@
-//! What an index of a node names: the tables of texts beside the tree.
+//! What an index of a node names: the tables of texts and of alignments beside the tree.
 #![tactic(auto)]
 
 pub mod items;
