@@ -1,8 +1,7 @@
 -- Items that read alike: they differ at most in indices that name one text, or the same alignments.
-use Rattle.std.proofs.Common.{◌≡◌, ℕ, zero, suc, ◌+◌, ◌-◌, ◌==◌, Bool, true, false, nat_lt, List, [], ◌∷◌, ◌++◌, map, slice_get, Option, Some, refl, sym, ap, ◌∙◌, if◌then◌else◌}
-use Rattle.std.specs.Option.{option_map, option_and_then}
+use Rattle.std.proofs.Common.{◌≡◌, ℕ, zero, suc, ◌+◌, ◌-◌, ◌==◌, Bool, true, false, nat_lt, List, [], ◌∷◌, ◌++◌, map, Option, Some, refl, sym, ap, ◌∙◌, if◌then◌else◌}
+use Rattle.std.specs.Option.{option_and_then}
 use Rattle.std.proofs.lemmas.List.{map-append}
-use Rattle.first_pass_items.specs.CowText.{text_of}
 use Rattle.first_pass_items.specs.declared.item.Alignment.{Alignment}
 use Rattle.first_pass_items.specs.declared.item.AlignmentIndex.{AlignmentIndex}
 use Rattle.first_pass_items.specs.declared.item.CowIndex.{CowIndex}
@@ -122,11 +121,13 @@ tokens_alike m n chain chain' tokens tokens' h k = let a = read_tokens m chain t
 named_text : (names : Names) (ix : CowIndex) (text : List ℕ) → NamesText names ix text → named names (TextAt ix) ≡ Some (AText text)
 named_text names ix text (cow, at, is) = rw at (ap (λ z. Some (AText z)) is)
 
-named_alignments : (names : Names) (ix : AlignmentIndex) (alignments : List Alignment) → NamesAlignments names ix alignments → named names (AlignmentsAt ix) ≡ Some (Alignments alignments)
+named_alignments : (names : Names) (ix : AlignmentIndex) (alignments : List Alignment) → NamesAlignments names ix alignments
+    → named names (AlignmentsAt ix) ≡ Some (Alignments alignments)
 named_alignments names ix alignments at = rw at refl
 
 -- Items that differ at most in their indices read alike, where these name the same.
-indexed_alike : (m n : Names) (start «end» : ℕ) (body body' : ItemBody) → kind_alone body ≡ kind_alone body' → option_and_then (named m) (index_of body) ≡ option_and_then (named n) (index_of body')
+indexed_alike : (m n : Names) (start «end» : ℕ) (body body' : ItemBody) → kind_alone body ≡ kind_alone body'
+    → option_and_then (named m) (index_of body) ≡ option_and_then (named n) (index_of body')
     → read m (node_of start «end» body) ≡ read n (node_of start «end» body')
 indexed_alike m n start end body body' h k = λ i. (node_of start end (h i), k i)
 
@@ -136,7 +137,8 @@ columns_alike m n zero at xs ys h k = let e : xs ≡ [] = h in let f : ys ≡ []
 columns_alike m n (suc owed) at xs ys (i, names, e) (j, names', f) =
     let a = named_text m i (spaces (suc owed)) names in
     let b = named_text n j (spaces (suc owed)) names' in
-    ap (map (read m)) e ∙ ap (λ (z : Item × Option Named). z ∷ []) (indexed_alike m n at at (SynthesizeText i) (SynthesizeText j) refl (a ∙ sym b)) ∙ sym (ap (map (read n)) f)
+    ap (map (read m)) e ∙ ap (λ (z : Item × Option Named). z ∷ []) (indexed_alike m n at at (SynthesizeText i) (SynthesizeText j) refl (a ∙ sym b))
+    ∙ sym (ap (map (read n)) f)
 
 -- a range has no index, and so the bytes of a raw line
 abbrev pub AreFree : Ranges → Type 0
@@ -181,11 +183,13 @@ block_alike m n start end body body' chain chain' h k =
     ∙ ap (λ z. (0, read n (node_of start end body')) ∷ z) (read_below m chain ∙ ap (map (λ (z : Item × Option Named). (1, z))) k ∙ sym (read_below n chain'))
 
 pub fence_alike : (m n : Names) (start «end» : ℕ) (i j : CowIndex) (info : List ℕ) → NamesText m i info → NamesText n j info → read m (node_of start «end» (FencedCodeBlock i)) ≡ read n (node_of start «end» (FencedCodeBlock j))
-fence_alike m n start end i j info h k = indexed_alike m n start end (FencedCodeBlock i) (FencedCodeBlock j) refl (named_text m i info h ∙ sym (named_text n j info k))
+fence_alike m n start end i j info h k =
+    indexed_alike m n start end (FencedCodeBlock i) (FencedCodeBlock j) refl (named_text m i info h ∙ sym (named_text n j info k))
 
-pub table_alike : (m n : Names) (start «end» : ℕ) (i j : AlignmentIndex) (alignments : List Alignment) → NamesAlignments m i alignments → NamesAlignments n j alignments
-    → read m (node_of start «end» (Table i)) ≡ read n (node_of start «end» (Table j))
-table_alike m n start end i j alignments h k = indexed_alike m n start end (Table i) (Table j) refl (named_alignments m i alignments h ∙ sym (named_alignments n j alignments k))
+pub table_alike : (m n : Names) (start «end» : ℕ) (i j : AlignmentIndex) (alignments : List Alignment) → NamesAlignments m i alignments
+    → NamesAlignments n j alignments → read m (node_of start «end» (Table i)) ≡ read n (node_of start «end» (Table j))
+table_alike m n start end i j alignments h k =
+    indexed_alike m n start end (Table i) (Table j) refl (named_alignments m i alignments h ∙ sym (named_alignments n j alignments k))
 
 -- Making a paragraph tight leaves an item's index as it is.
 tight_alone : (b : ItemBody) → kind_alone (tight_body b) ≡ tight_body (kind_alone b)

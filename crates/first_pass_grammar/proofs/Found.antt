@@ -14,7 +14,7 @@ use Rattle.first_pass_tokens.specs.Chains.{add_tokens}
 use Rattle.first_pass_grammar.specs.Names.{Names, NamesText, NamesAlignments, Extends, with_named, with_alignments}
 use Rattle.first_pass_grammar.specs.Leaves.{document}
 use Rattle.first_pass_grammar.specs.CodeBlocks.{NamesInfo}
-use Rattle.first_pass_grammar.proofs.MoreNames.{extends_none, extends_both, extends_named, extends_alignments, named_last, still_named, alignments_last}
+use Rattle.first_pass_grammar.proofs.MoreNames.{extends_none, extends_both, extends_named, extends_alignments, text_last, alignments_last}
 use Rattle.first_pass_grammar.specs.RawLines.{spaces, AreColumns, Ranges, raw_items, AreRawLines}
 
 -- A value, and names that go on with these, so that this holds of it for all names that go on with those.
@@ -33,7 +33,7 @@ next_index names = record { 0 = length names.texts }
 
 next_named : (names later : Names) (cow : CowStr) → Extends later (with_named names cow) → slice_get later.texts (next_index names).0 ≡ Some cow
 unfolding next_index
-next_named names later cow e = still_named later (with_named names cow) (length names.texts) cow e (named_last names.texts cow (length names.texts) refl)
+next_named names later cow e = text_last names (with_named names cow) later (next_index names) cow refl refl e
 
 named_text : (names : Names) (text : List ℕ) → Found names CowIndex (λ later ix. NamesText later ix text)
 unfolding borrowed

@@ -5,11 +5,17 @@ use Rattle.std.proofs.lemmas.Option.{slice_get_within}
 use Rattle.first_pass_items.specs.declared.cow_str.CowStr.{CowStr}
 use Rattle.first_pass_items.specs.declared.item.Alignment.{Alignment}
 use Rattle.first_pass_items.specs.declared.item.AlignmentIndex.{AlignmentIndex}
+use Rattle.first_pass_items.specs.declared.item.CowIndex.{CowIndex}
 use Rattle.first_pass_grammar.specs.Names.{Names, NamesAlignments, Extends, with_named, with_alignments}
 
 -- no more is named
 pub extends_none : (names : Names) → Extends names names
-extends_none names = record { more = record { texts = []; alignments = [] }; texts = sym (append-nil names.texts); alignments = sym (append-nil names.alignments) }
+extends_none names = record {
+  more_texts = [];
+  texts = sym (append-nil names.texts);
+  more_alignments = [];
+  alignments = sym (append-nil names.alignments);
+}
 
 -- more, and then more
 behind_both : {A : Type 0} (new mid old more others : List A) → new ≡ mid ++ more → mid ≡ old ++ others → new ≡ old ++ (others ++ more)
@@ -17,23 +23,26 @@ behind_both new mid old more others e f = e ∙ ap (λ xs. xs ++ more) f ∙ app
 
 pub extends_both : (new mid old : Names) → Extends new mid → Extends mid old → Extends new old
 extends_both new mid old e f = record {
-  more = record { texts = f.more.texts ++ e.more.texts; alignments = f.more.alignments ++ e.more.alignments };
-  texts = behind_both new.texts mid.texts old.texts e.more.texts f.more.texts e.texts f.texts;
-  alignments = behind_both new.alignments mid.alignments old.alignments e.more.alignments f.more.alignments e.alignments f.alignments;
+  more_texts = f.more_texts ++ e.more_texts;
+  texts = behind_both new.texts mid.texts old.texts e.more_texts f.more_texts e.texts f.texts;
+  more_alignments = f.more_alignments ++ e.more_alignments;
+  alignments = behind_both new.alignments mid.alignments old.alignments e.more_alignments f.more_alignments e.alignments f.alignments;
 }
 
 -- one more text, and the alignments of one more table
 pub extends_named : (old new : Names) (cow : CowStr) → new ≡ with_named old cow → Extends new old
 extends_named old new cow e = record {
-  more = record { texts = cow ∷ []; alignments = [] };
+  more_texts = cow ∷ [];
   texts = ap (λ (n : Names). n.texts) e;
+  more_alignments = [];
   alignments = ap (λ (n : Names). n.alignments) e ∙ sym (append-nil old.alignments);
 }
 
 pub extends_alignments : (old new : Names) (alignments : List Alignment) → new ≡ with_alignments old alignments → Extends new old
 extends_alignments old new alignments e = record {
-  more = record { texts = []; alignments = alignments ∷ [] };
+  more_texts = [];
   texts = ap (λ (n : Names). n.texts) e ∙ sym (append-nil old.texts);
+  more_alignments = alignments ∷ [];
   alignments = ap (λ (n : Names). n.alignments) e;
 }
 
@@ -43,7 +52,7 @@ named_front (x ∷ xs) more zero h = refl
 named_front (x ∷ xs) more (suc i) h = named_front xs more i (omega arith)
 
 -- the last of a list
-pub named_last : {A : Type 0} (xs : List A) (x : A) (i : ℕ) → i ≡ length xs → slice_get (xs ++ x ∷ []) i ≡ Some x
+named_last : {A : Type 0} (xs : List A) (x : A) (i : ℕ) → i ≡ length xs → slice_get (xs ++ x ∷ []) i ≡ Some x
 named_last [] x zero h = refl
 named_last [] x (suc i) h = absurd (omega arith)
 named_last (y ∷ xs) x zero h = absurd (omega arith)
@@ -54,14 +63,20 @@ still_there : {A : Type 0} (new old more : List A) (i : ℕ) (x : A) → new ≡
 still_there new old more i x e h = ap (λ xs. slice_get xs i) e ∙ named_front old more i (slice_get_within old i x h) ∙ h
 
 -- an index names what it named
-pub still_named : (new old : Names) (i : ℕ) (named : CowStr) → Extends new old → slice_get old.texts i ≡ Some named → slice_get new.texts i ≡ Some named
-still_named new old i named e h = still_there new.texts old.texts e.more.texts i named e.texts h
+still_named : (new old : Names) (i : ℕ) (named : CowStr) → Extends new old → slice_get old.texts i ≡ Some named → slice_get new.texts i ≡ Some named
+still_named new old i named e h = still_there new.texts old.texts e.more_texts i named e.texts h
 
-pub still_aligned : (new old : Names) (ix : AlignmentIndex) (alignments : List Alignment) → Extends new old → NamesAlignments old ix alignments → NamesAlignments new ix alignments
-still_aligned new old ix alignments e h = still_there new.alignments old.alignments e.more.alignments ix.0 alignments e.alignments h
+pub still_aligned : (new old : Names) (ix : AlignmentIndex) (alignments : List Alignment) → Extends new old → NamesAlignments old ix alignments
+    → NamesAlignments new ix alignments
+still_aligned new old ix alignments e h = still_there new.alignments old.alignments e.more_alignments ix.0 alignments e.alignments h
 
--- The index of alignments that were put behind those that are named names them, whatever more is named.
-pub alignments_last : (old new more : Names) (ix : AlignmentIndex) (alignments : List Alignment) → ix.0 ≡ length old.alignments → new ≡ with_alignments old alignments
-    → Extends more new → NamesAlignments more ix alignments
+-- The index of a text, or of alignments, that were put behind those that are named names them, whatever more is named.
+pub text_last : (old new more : Names) (ix : CowIndex) (cow : CowStr) → ix.0 ≡ length old.texts → new ≡ with_named old cow
+    → Extends more new → slice_get more.texts ix.0 ≡ Some cow
+text_last old new more ix cow at is e =
+    still_named more new ix.0 cow e (ap (λ (n : Names). slice_get n.texts ix.0) is ∙ named_last old.texts cow ix.0 at)
+
+pub alignments_last : (old new more : Names) (ix : AlignmentIndex) (alignments : List Alignment) → ix.0 ≡ length old.alignments
+    → new ≡ with_alignments old alignments → Extends more new → NamesAlignments more ix alignments
 alignments_last old new more ix alignments at is e =
     still_aligned more new ix alignments e (ap (λ (n : Names). slice_get n.alignments ix.0) is ∙ named_last old.alignments alignments ix.0 at)

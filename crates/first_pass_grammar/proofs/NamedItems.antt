@@ -23,8 +23,8 @@ IsNamed names x = NamesEntry names (index_of x.body)
 -- more entries
 entry_more : (new old : Names) (o : Option Index) → Extends new old → NamesEntry old o → NamesEntry new o
 entry_more new old None e h = tt
-entry_more new old (Some (TextAt ix)) e h = (let size = ap length e.texts ∙ length-append old.texts e.more.texts in omega arith)
-entry_more new old (Some (AlignmentsAt ix)) e h = (let size = ap length e.alignments ∙ length-append old.alignments e.more.alignments in omega arith)
+entry_more new old (Some (TextAt ix)) e h = (let size = ap length e.texts ∙ length-append old.texts e.more_texts in omega arith)
+entry_more new old (Some (AlignmentsAt ix)) e h = (let size = ap length e.alignments ∙ length-append old.alignments e.more_alignments in omega arith)
 
 pub named_more : (new old : Names) (nodes : List (ℕ × Item)) → Extends new old → AreNamed old nodes → AreNamed new nodes
 unfolding AreNamed

@@ -25,9 +25,10 @@ NamesAlignments names ix alignments = slice_get names.alignments ix.0 ≡ Some a
 
 -- more texts and more alignments stand behind the old ones, so that each index names what it named (this project)
 pub record Extends (new old : Names) : Type 0 where
-  pub more : Names
-  pub texts : new.texts ≡ old.texts ++ more.texts
-  pub alignments : new.alignments ≡ old.alignments ++ more.alignments
+  pub more_texts : List CowStr
+  pub texts : new.texts ≡ old.texts ++ more_texts
+  pub more_alignments : List (List Alignment)
+  pub alignments : new.alignments ≡ old.alignments ++ more_alignments
 
 -- with one more text (this project)
 abbrev pub with_named : Names → CowStr → Names

@@ -7,7 +7,7 @@ use Rattle.first_pass_links.specs.Escapes.{unescaped}
 use Rattle.first_pass_links.specs.Texts.{Borrows}
 use Rattle.first_pass_grammar.specs.Names.{Names, Extends}
 use Rattle.first_pass_grammar.specs.CodeBlocks.{NamesInfo}
-pub use Rattle.first_pass_grammar.proofs.MoreNames.{extends_none, extends_both, extends_named, extends_alignments, named_last, still_named, still_aligned, alignments_last}
+pub use Rattle.first_pass_grammar.proofs.MoreNames.{extends_none, extends_both, extends_named, extends_alignments, text_last, still_aligned, alignments_last}
 use Rattle.first_pass_names.specs.TableEntries.{with_named}
 
 -- the same names
@@ -18,5 +18,4 @@ extends_equal new old is = subst (Extends new) is (extends_none new)
 pub info_named : (old named more : Names) (ix : CowIndex) (cow : CowStr) (read info : List ℕ) → ix.0 ≡ length old.texts → named ≡ with_named old cow → read ≡ info
     → text_of cow ≡ unescaped false read → (unescaped false read ≡ read → Borrows read cow) → Extends more named → NamesInfo more ix info
 info_named old named more ix cow read info at is same text borrowed e =
-    let f : Extends more (with_named old cow) = subst (Extends more) is e in
-    subst (NamesInfo more ix) same (record { named = cow; at = still_named more (with_named old cow) ix.0 cow f (named_last old.texts cow ix.0 at); text = text; borrowed = borrowed })
+    subst (NamesInfo more ix) same (record { named = cow; at = text_last old named more ix cow at is e; text = text; borrowed = borrowed })

@@ -3,9 +3,11 @@ use Rattle.std.specs.Prelude.{ℕ, zero, suc, ◌==◌, Bool, true, false, Optio
 use Rattle.std.specs.List.{flat_map}
 use Rattle.first_pass_items.specs.Bytes.{line_feed, carriage_return, backslash, small_n, small_r}
 use Rattle.first_pass_items.specs.declared.item.Item.{Item}
-use Rattle.first_pass_grammar.specs.Names.{Names, text_named}
+use Rattle.first_pass_grammar.specs.Names.{Names, text_named, alignments_named}
 use Rattle.first_pass_grammar.specs.LinkTables.{LinkEntry}
 use Rattle.first_pass_grammar.specs.Derivation.{Tables}
+use Rattle.first_pass_items.specs.declared.item.Alignment.{Alignment}
+use Rattle.first_pass_items.specs.declared.item.Alignment.TheVariants.{None as Unaligned, Left, Center, Right}
 use Rattle.first_pass_items.specs.declared.item.ListFlags.{ListFlags}
 use Rattle.first_pass_items.specs.declared.item.BlockQuoteKind.{BlockQuoteKind}
 use Rattle.first_pass_items.specs.declared.item.BlockQuoteKind.TheVariants.{Note, Tip, Important, Warning, Caution}
@@ -120,13 +122,30 @@ visible_byte b =
 unfoldable pub visible : List ℕ → List ℕ
 visible text = flat_map visible_byte text
 
--- the text that an item names by its index, in parentheses where it names one
+-- the sign of a column's alignment (GFM 4.10)
+abbrev pub alignment_sign : Alignment → List ℕ
+alignment_sign Unaligned = codes "-"
+alignment_sign Left = codes "l"
+alignment_sign Center = codes "c"
+alignment_sign Right = codes "r"
+
+-- the signs of columns, a comma before each
+unfoldable pub signs_behind : List Alignment → List ℕ
+signs_behind columns = flat_map (λ column. codes "," ++ alignment_sign column) columns
+
+-- the signs of a table's columns, a comma between two
+abbrev pub alignment_signs : List Alignment → List ℕ
+alignment_signs [] = []
+alignment_signs (first ∷ others) = alignment_sign first ++ signs_behind others
+
+-- what an item names by its index, in parentheses where it has one: a text, or the signs of a table's columns
 abbrev pub named_values : Names → ItemBody → List ℕ
 named_values names (FencedCodeBlock ix) = enclosed (visible (text_named names ix))
 named_values names (SynthesizeText ix) = enclosed (visible (text_named names ix))
+named_values names (Table ix) = enclosed (alignment_signs (alignments_named names ix))
 named_values names _ = []
 
--- what a node is: its name, its values and the text that it names
+-- what a node is: its name, its values and what it names
 abbrev pub body_text : Names → ItemBody → List ℕ
 body_text names body = name_of body ++ block_values body ++ token_values body ++ named_values names body
 

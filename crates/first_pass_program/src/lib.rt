@@ -4,5 +4,6 @@
 pub mod bench;
 pub mod printed;
 pub mod printed_links;
+pub mod printed_table;
 pub mod run;
 pub mod timed;

@@ -5,6 +5,7 @@ ghost use Rattle.first_pass_items.specs.declared.item.ItemBody.TheVariants.{Mayb
 ghost use Rattle.first_pass_names.specs.TableEntries.{names_of};
 ghost use Rattle.first_pass_program.specs.Printed.{node_line, named_values, visible, visible_byte, name_of, block_values, token_values, body_text, enclosed, flag_name, list_name, quote_name, metadata_name, indentation, range_text};
 
+use crate::printed_table::append_alignments;
 use bitflags::Flags;
 use first_pass_items::item::{BlockQuoteKind, Item, ItemBody, ListFlags, MetadataBlockKind};
 use first_pass_lines::lines::level_number;
@@ -57,7 +58,7 @@ fn append_number<I: Integer>(line: &mut Vec<u8>, number: I) -> Result<(), AllocE
     line.extend_from_slice(digits.format(number).as_bytes())
 }
 
-/// Appends what a node is: its name, its values and the text that it names.
+/// Appends what a node is: its name, its values and what it names.
 fn append_body(
     line: &mut Vec<u8>,
     body: ItemBody,
@@ -71,7 +72,7 @@ fn append_body(
     append_named(line, body, allocs)
 }
 
-/// Appends the text that a node names by its index in parentheses, if it has one.
+/// Appends in parentheses what a node names by its index, if it has one.
 fn append_named(
     line: &mut Vec<u8>,
     body: ItemBody,
@@ -82,6 +83,7 @@ fn append_named(
     match body {
         ItemBody::FencedCodeBlock(ix) => append_text(line, allocs.text_at(ix)),
         ItemBody::SynthesizeText(ix) => append_text(line, allocs.text_at(ix)),
+        ItemBody::Table(ix) => append_alignments(line, allocs.alignments_at(ix)),
         _ => Ok(()),
     }
 }

@@ -13,21 +13,13 @@ use Rattle.first_pass_tokens.proofs.ChainLemmas.{with_tokens-append, with_text-n
 use Rattle.first_pass_grammar.specs.Names.{Names, NamesText, Extends}
 use Rattle.first_pass_grammar.specs.RawLines.{spaces, AreColumns, ends_with_both, Ranges, range_text, raw_items}
 use Rattle.first_pass_names.specs.TableEntries.{with_named}
-use Rattle.first_pass_names.proofs.NameLemmas.{extends_none}
+use Rattle.first_pass_names.proofs.NameLemmas.{extends_none, extends_named, text_last}
 use Rattle.first_pass_raw.specs.RawBlocks.{AppendsColumns, AppendsRaw}
-
--- with one more text
-pub extends_named : (old new : Names) (cow : CowStr) → new ≡ with_named old cow → Extends new old
-extends_named old new cow e = record { more = cow ∷ []; texts = ap (λ (n : Names). n.texts) e }
-
-get_behind : (xs : List CowStr) (x : CowStr) (ys : List CowStr) → slice_get ((xs ++ x ∷ []) ++ ys) (length xs) ≡ Some x
-get_behind [] x ys = refl
-get_behind (y ∷ xs) x ys = get_behind xs x ys
 
 -- the index of a text that was put behind those that are named names it, whatever more is named
 pub named_last : (old new more : Names) (cow : CowStr) (ix : CowIndex) (text : List ℕ) → new ≡ with_named old cow → ix.0 ≡ length old.texts → text_of cow ≡ text → Extends more new → NamesText more ix text
 named_last old new more cow ix text e at is f =
-    (cow, ap (λ i. slice_get more.texts i) at ∙ ap (λ ts. slice_get ts (length old.texts)) (f.texts ∙ ap (λ (n : Names). n.texts ++ f.more) e) ∙ get_behind old.texts cow f.more, is)
+    (cow, text_last old new more ix cow at e f, is)
 
 -- up to three spaces
 pub spaces_taken : (n : ℕ) → n ≤ 3 → slice_range (32 ∷ 32 ∷ 32 ∷ []) 0 n ≡ spaces n

@@ -11,3 +11,5 @@ mod deep;
 mod fakes;
 #[cfg(test)]
 mod faults;
+#[cfg(test)]
+mod table_lines;

@@ -1,5 +1,6 @@
 use Rattle.first_pass_items.specs.declared.cow_str.CowStr.TheVariants.{Borrowed}
 use Rattle.first_pass_names.specs.TableEntries.{names_of}
+use Rattle.first_pass_names.proofs.NameLemmas.{extends_none}
 use Rattle.first_pass_raw.proofs.RawLineLemmas.{columns_appended}
 use Rattle.first_pass_raw.proofs.raw_line.append_columns.Goals as goal
 
@@ -7,3 +8,6 @@ pub returns-clause-items : goal.returns-clause-items
 returns-clause-items c =
     columns_appended (names_of c.args.allocs.now) (names_of c.allocate_cow.new.self) (Borrowed c.range.result) c.in_ok-ix.ix c.args.columns c.args.at c.args.tree.now c.append.new.self
     c.if-columns-eq0.false c.requires c.range.ensures.value c.in_ok-ix.ensures.names c.in_ok-ix.ensures.index c.in_ok-append.ensures.ok
+
+pub returns-then-columns-eq0-clause-names : goal.returns-then-columns-eq0-clause-names
+returns-then-columns-eq0-clause-names c = extends_none (names_of c.args.allocs.now)
