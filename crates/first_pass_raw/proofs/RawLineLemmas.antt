@@ -1,5 +1,5 @@
 -- Raw lines behind the nodes of a tree: the columns that are owed, and the bytes.
-use Rattle.std.proofs.Common.{◌≡◌, ℕ, zero, suc, ◌+◌, ◌-◌, ◌<◌, ◌≤◌, Bool, true, false, List, [], ◌∷◌, ◌++◌, length, slice_get, Some, refl, sym, ap, ◌∙◌, subst, inl, inr, arith}
+use Rattle.std.proofs.Common.{◌≡◌, ℕ, zero, suc, ◌+◌, ◌-◌, ◌<◌, ◌≤◌, Bool, true, false, List, [], ◌∷◌, ◌++◌, length, refl, sym, ap, ◌∙◌, subst, inl, inr, arith}
 use Rattle.std.specs.List.{slice_range}
 use Rattle.std.proofs.lemmas.Bool.{cases_lt, lt-ltb, le-ltb, cond-true, cond-false}
 use Rattle.first_pass_items.specs.declared.cow_str.CowStr.{CowStr}
@@ -13,7 +13,7 @@ use Rattle.first_pass_tokens.proofs.ChainLemmas.{with_tokens-append, with_text-n
 use Rattle.first_pass_grammar.specs.Names.{Names, NamesText, Extends}
 use Rattle.first_pass_grammar.specs.RawLines.{spaces, AreColumns, ends_with_both, Ranges, range_text, raw_items}
 use Rattle.first_pass_names.specs.TableEntries.{with_named}
-use Rattle.first_pass_names.proofs.NameLemmas.{extends_none, extends_named, text_last}
+use Rattle.first_pass_names.proofs.NameLemmas.{extends_none, text_last}
 use Rattle.first_pass_raw.specs.RawBlocks.{AppendsColumns, AppendsRaw}
 
 -- the index of a text that was put behind those that are named names it, whatever more is named

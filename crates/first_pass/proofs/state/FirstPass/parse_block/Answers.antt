@@ -3,6 +3,7 @@ use Rattle.first_pass_lines.specs.Lines.{line_len}
 use Rattle.first_pass_lines.specs.Places.{offset, line_end}
 use Rattle.first_pass_lines.proofs.PlaceFacts.{line_end_boundary}
 use Rattle.first_pass_names.specs.TableEntries.{names_of}
+use Rattle.first_pass_names.proofs.NameLemmas.{extends_none}
 use Rattle.first_pass.specs.Opening.{IsBehind, GrowsText, GrowsBehind}
 use Rattle.first_pass.proofs.OrderSteps.{line_later, ordered_entered, place_before_end}
 use Rattle.first_pass.proofs.state.FirstPass.parse_block.Goals as goal
@@ -99,6 +100,12 @@ returns-in_ok-next-in-TaskText-clause-few c =
     let first = g.grows in
     let more = c.in_ok-next-in-TaskText.ensures.few g.from g.stands (omega arith) in
     omega arith
+
+pub returns-in_default-clause-names : goal.returns-in_default-clause-names
+returns-in_default-clause-names c = extends_none (names_of c.args.self.now.allocs)
+
+pub returns-in-NextLine-clause-names : goal.returns-in-NextLine-clause-names
+returns-in-NextLine-clause-names c = extends_none (names_of c.args.self.now.allocs)
 
 pub returns-in_default-clause-named : goal.returns-in_default-clause-named
 returns-in_default-clause-named c = c.enter_line.ensures.named (names_of c.args.self.now.allocs)
