@@ -27,7 +27,8 @@ fn tables_are_printed(rt: HostRuntime) -> Result<(), Fail> {
         };
         append_node(&mut lines, 1, item, &allocs)?;
     }
-    assert_eq!(rt; lines.as_slice(), b"  Table(-,l,c,r) 0..9\n  Table(c) 9..18\n");
+    let expected = b"  Table(-,l,c,r) 0..9\n  Table(c) 9..18\n".as_slice();
+    assert!(rt; *lines.as_slice() == *expected);
     assert_eq!(rt; allocs.alignments_at(one).len(), 1);
     assert!(rt; allocs[each][3] == Alignment::Right);
     Ok(())
