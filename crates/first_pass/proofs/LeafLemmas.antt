@@ -52,7 +52,7 @@ line_end_of text p i =
     omega arith
 
 -- where no container begins, what the kind of the place says
-no_container : (d : Document) (path : List Container) (p : Place) (lines : List Place) (k : Kind) (o : Opening) → item_at p.rest ≡ None → prefix (BlockQuote None) p.rest ≡ None → IsKind d.options p.rest k → OpensAs d path p lines (kind_in path p k) o → Opens d path p lines o
+no_container : (d : Document) (path : List Container) (p : Place) (lines : List Place) (k : Kind) (o : Opening) → item_at p.rest ≡ None → prefix (BlockQuote None) p.rest ≡ None → IsKind d.options p.rest k → OpensAs d path p lines (kind_in (around d path) p k) o → Opens d path p lines o
 unfolding OpensFrom
 no_container d path p lines k o no_item none kind opens =
     subst (λ i. OpensFrom d path p lines i o) (sym no_item)

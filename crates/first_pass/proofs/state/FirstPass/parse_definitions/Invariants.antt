@@ -2,7 +2,7 @@ use Rattle.std.proofs.Common.{◌≡◌, ◌-◌, length, IsCharBoundary}
 use Rattle.first_pass_lines.specs.Places.{Place, offset, IsPlaceOf}
 use Rattle.first_pass_tree.specs.Forest.{in_table}
 use Rattle.first_pass_names.specs.TableEntries.{tables, names_of}
-use Rattle.first_pass_open.specs.Path.{path_of}
+use Rattle.first_pass.specs.Views.{context_in}
 use Rattle.first_pass.specs.Runs.{RunSoFar}
 use Rattle.first_pass.proofs.state.FirstPass.parse_definitions.Given as goal
 
@@ -15,7 +15,7 @@ invariant-loop-size l = record {
   boundary : IsCharBoundary l.fn.self.source.text.now l.at;
   so_far : (p : Place) → p.line ≡ l.fn.line → offset p ≡ l.fn.at → IsPlaceOf l.fn.self.source.text.now p
       → (q : Place) × (q.line ≡ l.line) × (offset q ≡ l.at)
-      × RunSoFar l.fn.self.source.text.now (path_of l.fn.self.reading.tree) (in_table l.fn.self.reading.tree.nodes l.fn.self.reading.tree.spine) p q (tables l.fn.self.allocs) (tables l.self.allocs);
+      × RunSoFar l.fn.self.source.text.now (context_in l.fn.self) (in_table l.fn.self.reading.tree.nodes l.fn.self.reading.tree.spine) p q (tables l.fn.self.allocs) (tables l.self.allocs);
 }
 
 abbrev pub decreases-loop-size : goal.decreases-loop-size
