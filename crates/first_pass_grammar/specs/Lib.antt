@@ -17,3 +17,5 @@ pub mod RawLines
 pub mod Rows
 pub mod Skeleton
 pub mod TableHeads
+pub mod Tables
+pub mod Texts
