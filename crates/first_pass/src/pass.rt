@@ -339,12 +339,20 @@ impl<'a> FirstPass<'a> {
         ensures allocs { OnOk result (allocs_of self.new ≡ allocs_of self.old) }
         ensures reading { OnOk result (reading_of self.new ≡ with_block (reading_of self.old) (tree_of self.new)) }
         ensures line { IfOk result (λ answer. AppendsLine
-            (record { options = (source_options self.old); text = text_upto (source_text self.old) end;
-                start = start; row = false })
+            (record {
+              options = (source_options self.old);
+              text = text_upto (source_text self.old) end;
+              start = start;
+              row = false;
+            })
             (tree_of self.old) (tree_of self.new) answer) }
         ensures ends { IfOk result (λ answer. EndsLine
-            (record { options = (source_options self.old); text = text_upto (source_text self.old) end;
-                start = start; row = false })
+            (record {
+              options = (source_options self.old);
+              text = text_upto (source_text self.old) end;
+              start = start;
+              row = false;
+            })
             answer) }
         ensures boundary { IfOk result (λ answer. end ≡ None → IsCharBoundary (source_text self.old) start
             → IsCharBoundary (source_text self.old) answer.0) }

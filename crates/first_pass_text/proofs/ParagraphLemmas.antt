@@ -44,8 +44,8 @@ goes_within around text n h =
     elim (cases_lt n (length text)) [
       | inl more ↦ more
       | inr past ↦ absurd (false≢true (sym h ∙ ap (λ bs. ends_paragraph around (line_rest bs)) (ends_past text n past)
-            ∙ ap (interrupts around (is_some (after around.path (line_rest [])))) (front-end around.path)
-            ∙ interrupts-end around (is_some (after around.path (line_rest [])))))
+          ∙ ap (interrupts around (is_some (after around.path (line_rest [])))) (front-end around.path)
+          ∙ interrupts-end around (is_some (after around.path (line_rest [])))))
     ]
 
 -- The text of a line ends where the line ends.

@@ -162,7 +162,13 @@ pub fn next_paragraph_text(
     let (whole, columns, place) = scan_prefixes(source, start, bytes, tree);
     let at = place.offset();
     let interrupted = if columns < 4 {
-        scan_interruption(alloc, source, tree, rest_of(source.text.as_bytes(), at), whole)?
+        scan_interruption(
+            alloc,
+            source,
+            tree,
+            rest_of(source.text.as_bytes(), at),
+            whole,
+        )?
     } else {
         scan_eol(rest_of(source.text.as_bytes(), at)).is_some()
     };
@@ -214,7 +220,13 @@ fn scan_paragraph_end(
         else at_line_end (drop at source.entry.text.now))) }
 {
     if columns < 4 {
-        scan_interruption(alloc, source, tree, rest_of(source.text.as_bytes(), at), whole)
+        scan_interruption(
+            alloc,
+            source,
+            tree,
+            rest_of(source.text.as_bytes(), at),
+            whole,
+        )
     } else {
         Ok(scan_eol(rest_of(source.text.as_bytes(), at)).is_some())
     }

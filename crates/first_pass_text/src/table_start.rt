@@ -7,6 +7,7 @@ ghost use Rattle.first_pass_items.specs.Bytes.{backslash};
 ghost use Rattle.first_pass_grammar.specs.TableHeads.{table_at, table_interrupts, ends_in_backslash, headed_table};
 ghost use Rattle.first_pass_open.specs.Path.{path_of, context_of};
 
+use bitflags::Flags;
 use first_pass_items::item::{Alignment, Item};
 use first_pass_items::option_set::Options;
 use first_pass_lines::lines::{begins, content_len, scan_nextline};
@@ -16,7 +17,6 @@ use first_pass_open::source::Source;
 use first_pass_scan::line_start::LineStart;
 use first_pass_table_scan::table_start::{scan_delimiter_row, scan_head_columns};
 use first_pass_tree::forest::Tree;
-use bitflags::Flags;
 use std::alloc::{AllocError, Global};
 
 // The alignments of the table that the line heads with which `bytes` begin, all that the text has from there on:

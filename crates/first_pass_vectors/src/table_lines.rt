@@ -10,12 +10,11 @@ fn tables_are_printed(rt: HostRuntime) -> Result<(), Fail> {
     let mut allocs = Allocations::new(rt.alloc());
     let one = vec![in rt.alloc(); Alignment::Center]?;
     let one = allocs.allocate_alignment(one)?;
-    let each = vec![
-        in rt.alloc();
+    let each = vec![in rt.alloc();
         Alignment::None,
         Alignment::Left,
         Alignment::Center,
-        Alignment::Right
+        Alignment::Right,
     ]?;
     let each = allocs.allocate_alignment(each)?;
     let mut lines = Vec::new(rt.alloc());
