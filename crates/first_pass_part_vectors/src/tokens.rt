@@ -126,7 +126,7 @@ fn row(alloc: Global, text: &[u8], options: Options) -> Result<Tree<Item>, Alloc
             end: at,
             body: ItemBody::TableCell,
         })?;
-        at = at.saturating_add(1);
+        at += 1;
     }
     Ok(tree)
 }
