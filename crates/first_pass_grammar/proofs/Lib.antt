@@ -5,6 +5,7 @@ pub mod Finishes
 pub mod FirstLinks
 pub mod Found
 pub mod KindsFound
+pub mod LinesAlike
 pub mod LinesFound
 pub mod MoreNames
 pub mod NamedItems
@@ -16,5 +17,9 @@ pub mod RowLemmas
 pub mod RowsAlike
 pub mod RunsFound
 pub mod SequencesFound
+pub mod TableItems
+pub mod TablesAlike
+pub mod TablesFound
+pub mod TextsNamed
 pub mod Tightening
 pub mod Unique

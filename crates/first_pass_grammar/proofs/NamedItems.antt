@@ -51,7 +51,7 @@ named_modified names (n ∷ nodes) zero g keeps h = (keeps n.1 h.0, h.1)
 named_modified names (n ∷ nodes) (suc i) g keeps h = (h.0, named_modified names nodes i g keeps h.1)
 
 -- a chain without indices
-free_entry : (names : Names) (o : Option Index) → o ≡ None → NamesEntry names o
+pub free_entry : (names : Names) (o : Option Index) → o ≡ None → NamesEntry names o
 free_entry names None h = tt
 free_entry names (Some ix) h = cc
 

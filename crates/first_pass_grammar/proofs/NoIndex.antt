@@ -28,7 +28,7 @@ HaveNoIndex [] = Unit {0}
 HaveNoIndex (x ∷ xs) = HasNoIndex x × HaveNoIndex xs
 
 -- an item without an index reads alike, whatever indices name
-reads_alone : (m n : Names) (x : Item) → HasNoIndex x → read m x ≡ read n x
+pub reads_alone : (m n : Names) (x : Item) → HasNoIndex x → read m x ≡ read n x
 reads_alone m n x h = rw h refl
 
 pub read_alone : (m n : Names) (xs : List Item) → HaveNoIndex xs → map (read m) xs ≡ map (read n) xs
@@ -74,7 +74,7 @@ piece_free text stop at (Left n) chain facts h = text_free at (min (at + n) stop
 piece_free text stop at (Begins dropped escaped) chain facts h = text_free (at + dropped) (min (at + (dropped + 1)) stop) escaped chain h
 piece_free text stop at (Token dropped n body) chain facts h = token_free chain (token (at + dropped) n body) h (markup_free body facts.kind)
 
-pieces_free : (s : Source) (stop at : ℕ) (ps : List Piece) (end : ℕ) (chain : List Item) → ArePieces s at ps end → HaveNoIndex chain
+pub pieces_free : (s : Source) (stop at : ℕ) (ps : List Piece) (end : ℕ) (chain : List Item) → ArePieces s at ps end → HaveNoIndex chain
     → HaveNoIndex (add_pieces stop at ps chain)
 pieces_free s stop at [] end chain are h = h
 pieces_free s stop at (p ∷ ps) end chain are h =

@@ -11,14 +11,12 @@ use Rattle.first_pass_scan.specs.Markers.{task_of}
 use Rattle.first_pass_lines.specs.Rest.{Rest, indent}
 use Rattle.first_pass_lines.specs.Places.{Place, offset, lines_at, start_of, moved_columns}
 use Rattle.first_pass_links.specs.Escapes.{unescaped}
-use Rattle.first_pass_tokens.specs.Chains.{add_tokens}
-use Rattle.first_pass_tokens.proofs.LineLemmas.{one_line}
 use Rattle.first_pass_grammar.specs.declared.kind.Container.{Container}
 use Rattle.first_pass_grammar.specs.declared.kind.Container.TheVariants.{BlockQuote, ListItem}
 use Rattle.first_pass_grammar.specs.Names.{Names, Named, read_nodes}
 use Rattle.first_pass_grammar.specs.Containers.{Context, context, at_rest, after, front}
 use Rattle.first_pass_grammar.specs.Kinds.{Kind, Blank, IndentedCode, Metadata, HtmlToEnd, HtmlToBlank, ThematicBreak, AtxHeading, FencedCode, LinkDefinitions, Paragraph, unindented, is_blank_rest, quote_inside, item_at, first_kind, IsKindBy, IsKind, ends_tag}
-use Rattle.first_pass_grammar.specs.Leaves.{Document, document, around, add_break, IsParagraph, IsHeading, heading_text_at, heading_block, paragraph_block, marker_items}
+use Rattle.first_pass_grammar.specs.Leaves.{Document, document, around, heading_text_at, heading_block, paragraph_block, marker_items}
 use Rattle.first_pass_grammar.specs.CodeBlocks.{code_lines, without_blanks, last_end, IsIndentedCode, metadata_lines, metadata_kind, IsMetadata, fenced_lines, info_string, IsFencedCode}
 use Rattle.first_pass_grammar.specs.HtmlBlocks.{until_end, until_blank, first_owing, IsHtml}
 use Rattle.first_pass_grammar.specs.Extents.{Extent}
@@ -31,42 +29,8 @@ use Rattle.first_pass_grammar.specs.Derivation.{Tables, no_tables, told, node_of
 use Rattle.first_pass_grammar.proofs.NoIndex.{HasNoIndex, read_alone, paragraph_free, heading_free, marked_free}
 use Rattle.first_pass_grammar.specs.RawLines.{range_text, range_html}
 use Rattle.first_pass_grammar.proofs.Alike.{with_names, AlikeNodes, HoldsNoIndex, AlikeOpening, Alike, text_free, html_free, raw_alike, block_alike, fence_alike}
+use Rattle.first_pass_grammar.proofs.LinesAlike.{one_paragraph, one_heading}
 use Rattle.first_pass_grammar.proofs.RowsAlike.{forest_alike, definitions_alike}
-
--- a paragraph has one chain and leaves one list of lines
-one_paragraph : (d : Document) (n : Names) (path : List Container) (start : ℕ) (chain : List Item) (lines : List Place) (w w' : List Item) (l l' : List Place)
-    → IsParagraph d path start chain lines w l → IsParagraph (with_names d n) path start chain lines w' l' → (w ≡ w') × (l ≡ l')
-unfolding IsParagraph
-one_paragraph d n path start chain [] w w' l l' (t, a, i, e, f) (t', a', i', e', f') =
-    let o = one_line i i' in
-    let x = o.0 in
-    let y = o.1 in
-    (cc, cc)
-one_paragraph d n path start chain (line ∷ lines) w w' l l' (t, a, i, inl (h, e, f)) (t', a', i', inl (h', e', f')) =
-    let o = one_line i i' in
-    let x = o.0 in
-    let y = o.1 in
-    (cc, cc)
-one_paragraph d n path start chain (line ∷ lines) w w' l l' (t, a, i, inl (h, e, f)) (t', a', i', inr (h', more)) = let c : true ≡ false = sym h ∙ h' in (cc, cc)
-one_paragraph d n path start chain (line ∷ lines) w w' l l' (t, a, i, inr (h, more)) (t', a', i', inl (h', e', f')) = let c : true ≡ false = sym h' ∙ h in (cc, cc)
-one_paragraph d n path start chain (line ∷ lines) w w' l l' (t, a, i, inr (h, more)) (t', a', i', inr (h', more')) =
-    let o = one_line i i' in
-    let x = o.0 in
-    let y = o.1 in
-    let same : add_break a'.1 (add_tokens chain t') ≡ add_break a.1 (add_tokens chain t) = cc in
-    one_paragraph d n path (offset (unindented (at_rest line (front path line.rest)))) (add_break a.1 (add_tokens chain t)) lines w w' l l' more
-    (subst (λ z. IsParagraph (with_names d n) path (offset (unindented (at_rest line (front path line.rest)))) z lines w' l') same more')
-
--- a heading has one chain and one end
-one_heading : (d : Document) (n : Names) (start : ℕ) (c c' : List Item) (e e' : ℕ) → IsHeading d start c e → IsHeading (with_names d n) start c' e' → (c ≡ c') × (e ≡ e')
-one_heading d n start c c' e e' h h' =
-    let o = one_line h.line h'.line in
-    let x = o.0 in
-    let ends : e ≡ e' = ap (λ (a : ℕ × Option Item). a.0) o.1 in
-    let breaks : h.break ≡ h'.break = ap (λ (a : ℕ × Option Item). a.1) o.1 in
-    let z = h.chain_is in
-    let w = h'.chain_is in
-    (cc, ends)
 
 -- a place is of one kind
 one_kind_by : (r : Rest) (first : Option Kind) (k k' : Kind) → IsKindBy r first k → IsKindBy r first k' → k ≡ k'
