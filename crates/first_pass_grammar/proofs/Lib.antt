@@ -18,6 +18,7 @@ pub mod RowsAlike
 pub mod RunsFound
 pub mod SequencesFound
 pub mod TableItems
+pub mod TableRows
 pub mod TablesAlike
 pub mod TablesFound
 pub mod TextsNamed
