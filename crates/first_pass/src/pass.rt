@@ -379,7 +379,8 @@ impl<'a> FirstPass<'a> {
 
 /// Reads the blocks of a text: the finished tree that the block grammar derives from the text's lines
 /// under these options, and the tables of what the text defines. The tree has at most four nodes for each
-/// byte, besides its root and cells that rows of tables are filled with. The one error is that a request for memory was refused.
+/// byte, besides its root and cells that rows of tables are filled with. The one error is that a request for memory was
+/// refused.
 pub fn run_first_pass<'a>(
     alloc: Global,
     text: &'a str,

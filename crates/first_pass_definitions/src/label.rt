@@ -31,7 +31,8 @@ pub fn parse_refdef_label<'a>(
     start: usize,
 ) -> Result<Option<(usize, CowStr<'a>)>, AllocError>
     requires { IsCharBoundary source.text.now start }
-    ensures value { IfOk result (λ answer. MatchOption (label_at (prefix_crossed true (context_of source.entry.options tree.now))
+    ensures value { IfOk result (λ answer. MatchOption
+        (label_at (prefix_crossed true (context_of source.entry.options tree.now))
         (in_table tree.now.nodes tree.now.spine) (drop start source.entry.text.now))
         (answer ≡ None)
         (λ label. IsSomeAnd answer (λ found. (found.0 ≡ label.0) × (text_of found.1 ≡ label.1)))) }
@@ -59,7 +60,8 @@ fn scan_label_prefix(
     bytes: &[u8],
 ) -> Result<Option<usize>, AllocError>
     ensures value { IfOk result (λ answer. (at : ℕ) → IsCharBoundary source.entry.text.now at
-        → bytes.now ≡ drop at source.entry.text.now → prefix_crossed true (context_of source.entry.options tree.now) bytes.now ≡ answer) }
+        → bytes.now ≡ drop at source.entry.text.now
+        → prefix_crossed true (context_of source.entry.options tree.now) bytes.now ≡ answer) }
     ensures place { IfOk result (λ answer. IfSome answer (λ n. (at : ℕ) → IsCharBoundary source.entry.text.now at
         → bytes.now ≡ drop at source.entry.text.now → IsCharBoundary bytes.now n)) }
 {

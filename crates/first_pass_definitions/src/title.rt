@@ -80,7 +80,8 @@ fn scan_title_text<'t>(
 ) -> Result<Option<(usize, CowStr<'t>)>, AllocError>
     requires rest { IsRestOf source.text.now text.now }
     requires close { ClosesTitle close }
-    ensures value { IfOk result (λ answer. MatchOption (title_text (title_prefix (context_of source.entry.options tree.now)) close text.now)
+    ensures value { IfOk result (λ answer. MatchOption
+        (title_text (title_prefix (context_of source.entry.options tree.now)) close text.now)
         (answer ≡ None)
         (λ title. IsSomeAnd answer (λ found. (found.0 ≡ title.0) × (text_of found.1 ≡ title.1)))) }
     ensures fits { IfOk result (λ answer. IfSome answer (λ found. (0 < found.0) × IsCharBoundary text.now found.0)) }
@@ -136,7 +137,8 @@ fn scan_title_break(
     requires rest { IsRestOf source.text.now bytes.now }
     requires utf8 { IsUtf8 bytes.now }
     requires at { IsCharBoundary bytes.now at }
-    ensures value { IfOk result (λ answer. answer ≡ goes_on_at (title_prefix (context_of source.entry.options tree.now)) bytes.now at) }
+    ensures value { IfOk result (λ answer. answer
+        ≡ goes_on_at (title_prefix (context_of source.entry.options tree.now)) bytes.now at) }
     ensures place { IfOk result (λ answer. IfSome answer (λ next. (at < next) × IsCharBoundary bytes.now next)) }
     ensures texts { IfOk result (λ answer. IfSome answer (λ next. begins line_feed (drop next bytes.now) ≡ false)) }
 {
@@ -159,7 +161,8 @@ fn scan_title_prefix(
     bytes: &[u8],
 ) -> Result<Option<usize>, AllocError>
     requires { IsRestOf source.text.now bytes.now }
-    ensures value { IfOk result (λ answer. answer ≡ title_prefix (context_of source.entry.options tree.now) bytes.now) }
+    ensures value { IfOk result (λ answer.
+        answer ≡ title_prefix (context_of source.entry.options tree.now) bytes.now) }
     ensures place { IfOk result (λ answer. IfSome answer (λ n. IsCharBoundary bytes.now n)) }
     ensures text { IfOk result (λ answer. IfSome answer (λ n. blank_len (drop n bytes.now) ≡ None)) }
 {

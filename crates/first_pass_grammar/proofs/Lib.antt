@@ -17,6 +17,7 @@ pub mod RowLemmas
 pub mod RowsAlike
 pub mod RunsFound
 pub mod SequencesFound
+pub mod TableEnds
 pub mod TableItems
 pub mod TableRows
 pub mod TablesAlike

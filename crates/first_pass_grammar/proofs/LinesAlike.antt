@@ -36,7 +36,8 @@ one_paragraph d n path start chain (line ∷ lines) w w' l l' (t, a, i, inr (h, 
     (subst (λ z. IsParagraph (with_names d n) path (offset (unindented (at_rest line (front path line.rest)))) z lines w' l') same more')
 
 -- a heading has one chain and one end
-pub one_heading : (d : Document) (n : Names) (start : ℕ) (c c' : List Item) (e e' : ℕ) → IsHeading d start c e → IsHeading (with_names d n) start c' e' → (c ≡ c') × (e ≡ e')
+pub one_heading : (d : Document) (n : Names) (start : ℕ) (c c' : List Item) (e e' : ℕ) → IsHeading d start c e
+    → IsHeading (with_names d n) start c' e' → (c ≡ c') × (e ≡ e')
 one_heading d n start c c' e e' h h' =
     let o = one_line h.line h'.line in
     let x = o.0 in

@@ -94,7 +94,8 @@ row_free body columns start cells end none h =
     (copies_free (filled columns cells) (cell_block end end []) (refl, tt))))
 
 -- nor have the rows of a body
-pub rows_free : (d : Document) (path : List Container) (columns most : ℕ) (lines : List Place) (t : Taken) → AreRows d path columns most lines t → AreFreeNodes t.items
+pub rows_free : (d : Document) (path : List Container) (columns most : ℕ) (lines : List Place) (t : Taken) → AreRows d path columns most lines t
+    → AreFreeNodes t.items
 unfolding AreRows
 rows_free d path columns most [] t e = subst (λ (z : Taken). AreFreeNodes z.items) (sym e) tt
 rows_free d path columns most (line ∷ lines) t (inl (none, e)) = subst (λ (z : Taken). AreFreeNodes z.items) (sym e) tt

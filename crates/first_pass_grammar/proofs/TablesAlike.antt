@@ -22,7 +22,8 @@ use Rattle.first_pass_grammar.proofs.TextsNamed.{table_free}
 use Rattle.first_pass_grammar.proofs.LinesAlike.{one_paragraph}
 
 -- a row has one list of cells, and ends at one place
-pub one_cells : (d : Document) (n : Names) (at : ℕ) (xs ys : List (List (ℕ × Item))) (e f : ℕ) → AreCells d at xs e → AreCells (with_names d n) at ys f → (xs ≡ ys) × (e ≡ f)
+pub one_cells : (d : Document) (n : Names) (at : ℕ) (xs ys : List (List (ℕ × Item))) (e f : ℕ) → AreCells d at xs e
+    → AreCells (with_names d n) at ys f → (xs ≡ ys) × (e ≡ f)
 unfolding AreCells
 one_cells d n at [] [] e f (k, h, is) (k', h', is') = (refl, is ∙ ap (λ z. cell_text d.text at + z) (same_Some k k' (sym h ∙ h')) ∙ sym is')
 one_cells d n at [] (y ∷ ys) e f (k, h, is) (on, t, s, c, same, more) = absurd (true≢false (sym (ap is_some h) ∙ on))
@@ -135,7 +136,8 @@ text_by : (d : Document) (n : Names) (path : List Container) (p : Place) (marker
 text_by d n path p marker lines t u None free h k = one_plain d n path p marker lines t u free h k
 text_by d n path p marker lines t u (Some alignments) free h k = one_table d n path p alignments lines t u h k
 
-pub one_text : (d : Document) (n : Names) (path : List Container) (p : Place) (marker : Option Item) (lines : List Place) (t u : Taken) → IfSome marker HasNoIndex
+pub one_text : (d : Document) (n : Names) (path : List Container) (p : Place) (marker : Option Item) (lines : List Place) (t u : Taken)
+    → IfSome marker HasNoIndex
     → IsText d path p marker lines t → IsText (with_names d n) path p marker lines u → AlikeTaken d.names n t u
 unfolding IsText
 one_text d n path p marker lines t u free h k = text_by d n path p marker lines t u (headed_table (around d path) p.rest.left) free h k

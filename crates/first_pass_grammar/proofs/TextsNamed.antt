@@ -36,7 +36,8 @@ table_named d path p alignments lines t h =
     )
 
 -- so does each in what stands for a text
-text_by : (d : Document) (path : List Container) (p : Place) (marker : Option Item) (lines : List Place) (t : Taken) (o : Option (List Alignment)) → IfSome marker HasNoIndex
+text_by : (d : Document) (path : List Container) (p : Place) (marker : Option Item) (lines : List Place) (t : Taken) (o : Option (List Alignment))
+    → IfSome marker HasNoIndex
     → MatchOption o (IsPlainText d path p marker lines t) (λ alignments. IsTable d path p alignments lines t) → AreNamed d.names t.items
 text_by d path p marker lines t None free (chain, is, e) =
     subst (AreNamed d.names) (sym e)

@@ -149,7 +149,8 @@ pub fn next_paragraph_text(
 ) -> Result<Option<usize>, AllocError>
     requires { IsCharBoundary source.text.now start }
     ensures value { IfOk result (λ next.
-        next ≡ (if ends_paragraph (context_of source.entry.options tree.now) (line_rest (drop start source.entry.text.now))
+        next ≡ (if ends_paragraph (context_of source.entry.options tree.now)
+        (line_rest (drop start source.entry.text.now))
         then None
         else Some (offset (unindented (place_at start (front (path_of tree.now)
         (line_rest (drop start source.entry.text.now)))))))) }
@@ -298,7 +299,8 @@ pub fn scan_line_crossed<'a>(
 ) -> Result<Option<LineStart<'a>>, AllocError>
     requires { IsCharBoundary source.text.now start }
     ensures value { IfOk result (λ rest.
-        rest ≡ crossed in_label (context_of source.entry.options tree.now) (line_rest (drop start source.entry.text.now))) }
+        rest ≡ crossed in_label (context_of source.entry.options tree.now)
+        (line_rest (drop start source.entry.text.now))) }
     ensures place { IfOk result (λ rest. IfSome rest (λ r. IsPlaceOf source.entry.text.now (place_at start r))) }
     ensures utf8 { IsUtf8 source.entry.text.now }
 {
