@@ -1,0 +1,2 @@
+-- The lemmas of this crate.
+pub mod DropLemmas

@@ -1,0 +1,11 @@
+use Rattle.std.proofs.Common.{◌≡◌, replicate}
+use Rattle.first_pass_tokens.specs.TreeTokens.{chained}
+use Rattle.first_pass_tables.specs.Appends.{empty_cell}
+use Rattle.first_pass_tables.proofs.cells.fill_row.Given as goal
+
+-- the cells that are left make of the tree what all make of the first one
+abbrev pub invariant-loop-left : goal.invariant-loop-left
+invariant-loop-left l = chained l.tree (replicate l.left (empty_cell l.end)) ≡ chained l.initial.tree (replicate l.missing (empty_cell l.«end»))
+
+abbrev pub decreases-loop-left : goal.decreases-loop-left
+decreases-loop-left l = l.left

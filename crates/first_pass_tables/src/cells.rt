@@ -1,0 +1,88 @@
+//! The cells of a row, one by one (GFM 4.10).
+
+ghost use Rattle.std.specs.Prelude.{◌≡◌, ◌≤◌, length, replicate, IfOk, OnOk, IfSome};
+ghost use Rattle.first_pass_walk.specs.Walk.{MarksSpecial};
+ghost use Rattle.first_pass_tree.specs.Forest.{IsChild};
+ghost use Rattle.first_pass_tokens.specs.TreeTokens.{chained};
+ghost use Rattle.first_pass_names.specs.TableEntries.{no_names};
+ghost use Rattle.first_pass_grammar.specs.Leaves.{document};
+ghost use Rattle.first_pass_grammar.specs.Tables.{cell_start};
+ghost use Rattle.first_pass_tables.specs.Appends.{AddsCell, empty_cell, without_behind};
+
+use first_pass_items::item::{Item, ItemBody};
+use first_pass_lines::lines::begins;
+use first_pass_lines::places::rest_of;
+use first_pass_open::open_block::{close_block, open_block};
+use first_pass_open::source::Source;
+use first_pass_tokens::line::append_cell;
+use first_pass_tree::forest::Tree;
+use first_pass_tree::tree_index::TreeIndex;
+use std::alloc::AllocError;
+
+/// Where the cell begins at the offset `at` into `bytes`: behind its pipe, if one stands there (GFM 4.10).
+pub fn cell_start(bytes: &[u8], at: usize) -> usize
+    requires { at ≤ length bytes.now }
+    ensures value { result ≡ cell_start bytes.now at }
+    ensures within { result ≤ length bytes.now }
+    ensures order { at ≤ result }
+{
+    if begins(b'|', rest_of(bytes, at)) {
+        at + 1
+    } else {
+        at
+    }
+}
+
+/// Appends the cell that begins at the offset `start` into the text, and whose content begins at `text`, to the
+/// innermost open node, with its tokens; answers the offset at which it ends. The table is that of the special bytes;
+/// the error is want of memory (GFM 4.10).
+pub fn append_table_cell(
+    source: Source<'_>,
+    lut: &[bool; 256],
+    tree: &mut Tree<Item>,
+    start: usize,
+    text: usize,
+) -> Result<usize, AllocError>
+    requires within { text ≤ length source.text.now }
+    requires marks { MarksSpecial lut.now source.options }
+    ensures cell { IfOk result (λ stop.
+        AddsCell (document source.entry.text.now source.entry.options no_names) start text tree.old tree.new stop) }
+{
+    tree.is_forest();
+    open_block(tree, start, ItemBody::TableCell)?;
+    let end = append_cell(source.text.as_bytes(), text, source.options, lut, tree)?;
+    close_block(tree, end);
+    Ok(end)
+}
+
+/// Drops what is behind a child of the innermost open node, or all that is below that node.
+pub fn drop_behind(tree: &mut Tree<Item>, last: Option<TreeIndex>)
+    requires { IfSome last (λ ix. IsChild tree.old ix) }
+    ensures { tree.new ≡ without_behind tree.old last }
+{
+    match last {
+        Some(ix) => tree.drop_after(ix),
+        None => {
+            if let Some(ix) = tree.peek_up() {
+                tree.drop_children(ix);
+            }
+        }
+    }
+}
+
+/// Appends so many empty cells, which a row is filled with, at the offset where the row ends. The error is want of
+/// memory (GFM 4.10).
+pub fn fill_row(tree: &mut Tree<Item>, end: usize, missing: usize) -> Result<(), AllocError>
+    ensures { OnOk result (tree.new ≡ chained tree.old (replicate missing (empty_cell end))) }
+{
+    let mut left = missing;
+    while 0 < left {
+        tree.append(Item {
+            start: end,
+            end,
+            body: ItemBody::TableCell,
+        })?;
+        left -= 1;
+    }
+    Ok(())
+}
