@@ -14,7 +14,7 @@ use Rattle.first_pass_grammar.specs.declared.kind.Container.TheVariants.{BlockQu
 use Rattle.first_pass_grammar.specs.Containers.{taken}
 use Rattle.first_pass_grammar.specs.Names.{Names}
 use Rattle.first_pass_grammar.specs.Leaves.{Document}
-use Rattle.first_pass_grammar.specs.Skeleton.{Leaf, LeafBlock, BlankLine, Block, block_at, Head, Opener, QuoteMarker, ItemMarker, From, Line, Inside, Blanks, At, TextOf, MarkAlone, behind_marker, Opening, OpensLeaf, OpensNode, OpensParagraph, Opens, Skeleton, Nil, Then, Node, Begins, Ends, behind_first, end_after, end_before, IsFirst, IsSequence}
+use Rattle.first_pass_grammar.specs.Skeleton.{Leaf, LeafBlock, BlankLine, Block, block_at, Head, Opener, QuoteMarker, ItemMarker, From, Line, Inside, Blanks, At, TextOf, MarkAlone, behind_marker, Opening, OpensLeaf, OpensNode, OpensText, Opens, Skeleton, Nil, Then, Node, Begins, Ends, behind_first, end_after, end_before, IsFirst, IsSequence}
 use Rattle.first_pass_grammar.specs.Kinds.{Kind, Paragraph}
 use Rattle.first_pass_grammar.specs.Rows.{ALeaf, AList, Row, Rows, End, OneOf, behind, ends_in_gap, any_gap, is_loose, is_paragraph, closing_place, list_until, items_behind, list_behind, what_of, row_of, container_row, begins_blank, rows_of}
 use Rattle.first_pass_grammar.specs.LinkTables.{LinkEntry, with_link, with_links}
@@ -773,9 +773,9 @@ pub completes-block : (d : Document) (defined : Tables) (frames : List Frame) (n
 completes-block d defined frames nodes os p lines left b plain opens c =
     completes-leaf d defined frames nodes os (Inside p) lines left b plain (λ path mid. refl) (first_here d (containers_of frames) p lines (OpensLeaf (Block b) Line left) opens) c
 
--- behind the paragraph of a task list item marker
+-- behind the text of a task list item marker
 pub completes-text : (d : Document) (defined : Tables) (frames : List Frame) (nodes : List (ℕ × Item)) (os : List ℕ) (marker : Item) (p : Place) (lines left : List Place) (b : LeafBlock)
-    → IsPlain frames → OpensParagraph d (containers_of frames) p lines (Some marker) (OpensLeaf (Block b) Line left)
+    → IsPlain frames → OpensText d (containers_of frames) p lines (Some marker) (OpensLeaf (Block b) Line left)
     → CompletesAt d defined false frames nodes os (At p (TextOf marker)) lines → CompletesAt d (told defined b.definitions) b.gap frames (nodes ++ block_items (suc (length os)) false b) os Line left
 completes-text d defined frames nodes os marker p lines left b plain opens c =
     completes-leaf d defined frames nodes os (At p (TextOf marker)) lines left b plain (λ path mid. refl) (record { place = p; behind = lines; begins = (refl, refl); opens = opens }) c

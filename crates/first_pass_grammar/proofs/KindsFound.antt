@@ -1,5 +1,5 @@
 -- What begins at a place is of some kind, and each kind opens something.
-use Rattle.std.proofs.Common.{◌≡◌, ◌⊎◌, inl, inr, ℕ, suc, ◌+◌, ◌<◌, ◌≤◌, Bool, true, false, true≢false, List, [], ◌∷◌, ◌++◌, length, drop, Option, Some, None, refl, sym, subst, arith, nat_lt, if◌then◌else◌}
+use Rattle.std.proofs.Common.{◌≡◌, ◌⊎◌, inl, inr, ℕ, suc, ◌+◌, ◌<◌, ◌≤◌, Bool, true, false, true≢false, List, [], ◌∷◌, length, drop, Option, Some, None, refl, sym, subst, arith, nat_lt, if◌then◌else◌}
 use Rattle.std.specs.Option.{is_some}
 use Rattle.std.proofs.lemmas.Bool.{and_parts}
 use Rattle.std.proofs.lemmas.Option.{none-some, same_Some}
@@ -9,7 +9,7 @@ use Rattle.first_pass_items.specs.declared.item.ItemBody.TheVariants.{IndentCode
 use Rattle.first_pass_items.specs.declared.option_set.Options.{Options}
 use Rattle.first_pass_lines.specs.Lines.{begins, level_number, atx_level}
 use Rattle.first_pass_lines.specs.Rest.{Rest, indent}
-use Rattle.first_pass_lines.specs.Places.{Place, offset, start_of, moved_columns}
+use Rattle.first_pass_lines.specs.Places.{Place, offset, moved_columns}
 use Rattle.first_pass_scan.specs.LeafLines.{hrule_len, code_fence}
 use Rattle.first_pass_html.specs.Starts.{html_end}
 use Rattle.first_pass_html.specs.Tags.{BeginsTagLine}
@@ -18,7 +18,7 @@ use Rattle.first_pass_grammar.specs.declared.kind.Container.{Container}
 use Rattle.first_pass_grammar.specs.Containers.{Context, context}
 use Rattle.first_pass_grammar.specs.Names.{Names, Extends}
 use Rattle.first_pass_grammar.specs.Kinds.{Kind, Blank, IndentedCode, Metadata, HtmlToEnd, HtmlToBlank, ThematicBreak, AtxHeading, FencedCode, LinkDefinitions, Paragraph, all_taken, unindented, is_blank_rest, heading_or, rule_or, fence_or, metadata_or, metadata_at, begins_html_to_end, begins_html_to_blank, html_kind, first_kind, last_kind, IsKindBy, IsKind}
-use Rattle.first_pass_grammar.specs.Leaves.{document, block_with, heading_text_at, heading_block, paragraph_block, rule_block, marker_items}
+use Rattle.first_pass_grammar.specs.Leaves.{document, block_with, heading_text_at, heading_block, rule_block}
 use Rattle.first_pass_grammar.specs.RawLines.{range_text, range_html}
 use Rattle.first_pass_grammar.specs.CodeBlocks.{code_place, code_by, code_lines, without_blanks, last_is_blank, last_end, IsIndentedCode, metadata_lines, metadata_kind, IsMetadata, fenced_lines, info_string, IsFencedCode}
 use Rattle.first_pass_grammar.specs.HtmlBlocks.{until_end, until_blank, first_owing, IsHtml}
@@ -26,10 +26,11 @@ use Rattle.first_pass_grammar.specs.LinkTables.{LinkEntry}
 use Rattle.first_pass_grammar.specs.LinkRuns.{definition_at, kind_in, Beyond, Ended, FlowsOn}
 use Rattle.first_pass_grammar.proofs.RunsFound.{left_beyond, run_found}
 use Rattle.first_pass_grammar.specs.Extents.{Extent, Verdict, GoesOn, IsLast, Closes, Stops, extent_by, extent}
-use Rattle.first_pass_grammar.specs.Skeleton.{Leaf, Block, leaf_block, run_block, flowing_block, OpensBeyond, OpensRun, BlankLine, From, Line, Blanks, At, blanks_alone, Opening, OpensLeaf, OpensNode, OpensParagraph, OpensExtent, OpensAs, OpensBlockAt}
+use Rattle.first_pass_grammar.specs.Skeleton.{Leaf, Block, leaf_block, run_block, flowing_block, OpensBeyond, OpensRun, BlankLine, From, Line, Blanks, At, blanks_alone, Opening, OpensLeaf, OpensNode, OpensText, OpensExtent, OpensAs, OpensBlockAt}
 use Rattle.first_pass_grammar.proofs.Found.{Found, named_info, raw_lines_found}
 use Rattle.first_pass_grammar.proofs.MoreNames.{extends_none, extends_both}
-use Rattle.first_pass_grammar.proofs.LinesFound.{paragraph_found, heading_found}
+use Rattle.first_pass_grammar.proofs.LinesFound.{heading_found}
+use Rattle.first_pass_grammar.proofs.TablesFound.{text_found}
 
 -- what is of the kinds 1 to 5 of HTML ends at a text
 abbrev HasEnd : List ℕ → Kind → Type 0
@@ -268,23 +269,34 @@ leads_heading text options names most path p lines level =
     leads_leaf (leaf_block (AtxHeading level) p (heading_block (offset (unindented p)) found.1 level found.0) false) lines
     (λ later. (found.0, found.1, found.2 later, refl)) (omega arith)
 
-pub leads_paragraph : (text : List ℕ) (options : Options) (names : Names) (most : ℕ) (path : List Container) (p : Place) (lines : List Place)
-    (marker : Option Item) → Leads names most lines (λ later o. OpensParagraph (document text options later) path p lines marker o)
-unfolding OpensParagraph
-leads_paragraph text options names most path p lines marker =
-    let start : ℕ = offset (unindented p) in
-    let found = paragraph_found text options path lines start [] in
-    let items : List (ℕ × Item) = paragraph_block start (start_of (length text) found.left) (marker_items marker ++ found.whole) in
-    leads_leaf (leaf_block Paragraph p items false) found.left (λ later. (found.whole, found.left, found.is later, refl)) found.shorter
+pub leads_text : (text : List ℕ) (options : Options) (names : Names) (most : ℕ) (path : List Container) (p : Place) (lines : List Place)
+    (marker : Option Item) → Leads names most lines (λ later o. OpensText (document text options later) path p lines marker o)
+unfolding OpensText
+leads_text text options names most path p lines marker =
+    let found = text_found names text options path (unindented p) marker lines in
+    let leaf : Leaf = leaf_block Paragraph p found.value.items false in
+    record {
+      opening = OpensLeaf leaf Line found.value.left;
+      more = found.more;
+      extends = found.extends;
+      opens = λ later x. (found.value, found.holds later x, refl);
+      shrinks = at_next_line most lines leaf found.value.left found.shorter;
+    }
 
 leads_beyond : (text : List ℕ) (options : Options) (names : Names) (most : ℕ) (path : List Container) (lines : List Place) (definitions : List LinkEntry) (beyond : Beyond)
     → length (left_beyond beyond) ≤ length lines → Leads names most lines (λ later o. OpensBeyond (document text options later) path definitions beyond o)
 leads_beyond text options names most path lines definitions (Ended q left) less = leads_leaf (Block (run_block q definitions)) left (λ later. refl) less
 leads_beyond text options names most path lines definitions (FlowsOn q further) less =
-    let found = paragraph_found text options path further (offset q) [] in
-    let items : List (ℕ × Item) = paragraph_block (offset q) (start_of (length text) found.left) found.whole in
+    let found = text_found names text options path q None further in
+    let leaf : Leaf = Block (flowing_block q definitions found.value.items) in
     let low = found.shorter in
-    leads_leaf (Block (flowing_block q definitions items)) found.left (λ later. (found.whole, found.left, found.is later, refl)) (omega arith)
+    record {
+      opening = OpensLeaf leaf Line found.value.left;
+      more = found.more;
+      extends = found.extends;
+      opens = λ later x. (found.value, found.holds later x, refl);
+      shrinks = at_next_line most lines leaf found.value.left (omega arith);
+    }
 
 leads_run : (text : List ℕ) (options : Options) (names : Names) (most : ℕ) (path : List Container) (p : Place) (lines : List Place)
     → Leads names most lines (λ later o. OpensAs (document text options later) path p lines LinkDefinitions o)
@@ -315,9 +327,9 @@ leads_kind text options names most path p lines (FencedCode count byte) ends =
     leads_extent names most lines (FencedCode count byte) p e (λ later. IsFencedCode (document text options later) start count e.places e.«end»)
     (fence_found text options names start count e.places e.«end») (extent_left _ (length text) lines)
 leads_kind text options names most path p lines LinkDefinitions ends = leads_run text options names most path p lines
-leads_kind text options names most path p lines Paragraph ends = leads_paragraph text options names most path p lines None
+leads_kind text options names most path p lines Paragraph ends = leads_text text options names most path p lines None
 
--- what ends an HTML block is known, whatever begins where a paragraph would
+-- what ends an HTML block is known, whatever begins where a text would
 ends_text : (bs : List ℕ) (t : Bool) → HasEnd bs (if t then LinkDefinitions else Paragraph)
 ends_text bs true = tt
 ends_text bs false = tt

@@ -1,4 +1,4 @@
--- Each index that nodes keep names an entry: what keeps that, and the items of each leaf block.
+-- Each index that nodes keep names an entry: what keeps that, and chains and blocks of which it holds.
 use Rattle.std.proofs.Common.{◌≡◌, ℕ, zero, suc, ◌-◌, Bool, true, false, nat_lt, List, [], ◌∷◌, ◌++◌, length, Option, Some, None, IfSome, refl, sym, ap, subst, ◌∙◌, arith, length-append, if◌then◌else◌}
 use Rattle.std.proofs.lemmas.Option.{slice_get_within}
 use Rattle.first_pass_items.specs.declared.item.Item.{Item}
@@ -7,14 +7,10 @@ use Rattle.first_pass_tree.specs.Forest.{modify, at_depth}
 use Rattle.first_pass_lines.specs.Places.{Place, offset, line_end}
 use Rattle.first_pass_tokens.specs.Chains.{text_token, touches, add_token, add_tokens}
 use Rattle.first_pass_tokens.specs.TreeTokens.{leaves}
-use Rattle.first_pass_grammar.specs.declared.kind.Container.{Container}
 use Rattle.first_pass_grammar.specs.Names.{Names, Extends, Index, TextAt, AlignmentsAt, index_of, NamesEntry, AreNamed}
-use Rattle.first_pass_grammar.specs.Kinds.{Kind, Blank, IndentedCode, Metadata, HtmlToEnd, HtmlToBlank, ThematicBreak, AtxHeading, FencedCode, LinkDefinitions, Paragraph}
-use Rattle.first_pass_grammar.specs.LinkRuns.{Ended, FlowsOn}
 use Rattle.first_pass_grammar.specs.Leaves.{Document, block_with, paragraph_block, marker_items}
 use Rattle.first_pass_grammar.specs.RawLines.{AreColumns, Ranges, range_text, range_html, ends_with_both, raw_items, IsRawLine, AreRawLines}
-use Rattle.first_pass_grammar.specs.Skeleton.{Block, Line, Opening, OpensLeaf, leaf_block, OpensAs, OpensRun, OpensParagraph}
-use Rattle.first_pass_grammar.proofs.NoIndex.{HasNoIndex, HaveNoIndex, paragraph_free, heading_free, marked_free}
+use Rattle.first_pass_grammar.proofs.NoIndex.{HasNoIndex, HaveNoIndex, marked_free}
 
 -- an item is read in no node whose index names no entry
 abbrev pub IsNamed : Names → Item → Type 0
@@ -89,17 +85,17 @@ columns_named names zero at items is = subst (λ xs. AreNamed names (leaves xs))
 columns_named names (suc n) at items (ix, (named, at_ix, text), is) = subst (λ xs. AreNamed names (leaves xs)) (sym is) (slice_get_within names.texts ix.0 named at_ix, tt)
 
 -- the bytes of raw lines have no index
-abbrev IsFree : Ranges → Type 0
+abbrev pub IsFree : Ranges → Type 0
 IsFree range = (from to : ℕ) → HaveNoIndex (range from to)
 
 unless_free : (t : Bool) (xs : List Item) → HaveNoIndex xs → HaveNoIndex (if t then xs else [])
 unless_free true xs h = h
 unless_free false xs h = tt
 
-text_is_free : IsFree range_text
+pub text_is_free : IsFree range_text
 text_is_free from to = unless_free (nat_lt from to) (text_token from to false ∷ []) (refl, tt)
 
-html_is_free : IsFree range_html
+pub html_is_free : IsFree range_html
 html_is_free from to = (refl, tt)
 
 raw_by : (names : Names) (t : Bool) (a b c : List Item) → HaveNoIndex a → HaveNoIndex b → HaveNoIndex c → AreNamed names (leaves (if t then a ++ b else c))
@@ -116,7 +112,7 @@ line_named range d owed from to items free (columns, are, is) =
     subst (λ xs. AreNamed d.names (leaves xs)) (sym is)
     (chains_named d.names columns (raw_items range d.text from to) (columns_named d.names owed from columns are) (raw_named d.names range d.text from to free))
 
-lines_named : (range : Ranges) (d : Document) (chain : List Item) (places : List Place) (whole : List Item) → IsFree range → AreNamed d.names (leaves chain) → AreRawLines range d chain places whole → AreNamed d.names (leaves whole)
+pub lines_named : (range : Ranges) (d : Document) (chain : List Item) (places : List Place) (whole : List Item) → IsFree range → AreNamed d.names (leaves chain) → AreRawLines range d chain places whole → AreNamed d.names (leaves whole)
 unfolding AreRawLines
 lines_named range d chain [] whole free h is = subst (λ xs. AreNamed d.names (leaves xs)) (sym is) h
 lines_named range d chain (p ∷ places) whole free h (line, is, more) =
@@ -124,46 +120,11 @@ lines_named range d chain (p ∷ places) whole free h (line, is, more) =
     (tokens_named d.names chain line h (line_named range d p.rest.owed (offset p) (line_end p) line free is)) more
 
 -- a block with a chain
-block_named : (names : Names) (start stop : ℕ) (body : ItemBody) (chain : List Item) (items : List (ℕ × Item)) → items ≡ block_with start stop body chain → NamesEntry names (index_of body) → AreNamed names (leaves chain) → AreNamed names items
+pub block_named : (names : Names) (start stop : ℕ) (body : ItemBody) (chain : List Item) (items : List (ℕ × Item)) → items ≡ block_with start stop body chain → NamesEntry names (index_of body) → AreNamed names (leaves chain) → AreNamed names items
 unfolding AreNamed
 block_named names start stop body chain items is own h = subst (AreNamed names) (sym is) (own, named_deeper names 1 (leaves chain) h)
 
--- what is opened at a place has the items that are said of it
-items_of_leaf : Opening → List (ℕ × Item)
-items_of_leaf (OpensLeaf (Block b) there left) = b.items
-items_of_leaf o = []
-
--- Each index that a leaf block's items keep names an entry.
-pub opens_named : (d : Document) (path : List Container) (p : Place) (lines : List Place) (kind : Kind) (items : List (ℕ × Item)) (gap : Bool) (left : List Place) → OpensAs d path p lines kind (OpensLeaf (leaf_block kind p items gap) Line left) → AreNamed d.names items
-unfolding OpensAs OpensRun OpensParagraph items_of_leaf AreNamed
-opens_named d path p lines Blank items gap left h = cc
-opens_named d path p lines IndentedCode items gap left (own, is, opens) =
-    subst (AreNamed d.names) (sym (ap items_of_leaf opens))
-    (block_named d.names _ _ _ is.chain own is.items_are tt (lines_named range_text d [] _ is.chain text_is_free tt is.lines))
-opens_named d path p lines (Metadata byte) items gap left (own, is, opens) =
-    subst (AreNamed d.names) (sym (ap items_of_leaf opens))
-    (block_named d.names _ _ _ is.chain own is.items_are tt (lines_named range_text d [] _ is.chain text_is_free tt is.lines))
-opens_named d path p lines HtmlToEnd items gap left (text, found, (own, is, opens)) =
-    subst (AreNamed d.names) (sym (ap items_of_leaf opens))
-    (block_named d.names _ _ _ is.chain own is.items_are tt (lines_named range_html d [] _ is.chain html_is_free tt is.lines))
-opens_named d path p lines HtmlToBlank items gap left (own, is, opens) =
-    subst (AreNamed d.names) (sym (ap items_of_leaf opens))
-    (block_named d.names _ _ _ is.chain own is.items_are tt (lines_named range_html d [] _ is.chain html_is_free tt is.lines))
-opens_named d path p lines (ThematicBreak size) items gap left opens =
-    subst (AreNamed d.names) (sym (ap items_of_leaf opens)) (tt, tt)
-opens_named d path p lines (AtxHeading level) items gap left (chain, stop, is, opens) =
-    subst (AreNamed d.names) (sym (ap items_of_leaf opens)) (tt, named_deeper d.names 1 (leaves chain) (free_named d.names chain (heading_free d _ chain stop is)))
-opens_named d path p lines (FencedCode count byte) items gap left (own, is, opens) =
-    subst (AreNamed d.names) (sym (ap items_of_leaf opens))
-    (block_named d.names _ _ _ is.chain own is.items_are (slice_get_within d.names.texts is.info.0 is.names.named is.names.at) (lines_named range_text d [] _ is.chain text_is_free tt is.lines))
-opens_named d path p lines LinkDefinitions items gap left (xs, Ended q more, run, opens) =
-    subst (AreNamed d.names) (sym (ap items_of_leaf opens)) tt
-opens_named d path p lines LinkDefinitions items gap left (xs, FlowsOn q more, run, (chain, behind, is, opens)) =
-    subst (AreNamed d.names) (sym (ap items_of_leaf opens)) (tt, named_deeper d.names 1 (leaves chain) (free_named d.names chain (paragraph_free d path _ [] more chain behind tt is)))
-opens_named d path p lines Paragraph items gap left (chain, behind, is, opens) =
-    subst (AreNamed d.names) (sym (ap items_of_leaf opens)) (tt, named_deeper d.names 1 (leaves chain) (free_named d.names chain (paragraph_free d path _ [] lines chain behind tt is)))
-
--- So do those of a paragraph whose marker has none.
+-- a paragraph, whose marker has no index
 pub paragraph_named : (names : Names) (start stop : ℕ) (marker : Option Item) (chain : List Item) → IfSome marker HasNoIndex → HaveNoIndex chain → AreNamed names (paragraph_block start stop (marker_items marker ++ chain))
 unfolding AreNamed
 paragraph_named names start stop marker chain h k = (tt, named_deeper names 1 (leaves (marker_items marker ++ chain)) (free_named names (marker_items marker ++ chain) (marked_free marker chain h k)))

@@ -21,7 +21,7 @@ use Rattle.first_pass_grammar.specs.Containers.{Context, context, at_rest, prefi
 use Rattle.first_pass_grammar.specs.Kinds.{Paragraph, all_taken, unindented, is_blank_rest, quote_inside, item_at, ends_tag}
 use Rattle.first_pass_grammar.specs.Leaves.{Document, document}
 use Rattle.first_pass_grammar.specs.Skeleton.{leaf_block, Head, From, Line, At, May, Anything, ALeafAlone, TextOf, MarkAlone, Inside, behind_marker, Opening, OpensNode, next_is_blank, item_head, task_by, task_behind, behind_task, task_alone, item_opening, quote_head, tag_behind, behind_tag, quote_opening, OpensQuote, OpensFrom, Opens, OpensIf}
-use Rattle.first_pass_grammar.proofs.KindsFound.{IsShorter, leads_alone, leads_leaf, reach, Shrinks, Leads, leads_paragraph, leads_block}
+use Rattle.first_pass_grammar.proofs.KindsFound.{IsShorter, leads_alone, leads_leaf, reach, Shrinks, Leads, leads_text, leads_block}
 
 -- behind a marker less is left
 mapped_to : {A B : Type 0} (f : A → B) (o : Option A) (y : B) → option_map f o ≡ Some y → (x : A) × (o ≡ Some x) × (f x ≡ y)
@@ -161,6 +161,6 @@ pub leads_if : (text : List ℕ) (options : Options) (names : Names) (path : Lis
     → Leads names (length p.rest.left) lines (λ later x. OpensIf (document text options later) path may p lines x)
 leads_if text options names path Anything p lines = leads_any text options names path p lines
 leads_if text options names path ALeafAlone p lines = leads_block text options names (length p.rest.left) path p lines
-leads_if text options names path (TextOf marker) p lines = leads_paragraph text options names (length p.rest.left) path p lines (Some marker)
+leads_if text options names path (TextOf marker) p lines = leads_text text options names (length p.rest.left) path p lines (Some marker)
 leads_if text options names path (MarkAlone marker blanks) p lines =
     leads_leaf (leaf_block Paragraph p ((0, marker) ∷ []) false) lines (λ later. refl) (omega arith)

@@ -1,9 +1,9 @@
 -- The grammar derives one forest from a text, read through what its indices name, and one pair of tables.
-use Rattle.std.proofs.Common.{◌≡◌, inl, inr, ℕ, ◌+◌, Bool, true, false, List, [], ◌∷◌, ◌++◌, length, map, drop, Option, Some, None, IfSome, refl, sym, ap, ◌∙◌, subst, if◌then◌else◌}
+use Rattle.std.proofs.Common.{◌≡◌, inl, inr, ℕ, ◌+◌, Bool, true, false, List, [], ◌∷◌, length, map, drop, Option, Some, None, IfSome, refl, sym, ap, ◌∙◌, subst, if◌then◌else◌}
 use Rattle.std.specs.Option.{option_map}
 use Rattle.first_pass_items.specs.declared.item.Item.{Item}
 use Rattle.first_pass_items.specs.declared.item.BlockQuoteKind.{BlockQuoteKind}
-use Rattle.first_pass_items.specs.declared.item.ItemBody.TheVariants.{Root, Rule, Heading as HeadingBody, Paragraph as ParagraphBody, IndentCodeBlock, FencedCodeBlock, MetadataBlock, HtmlBlock}
+use Rattle.first_pass_items.specs.declared.item.ItemBody.TheVariants.{Root, Rule, Heading as HeadingBody, IndentCodeBlock, FencedCodeBlock, MetadataBlock, HtmlBlock}
 use Rattle.first_pass_items.specs.declared.option_set.Options.{Options}
 use Rattle.first_pass_items.specs.OptionWords.{has}
 use Rattle.first_pass_lines.specs.Lines.{level_number}
@@ -16,7 +16,7 @@ use Rattle.first_pass_grammar.specs.declared.kind.Container.TheVariants.{BlockQu
 use Rattle.first_pass_grammar.specs.Names.{Names, Named, read_nodes}
 use Rattle.first_pass_grammar.specs.Containers.{Context, context, at_rest, after, front}
 use Rattle.first_pass_grammar.specs.Kinds.{Kind, Blank, IndentedCode, Metadata, HtmlToEnd, HtmlToBlank, ThematicBreak, AtxHeading, FencedCode, LinkDefinitions, Paragraph, unindented, is_blank_rest, quote_inside, item_at, first_kind, IsKindBy, IsKind, ends_tag}
-use Rattle.first_pass_grammar.specs.Leaves.{Document, document, around, heading_text_at, heading_block, paragraph_block, marker_items}
+use Rattle.first_pass_grammar.specs.Leaves.{Document, document, around, heading_text_at, heading_block}
 use Rattle.first_pass_grammar.specs.CodeBlocks.{code_lines, without_blanks, last_end, IsIndentedCode, metadata_lines, metadata_kind, IsMetadata, fenced_lines, info_string, IsFencedCode}
 use Rattle.first_pass_grammar.specs.HtmlBlocks.{until_end, until_blank, first_owing, IsHtml}
 use Rattle.first_pass_grammar.specs.Extents.{Extent}
@@ -24,12 +24,13 @@ use Rattle.first_pass_grammar.specs.LinkTables.{LinkEntry}
 use Rattle.first_pass_grammar.specs.LinkRuns.{kind_in, lines_beyond, ends_run, Beyond, Ended, FlowsOn, IsRun}
 use Rattle.std.proofs.lemmas.Bool.{true≢false}
 use Rattle.std.proofs.lemmas.Option.{none-some, same_Some}
-use Rattle.first_pass_grammar.specs.Skeleton.{Block, leaf_block, flowing_block, OpensBeyond, OpensRun, Head, opened, From, Line, Blanks, At, Anything, ALeafAlone, TextOf, MarkAlone, behind_marker, Opening, OpensLeaf, OpensNode, OpensParagraph, OpensExtent, OpensAs, OpensBlockAt, is_blank_behind, next_is_blank, item_head, task_by, task_behind, behind_task, task_alone, item_opening, tag_behind, behind_tag, quote_opening, OpensQuote, OpensFrom, Opens, OpensAt, Skeleton, Nil, Then, Node, Begins, Ends, behind_first, end_before, IsFirst, IsSequence}
+use Rattle.first_pass_grammar.specs.Skeleton.{leaf_block, OpensBeyond, OpensRun, Head, opened, From, Line, Blanks, At, Anything, ALeafAlone, TextOf, MarkAlone, behind_marker, Opening, OpensLeaf, OpensNode, OpensText, OpensExtent, OpensAs, OpensBlockAt, is_blank_behind, next_is_blank, item_head, task_by, task_behind, behind_task, task_alone, item_opening, tag_behind, behind_tag, quote_opening, OpensQuote, OpensFrom, Opens, OpensAt, Skeleton, Nil, Then, Node, Begins, Ends, behind_first, end_before, IsFirst, IsSequence}
 use Rattle.first_pass_grammar.specs.Derivation.{Tables, no_tables, told, node_of, Derives}
-use Rattle.first_pass_grammar.proofs.NoIndex.{HasNoIndex, read_alone, paragraph_free, heading_free, marked_free}
+use Rattle.first_pass_grammar.proofs.NoIndex.{HasNoIndex, read_alone, heading_free}
 use Rattle.first_pass_grammar.specs.RawLines.{range_text, range_html}
 use Rattle.first_pass_grammar.proofs.Alike.{with_names, AlikeNodes, HoldsNoIndex, AlikeOpening, Alike, text_free, html_free, raw_alike, block_alike, fence_alike}
-use Rattle.first_pass_grammar.proofs.LinesAlike.{one_paragraph, one_heading}
+use Rattle.first_pass_grammar.proofs.LinesAlike.{one_heading}
+use Rattle.first_pass_grammar.proofs.TablesAlike.{one_text}
 use Rattle.first_pass_grammar.proofs.RowsAlike.{forest_alike, definitions_alike}
 
 -- a place is of one kind
@@ -47,18 +48,13 @@ one_kind options r k k' e f = one_kind_by r (first_kind options r) k k' e f
 alike_by : (m n : Names) (o o' x y : Opening) → o ≡ x → o' ≡ y → AlikeOpening m n x y → AlikeOpening m n o o'
 alike_by m n o o' x y e f a = subst (λ z. AlikeOpening m n z o') (sym e) (subst (λ z. AlikeOpening m n x z) (sym f) a)
 
-one_paragraph_opening : (d : Document) (n : Names) (path : List Container) (p : Place) (lines : List Place) (marker : Option Item) (o o' : Opening) → IfSome marker HasNoIndex
-    → OpensParagraph d path p lines marker o → OpensParagraph (with_names d n) path p lines marker o' → AlikeOpening d.names n o o'
-unfolding OpensParagraph
-one_paragraph_opening d n path p lines marker o o' free (c, l, h, f) (c', l', h', f') =
-    let s = one_paragraph d n path _ [] lines c c' l l' h h' in
-    let start : ℕ = offset (unindented p) in
-    let chain : List Item = marker_items marker ++ c in
-    let same : o' ≡ OpensLeaf (leaf_block Paragraph p (paragraph_block start (start_of (length d.text) l) chain) false) Line l =
-    f' ∙ ap (λ z. OpensLeaf (leaf_block Paragraph p (paragraph_block start (start_of (length d.text) l') (marker_items marker ++ z)) false) Line l') (sym s.0)
-    ∙ ap (λ z. OpensLeaf (leaf_block Paragraph p (paragraph_block start (start_of (length d.text) z) chain) false) Line z) (sym s.1) in
-    alike_by d.names n o o' _ _ f same
-    ((refl, block_alike d.names n start (start_of (length d.text) l) ParagraphBody ParagraphBody chain chain refl (read_alone d.names n chain (marked_free marker c free (paragraph_free d path start [] lines c l tt h))), refl, refl), refl, tt, refl)
+-- what stands for a text is alike
+one_text_opening : (d : Document) (n : Names) (path : List Container) (p : Place) (lines : List Place) (marker : Option Item) (o o' : Opening)
+    → IfSome marker HasNoIndex → OpensText d path p lines marker o → OpensText (with_names d n) path p lines marker o' → AlikeOpening d.names n o o'
+unfolding OpensText
+one_text_opening d n path p lines marker o o' free (t, is, e) (u, is', f) =
+    let same = one_text d n path (unindented p) marker lines t u free is is' in
+    alike_by d.names n o o' _ _ e f ((refl, same.0, refl, refl), refl, tt, same.1)
 
 -- a leaf block's items read alike where they are of alike chains
 one_code : (d : Document) (n : Names) (p : Place) (further : List Place) (xs ys : List (ℕ × Item)) → IsIndentedCode d p further xs → IsIndentedCode (with_names d n) p further ys → AlikeNodes d.names n xs ys
@@ -124,13 +120,9 @@ one_run around p lines (x ∷ xs) (y ∷ ys) b c (h, inr (line, left, is, on, mo
 -- what stands behind a run reads alike
 one_beyond : (d : Document) (n : Names) (path : List Container) (xs : List LinkEntry) (b : Beyond) (o o' : Opening) → OpensBeyond d path xs b o → OpensBeyond (with_names d n) path xs b o' → AlikeOpening d.names n o o'
 one_beyond d n path xs (Ended p left) o o' e f = alike_by d.names n o o' _ _ e f ((refl, refl, refl, refl), refl, tt, refl)
-one_beyond d n path xs (FlowsOn p lines) o o' (c, l, h, f) (c', l', h', f') =
-    let s = one_paragraph d n path (offset p) [] lines c c' l l' h h' in
-    let same : o' ≡ OpensLeaf (Block (flowing_block p xs (paragraph_block (offset p) (start_of (length d.text) l) c))) Line l =
-    f' ∙ ap (λ z. OpensLeaf (Block (flowing_block p xs (paragraph_block (offset p) (start_of (length d.text) l') z))) Line l') (sym s.0)
-    ∙ ap (λ z. OpensLeaf (Block (flowing_block p xs (paragraph_block (offset p) (start_of (length d.text) z) c))) Line z) (sym s.1) in
-    alike_by d.names n o o' _ _ f same
-    ((refl, block_alike d.names n (offset p) (start_of (length d.text) l) ParagraphBody ParagraphBody c c refl (read_alone d.names n c (paragraph_free d path (offset p) [] lines c l tt h)), refl, refl), refl, tt, refl)
+one_beyond d n path xs (FlowsOn p lines) o o' (t, is, e) (u, is', f) =
+    let same = one_text d n path p None lines t u tt is is' in
+    alike_by d.names n o o' _ _ e f ((refl, same.0, refl, refl), refl, tt, same.1)
 
 one_run_opening : (d : Document) (n : Names) (path : List Container) (p : Place) (lines : List Place) (o o' : Opening) → OpensRun d path p lines o → OpensRun (with_names d n) path p lines o' → AlikeOpening d.names n o o'
 unfolding OpensRun
@@ -175,7 +167,7 @@ opens_once d n path p lines (FencedCode count byte) o o' e f =
     one_extent d.names n (FencedCode count byte) p x (IsFencedCode d (offset (unindented p)) count x.places x.«end») (IsFencedCode (with_names d n) (offset (unindented p)) count x.places x.«end») o o'
     (one_fence d n (offset (unindented p)) count x.places x.«end») e f
 opens_once d n path p lines LinkDefinitions o o' e f = one_run_opening d n path p lines o o' e f
-opens_once d n path p lines Paragraph o o' e f = one_paragraph_opening d n path p lines None o o' tt e f
+opens_once d n path p lines Paragraph o o' e f = one_text_opening d n path p lines None o o' tt e f
 
 opens_block : (d : Document) (n : Names) (path : List Container) (p : Place) (lines : List Place) (o o' : Opening) → OpensBlockAt d path p lines o → OpensBlockAt (with_names d n) path p lines o' → AlikeOpening d.names n o o'
 opens_block d n path p lines o o' (k, is, e) (k', is', f) =
@@ -253,7 +245,7 @@ opens_at d n path Line p lines o o' h e f = one_opening d n path p lines o o' e 
 opens_at d n path (At q Anything) p lines o o' h e f = one_opening d n path p lines o o' e f
 opens_at d n path (At q ALeafAlone) p lines o o' h e f = opens_block d n path p lines o o' e f
 opens_at d n path (Blanks x) p lines o o' h e f = one_opening d n path p lines o o' e f
-opens_at d n path (At q (TextOf marker)) p lines o o' h e f = one_paragraph_opening d n path p lines (Some marker) o o' h e f
+opens_at d n path (At q (TextOf marker)) p lines o o' h e f = one_text_opening d n path p lines (Some marker) o o' h e f
 opens_at d n path (At q (MarkAlone marker blanks)) p lines o o' h e f =
     alike_by d.names n o o' _ _ e f ((refl, ap (λ (z : List (Item × Option Named)). map (λ (r : Item × Option Named). (0, r)) z) (read_alone d.names n (marker ∷ []) (h, tt)), refl, refl), refl, tt, refl)
 

@@ -12,7 +12,6 @@ use Rattle.first_pass_scan.specs.LeafLines.{hrule_len, code_fence, metadata_byte
 use Rattle.first_pass_lines.specs.Rest.{Rest, indent, after_columns}
 use Rattle.first_pass_lines.specs.Places.{Place, offset, moved_columns}
 use Rattle.first_pass_scan.specs.Markers.{is_bullet, listitem, item_of}
-use Rattle.first_pass_grammar.specs.declared.kind.Container.{Container}
 use Rattle.first_pass_grammar.specs.declared.kind.Container.TheVariants.{BlockQuote}
 use Rattle.first_pass_grammar.specs.Containers.{Context, at_rest, prefix, after, front}
 use Rattle.first_pass_grammar.specs.TableHeads.{table_interrupts}
@@ -37,7 +36,7 @@ pub data Kind : Type 0 where
   FencedCode : ℕ → ℕ → Kind
   -- link reference definitions (CommonMark 4.7)
   LinkDefinitions : Kind
-  -- a paragraph (CommonMark 4.8)
+  -- a text: a paragraph, or a table (CommonMark 4.8, GFM 4.10)
   Paragraph : Kind
 
 -- what is left behind all columns: from the first byte on that is no space or tab
@@ -92,7 +91,7 @@ first_kind options r =
     then metadata_or (metadata_at (indent r) options (all_taken r).left) (html_kind (all_taken r).left)
     else Some IndentedCode)
 
--- The first of these that fits: a thematic break (CommonMark 4.1), an ATX heading (4.2), a fenced code block (4.5), a paragraph (4.8).
+-- The first of these that fits: a thematic break (CommonMark 4.1), an ATX heading (4.2), a fenced code block (4.5), a text (4.8).
 abbrev pub last_kind : List ℕ → Kind
 last_kind bs = rule_or (hrule_len bs) (heading_or (atx_level bs) (fence_or (code_fence bs) Paragraph))
 

@@ -17,7 +17,7 @@ entry_of at x =
 abbrev pub definition_at : Context → Place → Option LinkEntry
 definition_at around p = option_map (entry_of (offset p)) (reference_at false around p.rest.left)
 
--- Where a paragraph would begin, link reference definitions begin if one stands there (CommonMark 4.7).
+-- Where a text would begin, link reference definitions begin if one stands there (CommonMark 4.7).
 abbrev pub kind_in : Context → Place → Kind → Kind
 kind_in around p Paragraph = if is_some (definition_at around (unindented p)) then LinkDefinitions else Paragraph
 kind_in around p kind = kind
@@ -33,7 +33,7 @@ abbrev pub ends_run : Context → List Place → Bool
 ends_run around [] = true
 ends_run around (line ∷ lines) = ends_tag around line.rest || is_blank_rest (all_taken (front around.path line.rest))
 
--- what stands behind a run: nothing of it, where its last definition begins at a place and these lines are left; or text of a paragraph, from a place on
+-- what stands behind a run: nothing of it, where its last definition begins at a place and these lines are left; or a text, from a place on
 pub data Beyond : Type 0 where
   Ended : Place → List Place → Beyond
   FlowsOn : Place → List Place → Beyond

@@ -49,7 +49,7 @@ abbrev pub is_paragraph : Kind → Bool
 is_paragraph Paragraph = true
 is_paragraph _ = false
 
--- Where a list ends that stands before what starts at an offset, in a line that starts at another: at the first byte of a paragraph or at the start of an
+-- Where a list ends that stands before what starts at an offset, in a line that starts at another: at the first byte of a text or at the start of an
 -- item of another list, else at the start of the line (this project).
 abbrev pub closing_place : What → ℕ → ℕ → ℕ
 closing_place (ALeaf block) line start = if is_paragraph block.kind then start else line

@@ -1,5 +1,5 @@
 -- Sequences of blocks, and the blocks in them (CommonMark 3.1).
-use Rattle.std.specs.Prelude.{◌≡◌, ℕ, Bool, true, false, Option, Some, None, List, [], ◌∷◌, ◌++◌, length, drop, if◌then◌else◌}
+use Rattle.std.specs.Prelude.{◌≡◌, ℕ, Bool, true, false, Option, Some, None, List, [], ◌∷◌, length, drop, if◌then◌else◌}
 use Rattle.first_pass_items.specs.declared.item.Item.{Item}
 use Rattle.first_pass_items.specs.declared.item.BlockQuoteKind.{BlockQuoteKind}
 use Rattle.first_pass_items.specs.declared.item.ItemBody.TheVariants.{TaskListMarker}
@@ -20,7 +20,9 @@ use Rattle.first_pass_grammar.specs.Extents.{Extent}
 use Rattle.first_pass_grammar.specs.LinkTables.{LinkEntry}
 use Rattle.first_pass_grammar.specs.LinkRuns.{kind_in, Beyond, Ended, FlowsOn, IsRun}
 use Rattle.first_pass_grammar.specs.HtmlBlocks.{until_end, until_blank, IsHtml}
-use Rattle.first_pass_grammar.specs.Leaves.{Document, around, IsParagraph, IsHeading, heading_text_at, rule_block, heading_block, paragraph_block, marker_items}
+use Rattle.first_pass_grammar.specs.Leaves.{Document, around, IsHeading, heading_text_at, rule_block, heading_block}
+use Rattle.first_pass_grammar.specs.Tables.{Taken}
+use Rattle.first_pass_grammar.specs.Texts.{IsText}
 
 -- A block with no blocks in it (CommonMark 4): what begins at its place, where its line starts and its first byte that is no space or tab stands, its
 -- items with their depths below it, whether blank lines that count are at the end of what it takes, and the link definitions that it has.
@@ -90,30 +92,28 @@ pub data Opening : Type 0 where
   OpensLeaf : Leaf → From → List Place → Opening
   OpensNode : Head → From → List Place → Opening
 
--- The paragraph whose text begins at a place, behind a task list item marker or not (CommonMark 4.8, GFM 5.3).
-unfoldable pub OpensParagraph : Document → List Container → Place → List Place → Option Item → Opening → Type 0
-OpensParagraph d path p lines marker opening =
-    (chain : List Item) × (left : List Place) × IsParagraph d path (offset (unindented p)) [] lines chain left
-    × (opening ≡ OpensLeaf (leaf_block Paragraph p (paragraph_block (offset (unindented p)) (start_of (length d.text) left) (marker_items marker ++ chain)) false) Line left)
+-- What stands for the text that begins at a place, behind a task list item marker or not: a paragraph, or a table (CommonMark 4.8, GFM 4.10, 5.3).
+unfoldable pub OpensText : Document → List Container → Place → List Place → Option Item → Opening → Type 0
+OpensText d path p lines marker opening =
+    (t : Taken) × IsText d path (unindented p) marker lines t × (opening ≡ OpensLeaf (leaf_block Paragraph p t.items false) Line t.left)
 
 -- what a leaf block of a kind with these lines opens, of which this holds for its items
 abbrev pub OpensExtent : Kind → Place → Extent → (List (ℕ × Item) → Type 0) → Opening → Type 0
 OpensExtent kind p e Are opening = (items : List (ℕ × Item)) × Are items × (opening ≡ OpensLeaf (leaf_block kind p items false) Line e.left)
 
--- a run of link reference definitions, the last of which begins at a place, with no paragraph behind them
+-- a run of link reference definitions, the last of which begins at a place, with no text behind them
 abbrev pub run_block : Place → List LinkEntry → LeafBlock
 run_block p definitions = record { kind = LinkDefinitions; line = p.line; start = offset p; items = []; gap = false; definitions = definitions }
 
--- a paragraph whose text begins at a place, behind link reference definitions
+-- what stands for the text that begins at a place, behind link reference definitions
 abbrev pub flowing_block : Place → List LinkEntry → List (ℕ × Item) → LeafBlock
 flowing_block p definitions items = record { kind = Paragraph; line = p.line; start = offset p; items = items; gap = false; definitions = definitions }
 
--- What link reference definitions open: a block with no items; or a paragraph, where one flows on behind them (CommonMark 4.7).
+-- What link reference definitions open: a block with no items; or what stands for the text that flows on behind them (CommonMark 4.7, 4.8, GFM 4.10).
 abbrev pub OpensBeyond : Document → List Container → List LinkEntry → Beyond → Opening → Type 0
 OpensBeyond d path definitions (Ended p left) opening = opening ≡ OpensLeaf (Block (run_block p definitions)) Line left
 OpensBeyond d path definitions (FlowsOn p lines) opening =
-    (chain : List Item) × (left : List Place) × IsParagraph d path (offset p) [] lines chain left
-    × (opening ≡ OpensLeaf (Block (flowing_block p definitions (paragraph_block (offset p) (start_of (length d.text) left) chain))) Line left)
+    (t : Taken) × IsText d path p None lines t × (opening ≡ OpensLeaf (Block (flowing_block p definitions t.items)) Line t.left)
 
 unfoldable pub OpensRun : Document → List Container → Place → List Place → Opening → Type 0
 OpensRun d path p lines opening =
@@ -141,7 +141,7 @@ OpensAs d path p lines (FencedCode count byte) opening =
     let e = fenced_lines (length d.text) path (indent p.rest) byte count lines in
     OpensExtent (FencedCode count byte) p e (IsFencedCode d (offset (unindented p)) count e.places e.«end») opening
 OpensAs d path p lines LinkDefinitions opening = OpensRun d path p lines opening
-OpensAs d path p lines Paragraph opening = OpensParagraph d path p lines None opening
+OpensAs d path p lines Paragraph opening = OpensText d path p lines None opening
 
 -- What a leaf opens at a place: what its kind says there.
 abbrev pub OpensBlockAt : Document → List Container → Place → List Place → Opening → Type 0
@@ -221,12 +221,12 @@ OpensFrom d path p lines None opening = OpensQuote d path p lines (quote_inside 
 abbrev pub Opens : Document → List Container → Place → List Place → Opening → Type 0
 Opens d path p lines opening = OpensFrom d path p lines (item_at p.rest) opening
 
--- What begins where blocks go on: where no container may, what the kind of the place says; behind a task list item marker a paragraph; or the marker
--- alone, in the place of a paragraph.
+-- What begins where blocks go on: where no container may, what the kind of the place says; behind a task list item marker a text; or the marker
+-- alone, in the place of a text.
 abbrev pub OpensIf : Document → List Container → May → Place → List Place → Opening → Type 0
 OpensIf d path Anything p lines opening = Opens d path p lines opening
 OpensIf d path ALeafAlone p lines opening = OpensBlockAt d path p lines opening
-OpensIf d path (TextOf marker) p lines opening = OpensParagraph d path p lines (Some marker) opening
+OpensIf d path (TextOf marker) p lines opening = OpensText d path p lines (Some marker) opening
 OpensIf d path (MarkAlone marker blanks) p lines opening = opening ≡ OpensLeaf (leaf_block Paragraph p ((0, marker) ∷ []) false) Line lines
 
 abbrev pub OpensAt : Document → List Container → From → Place → List Place → Opening → Type 0

@@ -1,0 +1,54 @@
+-- Each index that the items of a leaf block keep names an entry.
+use Rattle.std.proofs.Common.{ℕ, Bool, List, [], None, sym, ap, subst}
+use Rattle.std.proofs.lemmas.Option.{slice_get_within}
+use Rattle.first_pass_items.specs.declared.item.Item.{Item}
+use Rattle.first_pass_lines.specs.Places.{Place}
+use Rattle.first_pass_tokens.specs.TreeTokens.{leaves}
+use Rattle.first_pass_grammar.specs.declared.kind.Container.{Container}
+use Rattle.first_pass_grammar.specs.Names.{AreNamed}
+use Rattle.first_pass_grammar.specs.Kinds.{Kind, Blank, IndentedCode, Metadata, HtmlToEnd, HtmlToBlank, ThematicBreak, AtxHeading, FencedCode, LinkDefinitions, Paragraph, unindented}
+use Rattle.first_pass_grammar.specs.LinkRuns.{Ended, FlowsOn}
+use Rattle.first_pass_grammar.specs.Leaves.{Document}
+use Rattle.first_pass_grammar.specs.RawLines.{range_text, range_html}
+use Rattle.first_pass_grammar.specs.Skeleton.{Block, Line, Opening, OpensLeaf, leaf_block, OpensAs, OpensRun, OpensText}
+use Rattle.first_pass_grammar.proofs.NoIndex.{heading_free}
+use Rattle.first_pass_grammar.proofs.NamedItems.{named_deeper, free_named, text_is_free, html_is_free, lines_named, block_named}
+use Rattle.first_pass_grammar.proofs.TextsNamed.{text_named}
+
+-- what is opened at a place has the items that are said of it
+items_of_leaf : Opening → List (ℕ × Item)
+items_of_leaf (OpensLeaf (Block b) there left) = b.items
+items_of_leaf o = []
+
+-- Each index that a leaf block's items keep names an entry.
+pub opens_named : (d : Document) (path : List Container) (p : Place) (lines : List Place) (kind : Kind) (items : List (ℕ × Item)) (gap : Bool)
+    (left : List Place) → OpensAs d path p lines kind (OpensLeaf (leaf_block kind p items gap) Line left) → AreNamed d.names items
+unfolding OpensAs OpensRun OpensText items_of_leaf AreNamed
+opens_named d path p lines Blank items gap left h = cc
+opens_named d path p lines IndentedCode items gap left (own, is, opens) =
+    subst (AreNamed d.names) (sym (ap items_of_leaf opens))
+    (block_named d.names _ _ _ is.chain own is.items_are tt (lines_named range_text d [] _ is.chain text_is_free tt is.lines))
+opens_named d path p lines (Metadata byte) items gap left (own, is, opens) =
+    subst (AreNamed d.names) (sym (ap items_of_leaf opens))
+    (block_named d.names _ _ _ is.chain own is.items_are tt (lines_named range_text d [] _ is.chain text_is_free tt is.lines))
+opens_named d path p lines HtmlToEnd items gap left (text, found, (own, is, opens)) =
+    subst (AreNamed d.names) (sym (ap items_of_leaf opens))
+    (block_named d.names _ _ _ is.chain own is.items_are tt (lines_named range_html d [] _ is.chain html_is_free tt is.lines))
+opens_named d path p lines HtmlToBlank items gap left (own, is, opens) =
+    subst (AreNamed d.names) (sym (ap items_of_leaf opens))
+    (block_named d.names _ _ _ is.chain own is.items_are tt (lines_named range_html d [] _ is.chain html_is_free tt is.lines))
+opens_named d path p lines (ThematicBreak size) items gap left opens =
+    subst (AreNamed d.names) (sym (ap items_of_leaf opens)) (tt, tt)
+opens_named d path p lines (AtxHeading level) items gap left (chain, stop, is, opens) =
+    subst (AreNamed d.names) (sym (ap items_of_leaf opens))
+    (tt, named_deeper d.names 1 (leaves chain) (free_named d.names chain (heading_free d _ chain stop is)))
+opens_named d path p lines (FencedCode count byte) items gap left (own, is, opens) =
+    subst (AreNamed d.names) (sym (ap items_of_leaf opens))
+    (block_named d.names _ _ _ is.chain own is.items_are (slice_get_within d.names.texts is.info.0 is.names.named is.names.at)
+    (lines_named range_text d [] _ is.chain text_is_free tt is.lines))
+opens_named d path p lines LinkDefinitions items gap left (xs, Ended q more, run, opens) =
+    subst (AreNamed d.names) (sym (ap items_of_leaf opens)) tt
+opens_named d path p lines LinkDefinitions items gap left (xs, FlowsOn q more, run, (t, is, opens)) =
+    subst (AreNamed d.names) (sym (ap items_of_leaf opens)) (text_named d path q None more t tt is)
+opens_named d path p lines Paragraph items gap left (t, is, opens) =
+    subst (AreNamed d.names) (sym (ap items_of_leaf opens)) (text_named d path (unindented p) None lines t tt is)
