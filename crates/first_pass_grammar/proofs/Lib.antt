@@ -4,7 +4,9 @@ pub mod Completions
 pub mod Finishes
 pub mod FirstLinks
 pub mod Found
+pub mod HeadLines
 pub mod KindsFound
+pub mod LeavesNamed
 pub mod LinesAlike
 pub mod LinesFound
 pub mod MoreNames
@@ -13,6 +15,7 @@ pub mod NoIndex
 pub mod OpeningsFound
 pub mod Orders
 pub mod OwnNodes
+pub mod RowEnds
 pub mod RowLemmas
 pub mod RowsAlike
 pub mod RunsFound
