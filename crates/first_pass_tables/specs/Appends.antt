@@ -1,12 +1,16 @@
 -- What is appended to an open row of a table.
-use Rattle.std.specs.Prelude.{◌≡◌, ℕ, List, Option, Some, None, MatchOption, slice_get}
+use Rattle.std.specs.Prelude.{◌≡◌, ◌⊎◌, ℕ, ◌+◌, ◌-◌, ◌≤◌, ◌&&◌, ◌||◌, not, Bool, true, false, nat_lt, nat_le, List, ◌∷◌, ◌++◌, length, drop, take, Option, Some, None, is_some, slice_get, IsCharBoundary}
 use Rattle.first_pass_items.specs.declared.item.Item.{Item}
-use Rattle.first_pass_items.specs.declared.item.ItemBody.TheVariants.{TableCell}
+use Rattle.first_pass_items.specs.declared.item.ItemBody.TheVariants.{TableHead, TableRow, TableCell}
 use Rattle.first_pass_tree.specs.declared.tree_index.TreeIndex.{TreeIndex}
-use Rattle.first_pass_tree.specs.Forest.{Forest, added, kept_after, childless}
+use Rattle.first_pass_tree.specs.Forest.{Forest, added, at_depth, kept_after, childless}
+use Rattle.first_pass_lines.specs.Places.{line_place}
 use Rattle.first_pass_tokens.specs.LineTokens.{IsCell}
 use Rattle.first_pass_grammar.specs.Leaves.{Document}
-use Rattle.first_pass_grammar.specs.Tables.{cell_content, cell_block}
+use Rattle.first_pass_grammar.specs.Completion.{lines_from}
+use Rattle.first_pass_grammar.specs.Tables.{cell_content, cell_block, AreCells, filled, side_by_side, row_block, row_text, taking, AreRows, most_filled}
+use Rattle.first_pass_open.specs.OpenBlock.{closed_by}
+use Rattle.first_pass_open.specs.Path.{path_of}
 
 -- the new tree is the old one with the cell that begins at an offset, whose content begins at another (GFM 4.10)
 pub record AddsCell (d : Document) (start text : ℕ) (old new : Forest Item) (stop : ℕ) : Type 0 where
@@ -27,3 +31,66 @@ without_children f (Some ix) = childless f ix
 abbrev pub without_behind : Forest Item → Option TreeIndex → Forest Item
 without_behind f None = without_children f (slice_get f.spine 0)
 without_behind f (Some ix) = kept_after f ix
+
+-- the tree with these nodes behind its own, below the innermost open node (this project)
+abbrev pub with_below : Forest Item → List (ℕ × Item) → Forest Item
+with_below f items = record f { nodes = f.nodes ++ at_depth (length f.spine + 1) items }
+
+-- The cells of a row that begins at an offset stand in the innermost open node, as many as columns at the most; it is answered where the row ends, and how many cells it has (GFM 4.10).
+pub record AppendsCells (d : Document) (columns start : ℕ) (old new : Forest Item) (answer : ℕ × ℕ) : Type 0 where
+  pub cells : List (List (ℕ × Item))
+  pub are_cells : AreCells d start cells answer.0
+  pub count : answer.1 ≡ length cells
+  pub nodes : new.nodes ≡ old.nodes ++ at_depth (length old.spine + 1) (side_by_side (take columns cells))
+  pub spine : new.spine ≡ old.spine
+
+-- The header row that begins at an offset is added, and it is answered how many cells are filled into it (GFM 4.10).
+pub record AddsHead (d : Document) (columns start : ℕ) (old new : Forest Item) (missing : ℕ) : Type 0 where
+  pub cells : List (List (ℕ × Item))
+  pub row_end : ℕ
+  pub are_cells : AreCells d start cells row_end
+  pub missing_is : missing ≡ filled columns cells
+  pub tree_is : new ≡ added old (row_block TableHead columns start cells row_end)
+
+-- a node is open, and none is current only where it has no children (this project)
+pub record IsOpenNode (f : Forest Item) : Type 0 where
+  pub place : TreeIndex
+  pub around : List TreeIndex
+  pub innermost : f.spine ≡ place ∷ around
+  pub childless : f.current ≡ None → place.0 + 1 ≡ length f.nodes
+
+-- A row with these cells is kept where it has one, or stands first in its table, and no more are to be filled in than may be (GFM 4.10, and this project).
+abbrev pub keeps_row : Bool → ℕ → ℕ → List (List (ℕ × Item)) → Bool
+keeps_row behind columns most cells = (not behind || nat_lt 0 (length cells)) && nat_le (filled columns cells) most
+
+-- A row with these cells, which begins and ends at these offsets, is added where it is kept, and what is filled into it is counted; else nothing is (GFM 4.10, and this project).
+abbrev pub AddsRow : ℕ → ℕ → ℕ → List (List (ℕ × Item)) → Forest Item → Forest Item → ℕ → ℕ → Option (ℕ × TreeIndex) → Type 0
+AddsRow columns start «end» cells old new before after None =
+    (keeps_row (is_some old.current) columns (most_filled - before) cells ≡ false) × (new ≡ old) × (after ≡ before)
+AddsRow columns start «end» cells old new before after (Some (stop, ix)) =
+    (keeps_row (is_some old.current) columns (most_filled - before) cells ≡ true) × (new ≡ added old (row_block TableRow columns start cells «end»))
+    × (after ≡ before + filled columns cells) × (stop ≡ «end») × (ix.0 ≡ length old.nodes)
+
+-- the row that begins at an offset is read, where so many cells were filled in before it in its table, and as many after it (GFM 4.10, and this project)
+pub record ReadsRow (d : Document) (columns start : ℕ) (old new : Forest Item) (before after : ℕ) (answer : Option (ℕ × TreeIndex)) : Type 0 where
+  pub cells : List (List (ℕ × Item))
+  pub row_end : ℕ
+  pub are_cells : AreCells d start cells row_end
+  pub adds : AddsRow columns start row_end cells old new before after answer
+
+-- the line that begins at an offset is read as a row: it is none, or the row that begins in it is read (GFM 4.10)
+abbrev pub ReadsRowLine : Document → ℕ → ℕ → Forest Item → Forest Item → ℕ → ℕ → Option (ℕ × TreeIndex) → Type 0
+ReadsRowLine d columns ix old new before after answer =
+    ((row_text (path_of old) (line_place ix (drop ix d.text)) ≡ None) × (answer ≡ None) × (new ≡ old) × (after ≡ before))
+    ⊎ ((start : ℕ) × (row_text (path_of old) (line_place ix (drop ix d.text)) ≡ Some start) × ReadsRow d columns start old new before after answer)
+
+-- The rows of a table stand in the innermost open node, which is closed behind them: the header row, which begins at an offset, and those among the lines from another on (GFM 4.10).
+pub record AppendsRows (d : Document) (columns head_start body_start : ℕ) (old new : Forest Item) (next : ℕ) : Type 0 where
+  pub cells : List (List (ℕ × Item))
+  pub head_end : ℕ
+  pub are_cells : AreCells d head_start cells head_end
+  pub body : List (ℕ × Item)
+  pub are_rows : AreRows d (path_of old) columns (most_filled - filled columns cells) (lines_from d.text body_start) (taking body (lines_from d.text next))
+  pub tree_is : new ≡ closed_by (with_below old (row_block TableHead columns head_start cells head_end ++ body)) next old.spine
+  pub later : body_start ≤ next
+  pub boundary : IsCharBoundary d.text next

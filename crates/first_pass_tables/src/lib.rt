@@ -1,4 +1,7 @@
-//! Tables: the cells of a row (GFM 4.10).
+//! Tables: the cells of a row, the rows, and the table (GFM 4.10).
 #![tactic(auto)]
 
 pub mod cells;
+pub mod row;
+pub mod rows;
+pub mod text;

@@ -1,12 +1,12 @@
-use Rattle.std.proofs.Common.{ℕ, List, true, length, refl, ap, subst, sym, ◌∙◌}
+use Rattle.std.proofs.Common.{ℕ, List, true, length, refl, ap, subst, ◌∙◌}
 use Rattle.first_pass_items.specs.declared.item.Item.{Item}
 use Rattle.first_pass_items.specs.declared.item.ItemBody.TheVariants.{TableCell}
 use Rattle.first_pass_tree.specs.Forest.{Forest}
 use Rattle.first_pass_tokens.specs.LineTokens.{IsCell}
-use Rattle.first_pass_tokens.specs.TreeTokens.{chained, JoinsNone}
+use Rattle.first_pass_tokens.specs.TreeTokens.{chained}
 use Rattle.first_pass_tokens.proofs.ChainLemmas.{joins_none-fresh}
 use Rattle.first_pass_tokens.proofs.LineLemmas.{appended_cell_alone}
-use Rattle.first_pass_open.specs.OpenBlock.{opened_block, begun_item}
+use Rattle.first_pass_open.specs.OpenBlock.{begun_item}
 use Rattle.first_pass_open.proofs.BlockLemmas.{still_open, block_closed}
 use Rattle.first_pass_tables.proofs.cells.append_table_cell.Goals as goal
 

@@ -1,0 +1,206 @@
+-- The rows of a table's body, one after the other.
+use Rattle.std.proofs.Common.{◌≡◌, inl, inr, ℕ, ◌+◌, ◌-◌, ◌<◌, ◌≤◌, ◌==◌, ◌&&◌, Bool, true, false, nat_lt, nat_le, List, [], ◌∷◌, ◌++◌, append_assoc, append-nil, length, drop, Option, Some, None, is_some, Less, Equal, Greater, IsUtf8, IsCharBoundary, refl, sym, ap, subst, ◌∙◌, arith, if◌then◌else◌}
+use Rattle.std.specs.Ordering.{is_lt, nat_cmp, ord_min}
+use Rattle.std.proofs.lemmas.Bool.{cases_lt}
+use Rattle.std.proofs.lemmas.Option.{none-some}
+use Rattle.std.proofs.lemmas.Bool.Decides.{nat_tests}
+use Rattle.first_pass_items.specs.declared.item.Item.{Item}
+use Rattle.first_pass_items.specs.declared.item.ItemBody.TheVariants.{TableHead, TableRow}
+use Rattle.first_pass_tree.specs.declared.tree_index.TreeIndex.{TreeIndex}
+use Rattle.first_pass_tree.specs.Forest.{Forest, added, at_depth, with_end_at, in_table}
+use Rattle.first_pass_tree.proofs.Blocks.{at_depth-append}
+use Rattle.first_pass_tree.proofs.Callers.{more-added}
+use Rattle.first_pass_lines.specs.Lines.{line_len}
+use Rattle.first_pass_lines.specs.Places.{Place, line_place}
+use Rattle.first_pass_lines.proofs.LineFacts.{lines_at-line, lines_at-end, line_len-within}
+use Rattle.first_pass_lines.proofs.PlaceFacts.{line_end_boundary}
+use Rattle.first_pass_grammar.specs.declared.kind.Container.{Container}
+use Rattle.first_pass_grammar.specs.Leaves.{Document}
+use Rattle.first_pass_grammar.specs.Completion.{lines_from}
+use Rattle.first_pass_grammar.specs.Tables.{AreCells, filled, row_block, row_text, is_row, Taken, taking, AreRows, most_filled}
+use Rattle.first_pass_grammar.proofs.RowEnds.{row_ends_at_place}
+use Rattle.first_pass_open.specs.OpenBlock.{IsJustPushed, closed_by}
+use Rattle.first_pass_open.specs.Path.{path_of, path_in}
+use Rattle.first_pass_open.proofs.PathLemmas.{AreIn, path_in-append}
+use Rattle.first_pass_open.proofs.PlaceLemmas.{line_start_end}
+use Rattle.first_pass_tables.specs.Appends.{with_below, AddsHead, keeps_row, ReadsRow, ReadsRowLine, AppendsRows}
+use Rattle.first_pass_tables.specs.RowsRead.{AppendsBody, BodySoFar}
+use Rattle.first_pass_tables.proofs.RowPlaces.{begins_row, in_table-append, row_within}
+
+-- a row ends where its line ends
+row_line : (d : Document) (path : List Container) (n start : ℕ) (cells : List (List (ℕ × Item))) (stop : ℕ) → IsUtf8 d.text → IsCharBoundary d.text n → row_text path (line_place n (drop n d.text)) ≡ Some start → AreCells d start cells stop
+    → stop ≡ n + line_len (drop n d.text)
+row_line d path n start cells stop utf8 boundary h are =
+    let b = begins_row d.text path n start utf8 boundary h in
+    row_ends_at_place d b.place cells stop b.stands (subst (λ k. AreCells d k cells stop) b.start_is are) ∙ b.ends ∙ line_start_end d.text n
+
+-- more nodes behind an open node's own open and close nothing
+pub same_path : (f g : Forest Item) (more : List (ℕ × Item)) → g.nodes ≡ f.nodes ++ more → g.spine ≡ f.spine → AreIn (length f.nodes) f.spine → path_of g ≡ path_of f
+same_path f g more nodes spine there = ap (path_in g.nodes) spine ∙ ap (λ ns. path_in ns f.spine) nodes ∙ path_in-append f.nodes more f.spine there
+
+pub same_table : (f g : Forest Item) (more : List (ℕ × Item)) → g.nodes ≡ f.nodes ++ more → g.spine ≡ f.spine → AreIn (length f.nodes) f.spine → in_table f.nodes f.spine ≡ true → in_table g.nodes g.spine ≡ true
+same_table f g more nodes spine there h = ap (in_table g.nodes) spine ∙ ap (λ ns. in_table ns f.spine) nodes ∙ in_table-append f.nodes more f.spine there ∙ h
+
+some_by : {A : Type 0} (o : Option A) → (o ≡ None → ⊥) → is_some o ≡ true
+some_by None h = absurd (h refl)
+some_by (Some x) h = refl
+
+-- a row that is kept behind others is a row
+is_row_of : (t u : Bool) (columns most : ℕ) (cells : List (List (ℕ × Item))) → t ≡ true → keeps_row t columns most cells ≡ u → is_row columns most cells ≡ u
+is_row_of t u columns most cells e h = ap (λ t. keeps_row t columns most cells) (sym e) ∙ h
+
+both_true : (a b : Bool) → (a && b) ≡ true → b ≡ true
+both_true true b h = h
+both_true false b h = cc
+
+few_filled : (columns most : ℕ) (cells : List (List (ℕ × Item))) → is_row columns most cells ≡ true → filled columns cells ≤ most
+few_filled columns most cells h =
+    let t = both_true (nat_lt 0 (length cells)) (nat_le (filled columns cells) most) h in
+    let k : nat_le (filled columns cells) most ≡ true = t in
+    grind (arith, nat_tests, k)
+
+-- one more row, before the rows behind it
+row_more : (d : Document) (path : List Container) (columns most at next start : ℕ) (cells : List (List (ℕ × Item))) (more : Taken) → at < length d.text → next ≡ at + line_len (drop at d.text)
+    → row_text path (line_place at (drop at d.text)) ≡ Some start → AreCells d start cells next → is_row columns most cells ≡ true
+    → AreRows d path columns (most - filled columns cells) (lines_from d.text next) more
+    → AreRows d path columns most (lines_from d.text at) (taking (row_block TableRow columns start cells next ++ more.items) more.left)
+unfolding AreRows
+row_more d path columns most at next start cells more within next_is begins are is rest =
+    let t : Taken = taking (row_block TableRow columns start cells next ++ more.items) more.left in
+    let all : AreRows d path columns most (line_place at (drop at d.text) ∷ lines_from d.text next) t = inr (start, cells, next, begins, are, inr (is, more, rest, refl)) in
+    subst (λ lines. AreRows d path columns most lines t) (sym (lines_at-line d.text at within ∙ ap (λ n. line_place at (drop at d.text) ∷ lines_from d.text n) (sym next_is))) all
+
+-- no row, before lines that are left
+row_none_by : (d : Document) (path : List Container) (columns most : ℕ) (line : Place) (lines : List Place) → row_text path line ≡ None → AreRows d path columns most (line ∷ lines) (taking [] (line ∷ lines))
+unfolding AreRows
+row_none_by d path columns most line lines h = inl (h, refl)
+
+row_over_by : (d : Document) (path : List Container) (columns most start stop : ℕ) (cells : List (List (ℕ × Item))) (line : Place) (lines : List Place) → row_text path line ≡ Some start → AreCells d start cells stop
+    → is_row columns most cells ≡ false → AreRows d path columns most (line ∷ lines) (taking [] (line ∷ lines))
+unfolding AreRows
+row_over_by d path columns most start stop cells line lines h are is = inr (start, cells, stop, h, are, inl (is, refl))
+
+rows_none : (d : Document) (path : List Container) (columns most : ℕ) → AreRows d path columns most [] (taking [] [])
+unfolding AreRows
+rows_none d path columns most = refl
+
+-- no line is left, or one is
+left_by : (d : Document) (path : List Container) (columns most at : ℕ) → AreRows d path columns most (line_place at (drop at d.text) ∷ lines_from d.text (at + line_len (drop at d.text))) (taking [] (line_place at (drop at d.text) ∷ lines_from d.text (at + line_len (drop at d.text))))
+    → AreRows d path columns most (lines_from d.text at) (taking [] (lines_from d.text at))
+left_by d path columns most at h =
+    elim (cases_lt at (length d.text)) [
+      | inl within ↦ subst (λ lines. AreRows d path columns most lines (taking [] lines)) (sym (lines_at-line d.text at within)) h
+      | inr past ↦ subst (λ lines. AreRows d path columns most lines (taking [] lines)) (sym (lines_at-end d.text at past)) (rows_none d path columns most)
+    ]
+
+module _ (d : Document) (columns filled_in start : ℕ) (old now new : Forest Item) (missing more_missing at : ℕ) (utf8 : IsUtf8 d.text) (there : AreIn (length old.nodes) old.spine)
+    (s : BodySoFar d columns filled_in start old now missing at) where
+  path_is : path_of now ≡ path_of old
+  path_is = same_path old now (at_depth (length old.spine + 1) s.body) s.nodes s.spine there
+
+  begins : (begin : ℕ) → row_text (path_of now) (line_place at (drop at d.text)) ≡ Some begin → row_text (path_of old) (line_place at (drop at d.text)) ≡ Some begin
+  begins begin h = subst (λ path. row_text path (line_place at (drop at d.text)) ≡ Some begin) path_is h
+
+  -- behind a row
+  more_by : (next begin : ℕ) (ix : TreeIndex) → row_text (path_of now) (line_place at (drop at d.text)) ≡ Some begin → ReadsRow d columns begin now new missing more_missing (Some (next, ix))
+      → BodySoFar d columns filled_in start old new more_missing next × (at < next)
+  more_by next begin ix h r =
+      let a = r.adds in
+      let here = begins begin h in
+      let within : at < length d.text = row_within d.text (path_of old) at begin here in
+      let stop_is : next ≡ r.row_end = a.3 in
+      let line : r.row_end ≡ at + line_len (drop at d.text) = row_line d (path_of old) at begin r.cells r.row_end utf8 s.boundary here r.are_cells in
+      let next_is : next ≡ at + line_len (drop at d.text) = stop_is ∙ line in
+      let block : List (ℕ × Item) = row_block TableRow columns begin r.cells next in
+      let are : AreCells d begin r.cells next = subst (AreCells d begin r.cells) (sym stop_is) r.are_cells in
+      let new_is : new ≡ _ = a.1 ∙ ap (λ e. added now (row_block TableRow columns begin r.cells e)) (sym stop_is) in
+      let is = is_row_of (is_some now.current) true columns (most_filled - missing) r.cells (some_by now.current s.some) a.0 in
+      let fits = few_filled columns (most_filled - missing) r.cells is in
+      let few = s.few in
+      let after : more_missing ≡ missing + filled columns r.cells = a.2 in
+      let left : most_filled - more_missing ≡ most_filled - missing - filled columns r.cells = omega (arith, after) in
+      let later = line_len-within d.text at within in
+      let low = s.later in (
+        record {
+          body = s.body ++ block;
+          nodes = more-added old now new s.body block s.nodes s.spine new_is;
+          spine = ap (λ (f : Forest Item). f.spine) new_is ∙ s.spine;
+          some = λ e. absurd (let z : Some (record { 0 = length now.nodes }) ≡ None = sym (ap (λ (f : Forest Item). f.current) new_is) ∙ e in cc);
+          few = omega arith;
+          later = omega arith;
+          boundary = subst (IsCharBoundary d.text) (sym next_is) (line_end_boundary d.text at utf8 s.boundary within);
+          goes_on = λ t rows.
+              subst (λ items. AreRows d (path_of old) columns (most_filled - filled_in) (lines_from d.text start) (taking items t.left)) (sym (append_assoc s.body block t.items))
+              (s.goes_on (taking (block ++ t.items) t.left)
+              (row_more d (path_of old) columns (most_filled - missing) at next begin r.cells t within next_is here are is
+              (subst (λ most. AreRows d (path_of old) columns most (lines_from d.text next) t) left rows)));
+        },
+        omega arith,
+      )
+
+  no_row : (next : ℕ) (ix : TreeIndex) → ◌≡◌ {A = Option (ℕ × TreeIndex)} (Some (next, ix)) None → ⊥
+  no_row next ix e = none-some (next, ix) (sym e)
+
+  pub body_more : (next : ℕ) (ix : TreeIndex) → ReadsRowLine d columns at now new missing more_missing (Some (next, ix)) → BodySoFar d columns filled_in start old new more_missing next × (at < next)
+  body_more next ix (inl (none, answer, same, after)) = absurd (no_row next ix answer)
+  body_more next ix (inr (begin, h, r)) = more_by next begin ix h r
+
+  -- before what is no row
+  over_by : new ≡ now → AreRows d (path_of old) columns (most_filled - missing) (lines_from d.text at) (taking [] (lines_from d.text at)) → AppendsBody d columns filled_in start old new at
+  over_by same rows = record {
+    body = s.body;
+    are_rows = subst (λ items. AreRows d (path_of old) columns (most_filled - filled_in) (lines_from d.text start) (taking items (lines_from d.text at))) (append-nil s.body) (s.goes_on (taking [] (lines_from d.text at)) rows);
+    nodes = ap (λ (f : Forest Item). f.nodes) same ∙ s.nodes;
+    spine = ap (λ (f : Forest Item). f.spine) same ∙ s.spine;
+    later = s.later;
+    boundary = s.boundary;
+  }
+
+  pub body_over : ReadsRowLine d columns at now new missing more_missing None → AppendsBody d columns filled_in start old new at
+  body_over (inl (none, answer, same, after)) =
+      over_by same (left_by d (path_of old) columns (most_filled - missing) at
+      (row_none_by d (path_of old) columns (most_filled - missing) (line_place at (drop at d.text)) (lines_from d.text (at + line_len (drop at d.text))) (subst (λ path. row_text path (line_place at (drop at d.text)) ≡ None) path_is none)))
+  body_over (inr (begin, h, r)) =
+      let a = r.adds in
+      over_by a.1 (left_by d (path_of old) columns (most_filled - missing) at
+      (row_over_by d (path_of old) columns (most_filled - missing) begin r.row_end r.cells (line_place at (drop at d.text)) (lines_from d.text (at + line_len (drop at d.text))) (begins begin h) r.are_cells
+      (is_row_of (is_some now.current) false columns (most_filled - missing) r.cells (some_by now.current s.some) a.0)))
+
+-- what is left of the cells that may be filled in, behind those of a header row or as many as may be
+least_by : (n most : ℕ) (t u : Bool) → nat_lt most n ≡ t → most - (if is_lt (if t then Less else (if u then Equal else Greater)) then most else n) ≡ most - n
+least_by n most true u h = grind (arith, nat_tests, h)
+least_by n most false true h = refl
+least_by n most false false h = refl
+
+pub left_behind : (n most some : ℕ) → some ≡ ord_min nat_cmp n most → most - some ≡ most - n
+left_behind n most some h = ap (λ k. most - k) h ∙ least_by n most (nat_lt most n) (most == n) refl
+
+-- The table is closed behind its rows.
+closed_as : (f g : Forest Item) (e : ℕ) (ix : TreeIndex) (rest s : List TreeIndex) → f.nodes ≡ g.nodes → s ≡ ix ∷ rest → closed_by f e s ≡ closed_by g e s
+closed_as f g e ix rest [] nodes is = cc
+closed_as f g e ix rest (i ∷ is) nodes same = ap (λ (ns : List (ℕ × Item)). with_end_at (record { nodes = ns; spine = is; current = Some i }) i e) nodes
+
+pub rows_closed : (d : Document) (columns head_start body_start missing some next : ℕ) (old headed bodied new : Forest Item) → (ix : TreeIndex) × IsJustPushed old ix → AreIn (length old.nodes) old.spine
+    → AddsHead d columns head_start old headed missing → most_filled - some ≡ most_filled - missing → AppendsBody d columns some body_start headed bodied next → new ≡ closed_by bodied next bodied.spine
+    → AppendsRows d columns head_start body_start old new next
+rows_closed d columns head_start body_start missing some next old headed bodied new (ix, pushed) there head left body new_is =
+    let row : List (ℕ × Item) = row_block TableHead columns head_start head.cells head.row_end in
+    let nodes : headed.nodes ≡ old.nodes ++ at_depth (length old.spine + 1) row = ap (λ (f : Forest Item). f.nodes) head.tree_is in
+    let spine : headed.spine ≡ old.spine = ap (λ (f : Forest Item). f.spine) head.tree_is in
+    let path : path_of headed ≡ path_of old = same_path old headed (at_depth (length old.spine + 1) row) nodes spine there in
+    let budget : most_filled - some ≡ most_filled - filled columns head.cells = left ∙ ap (λ n. most_filled - n) head.missing_is in
+    let all : bodied.nodes ≡ old.nodes ++ at_depth (length old.spine + 1) (row ++ body.body) =
+    body.nodes ∙ ap (λ (s : List TreeIndex). headed.nodes ++ at_depth (length s + 1) body.body) spine ∙ ap (λ ns. ns ++ at_depth (length old.spine + 1) body.body) nodes
+    ∙ append_assoc old.nodes (at_depth (length old.spine + 1) row) (at_depth (length old.spine + 1) body.body)
+    ∙ ap (λ ns. old.nodes ++ ns) (sym (at_depth-append (length old.spine + 1) row body.body)) in
+    record {
+      cells = head.cells;
+      head_end = head.row_end;
+      are_cells = head.are_cells;
+      body = body.body;
+      are_rows = subst (λ most. AreRows d (path_of old) columns most (lines_from d.text body_start) (taking body.body (lines_from d.text next))) budget
+          (subst (λ path. AreRows d path columns (most_filled - some) (lines_from d.text body_start) (taking body.body (lines_from d.text next))) path body.are_rows);
+      tree_is = new_is ∙ ap (closed_by bodied next) (body.spine ∙ spine) ∙ closed_as bodied (with_below old (row ++ body.body)) next ix pushed.rest old.spine all pushed.innermost;
+      later = body.later;
+      boundary = body.boundary;
+    }

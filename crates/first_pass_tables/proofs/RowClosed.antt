@@ -1,0 +1,122 @@
+-- A row opened, filled with its cells and with empty ones, and closed, or dropped again.
+use Rattle.std.proofs.Common.{◌≡◌, ℕ, ◌+◌, ◌-◌, ◌&&◌, ◌||◌, not, Bool, true, nat_lt, nat_le, zero, suc, List, [], ◌∷◌, ◌++◌, length, take, replicate, Option, Some, None, is_some, IsSome, MatchOption, slice_get, refl, sym, ap, subst, ◌∙◌, append_assoc}
+use Rattle.std.proofs.lemmas.List.{length-append}
+use Rattle.std.specs.Option.{option_map}
+use Rattle.first_pass_items.specs.declared.item.Item.{Item}
+use Rattle.first_pass_items.specs.declared.item.ItemBody.{ItemBody}
+use Rattle.first_pass_items.specs.declared.item.ItemBody.TheVariants.{TableRow}
+use Rattle.first_pass_tree.specs.declared.tree_index.TreeIndex.{TreeIndex}
+use Rattle.first_pass_tree.specs.Forest.{Forest, at_depth, added, appended, popped}
+use Rattle.first_pass_tree.proofs.Blocks.{at_depth-append, block-built}
+use Rattle.first_pass_tokens.specs.TreeTokens.{chained, leaves}
+use Rattle.first_pass_tokens.proofs.ChainLemmas.{chained-spine, chained-nodes}
+use Rattle.first_pass_grammar.specs.Leaves.{Document}
+use Rattle.first_pass_grammar.specs.Tables.{cell_block, AreCells, filled, side_by_side, row_cells, row_block, most_filled}
+use Rattle.first_pass_open.specs.OpenBlock.{IsJustPushed, opened_block, begun_item, closed_by}
+use Rattle.first_pass_tables.specs.Appends.{AppendsCells, empty_cell, keeps_row, AddsRow, ReadsRow}
+use Rattle.first_pass_tables.proofs.RowCells.{side_more}
+use Rattle.first_pass_tables.proofs.RowDrops.{HasMore}
+
+-- the place of the row
+abbrev pub row_place : Forest Item → TreeIndex
+row_place old = record { 0 = length old.nodes }
+
+-- the row was just opened
+pub row_opened : (old opened : Forest Item) (start : ℕ) (body : ItemBody) → opened ≡ opened_block old start body → IsJustPushed opened (row_place old)
+row_opened old opened start body is =
+    let x = begun_item start body in
+    record {
+      rest = old.spine;
+      innermost = ap (λ (f : Forest Item). f.spine) is;
+      last = sym (length-append old.nodes ((length old.spine + 1, x) ∷ [])) ∙ sym (ap (λ (f : Forest Item). length f.nodes) is);
+      none = ap (λ (f : Forest Item). f.current) is;
+    }
+
+-- empty cells are blocks of their own
+empty_blocks : (n «end» : ℕ) → leaves (replicate n (empty_cell «end»)) ≡ side_by_side (replicate n (cell_block «end» «end» []))
+empty_blocks zero stop = refl
+empty_blocks (suc n) stop = ap (λ (items : List (ℕ × Item)). (0, empty_cell stop) ∷ items) (empty_blocks n stop)
+
+module _ (d : Document) (columns start stop count missing : ℕ) (body : ItemBody) (old opened read full : Forest Item)
+    (opened_is : opened ≡ opened_block old start body) (adds : AppendsCells d columns start opened read (stop, count))
+    (missing_is : missing ≡ columns - count) (full_is : full ≡ chained read (replicate missing (empty_cell stop))) where
+  spine_is : full.spine ≡ opened.spine
+  spine_is = ap (λ (f : Forest Item). f.spine) full_is ∙ chained-spine read (replicate missing (empty_cell stop)) ∙ adds.spine
+
+  pub spine_of_row : full.spine ≡ row_place old ∷ old.spine
+  spine_of_row = spine_is ∙ ap (λ (f : Forest Item). f.spine) opened_is
+
+  pub row_is_open : IsSome (slice_get full.spine 0)
+  row_is_open = subst (λ (s : List TreeIndex). IsSome (slice_get s 0)) (sym spine_of_row) refl
+
+  pub missing_are : missing ≡ filled columns adds.cells
+  missing_are = missing_is ∙ ap (λ (n : ℕ). columns - n) adds.count
+
+  nodes_are : full.nodes ≡ opened.nodes ++ at_depth (length opened.spine + 1) (row_cells columns adds.cells stop)
+  nodes_are =
+      let depth = length opened.spine + 1 in
+      let first = side_by_side (take columns adds.cells) in
+      let empty = replicate missing (empty_cell stop) in
+      ap (λ (f : Forest Item). f.nodes) full_is ∙ chained-nodes read empty
+      ∙ ap (λ (s : List TreeIndex). read.nodes ++ at_depth (length s + 1) (leaves empty)) adds.spine
+      ∙ ap (λ (ns : List (ℕ × Item)). ns ++ at_depth depth (leaves empty)) adds.nodes
+      ∙ append_assoc opened.nodes (at_depth depth first) (at_depth depth (leaves empty))
+      ∙ ap (λ (ns : List (ℕ × Item)). opened.nodes ++ ns) (sym (at_depth-append depth first (leaves empty)))
+      ∙ ap (λ (items : List (ℕ × Item)). opened.nodes ++ at_depth depth (first ++ items)) (empty_blocks missing stop)
+      ∙ ap (λ (items : List (ℕ × Item)). opened.nodes ++ at_depth depth items) (sym (side_more (take columns adds.cells) (replicate missing (cell_block stop stop []))))
+      ∙ ap (λ (n : ℕ). opened.nodes ++ at_depth depth (side_by_side (take columns adds.cells ++ replicate n (cell_block stop stop [])))) missing_are
+
+  -- the row is closed where it ends
+  pub row_closed : (new : Forest Item) → new ≡ closed_by full stop full.spine → new ≡ added old (row_block body columns start adds.cells stop)
+  row_closed new new_is =
+      let x = begun_item start body in
+      let place = row_place old in
+      new_is ∙ ap (closed_by full stop) spine_of_row
+      ∙ block-built old (appended old x) opened full (popped full place old.spine) x (λ (y : Item). record y { «end» = stop }) (row_cells columns adds.cells stop) place
+      refl opened_is nodes_are spine_is spine_of_row refl refl
+
+-- a row is kept by what its cells, and those that are missing, number
+pub same_test : (behind : Bool) (columns most count missing : ℕ) (cells : List (List (ℕ × Item))) → count ≡ length cells → missing ≡ filled columns cells
+    → ((not behind || nat_lt 0 count) && nat_le missing most) ≡ keeps_row behind columns most cells
+same_test behind columns most count missing cells count_is missing_is =
+    ap (λ (n : ℕ). (not behind || nat_lt 0 n) && nat_le missing most) count_is
+    ∙ ap (λ (n : ℕ). (not behind || nat_lt 0 (length cells)) && nat_le n most) missing_is
+
+same_spine : (s v w : List TreeIndex) (i j : TreeIndex) → s ≡ i ∷ v → s ≡ j ∷ w → w ≡ v
+same_spine s v w i j a b = cc
+
+no_spine : (s v : List TreeIndex) (i : TreeIndex) → s ≡ i ∷ v → s ≡ [] → ⊥
+no_spine s v i a b = cc
+
+-- the row is closed and is to be dropped
+pub row_behind : (d : Document) (columns start : ℕ) (body : ItemBody) (old opened read back : Forest Item) (answer : ℕ × ℕ) (r : Option TreeIndex)
+    → opened ≡ opened_block old start body → AppendsCells d columns start opened read answer
+    → MatchOption r ((read.spine ≡ []) × (back ≡ read)) (λ ix. (read.spine ≡ ix ∷ back.spine) × (back ≡ popped read ix back.spine)) → HasMore old back
+row_behind d columns start body old opened read back answer None opened_is adds h =
+    absurd (no_spine read.spine old.spine (row_place old) (adds.spine ∙ ap (λ (f : Forest Item). f.spine) opened_is) h.0)
+row_behind d columns start body old opened read back answer (Some ix) opened_is adds h =
+    let x = begun_item start body in
+    let rest = at_depth (length opened.spine + 1) (side_by_side (take columns adds.cells)) in
+    record {
+      x = x;
+      rest = rest;
+      nodes = ap (λ (f : Forest Item). f.nodes) h.1 ∙ adds.nodes ∙ ap (λ (f : Forest Item). f.nodes ++ rest) opened_is
+          ∙ append_assoc old.nodes ((length old.spine + 1, x) ∷ []) rest;
+      spine = same_spine read.spine old.spine back.spine (row_place old) ix (adds.spine ∙ ap (λ (f : Forest Item). f.spine) opened_is) h.0;
+    }
+
+-- the row is read
+pub row_read : (d : Document) (columns start stop : ℕ) (old new : Forest Item) (before after : ℕ) (cells : List (List (ℕ × Item)))
+    (current : Option TreeIndex) (answer : Option (ℕ × TreeIndex)) → AreCells d start cells stop
+    → keeps_row (is_some old.current) columns (most_filled - before) cells ≡ true → new ≡ added old (row_block TableRow columns start cells stop)
+    → after ≡ before + filled columns cells → current ≡ new.current → answer ≡ option_map (λ (row : TreeIndex). (stop, row)) current
+    → ReadsRow d columns start old new before after answer
+row_read d columns start stop old new before after cells current answer are kept new_is after_is current_is answer_is =
+    let here : current ≡ Some (row_place old) = current_is ∙ ap (λ (f : Forest Item). f.current) new_is in
+    let is : answer ≡ Some (stop, row_place old) = answer_is ∙ ap (option_map (λ (row : TreeIndex). (stop, row))) here in
+    record {
+      cells = cells;
+      row_end = stop;
+      are_cells = are;
+      adds = subst (AddsRow columns start stop cells old new before after) (sym is) (kept, new_is, after_is, refl, refl);
+    }

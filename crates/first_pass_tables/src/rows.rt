@@ -1,0 +1,146 @@
+//! The rows of a table, one after the other (GFM 4.10).
+
+ghost use Rattle.std.specs.Prelude.{◌≡◌, ◌≤◌, true, None, ℕ, drop, IfOk, OnOk, IfSome, IsUtf8, IsCharBoundary};
+ghost use Rattle.first_pass_lines.specs.Places.{line_place};
+ghost use Rattle.first_pass_walk.specs.Walk.{MarksSpecial};
+ghost use Rattle.first_pass_tree.specs.Forest.{in_table};
+ghost use Rattle.first_pass_tree.specs.declared.tree_index.TreeIndex.{TreeIndex};
+ghost use Rattle.first_pass_names.specs.TableEntries.{no_names};
+ghost use Rattle.first_pass_grammar.specs.Leaves.{document};
+ghost use Rattle.first_pass_grammar.specs.Tables.{most_filled, row_text};
+ghost use Rattle.first_pass_open.specs.OpenBlock.{IsJustPushed};
+ghost use Rattle.first_pass_open.specs.Path.{path_of};
+ghost use Rattle.first_pass_tables.specs.Appends.{IsOpenNode, ReadsRowLine, AppendsRows};
+ghost use Rattle.first_pass_tables.specs.RowsRead.{AppendsBody};
+
+use crate::row::{MAX_AUTOCOMPLETED_CELLS, append_head_row, parse_table_row_inner};
+use first_pass_items::item::Item;
+use first_pass_open::open_block::{close_block, go_on};
+use first_pass_open::place::Place;
+use first_pass_open::source::Source;
+use first_pass_text::interrupt::scan_paragraph_interrupt_no_table;
+use first_pass_tree::forest::Tree;
+use first_pass_tree::tree_index::TreeIndex;
+use std::alloc::{AllocError, Global};
+use std::cmp::min;
+
+// Where the text of a row begins in the line that begins at the offset `start`; `None` where that line is no row: where
+// it doesn't go on with all open containers, or its text would interrupt a paragraph, as any list item does here.
+fn scan_row_text(
+    alloc: Global,
+    source: Source<'_>,
+    tree: &Tree<Item>,
+    start: usize,
+) -> Result<Option<usize>, AllocError>
+    requires boundary { IsCharBoundary source.text.now start }
+    requires table { in_table tree.now.nodes tree.now.spine ≡ true }
+    ensures value { IfOk result (λ at. at
+        ≡ row_text (path_of tree.now) (line_place start (drop start source.entry.text.now))) }
+    ensures place { IfOk result (λ at. IfSome at (λ n. IsCharBoundary source.entry.text.now n)) }
+    ensures utf8 { OnOk result (IsUtf8 source.entry.text.now) }
+{
+    source.is_short();
+    let Some(rest) = go_on(source.text, start, tree, source.options) else {
+        return Ok(None);
+    };
+    let mut place = Place { line: start, rest };
+    place.rest.scan_all_space();
+    let at = place.offset();
+    let text = &source.text[at..];
+    if scan_paragraph_interrupt_no_table(alloc, text, true, false, false, tree, tree.spine_len())? {
+        return Ok(None);
+    }
+    Ok(Some(at))
+}
+
+/// Appends the row of a table of `row_cells` columns that is in the line which begins at the offset `ix` into the text,
+/// to the table, the innermost open node; answers as `parse_table_row_inner`. `None` too where the line doesn't go on
+/// with all open containers, or its text would interrupt a paragraph, as any list item does here (GFM 4.10).
+pub fn parse_table_row(
+    alloc: Global,
+    source: Source<'_>,
+    lut: &[bool; 256],
+    tree: &mut Tree<Item>,
+    ix: usize,
+    row_cells: usize,
+    missing_empty_cells: &mut usize,
+) -> Result<Option<(usize, TreeIndex)>, AllocError>
+    requires boundary { IsCharBoundary source.text.now ix }
+    requires marks { MarksSpecial lut.now source.options }
+    requires open { IsOpenNode tree.old }
+    requires table { in_table tree.old.nodes tree.old.spine ≡ true }
+    requires few { missing_empty_cells.old ≤ most_filled }
+    ensures row { IfOk result (λ row.
+        ReadsRowLine (document source.entry.text.now source.entry.options no_names) row_cells ix tree.old tree.new
+        missing_empty_cells.old missing_empty_cells.new row) }
+    ensures utf8 { OnOk result (IsUtf8 source.entry.text.now) }
+{
+    let Some(at) = scan_row_text(alloc, source, tree, ix)? else {
+        return Ok(None);
+    };
+    let row = parse_table_row_inner(source, lut, tree, at, row_cells, missing_empty_cells)?;
+    Ok(row)
+}
+
+// Appends the rows of a table of so many columns that are among the lines from the offset `start` on to the table, the
+// innermost open node, up to the first line that is none, where so many cells are filled in before them. Answers the
+// offset at which that line begins, or the text's length.
+fn append_body(
+    alloc: Global,
+    source: Source<'_>,
+    lut: &[bool; 256],
+    tree: &mut Tree<Item>,
+    start: usize,
+    columns: usize,
+    filled: usize,
+) -> Result<usize, AllocError>
+    requires boundary { IsCharBoundary source.text.now start }
+    requires marks { MarksSpecial lut.now source.options }
+    requires open { IsOpenNode tree.old }
+    requires some { tree.old.current ≡ None → ⊥ }
+    requires table { in_table tree.old.nodes tree.old.spine ≡ true }
+    requires few { filled ≤ most_filled }
+    ensures body { IfOk result (λ next.
+        AppendsBody (document source.entry.text.now source.entry.options no_names) columns filled start tree.old
+        tree.new next) }
+{
+    tree.is_forest();
+    let mut missing = filled;
+    let mut ix = start;
+    'rows: loop {
+        match parse_table_row(alloc, source, lut, tree, ix, columns, &mut missing)? {
+            Some((next, _)) => ix = next,
+            None => return Ok(ix),
+        }
+    }
+}
+
+/// Appends the rows of a table of `table_cols` columns to the table, the innermost open node, which was just opened,
+/// and closes it behind them: the header row, which begins at the offset `head_start` into the text, and the rows among
+/// the lines from the offset `body_start` on, up to the first line that is none. Answers the offset at which that line
+/// begins, or the text's length; the error is want of memory (GFM 4.10).
+pub fn parse_table(
+    alloc: Global,
+    source: Source<'_>,
+    lut: &[bool; 256],
+    tree: &mut Tree<Item>,
+    table_cols: usize,
+    head_start: usize,
+    body_start: usize,
+) -> Result<usize, AllocError>
+    requires head { IsCharBoundary source.text.now head_start }
+    requires body { IsCharBoundary source.text.now body_start }
+    requires marks { MarksSpecial lut.now source.options }
+    requires open { (ix : TreeIndex) × IsJustPushed tree.old ix }
+    requires table { in_table tree.old.nodes tree.old.spine ≡ true }
+    ensures rows { IfOk result (λ next.
+        AppendsRows (document source.entry.text.now source.entry.options no_names) table_cols head_start body_start
+        tree.old tree.new next) }
+{
+    tree.is_forest();
+    let missing = append_head_row(source, lut, tree, head_start, table_cols)?;
+    let filled = min(missing, MAX_AUTOCOMPLETED_CELLS);
+    let next = append_body(alloc, source, lut, tree, body_start, table_cols, filled)?;
+    close_block(tree, next);
+    Ok(next)
+}
