@@ -1,2 +1,11 @@
 -- The lemmas of this crate.
+pub mod CellsFit
 pub mod DropLemmas
+pub mod RowPlaces
+pub mod BodyLemmas
+pub mod RowsFit
+pub mod TableFits
+pub mod TextsAre
+pub mod RowCells
+pub mod RowClosed
+pub mod RowDrops

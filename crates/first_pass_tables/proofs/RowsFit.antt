@@ -1,0 +1,117 @@
+-- The rows of a table's body lie in order between the first of its lines and the first line that is no row of it.
+use Rattle.std.proofs.Common.{◌≡◌, inl, inr, ℕ, ◌+◌, ◌-◌, ◌*◌, ◌<◌, ◌≤◌, Bool, true, false, List, [], ◌∷◌, ◌++◌, length, drop, Option, Some, None, nat_lt, nat_le, IsUtf8, IsCharBoundary, refl, sym, ap, subst, ◌∙◌, arith, if◌then◌else◌}
+use Rattle.std.specs.Option.{option_map, option_and_then}
+use Rattle.std.proofs.lemmas.Bool.{cases_lt, and_parts, ltb-true}
+use Rattle.std.proofs.lemmas.Option.{none-some, same_Some}
+use Rattle.first_pass_items.specs.declared.item.Item.{Item}
+use Rattle.first_pass_items.specs.declared.item.ItemBody.TheVariants.{TableRow}
+use Rattle.first_pass_lines.specs.Lines.{line_len}
+use Rattle.first_pass_lines.specs.Rest.{Rest, indent}
+use Rattle.first_pass_lines.specs.Places.{Place, line_rest, line_place, place_at, offset, line_end, IsPlaceOf, start_of}
+use Rattle.first_pass_lines.proofs.LineFacts.{lines_at-line, lines_at-end}
+use Rattle.first_pass_lines.proofs.PlaceFacts.{line_is_place, columns_line_end, start_of-lines}
+use Rattle.first_pass_grammar.specs.declared.kind.Container.{Container}
+use Rattle.first_pass_grammar.specs.Completion.{lines_from}
+use Rattle.first_pass_grammar.specs.Containers.{at_rest, after}
+use Rattle.first_pass_grammar.specs.Counting.{own_nodes}
+use Rattle.first_pass_grammar.specs.Kinds.{unindented, interrupts_with}
+use Rattle.first_pass_grammar.specs.Leaves.{Document}
+use Rattle.first_pass_grammar.specs.Tables.{AreCells, filled, row_block, row_text, Taken, taking, AreRows}
+use Rattle.first_pass_grammar.proofs.OwnNodes.{own_at_most, own_join}
+use Rattle.first_pass_grammar.proofs.RowEnds.{row_ends_at_place}
+use Rattle.first_pass_open.proofs.PlaceLemmas.{all_keep, after_keeps, line_start_end}
+use Rattle.first_pass_tables.proofs.CellsFit.{AreBetween, between-none, between-order, between-join, between-wider, some_cells, row_boundary, row_fits}
+
+-- where the text of a row begins in its line
+record RowPlace (text : List ℕ) (n start : ℕ) : Type 0 where
+  place : Place
+  start_is : start ≡ offset place
+  is : IsPlaceOf text place
+  ends : line_end place ≡ n + line_len (drop n text)
+  behind : n ≤ start
+
+uninterrupted : (t : Bool) (m start : ℕ) → (if t then None else Some m) ≡ Some start → m ≡ start
+uninterrupted true m start h = absurd (none-some start h)
+uninterrupted false m start h = same_Some m start h
+
+row_by : (text : List ℕ) (path : List Container) (n start : ℕ) (o : Option Rest) → IsUtf8 text → IsCharBoundary text n
+    → after path (line_rest (drop n text)) ≡ o
+    → option_and_then (λ (p : Place). if interrupts_with false (unindented p).rest.left then None else Some (offset (unindented p)))
+    (option_map (at_rest (line_place n (drop n text))) o) ≡ Some start
+    → RowPlace text n start
+row_by text path n start None utf8 boundary e h = absurd (none-some start h)
+row_by text path n start (Some r) utf8 boundary e h =
+    let k = after_keeps text n path (line_rest (drop n text)) r utf8 e (line_is_place text n boundary) in
+    let p : Place = unindented (place_at n r) in
+    let same = uninterrupted (interrupts_with false p.rest.left) (offset p) start h in
+    record {
+      place = p;
+      start_is = sym same;
+      is = all_keep text n r utf8 k.0;
+      ends = columns_line_end (indent r) (place_at n r) ∙ k.1 ∙ line_start_end text n;
+      behind = omega arith;
+    }
+
+row_place : (text : List ℕ) (path : List Container) (n start : ℕ) → IsUtf8 text → IsCharBoundary text n
+    → row_text path (line_place n (drop n text)) ≡ Some start → RowPlace text n start
+row_place text path n start utf8 boundary h = row_by text path n start (after path (line_rest (drop n text))) utf8 boundary refl h
+
+-- the first of the lines from an offset on, and the others
+first_line : (text : List ℕ) (n : ℕ) (line : Place) (lines : List Place) → line ∷ lines ≡ lines_from text n
+    → (line ≡ line_place n (drop n text)) × (lines ≡ lines_from text (n + line_len (drop n text)))
+first_line text n line lines is =
+    elim (cases_lt n (length text)) [
+      | inl within ↦
+          let e : line ∷ lines ≡ line_place n (drop n text) ∷ lines_from text (n + line_len (drop n text)) = is ∙ lines_at-line text n within in (cc, cc)
+      | inr past ↦ let e : line ∷ lines ≡ [] = is ∙ lines_at-end text n past in cc
+    ]
+
+-- The rows lie in order between two offsets, and have at most four nodes of their own for each byte there.
+pub record RowsBetween (text : List ℕ) (from to : ℕ) (items : List (ℕ × Item)) : Type 0 where
+  pub between : AreBetween text from to items
+  pub few : own_nodes items ≤ 4 * (to - from)
+
+no_rows : (text : List ℕ) (n : ℕ) (lines : List Place) (t : Taken) → n ≤ length text → lines ≡ lines_from text n → t ≡ taking [] lines
+    → RowsBetween text n (start_of (length text) t.left) t.items
+no_rows text n lines t within is e =
+    let none = own_at_most None [] in
+    let there : start_of (length text) lines ≡ n = ap (start_of (length text)) is ∙ start_of-lines text n within in
+    subst (λ (z : Taken). RowsBetween text n (start_of (length text) z.left) z.items) (sym e)
+    (record { between = between-none text n (start_of (length text) lines) (omega arith); few = omega arith })
+
+one_more_row : (d : Document) (columns n start : ℕ) (cells : List (List (ℕ × Item))) («end» to : ℕ) (more : List (ℕ × Item)) → IsUtf8 d.text
+    → IsCharBoundary d.text start → AreCells d start cells «end» → n ≤ start → 0 < length cells → RowsBetween d.text «end» to more
+    → RowsBetween d.text n to (row_block TableRow columns start cells «end» ++ more)
+one_more_row d columns n start cells stop to more utf8 boundary are behind some rest =
+    let row = row_fits d TableRow columns start cells stop utf8 boundary are in
+    let byte = some_cells d start cells stop utf8 boundary are some in
+    let block : List (ℕ × Item) = row_block TableRow columns start cells stop in
+    let later = between-order d.text stop to more rest.between in
+    let own = own_join None block more in
+    let own_row = row.few in
+    let own_rest = rest.few in
+    record {
+      between = between-join d.text n stop to block more (between-wider d.text n start stop stop block behind (omega arith) row.between) rest.between;
+      few = omega arith;
+    }
+
+-- The rows of a table's body lie so between the first of its lines and the first line that is no row of it.
+pub rows_fit : (d : Document) (path : List Container) (columns most : ℕ) (lines : List Place) (n : ℕ) (t : Taken) → IsUtf8 d.text
+    → IsCharBoundary d.text n → lines ≡ lines_from d.text n → AreRows d path columns most lines t
+    → RowsBetween d.text n (start_of (length d.text) t.left) t.items
+unfolding AreRows
+rows_fit d path columns most [] n t utf8 boundary is e = no_rows d.text n [] t boundary.0 is e
+rows_fit d path columns most (line ∷ lines) n t utf8 boundary is (inl (none, e)) = no_rows d.text n (line ∷ lines) t boundary.0 is e
+rows_fit d path columns most (line ∷ lines) n t utf8 boundary is (inr (start, cells, stop, at, are, inl (stops, e))) =
+    no_rows d.text n (line ∷ lines) t boundary.0 is e
+rows_fit d path columns most (line ∷ lines) n t utf8 boundary is (inr (start, cells, stop, at, are, inr (row, more, rest, e))) =
+    let first = first_line d.text n line lines is in
+    let p = row_place d.text path n start utf8 boundary (ap (row_text path) (sym first.0) ∙ at) in
+    let starts : IsCharBoundary d.text start = subst (IsCharBoundary d.text) (sym p.start_is) p.is.boundary in
+    let ends : stop ≡ n + line_len (drop n d.text) =
+    row_ends_at_place d p.place cells stop p.is (subst (λ (k : ℕ). AreCells d k cells stop) p.start_is are) ∙ p.ends in
+    let further = rows_fit d path columns (most - filled columns cells) lines stop more utf8 (row_boundary d start cells stop utf8 starts are)
+    (first.1 ∙ ap (lines_from d.text) (sym ends)) rest in
+    let some = ltb-true 0 (length cells) (and_parts (nat_lt 0 (length cells)) (nat_le (filled columns cells) most) row).0 in
+    subst (λ (z : Taken). RowsBetween d.text n (start_of (length d.text) z.left) z.items) (sym e)
+    (one_more_row d columns n start cells stop (start_of (length d.text) more.left) more.items utf8 starts are p.behind some further)
