@@ -1,5 +1,5 @@
 -- A leaf block that was added is what its kind opens at its place.
-use Rattle.std.proofs.Common.{◌≡◌, inl, inr, ℕ, ◌+◌, ◌<◌, ◌≤◌, nat_lt, Bool, true, false, List, [], ◌∷◌, length, drop, Option, Some, None, refl, sym, ap, subst, ◌∙◌, arith, min, if◌then◌else◌}
+use Rattle.std.proofs.Common.{◌≡◌, ℕ, ◌+◌, ◌<◌, ◌≤◌, nat_lt, Bool, true, false, List, length, drop, Option, Some, None, refl, sym, ap, subst, ◌∙◌, arith, min, if◌then◌else◌}
 use Rattle.std.proofs.lemmas.Bool.Decides.{nat_tests}
 use Rattle.first_pass_items.specs.declared.option_set.Options.{Options}
 use Rattle.first_pass_items.specs.declared.item.Item.{Item}
@@ -13,10 +13,8 @@ use Rattle.first_pass_html.specs.Starts.{html_end}
 use Rattle.first_pass_grammar.specs.Derivation.{Tables}
 use Rattle.first_pass_grammar.specs.declared.kind.Container.{Container}
 use Rattle.first_pass_grammar.specs.Names.{Names, Extends}
-use Rattle.first_pass_tokens.specs.Chains.{add_tokens}
-use Rattle.first_pass_grammar.specs.Containers.{at_rest, front}
 use Rattle.first_pass_grammar.specs.Kinds.{Kind, Blank, IndentedCode, Metadata, HtmlToEnd, HtmlToBlank, ThematicBreak, AtxHeading, FencedCode, all_taken, unindented, IsKind}
-use Rattle.first_pass_grammar.specs.Leaves.{Document, document, add_break, IsParagraph, rule_block, heading_block}
+use Rattle.first_pass_grammar.specs.Leaves.{Document, document, rule_block, heading_block}
 use Rattle.first_pass_grammar.specs.Extents.{Extent}
 use Rattle.first_pass_grammar.specs.CodeBlocks.{code_lines, last_is_blank, IsIndentedCode, metadata_lines, IsMetadata, fenced_lines, IsFencedCode}
 use Rattle.first_pass_grammar.specs.HtmlBlocks.{until_end, until_blank, IsHtml}
@@ -30,7 +28,7 @@ use Rattle.first_pass.specs.Adding.{AddsKind}
 use Rattle.first_pass_text.specs.Found.{marked_kind}
 use Rattle.first_pass_text.specs.declared.kinds.MarkedLeaf.{MarkedLeaf}
 use Rattle.first_pass_text.specs.declared.kinds.MarkedLeaf.TheVariants.{IndentedCode as MarkedCode, Metadata as MarkedMetadata, HtmlToEnd as MarkedHtml, ThematicBreak as MarkedBreak, AtxHeading as MarkedHeading, FencedCode as MarkedFence}
-use Rattle.first_pass_text.specs.Appends.{AddsHeading, AddsParagraph}
+use Rattle.first_pass_text.specs.Appends.{AddsHeading}
 use Rattle.first_pass_lists.specs.Closing.{remembered, list_finished}
 use Rattle.first_pass_lists.specs.declared.reading.Reading.{Reading}
 use Rattle.first_pass.specs.Opening.{ReadyLeaf}
@@ -171,23 +169,6 @@ module _ (text : List ℕ) (options : Options) (names : Names) (p : Place) (old 
     tree_is = h.tree_is;
     opens = λ more extends. opens_heading (document text options more) (path_of old) old new p at next level at_is place (heading_named more level h);
   }
-
--- a paragraph's chain names nothing
-paragraph_lines : (text : List ℕ) (options : Options) (m n : Names) (path : List Container) (start : ℕ) (chain : List Item) (lines : List Place) (whole : List Item) (left : List Place)
-    → IsParagraph (document text options m) path start chain lines whole left → IsParagraph (document text options n) path start chain lines whole left
-unfolding IsParagraph
-paragraph_lines text options m n path start chain [] whole left h = h
-paragraph_lines text options m n path start chain (line ∷ lines) whole left (t, a, i, inl x) = (t, a, i, inl x)
-paragraph_lines text options m n path start chain (line ∷ lines) whole left (t, a, i, inr (h, more)) = (t, a, i, inr (h, paragraph_lines text options m n path (offset (unindented (at_rest line (front path line.rest)))) (add_break a.1 (add_tokens chain t)) lines whole left more))
-
-pub paragraph_named : (text : List ℕ) (options : Options) (m n : Names) (start : ℕ) (marker : Option Item) (old new : Forest Item) (next : ℕ) → AddsParagraph (document text options m) start marker old new next → AddsParagraph (document text options n) start marker old new next
-paragraph_named text options m n start marker old new next a = record {
-  chain = a.chain;
-  lines = paragraph_lines text options m n _ _ _ _ _ _ a.lines;
-  tree_is = a.tree_is;
-  later = a.later;
-  boundary = a.boundary;
-}
 
 -- behind a leaf block of a kind
 pub ready_kind : (text : List ℕ) (options : Options) (defined : Tables) (own names : Names) (r : Reading) (new : Forest Item) (p : Place) (kind : Kind) (gap : Bool) (next : ℕ) → IsForest r.tree → IsKind options p.rest kind → is_paragraph kind ≡ false → Extends names own

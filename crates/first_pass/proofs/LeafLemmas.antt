@@ -10,8 +10,8 @@ use Rattle.first_pass_tree.specs.Forest.{Forest, IsForest, added, at_depth}
 use Rattle.first_pass_lines.specs.Lines.{level_number, line_len}
 use Rattle.first_pass_scan.specs.LeafLines.{hrule_len}
 use Rattle.first_pass_lines.specs.Rest.{Rest, indent}
-use Rattle.first_pass_lines.specs.Places.{Place, offset, line_end, start_of, IsPlaceOf}
-use Rattle.first_pass_lines.proofs.PlaceFacts.{start_of-lines, columns_line_end}
+use Rattle.first_pass_lines.specs.Places.{Place, offset, line_end, IsPlaceOf}
+use Rattle.first_pass_lines.proofs.PlaceFacts.{columns_line_end}
 use Rattle.first_pass_grammar.specs.Derivation.{Tables, told}
 use Rattle.first_pass_grammar.specs.LinkTables.{LinkEntry, with_links}
 use Rattle.first_pass_grammar.specs.LinkRuns.{definition_at, kind_in, Beyond, Ended, FlowsOn, IsRun}
@@ -21,12 +21,15 @@ use Rattle.first_pass_grammar.specs.declared.kind.Container.{Container}
 use Rattle.first_pass_grammar.specs.declared.kind.Container.TheVariants.{BlockQuote}
 use Rattle.first_pass_grammar.specs.Containers.{Context, at_rest, prefix}
 use Rattle.first_pass_grammar.specs.Kinds.{Kind, Blank, ThematicBreak, AtxHeading, LinkDefinitions, Paragraph, unindented, item_at, IsKind}
-use Rattle.first_pass_grammar.specs.Leaves.{Document, around, IsParagraph, IsHeading, heading_text_at, rule_block, heading_block, paragraph_block, marker_items}
-use Rattle.first_pass_grammar.specs.Skeleton.{BlankLine, LeafBlock, Block, run_block, flowing_block, OpensBeyond, OpensRun, block_at, leaf_block, Line, Inside, At, ALeafAlone, IsFirst, Opening, OpensLeaf, OpensParagraph, OpensAs, OpensBlockAt, OpensQuote, OpensFrom, Opens}
+use Rattle.first_pass_grammar.specs.Leaves.{Document, around, IsHeading, heading_text_at, rule_block, heading_block}
+use Rattle.first_pass_grammar.specs.Skeleton.{BlankLine, LeafBlock, Block, run_block, flowing_block, OpensBeyond, OpensRun, block_at, leaf_block, Line, Inside, At, ALeafAlone, IsFirst, Opening, OpensLeaf, OpensText, OpensAs, OpensBlockAt, OpensQuote, OpensFrom, Opens}
+use Rattle.first_pass_grammar.specs.Tables.{taking}
+use Rattle.first_pass_grammar.specs.Texts.{IsText}
 use Rattle.first_pass_grammar.specs.Completion.{lines_from, Frame, containers_of, AreBelow}
 use Rattle.first_pass_grammar.proofs.Finishes.{CompletesAt}
 use Rattle.first_pass_grammar.proofs.Completions.{leaf_closes, completes-leaf, completes-blank, completes-block, completes-text, counts_in}
-use Rattle.first_pass_text.specs.Appends.{line_end_at, AddsParagraph, AddsHeading}
+use Rattle.first_pass_text.specs.Appends.{line_end_at, AddsHeading}
+use Rattle.first_pass_tables.specs.TextsAdded.{IsTextAt}
 use Rattle.first_pass_lists.specs.Closing.{remembered, top_body, is_list, list_finished, blank_read_by, blank_read}
 use Rattle.first_pass_lists.specs.declared.reading.Reading.{Reading}
 use Rattle.first_pass_open.specs.Path.{path_of, context_of}
@@ -169,25 +172,15 @@ opens_rule d path p at next size at_is next_is =
     ap (λ k. OpensLeaf (leaf_block (ThematicBreak size) p (rule_block k size) false) Line (lines_from d.text next)) at_is
     ∙ ap (λ n. OpensLeaf (leaf_block (ThematicBreak size) p (rule_block (offset (unindented p)) size) false) Line (lines_from d.text n)) next_is
 
--- a paragraph that was added, behind a task list item marker or not, is what opens at its place
-opens_paragraph : (d : Document) (path : List Container) (old new : Forest Item) (p : Place) (at next : ℕ) (marker : Option Item) → path_of old ≡ path → at ≡ offset (unindented p) → IsPlaceOf d.text (unindented p) → (a : AddsParagraph d at marker old new next)
-    → OpensParagraph d path p (lines_from d.text (line_end p)) marker (OpensLeaf (leaf_block Paragraph p (paragraph_block at next (marker_items marker ++ a.chain)) false) Line (lines_from d.text next))
-unfolding OpensParagraph
-opens_paragraph d path old new p at next marker path_is at_is place a =
-    let lines : List Place = lines_from d.text (line_end p) in
-    let left : List Place = lines_from d.text next in
-    let chain : List Item = marker_items marker ++ a.chain in
-    let ends : start_of (length d.text) left ≡ next = start_of-lines d.text next a.boundary.0 in
-    let here : line_end_at d.text at ≡ line_end p = ap (line_end_at d.text) at_is ∙ line_end_of d.text p place in
-    let text : IsParagraph d path at [] (lines_from d.text (line_end_at d.text at)) a.chain left = subst (λ z. IsParagraph d z at [] (lines_from d.text (line_end_at d.text at)) a.chain left) path_is a.lines in
-    let whole : IsParagraph d path (offset (unindented p)) [] lines a.chain left =
-    subst (λ k. IsParagraph d path k [] lines a.chain left) at_is (subst (λ n. IsParagraph d path at [] (lines_from d.text n) a.chain left) here text) in (
-      a.chain,
-      left,
-      whole,
-      ap (λ k. OpensLeaf (leaf_block Paragraph p (paragraph_block k next chain) false) Line left) at_is
-          ∙ ap (λ n. OpensLeaf (leaf_block Paragraph p (paragraph_block (offset (unindented p)) n chain) false) Line left) (sym ends),
-    )
+-- what stands for a text, behind a task list item marker or not, is what opens at its place
+opens_text : (d : Document) (path : List Container) (p : Place) (at next : ℕ) (marker : Option Item) (items : List (ℕ × Item)) → at ≡ offset (unindented p) → IsPlaceOf d.text (unindented p) → IsTextAt d path at marker items next
+    → OpensText d path p (lines_from d.text (line_end p)) marker (OpensLeaf (leaf_block Paragraph p items false) Line (lines_from d.text next))
+unfolding OpensText
+opens_text d path p at next marker items at_is place is = (
+  taking items (lines_from d.text next),
+  subst (λ n. IsText d path (unindented p) marker (lines_from d.text n) (taking items (lines_from d.text next))) (columns_line_end (indent p.rest) p) (is (unindented p) place (sym at_is)),
+  refl,
+)
 
 -- where what is told changes nothing
 pub told_none : (defined : Tables) → told defined [] ≡ defined
@@ -210,40 +203,29 @@ kind_in_run around p x some = ap (λ (x : Option LinkEntry). if is_some x then L
 -- what opens behind link definitions, or behind none
 text_opens : (d : Document) (path : List Container) (p : Place) (lines : List Place) (xs : List LinkEntry) (b : Beyond) (o : Opening)
     → IsRun (around d path) (unindented p) lines xs b → OpensBeyond d path xs b o → OpensAs d path p lines (kind_in (around d path) p Paragraph) o
-unfolding IsRun OpensAs OpensRun OpensParagraph
+unfolding IsRun OpensAs OpensRun OpensText
 text_opens d path p lines [] b o (none, is) opens =
     subst (λ k. OpensAs d path p lines k o) (sym (kind_in_text (around d path) p none)) (subst (λ z. OpensBeyond d path [] z o) is opens)
 text_opens d path p lines (x ∷ xs) b o (here, more) opens =
     subst (λ k. OpensAs d path p lines k o) (sym (kind_in_run (around d path) p x here)) (x ∷ xs, b, (here, more), opens)
 
--- a paragraph that was added at a place, behind link definitions or none
-opens_flow : (d : Document) (path : List Container) (old new : Forest Item) (q : Place) (at next : ℕ) (xs : List LinkEntry) → path_of old ≡ path → at ≡ offset q → IsPlaceOf d.text q → (a : AddsParagraph d at None old new next)
-    → OpensBeyond d path xs (FlowsOn q (lines_from d.text (line_end q))) (OpensLeaf (Block (flowing_block q xs (paragraph_block at next a.chain))) Line (lines_from d.text next))
-opens_flow d path old new q at next xs path_is at_is place a =
-    let left : List Place = lines_from d.text next in
-    let ends : start_of (length d.text) left ≡ next = start_of-lines d.text next a.boundary.0 in
-    let here : line_end_at d.text at ≡ line_end q = ap (line_end_at d.text) at_is ∙ ap (λ bs. offset q + line_len bs) (sym place.left) in
-    let text : IsParagraph d path at [] (lines_from d.text (line_end_at d.text at)) a.chain left = subst (λ z. IsParagraph d z at [] (lines_from d.text (line_end_at d.text at)) a.chain left) path_is a.lines in
-    let whole : IsParagraph d path (offset q) [] (lines_from d.text (line_end q)) a.chain left =
-    subst (λ k. IsParagraph d path k [] (lines_from d.text (line_end q)) a.chain left) at_is (subst (λ n. IsParagraph d path at [] (lines_from d.text n) a.chain left) here text) in (
-      a.chain,
-      left,
-      whole,
-      ap (λ k. OpensLeaf (Block (flowing_block q xs (paragraph_block k next a.chain))) Line left) at_is
-          ∙ ap (λ n. OpensLeaf (Block (flowing_block q xs (paragraph_block (offset q) n a.chain))) Line left) (sym ends),
-    )
+-- what stands for a text at a place, behind link definitions or none
+opens_flow : (d : Document) (path : List Container) (q : Place) (at next : ℕ) (xs : List LinkEntry) (items : List (ℕ × Item)) → at ≡ offset q → IsPlaceOf d.text q → IsTextAt d path at None items next
+    → OpensBeyond d path xs (FlowsOn q (lines_from d.text (line_end q))) (OpensLeaf (Block (flowing_block q xs items)) Line (lines_from d.text next))
+opens_flow d path q at next xs items at_is place is = (taking items (lines_from d.text next), is q place (sym at_is), refl)
 
--- behind a paragraph, which stands behind link definitions or none
-pub ready_flows : (d : Document) (defined : Tables) (r : Reading) (new : Forest Item) (p q : Place) (at next : ℕ) (xs : List LinkEntry) → IsForest r.tree → IsKind d.options p.rest Paragraph → IsPlaceOf d.text q → at ≡ offset q
-    → IsRun (context_of d.options r.tree) (unindented p) (lines_from d.text (line_end p)) xs (FlowsOn q (lines_from d.text (line_end q))) → AddsParagraph d at None (list_finished at r).tree new next → r.empty_item ≡ None
+-- behind a text, which stands behind link definitions or none
+pub ready_flows : (d : Document) (defined : Tables) (r : Reading) (new : Forest Item) (p q : Place) (at next : ℕ) (xs : List LinkEntry) (items : List (ℕ × Item)) → IsForest r.tree → IsKind d.options p.rest Paragraph → IsPlaceOf d.text q → at ≡ offset q
+    → IsRun (context_of d.options r.tree) (unindented p) (lines_from d.text (line_end p)) xs (FlowsOn q (lines_from d.text (line_end q))) → IsTextAt d (path_of (list_finished at r).tree) at None items next
+    → new ≡ added (list_finished at r).tree items → r.empty_item ≡ None
     → ReadyLeaf d defined r p (lines_from d.text (line_end p)) → (empty : Option ℕ) (blank : Bool) → empty ≡ None → blank ≡ false → Ready d (told defined xs) (remembered new empty blank) (lines_from d.text next)
-ready_flows d defined r new p q at next xs forest kind place at_is run a none ready =
+ready_flows d defined r new p q at next xs items forest kind place at_is run is new_is none ready =
     let lines : List Place = lines_from d.text (line_end p) in
     let left : List Place = lines_from d.text next in
-    let block : LeafBlock = flowing_block q xs (paragraph_block at next a.chain) in
-    let opens = text_opens d (path_of r.tree) p lines xs (FlowsOn q (lines_from d.text (line_end q))) (OpensLeaf (Block block) Line left) run
-    (opens_flow d (path_of r.tree) (list_finished at r).tree new q at next xs (path_finished at r none) at_is place a) in
-    ready_added d defined r new p lines left at block (sym at_is) Paragraph forest kind opens a.tree_is none ready
+    let block : LeafBlock = flowing_block q xs items in
+    let here : IsTextAt d (path_of r.tree) at None items next = subst (λ path. IsTextAt d path at None items next) (path_finished at r none) is in
+    let opens = text_opens d (path_of r.tree) p lines xs (FlowsOn q (lines_from d.text (line_end q))) (OpensLeaf (Block block) Line left) run (opens_flow d (path_of r.tree) q at next xs items at_is place here) in
+    ready_added d defined r new p lines left at block (sym at_is) Paragraph forest kind opens new_is none ready
 
 -- nothing is added where a block has no items
 added_nothing : (d : Document) (defined : Tables) (f : Forest Item) (run : Bool) (left : List Place) → ReadyAt d defined (added f []) run Line left → ReadyAt d defined f run Line left
@@ -270,22 +252,23 @@ ready_ended d defined r p q next xs forest kind run none ready =
     ready_plain d (told defined xs) now left (list_finished_none q.line r)
     (subst (λ t. ReadyAt d (told defined xs) now.tree t Line left) (sym (list_finished_blank q.line r)) (added_nothing d (told defined xs) now.tree false left done))
 
--- behind the paragraph of a task list item
-pub ready_text : (d : Document) (defined : Tables) (r : Reading) (new : Forest Item) (p : Place) (at next : ℕ) (marker : Item) → at ≡ offset (unindented p) → IsPlaceOf d.text (unindented p) → AddsParagraph d at (Some marker) r.tree new next → r.empty_item ≡ None
+-- behind the text of a task list item
+pub ready_text : (d : Document) (defined : Tables) (r : Reading) (new : Forest Item) (p : Place) (at next : ℕ) (marker : Item) (items : List (ℕ × Item)) → at ≡ offset (unindented p) → IsPlaceOf d.text (unindented p)
+    → IsTextAt d (path_of r.tree) at (Some marker) items next → new ≡ added r.tree items → r.empty_item ≡ None
     → ReadyText d defined r marker p (lines_from d.text (line_end p)) → Ready d defined (remembered new r.empty_item r.blank) (lines_from d.text next)
-ready_text d defined r new p at next marker at_is place a none text =
+ready_text d defined r new p at next marker items at_is place is new_is none text =
     let ready = text.ready in
     let f : Forest Item = r.tree in
     let frames : List Frame = ready.frames in
     let os : List ℕ = map (λ (i : TreeIndex). i.0) f.spine in
     let lines : List Place = lines_from d.text (line_end p) in
     let left : List Place = lines_from d.text next in
-    let block : List (ℕ × Item) = paragraph_block at next (marker_items (Some marker) ++ a.chain) in
-    let opens = opens_paragraph d (containers_of frames) f new p at next (Some marker) (open_path f.nodes f.spine frames ready.are_open) at_is place a in
-    let k = completes-text d defined frames f.nodes os marker p lines left (block_at Paragraph p block false) text.plain opens ready.completes in
-    let q = with_block d defined f frames block false left ready.are_open ready.completes.below
-    (subst (λ z. CompletesAt d z false frames (f.nodes ++ at_depth (suc (length os)) block) os Line left) (told_none defined) k) in
-    ready_plain d defined (remembered new r.empty_item r.blank) left none (subst (λ t. ReadyAt d defined new t Line left) (sym text.blank) (subst (λ z. ReadyAt d defined z false Line left) (sym a.tree_is) q))
+    let here : IsTextAt d (containers_of frames) at (Some marker) items next = subst (λ path. IsTextAt d path at (Some marker) items next) (open_path f.nodes f.spine frames ready.are_open) is in
+    let opens = opens_text d (containers_of frames) p at next (Some marker) items at_is place here in
+    let k = completes-text d defined frames f.nodes os marker p lines left (block_at Paragraph p items false) text.plain opens ready.completes in
+    let q = with_block d defined f frames items false left ready.are_open ready.completes.below
+    (subst (λ z. CompletesAt d z false frames (f.nodes ++ at_depth (suc (length os)) items) os Line left) (told_none defined) k) in
+    ready_plain d defined (remembered new r.empty_item r.blank) left none (subst (λ t. ReadyAt d defined new t Line left) (sym text.blank) (subst (λ z. ReadyAt d defined z false Line left) (sym new_is) q))
 
 -- a thematic break ends where its line ends
 pub rule_end : (p : Place) (at size : ℕ) → hrule_len (unindented p).rest.left ≡ Some size → at ≡ offset (unindented p) → at + size ≡ line_end p

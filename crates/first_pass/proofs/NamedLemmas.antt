@@ -10,7 +10,8 @@ use Rattle.first_pass_tree.specs.Forest.{Forest, empty_forest, with_end_at, dept
 use Rattle.first_pass_grammar.specs.Names.{Names, Extends, index_of, NamesEntry, AreNamed}
 use Rattle.first_pass_grammar.specs.Derivation.{tight_body, tightened, list_flags}
 use Rattle.first_pass_grammar.specs.Order.{is_task_marker}
-use Rattle.first_pass_grammar.proofs.NamedItems.{IsNamed, opens_named, named_more, named_both, named_deeper, named_modified}
+use Rattle.first_pass_grammar.proofs.LeavesNamed.{opens_named}
+use Rattle.first_pass_grammar.proofs.NamedItems.{IsNamed, named_more, named_both, named_deeper, named_modified}
 use Rattle.first_pass_items.specs.declared.option_set.Options.{Options}
 use Rattle.first_pass_lines.specs.Places.{Place, line_end}
 use Rattle.first_pass_grammar.specs.Kinds.{Kind}

@@ -1,5 +1,5 @@
--- A pass read the link definitions at a place, and the paragraph that they flow into or the one that begins there.
-use Rattle.std.proofs.Common.{◌≡◌, inl, inr, ℕ, ◌+◌, ◌≤◌, Bool, true, false, List, [], ◌∷◌, ◌++◌, Option, Some, None, IsUtf8, IsCharBoundary, refl, sym, ap, subst, ◌∙◌, arith, if◌then◌else◌}
+-- A pass read the link definitions at a place, and the text that they flow into or the one that begins there.
+use Rattle.std.proofs.Common.{◌≡◌, inl, inr, ℕ, ◌+◌, ◌≤◌, Bool, true, false, List, [], ◌∷◌, Option, Some, None, IsUtf8, IsCharBoundary, refl, sym, ap, subst, ◌∙◌, arith, if◌then◌else◌}
 use Rattle.std.specs.Option.{option_and_then}
 use Rattle.first_pass_items.specs.declared.item.Item.{Item}
 use Rattle.first_pass_items.specs.declared.item.ItemBody.{ItemBody}
@@ -10,16 +10,15 @@ use Rattle.first_pass_lines.specs.Lines.{line_len}
 use Rattle.first_pass_lines.specs.Rest.{indent}
 use Rattle.first_pass_lines.specs.Places.{Place, offset, line_end, IsPlaceOf}
 use Rattle.first_pass_lines.proofs.PlaceFacts.{columns_line_end}
-use Rattle.first_pass_open.specs.Path.{path_of}
 use Rattle.first_pass_grammar.specs.Containers.{Context}
 use Rattle.first_pass_grammar.specs.Kinds.{Paragraph, unindented, IsKind}
-use Rattle.first_pass_grammar.specs.Leaves.{Document, document, paragraph_block, marker_items}
+use Rattle.first_pass_grammar.specs.Leaves.{Document, document}
 use Rattle.first_pass_grammar.specs.Derivation.{Tables, told}
 use Rattle.first_pass_grammar.specs.LinkTables.{LinkEntry}
 use Rattle.first_pass_grammar.specs.LinkRuns.{Ended, FlowsOn, IsRun}
 use Rattle.first_pass_grammar.specs.Completion.{Frame, lines_from}
 use Rattle.first_pass_grammar.specs.OpenOrder.{IsOrderedTo}
-use Rattle.first_pass_names.specs.TableEntries.{tables, names_of, no_names}
+use Rattle.first_pass_names.specs.TableEntries.{tables, names_of}
 use Rattle.first_pass_lists.specs.Closing.{list_finished}
 use Rattle.first_pass_lists.specs.declared.reading.Reading.{Reading}
 use Rattle.first_pass_text.specs.Between.{AddsBetween}
@@ -31,17 +30,16 @@ use Rattle.first_pass.specs.Opening.{ReadyLeaf, line_or}
 use Rattle.first_pass.specs.Runs.{IsLater, ReadsRun}
 use Rattle.first_pass_lists.specs.Closing.{with_block, is_list, top_body}
 use Rattle.first_pass_grammar.specs.LinkRuns.{Beyond}
-use Rattle.first_pass_grammar.specs.Names.{AreNamed}
-use Rattle.first_pass_grammar.proofs.NoIndex.{paragraph_free}
-use Rattle.first_pass_grammar.proofs.NamedItems.{paragraph_named as text_named}
-use Rattle.first_pass_names.proofs.NameLemmas.{extends_equal}
-use Rattle.first_pass_text.specs.Appends.{line_end_at, AddsParagraph}
+use Rattle.first_pass_grammar.specs.Names.{Extends, AreNamed}
+use Rattle.first_pass_grammar.proofs.TextsNamed.{text_named}
+use Rattle.first_pass_names.proofs.NameLemmas.{extends_equal, extends_none}
+use Rattle.first_pass_text.specs.Appends.{line_end_at}
+use Rattle.first_pass_tables.specs.TextsAdded.{AddsText}
 use Rattle.first_pass.specs.Ordered.{IsOrderedAt}
 use Rattle.first_pass.proofs.OrderLemmas.{ordered_later, ordered_none}
 use Rattle.first_pass.proofs.OrderSteps.{line_or-below, ordered_finished, ordered_leaf, place_before_end, unindented_later}
 use Rattle.first_pass.proofs.LineLemmas.{list_finished_none}
 use Rattle.first_pass.proofs.HandedOn.{list_finished_blank}
-use Rattle.first_pass.proofs.KindBlocks.{paragraph_named}
 use Rattle.first_pass.proofs.NamedLemmas.{block_added, list_finished_named}
 use Rattle.first_pass.proofs.CountLemmas.{count, list_finished_count, block_count, leaf_left, left_before}
 use Rattle.first_pass.proofs.LeafLemmas.{ready_ended, ready_flows}
@@ -148,10 +146,10 @@ run_line old mid new p nested line next u i empty forest kind nest source names 
 pub run_text : (old mid new : FirstPass) (p : Place) (nested : Bool) (at next : ℕ) → IsUtf8 (source_text old) → IsPlaceOf (source_text old) p → (reading_of old).empty_item ≡ None → IsForest (tree_of old) → IsKind (source_options old) p.rest Paragraph
     → nested ≡ in_table (tree_of old).nodes (tree_of old).spine → source_of mid ≡ source_of old → names_of (allocs_of mid) ≡ names_of (allocs_of old)
     → ReadsRun (source_text old) (context_in old) nested (unindented p) (tables (allocs_of old)) (tables (allocs_of mid)) (TextBehind at)
-    → source_of new ≡ source_of mid → allocs_of new ≡ allocs_of mid → reading_of new ≡ with_block (list_finished at (reading_of old)) (tree_of new)
-    → AddsParagraph (document (source_text old) (source_options old) no_names) at None (list_finished at (reading_of old)).tree (tree_of new) next
+    → source_of new ≡ source_of mid → Extends (names_of (allocs_of new)) (names_of (allocs_of mid)) → tables (allocs_of new) ≡ tables (allocs_of mid) → reading_of new ≡ with_block (list_finished at (reading_of old)) (tree_of new)
+    → AddsText (source_text old) (source_options old) (names_of (allocs_of new)) at None (list_finished at (reading_of old)).tree (tree_of new) next
     → ((from : ℕ) → from ≤ at → AddsBetween (source_text old) from next (list_finished at (reading_of old)).tree (tree_of new)) → IsLeafRead old new p next
-run_text old mid new p nested at next u i empty forest kind nest source names w source' allocs reading block fits =
+run_text old mid new p nested at next u i empty forest kind nest source names w source' grown same_tables reading block fits =
     let text = source_text old in
     let options = source_options old in
     let r : Reading = reading_of old in
@@ -162,7 +160,7 @@ run_text old mid new p nested at next u i empty forest kind nest source names w 
     let on = later_than text p q further w.later in
     let at_is : at ≡ offset q = w.says in
     let begins = w.stands.boundary in
-    let named = ap names_of allocs ∙ names in
+    let more_named = subst (Extends (names_of (allocs_of new))) names grown in
     let none : (reading_of new).empty_item ≡ None = ap (λ (r : Reading). r.empty_item) reading in
     let blank : (reading_of new).blank ≡ false = ap (λ (r : Reading). r.blank) reading ∙ list_finished_blank at r in
     let here : line_end_at text at ≡ line_end q = ap (line_end_at text) at_is ∙ ap (λ bs. offset q + line_len bs) (sym w.stands.left) in
@@ -173,18 +171,19 @@ run_text old mid new p nested at next u i empty forest kind nest source names w 
     record {
       read = record {
         source = source' ∙ source;
-        names = extends_equal _ _ named;
+        names = more_named;
         later = omega arith;
         boundary = block.boundary;
         ready = λ more extends ready.
             let d = document text options more in
             let plain = nest ∙ leaf_plain d (tables (allocs_of old)) r p (lines_from text (line_end p)) ready in
             let run = run_from text (context_in old) p w.definitions (FlowsOn q (lines_from text (line_end q))) (w.run plain) in
-            subst (λ z. Ready d z (reading_of new) (lines_from text next)) (sym (ap tables allocs ∙ w.defined plain))
-            (ready_flows d (tables (allocs_of old)) r (tree_of new) p q at next w.definitions forest kind w.stands at_is run
-            (paragraph_named text options no_names more at None (list_finished at r).tree (tree_of new) next block) empty ready (reading_of new).empty_item (reading_of new).blank none blank);
-        named = λ h. block_added (names_of (allocs_of new)) (names_of (allocs_of old)) (list_finished at r).tree (tree_of new) (paragraph_block at next (marker_items None ++ block.chain)) (extends_equal _ _ named) block.tree_is
-            (text_named (names_of (allocs_of new)) at next None block.chain tt (paragraph_free (document text options no_names) _ at [] _ block.chain _ tt block.lines)) (list_finished_named (names_of (allocs_of old)) at r h);
+            subst (λ z. Ready d z (reading_of new) (lines_from text next)) (sym (same_tables ∙ w.defined plain))
+            (ready_flows d (tables (allocs_of old)) r (tree_of new) p q at next w.definitions block.items forest kind w.stands at_is run
+            (block.is_text more extends) block.tree_is empty ready (reading_of new).empty_item (reading_of new).blank none blank);
+        named = λ h. block_added (names_of (allocs_of new)) (names_of (allocs_of old)) (list_finished at r).tree (tree_of new) block.items more_named block.tree_is
+            (text_named (document text options (names_of (allocs_of new))) _ q None _ _ tt (block.is_text (names_of (allocs_of new)) (extends_none (names_of (allocs_of new))) q w.stands (sym at_is)))
+            (list_finished_named (names_of (allocs_of old)) at r h);
         order = λ o. inl (ordered_leaf text r (reading_of new) q.line (offset q) at at next (omega arith) (omega arith) (inr refl) (let high = begins.0 in omega arith) (subst (IsCharBoundary text) (sym at_is) begins) empty
             (later_ordered text r.tree p q further w.later w.stands o.1) (fits at (omega arith)) block.boundary.0 none);
       };

@@ -1,25 +1,28 @@
-//! Paragraphs, headings and thematic breaks, as calls of the pass.
+//! Paragraphs and tables, headings and thematic breaks, as calls of the pass.
 
 ghost use Rattle.std.specs.Prelude.{◌≡◌, ℕ, ◌+◌, ◌≤◌, drop, Some, false, length, IfOk, IfSome, OnOk, IsCharBoundary};
 ghost use Rattle.first_pass_lines.specs.Lines.{atx_level as atx_level_of};
 ghost use Rattle.first_pass_tree.specs.Forest.{added, is_text};
-ghost use Rattle.first_pass_names.specs.TableEntries.{no_names};
+ghost use Rattle.first_pass_names.specs.TableEntries.{tables, names_of, no_names};
+ghost use Rattle.first_pass_grammar.specs.Names.{Extends};
 ghost use Rattle.first_pass_grammar.specs.Leaves.{document, rule_block};
 ghost use Rattle.first_pass_lists.specs.Closing.{with_block};
-ghost use Rattle.first_pass_text.specs.Appends.{AddsParagraph, AddsHeading};
+ghost use Rattle.first_pass_text.specs.Appends.{AddsHeading};
+ghost use Rattle.first_pass_tables.specs.TextsAdded.{AddsText};
 ghost use Rattle.first_pass_text.specs.Between.{AddsBetween, IsInItem, StandsBefore};
 ghost use Rattle.first_pass.specs.Ordered.{IsOrderedAt};
 ghost use Rattle.first_pass.specs.Views.{allocs_of, reading_of, source_of, source_options, source_text, tree_of};
 
 use crate::state::FirstPass;
 use first_pass_items::item::{HeadingLevel, Item};
-use first_pass_text::{heading, paragraph, rule};
+use first_pass_tables::text;
+use first_pass_text::{heading, rule};
 use std::alloc::AllocError;
 
 impl<'a> FirstPass<'a> {
-    /// Appends the paragraph whose first line's text begins at the offset `start_ix` into the text, with
-    /// the marker of its task list item, if it has one, as its first child. Answers the offset at which
-    /// the line begins that ends the paragraph, or the text's length (CommonMark 4.8).
+    /// Appends what stands for the text that begins at the offset `start_ix` into the text: the table that its first
+    /// line heads, with tables; else a paragraph, with the marker of its task list item, if it has one, as its first
+    /// child. Answers the offset at which the line begins that ends it, or the text's length (CommonMark 4.8, GFM 4.10).
     pub fn parse_paragraph(
         &mut self,
         start_ix: usize,
@@ -28,11 +31,12 @@ impl<'a> FirstPass<'a> {
         requires boundary { IsCharBoundary (source_text self.old) start_ix }
         requires marker { IfSome tasklist_marker (λ x. is_text x.body ≡ false) }
         ensures source { OnOk result (source_of self.new ≡ source_of self.old) }
-        ensures allocs { OnOk result (allocs_of self.new ≡ allocs_of self.old) }
+        ensures names { OnOk result (Extends (names_of (allocs_of self.new)) (names_of (allocs_of self.old))) }
+        ensures tables { OnOk result (tables (allocs_of self.new) ≡ tables (allocs_of self.old)) }
         ensures reading { OnOk result (reading_of self.new ≡ with_block (reading_of self.old) (tree_of self.new)) }
         ensures block { IfOk result (λ next.
-            AddsParagraph (document (source_text self.old) (source_options self.old) no_names) start_ix tasklist_marker
-            (tree_of self.old) (tree_of self.new) next) }
+            AddsText (source_text self.old) (source_options self.old) (names_of (allocs_of self.new)) start_ix
+            tasklist_marker (tree_of self.old) (tree_of self.new) next) }
         ensures fits { IfOk result (λ next. IsInItem (tree_of self.old) tasklist_marker → (from : ℕ)
             → StandsBefore (source_text self.old) from start_ix tasklist_marker
             → AddsBetween (source_text self.old) from next (tree_of self.old) (tree_of self.new)) }
@@ -41,11 +45,12 @@ impl<'a> FirstPass<'a> {
             → IsOrderedAt (source_text self.old) (reading_of self.old) at
             → IsOrderedAt (source_text self.old) (reading_of self.new) next) }
     {
-        let next = paragraph::parse_paragraph(
+        let next = text::parse_paragraph(
             self.alloc,
             self.source,
             &self.lookup_table,
             &mut self.reading.tree,
+            &mut self.allocs,
             start_ix,
             tasklist_marker,
         )?;

@@ -1,7 +1,7 @@
-use Rattle.std.proofs.Common.{inl, ℕ, [], ◌++◌, Some, refl, IsCharBoundary, sym, ap, subst, ◌∙◌, arith}
+use Rattle.std.proofs.Common.{inl, ℕ, Some, refl, IsCharBoundary, sym, ap, subst, ◌∙◌, arith}
 use Rattle.first_pass_lists.specs.Closing.{remembered}
-use Rattle.first_pass_grammar.specs.Kinds.{all_taken}
-use Rattle.first_pass_grammar.specs.Leaves.{document, paragraph_block, marker_items}
+use Rattle.first_pass_grammar.specs.Kinds.{all_taken, unindented}
+use Rattle.first_pass_grammar.specs.Leaves.{document}
 use Rattle.first_pass_grammar.specs.Completion.{lines_from}
 use Rattle.first_pass_text.specs.Appends.{line_end_at}
 use Rattle.first_pass_lists.specs.declared.reading.Reading.{Reading}
@@ -11,12 +11,10 @@ use Rattle.first_pass.proofs.CountLemmas.{block_count}
 use Rattle.first_pass.proofs.OrderSteps.{ordered_block, unindented_later}
 use Rattle.first_pass_lines.specs.Places.{offset}
 use Rattle.first_pass_text.specs.Between.{AddsBetween, StandsBefore}
-use Rattle.first_pass_names.specs.TableEntries.{tables, names_of, no_names}
-use Rattle.first_pass_names.proofs.NameLemmas.{extends_equal}
-use Rattle.first_pass_grammar.proofs.NoIndex.{paragraph_free}
-use Rattle.first_pass_grammar.proofs.NamedItems.{paragraph_named as text_named}
+use Rattle.first_pass_names.specs.TableEntries.{tables, names_of}
+use Rattle.first_pass_names.proofs.NameLemmas.{extends_none}
+use Rattle.first_pass_grammar.proofs.TextsNamed.{text_named}
 use Rattle.first_pass.proofs.NamedLemmas.{block_added, task_is_no_text, task_has_none}
-use Rattle.first_pass.proofs.KindBlocks.{paragraph_named}
 use Rattle.first_pass.proofs.LeafLemmas.{line_end_of, ready_text}
 use Rattle.first_pass.proofs.state.FirstPass.parse_task_text.Goals as goal
 
@@ -60,16 +58,16 @@ returns c =
     record {
       read = record {
         source = e.source;
-        names = extends_equal _ _ (ap names_of e.allocs);
+        names = e.names;
         later = omega arith;
         boundary = e.block.boundary;
         ready = λ names more ready. let d = document text options names in
-            subst (λ z. Ready d z new.reading (lines_from text next)) (sym (ap tables e.allocs))
+            subst (λ z. Ready d z new.reading (lines_from text next)) (sym e.tables)
             (subst (λ o. Ready d (tables self.allocs) (remembered new.reading.tree o new.reading.blank) (lines_from text next)) (c.requires.no_empty ∙ sym none)
             (subst (λ b. Ready d (tables self.allocs) (remembered new.reading.tree self.reading.empty_item b) (lines_from text next)) (sym (ap (λ (r : Reading). r.blank) e.reading))
-            (ready_text d (tables self.allocs) old new.reading.tree p at next c.args.marker there i (paragraph_named text options no_names names at (Some c.args.marker) self.reading.tree new.reading.tree next e.block) c.requires.no_empty ready)));
-        named = λ h. block_added (names_of new.allocs) (names_of self.allocs) old.tree new.reading.tree (paragraph_block at next (marker_items (Some c.args.marker) ++ e.block.chain)) (extends_equal _ _ (ap names_of e.allocs)) e.block.tree_is
-            (text_named (names_of new.allocs) at next (Some c.args.marker) e.block.chain (task_has_none c.args.marker.body c.requires.marker) (paragraph_free (document text options no_names) _ at [] _ e.block.chain _ tt e.block.lines)) h;
+            (ready_text d (tables self.allocs) old new.reading.tree p at next c.args.marker e.block.items there i (e.block.is_text names more) e.block.tree_is c.requires.no_empty ready)));
+        named = λ h. block_added (names_of new.allocs) (names_of self.allocs) old.tree new.reading.tree e.block.items e.names e.block.tree_is
+            (text_named (document text options (names_of new.allocs)) _ (unindented p) (Some c.args.marker) _ _ (task_has_none c.args.marker.body c.requires.marker) (e.block.is_text (names_of new.allocs) (extends_none (names_of new.allocs)) (unindented p) i (sym there))) h;
         order = λ o. inl (ordered_block text self.reading.tree new.reading o.from next (fits o.from o.stands) e.block.boundary.0 none o.ordered);
       };
       few = λ from stands apart. block_count text from next self.reading.tree new.reading.tree (fits from stands) apart;

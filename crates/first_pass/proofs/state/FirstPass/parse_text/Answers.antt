@@ -1,15 +1,14 @@
 use Rattle.std.proofs.Common.{◌≡◌, ◌≤◌, ℕ, None, IsCharBoundary, refl, sym, ap, subst, ◌∙◌}
 use Rattle.first_pass_lines.specs.Places.{Place}
 use Rattle.first_pass_grammar.specs.Kinds.{unindented}
-use Rattle.first_pass_grammar.specs.Leaves.{document}
-use Rattle.first_pass_names.specs.TableEntries.{tables, no_names}
+use Rattle.first_pass_names.specs.TableEntries.{tables, names_of}
 use Rattle.first_pass_lists.specs.Closing.{list_finished, with_block}
 use Rattle.first_pass_lists.specs.declared.reading.Reading.{Reading}
 use Rattle.first_pass.specs.Views.{context_in}
 use Rattle.first_pass_open.specs.declared.source.Source.{Source}
 use Rattle.first_pass_open.proofs.PlaceLemmas.{all_keep}
 use Rattle.first_pass_tree.specs.Forest.{in_table}
-use Rattle.first_pass_text.specs.Appends.{AddsParagraph}
+use Rattle.first_pass_tables.specs.TextsAdded.{AddsText}
 use Rattle.first_pass_text.specs.Between.{AddsBetween}
 use Rattle.first_pass.specs.Runs.{ReadsRun}
 use Rattle.first_pass.proofs.LeafAdded.{found_boundary}
@@ -63,12 +62,12 @@ returns c =
     let run = subst (ReadsRun text (context_in self) nested (unindented p) (tables self.allocs) (tables mid.allocs)) c.in-Paragraph.is
     (e.run (unindented p) (ap (λ (q : Place). q.line) (sym c.place.view_is)) (sym c.requires.at) i) in
     let done : c.finish_list-in-Paragraph.new.self ≡ list_finished at r = c.finish_list-in-Paragraph.ensures ∙ ap (list_finished at) e.reading in
-    let block : AddsParagraph (document text options no_names) at None (list_finished at r).tree new.reading.tree next =
-    subst (λ (z : Reading). AddsParagraph (document text options no_names) at None z.tree new.reading.tree next) done
-    (subst (λ (z : Source). AddsParagraph (document z.text.now z.options no_names) at None c.finish_list-in-Paragraph.new.self.tree new.reading.tree next) e.source f.block) in
+    let block : AddsText text options (names_of new.allocs) at None (list_finished at r).tree new.reading.tree next =
+    subst (λ (z : Reading). AddsText text options (names_of new.allocs) at None z.tree new.reading.tree next) done
+    (subst (λ (z : Source). AddsText z.text.now z.options (names_of new.allocs) at None c.finish_list-in-Paragraph.new.self.tree new.reading.tree next) e.source f.block) in
     let fits : (from : ℕ) → from ≤ at → AddsBetween text from next (list_finished at r).tree new.reading.tree =
     λ from before. subst (λ (z : Reading). AddsBetween text from next z.tree new.reading.tree) done
     (subst (λ (z : Source). AddsBetween z.text.now from next c.finish_list-in-Paragraph.new.self.tree new.reading.tree) e.source (f.fits tt from before)) in
-    let w = run_text self mid new p nested at next c.requires.utf8 c.requires.place c.requires.no_empty c.is_forest.ensures c.requires.kind refl e.source e.names run f.source f.allocs
+    let w = run_text self mid new p nested at next c.requires.utf8 c.requires.place c.requires.no_empty c.is_forest.ensures c.requires.kind refl e.source e.names run f.source f.names f.tables
     (f.reading ∙ ap (λ (z : Reading). with_block z new.reading.tree) done) block fits in
     record { read = w.read; few = w.few }
