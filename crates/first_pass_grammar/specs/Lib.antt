@@ -19,3 +19,4 @@ pub mod Skeleton
 pub mod TableHeads
 pub mod Tables
 pub mod Texts
+pub mod WholeTables

@@ -9,6 +9,7 @@ ghost use Rattle.first_pass_grammar.specs.Leaves.{Document, document};
 ghost use Rattle.first_pass_grammar.specs.Skeleton.{From};
 ghost use Rattle.first_pass_grammar.specs.Derivation.{Derives, Tables};
 ghost use Rattle.first_pass_grammar.specs.LinkTables.{LinkEntry, with_links, link_under, IsInFoldedOrder};
+ghost use Rattle.first_pass_grammar.specs.WholeTables.{AreWholeTables};
 ghost use Rattle.first_pass_grammar.specs.Completion.{Standing, Frame, containers_of, Completes, CanGoOn, Completion};
 
 /// A text has one derived tree, read through what its indices name, and one pair of tables.
@@ -58,4 +59,12 @@ pub fn law_of_links()
     ensures first { (folding : List ℕ) (definitions : List LinkEntry)
         → link_under folding (with_links [] definitions) ≡ link_under folding definitions }
     ensures order { (definitions : List LinkEntry) → IsInFoldedOrder (with_links [] definitions) }
+{}
+
+/// In a derived tree each row of a table, its header row too, has as many cells as the table has columns, and at most
+/// 262,144 cells of a table start where their row ends, as those do that a row with too few is filled with (GFM 4.10,
+/// and this project). No row stands outside a table, and no cell outside a row.
+pub fn tables_are_whole()
+    ensures { (text : List ℕ) (options : Options) (names : Names) (nodes : List (ℕ × Item)) (tables : Tables)
+        → Derives (document text options names) nodes tables → AreWholeTables names nodes }
 {}

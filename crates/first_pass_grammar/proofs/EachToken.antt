@@ -1,0 +1,184 @@
+-- What holds of each token holds of each item in the chain of a paragraph, of a heading and of a cell, and of raw lines.
+use Rattle.std.proofs.Common.{◌≡◌, inl, inr, ℕ, zero, suc, ◌+◌, ◌-◌, ◌==◌, ◌&&◌, Bool, true, false, nat_lt, nat_le, min, List, [], ◌∷◌, ◌++◌, length, Option, Some, None, IfSome, sym, subst, if◌then◌else◌}
+use Rattle.first_pass_items.specs.declared.item.CowIndex.{CowIndex}
+use Rattle.first_pass_items.specs.declared.item.Item.{Item}
+use Rattle.first_pass_items.specs.declared.item.ItemBody.{ItemBody}
+use Rattle.first_pass_items.specs.declared.item.ItemBody.TheVariants.{Text, SoftBreak, HardBreak, Html, SynthesizeText}
+use Rattle.first_pass_tree.specs.Forest.{is_escaped, cut_item}
+use Rattle.first_pass_lines.specs.Places.{Place, offset, line_end}
+use Rattle.first_pass_tokens.specs.declared.pieces.Piece.{Piece}
+use Rattle.first_pass_tokens.specs.declared.pieces.Piece.TheVariants.{Left, Begins, Token}
+use Rattle.first_pass_tokens.specs.Pieces.{Source, size}
+use Rattle.first_pass_tokens.specs.LineTokens.{ArePieces, add_piece, add_pieces, text_end, line_end_len, breaks_by_backslash, blanks_at_end, break_of, line_break, IsLine, IsCell}
+use Rattle.first_pass_tokens.specs.Chains.{text_token, token, touches, add_token, add_tokens, add_text, is_backslash_break, close_break, cut}
+use Rattle.first_pass_tokens.proofs.PieceFacts.{IsPieceAt, is_markup}
+use Rattle.first_pass_tokens.proofs.LineLemmas.{piece_of}
+use Rattle.first_pass_grammar.specs.declared.kind.Container.{Container}
+use Rattle.first_pass_grammar.specs.Names.{Names}
+use Rattle.first_pass_grammar.specs.Containers.{at_rest, front}
+use Rattle.first_pass_grammar.specs.Kinds.{unindented}
+use Rattle.first_pass_grammar.specs.Leaves.{Document, content_at, add_break, IsParagraph, heading_chain, IsHeading, marker_items}
+use Rattle.first_pass_grammar.specs.RawLines.{AreColumns, Ranges, range_text, range_html, ends_with_both, raw_items, IsRawLine, AreRawLines}
+
+-- each of these items is one of which this holds
+abbrev pub AreEach : (ItemBody → Type 0) → List Item → Type 0
+AreEach P [] = Unit {0}
+AreEach P (x ∷ xs) = P x.body × AreEach P xs
+
+-- this holds of each token of a text's lines, and of what stands for raw lines
+pub record HoldsOfTokens (P : ItemBody → Type 0) : Type 0 where
+  pub text : (escaped : Bool) → P (Text escaped)
+  pub soft : P SoftBreak
+  pub hard : (by_backslash : Bool) → P (HardBreak by_backslash)
+  pub markup : (body : ItemBody) → is_markup body ≡ true → P body
+  pub html : P Html
+  pub columns : (ix : CowIndex) → P (SynthesizeText ix)
+
+module _ (P : ItemBody → Type 0) (holds : HoldsOfTokens P) where
+  -- more items
+  both_each : (xs ys : List Item) → AreEach P xs → AreEach P ys → AreEach P (xs ++ ys)
+  both_each [] ys h k = k
+  both_each (x ∷ xs) ys h k = (h.0, both_each xs ys h.1 k)
+
+  unless_each : (t : Bool) (xs ys : List Item) → AreEach P xs → AreEach P ys → AreEach P (if t then xs else ys)
+  unless_each true xs ys h k = h
+  unless_each false xs ys h k = k
+
+  joined_each : (t : Bool) (x y : Item) → P x.body → P y.body → AreEach P (if t then record x { «end» = y.«end» } ∷ [] else x ∷ y ∷ [])
+  joined_each true x y h k = (h, tt)
+  joined_each false x y h k = (h, (k, tt))
+
+  token_each : (chain : List Item) (y : Item) → AreEach P chain → P y.body → AreEach P (add_token chain y)
+  token_each [] y h k = (k, tt)
+  token_each (x ∷ []) y h k = joined_each (touches x y) x y h.0 k
+  token_each (x ∷ z ∷ zs) y h k = (h.0, token_each (z ∷ zs) y h.1 k)
+
+  tokens_each : (chain tokens : List Item) → AreEach P chain → AreEach P tokens → AreEach P (add_tokens chain tokens)
+  tokens_each chain [] h k = h
+  tokens_each chain (x ∷ xs) h k = tokens_each (add_token chain x) xs (token_each chain x h k.0) k.1
+
+  text_each : (from to : ℕ) (escaped : Bool) (chain : List Item) → AreEach P chain → AreEach P (add_text from to escaped chain)
+  text_each from to escaped chain h =
+      unless_each (nat_lt from to) (add_token chain (text_token from to escaped)) chain (token_each chain (text_token from to escaped) h (holds.text escaped)) h
+
+  -- the tokens of pieces
+  piece_each : (text : List ℕ) (stop at : ℕ) (p : Piece) (chain : List Item) → IsPieceAt text at p → AreEach P chain → AreEach P (add_piece stop at p chain)
+  piece_each text stop at (Left n) chain facts h = text_each at (min (at + n) stop) false chain h
+  piece_each text stop at (Begins dropped escaped) chain facts h = text_each (at + dropped) (min (at + (dropped + 1)) stop) escaped chain h
+  piece_each text stop at (Token dropped n body) chain facts h = token_each chain (token (at + dropped) n body) h (holds.markup body facts.kind)
+
+  pieces_each : (s : Source) (stop at : ℕ) (ps : List Piece) (end : ℕ) (chain : List Item) → ArePieces s at ps end → AreEach P chain
+      → AreEach P (add_pieces stop at ps chain)
+  pieces_each s stop at [] end chain are h = h
+  pieces_each s stop at (p ∷ ps) end chain are h =
+      pieces_each s stop (at + size p) ps end (add_piece stop at p chain) are.2 (piece_each s.text stop at p chain (piece_of s at p are.0 are.1) h)
+
+  -- the tokens of a line and its break
+  line_each : (s : Source) (tokens : List Item) (answer : ℕ × Option Item) → IsLine s tokens answer → AreEach P tokens
+  line_each s tokens answer h =
+      subst (AreEach P) (sym h.tokens_are) (pieces_each s (text_end s h.content_end) s.start h.pieces h.content_end [] h.division.divided tt)
+
+  white_each : (two : Bool) (end next blanks : ℕ)
+      → P (if◌then◌else◌ {A = Item} two (record { start = end - blanks; «end» = next; body = HardBreak false }) (record { start = end; «end» = next; body = SoftBreak })).body
+  white_each true end next blanks = holds.hard false
+  white_each false end next blanks = holds.soft
+
+  break_of_each : (end next : ℕ) (by_backslash : Bool) (blanks : ℕ) → P (break_of end next by_backslash blanks).body
+  break_of_each end next true blanks = holds.hard true
+  break_of_each end next false blanks = white_each (nat_le 2 blanks) end next blanks
+
+  some_each : (t : Bool) (x : Item) → P x.body → IfSome (if t then None else Some x) (λ y. P y.body)
+  some_each true x h = tt
+  some_each false x h = h
+
+  line_break_each : (s : Source) (end : ℕ) → IfSome (line_break s end) (λ y. P y.body)
+  unfolding line_break
+  line_break_each s end =
+      some_each (nat_le (length s.text) end) (break_of end (end + line_end_len s end) (breaks_by_backslash s end) (blanks_at_end s end))
+      (break_of_each end (end + line_end_len s end) (breaks_by_backslash s end) (blanks_at_end s end))
+
+  break_each : (s : Source) (tokens : List Item) (answer : ℕ × Option Item) → IsLine s tokens answer → IfSome answer.1 (λ y. P y.body)
+  break_each s tokens answer h = subst (λ (a : ℕ × Option Item). IfSome a.1 (λ y. P y.body)) (sym h.answer_is) (line_break_each s h.content_end)
+
+  closed_each : (o : Option Item) (chain : List Item) → AreEach P chain → AreEach P (close_break o chain)
+  closed_each None chain h = h
+  closed_each (Some x) chain h =
+      unless_each (is_backslash_break x.body) (add_text x.start (x.start + 1) false chain) chain (text_each x.start (x.start + 1) false chain h) h
+
+  broken_each : (o : Option Item) (chain : List Item) → IfSome o (λ y. P y.body) → AreEach P chain → AreEach P (add_break o chain)
+  broken_each None chain k h = h
+  broken_each (Some x) chain k h = both_each chain (x ∷ []) h (k, tt)
+
+  -- the chain of a paragraph
+  pub paragraph_each : (d : Document) (path : List Container) (start : ℕ) (chain : List Item) (lines : List Place) (w : List Item) (l : List Place)
+      → AreEach P chain → IsParagraph d path start chain lines w l → AreEach P w
+  unfolding IsParagraph
+  paragraph_each d path start chain [] w l h (t, a, i, e, f) =
+      subst (AreEach P) (sym e) (closed_each a.1 (add_tokens chain t) (tokens_each chain t h (line_each (content_at d start) t a i)))
+  paragraph_each d path start chain (line ∷ lines) w l h (t, a, i, inl (ends, e, f)) =
+      subst (AreEach P) (sym e) (closed_each a.1 (add_tokens chain t) (tokens_each chain t h (line_each (content_at d start) t a i)))
+  paragraph_each d path start chain (line ∷ lines) w l h (t, a, i, inr (goes, more)) =
+      paragraph_each d path (offset (unindented (at_rest line (front path line.rest)))) (add_break a.1 (add_tokens chain t)) lines w l
+      (broken_each a.1 (add_tokens chain t) (break_each (content_at d start) t a i) (tokens_each chain t h (line_each (content_at d start) t a i))) more
+
+  pub marked_each : (marker : Option Item) (chain : List Item) → IfSome marker (λ x. P x.body) → AreEach P chain → AreEach P (marker_items marker ++ chain)
+  marked_each None chain h k = k
+  marked_each (Some x) chain h k = (h, k)
+
+  -- the chain of a heading
+  cut_item_each : (t : Bool) (e : ℕ) (x : Item) → P x.body → P (if◌then◌else◌ {A = Item} t (record x { «end» = e }) x).body
+  cut_item_each true e x h = h
+  cut_item_each false e x h = h
+
+  cut_each : (e : ℕ) (chain : List Item) → AreEach P chain → AreEach P (cut e chain)
+  cut_each e [] h = tt
+  cut_each e (x ∷ xs) h =
+      unless_each (nat_lt x.start e) (cut_item e x ∷ cut e xs) (if is_escaped x.body && (x.start == e) then text_token (e - 1) e false ∷ [] else [])
+      (cut_item_each (nat_lt e x.«end») e x h.0, cut_each e xs h.1)
+      (unless_each (is_escaped x.body && (x.start == e)) (text_token (e - 1) e false ∷ []) [] (holds.text false, tt) tt)
+
+  heading_chain_each : (kept start : ℕ) (chain : List Item) → AreEach P chain → AreEach P (heading_chain kept start chain)
+  unfolding heading_chain
+  heading_chain_each kept start chain h = unless_each (kept == 0) [] (cut (start + kept) chain) tt (cut_each (start + kept) chain h)
+
+  pub heading_each : (d : Document) (start : ℕ) (chain : List Item) (e : ℕ) → IsHeading d start chain e → AreEach P chain
+  heading_each d start chain e h =
+      subst (AreEach P) (sym h.chain_is)
+      (heading_chain_each _ start (close_break h.break (add_tokens [] h.tokens))
+      (closed_each h.break (add_tokens [] h.tokens) (tokens_each [] h.tokens tt (line_each (content_at d start) h.tokens (e, h.break) h.line))))
+
+  -- the tokens of a cell
+  pub cell_each : (s : Source) (tokens : List Item) (stop : ℕ) → IsCell s tokens stop → AreEach P tokens
+  cell_each s tokens stop h =
+      subst (AreEach P) (sym h.tokens_are) (pieces_each s (stop - blanks_at_end s stop) s.start h.pieces stop [] h.division.divided tt)
+
+  -- raw lines
+  columns_each : (names : Names) (owed at : ℕ) (items : List Item) → AreColumns names owed at items → AreEach P items
+  columns_each names zero at items is = subst (AreEach P) (sym is) tt
+  columns_each names (suc n) at items (ix, names_it, is) = subst (AreEach P) (sym is) (holds.columns ix, tt)
+
+  raw_each : (range : Ranges) (text : List ℕ) (from to : ℕ) → ((a b : ℕ) → AreEach P (range a b)) → AreEach P (raw_items range text from to)
+  unfolding raw_items
+  raw_each range text from to each =
+      unless_each (ends_with_both text from to) (range from (to - 2) ++ range (to - 1) to) (range from to)
+      (both_each (range from (to - 2)) (range (to - 1) to) (each from (to - 2)) (each (to - 1) to)) (each from to)
+
+  pub range_text_each : (a b : ℕ) → AreEach P (range_text a b)
+  range_text_each a b = unless_each (nat_lt a b) (text_token a b false ∷ []) [] (holds.text false, tt) tt
+
+  pub range_html_each : (a b : ℕ) → AreEach P (range_html a b)
+  range_html_each a b = (holds.html, tt)
+
+  raw_line_each : (range : Ranges) (d : Document) (owed from to : ℕ) (items : List Item) → ((a b : ℕ) → AreEach P (range a b))
+      → IsRawLine range d owed from to items → AreEach P items
+  raw_line_each range d owed from to items each (columns, are, is) =
+      subst (AreEach P) (sym is)
+      (both_each columns (raw_items range d.text from to) (columns_each d.names owed from columns are) (raw_each range d.text from to each))
+
+  pub raw_lines_each : (range : Ranges) (d : Document) (chain : List Item) (places : List Place) (whole : List Item) → ((a b : ℕ) → AreEach P (range a b))
+      → AreEach P chain → AreRawLines range d chain places whole → AreEach P whole
+  unfolding AreRawLines
+  raw_lines_each range d chain [] whole each h is = subst (AreEach P) (sym is) h
+  raw_lines_each range d chain (p ∷ places) whole each h (line, is, more) =
+      raw_lines_each range d (add_tokens chain line) places whole each
+      (tokens_each chain line h (raw_line_each range d p.rest.owed (offset p) (line_end p) line each is)) more

@@ -1,0 +1,389 @@
+-- A header row has at least as many cells as its table has columns: each pipe that is not directly behind a backslash ends one, but the first in its line.
+use Rattle.std.proofs.Common.{◌≡◌, inl, inr, ℕ, zero, suc, ◌+◌, ◌-◌, ◌<◌, ◌≤◌, ◌==◌, ◌&&◌, not, Bool, true, false, List, [], ◌∷◌, length, take, drop, slice_index, Option, Some, None, is_some, refl, sym, ap, subst, ◌∙◌, arith, add-one, drop-drop, if◌then◌else◌}
+use Rattle.std.specs.Option.{option_map, option_map_or, option_and_then}
+use Rattle.std.specs.List.{prefix_len, take_while}
+use Rattle.std.proofs.lemmas.Bool.{cases_lt, eq-eqb, eqb-true, true≢false}
+use Rattle.std.proofs.lemmas.List.{at_drop_all, at_drop_more, get_or_past}
+use Rattle.std.proofs.lemmas.Option.{none-some, same_Some}
+use Rattle.first_pass_items.specs.Bytes.{backslash, pipe}
+use Rattle.first_pass_items.specs.OptionWords.{has, tables}
+use Rattle.first_pass_items.specs.declared.item.Alignment.{Alignment}
+use Rattle.first_pass_items.specs.declared.item.Item.{Item}
+use Rattle.first_pass_lines.specs.Lines.{is_content, is_white, begins, eol_len, at_line_end, is_blank_line}
+use Rattle.first_pass_lines.specs.Places.{Place, offset}
+use Rattle.first_pass_table_scan.specs.TableHead.{is_pipe, pipes_behind, pipes_of, header_columns, last_pipe_behind, head_columns}
+use Rattle.first_pass_tokens.specs.LineTokens.{IsCell}
+use Rattle.first_pass_tokens.specs.MarkupBytes.{PipesAreEscaped}
+use Rattle.first_pass_tokens.proofs.CellPipes.{cell_pipes}
+use Rattle.first_pass_tokens.proofs.LineLemmas.{pieces_reach}
+use Rattle.first_pass_grammar.specs.declared.kind.Container.{Container}
+use Rattle.first_pass_grammar.specs.Leaves.{Document, around}
+use Rattle.first_pass_grammar.specs.TableHeads.{alignments_behind, if_as_many, table_at, ends_in_backslash, headed_table}
+use Rattle.first_pass_grammar.specs.Tables.{cell_content, cell_start, cell_text, AreCells, filled}
+use Rattle.first_pass_grammar.proofs.PlacesKept.{IsAt}
+use Rattle.first_pass_grammar.proofs.WholeBlocks.{HeadsAreFull}
+
+-- one element more
+take_next : (n c : ℕ) (cs : List ℕ) → take (n + 1) (c ∷ cs) ≡ c ∷ take n cs
+take_next n c cs = rw add-one
+
+drop_next : (n c : ℕ) (cs : List ℕ) → drop (n + 1) (c ∷ cs) ≡ drop n cs
+drop_next n c cs = rw add-one
+
+-- how many cells a line's content gives at least, by its next byte: one for each pipe, and one where something else stands behind the last
+abbrev step : Bool → Bool → Bool → ℕ → ℕ
+step content ends white more = if content then (if ends then suc more else (if white then more else suc (more - 1))) else 0
+
+unfoldable cells_of : ℕ → List ℕ → ℕ
+cells_of b [] = 0
+cells_of b (c ∷ cs) = step (is_content c) (is_pipe c && not (b == backslash)) (is_white c) (cells_of c cs)
+
+step_most : (t u w : Bool) (m : ℕ) → step t u w m ≤ suc m
+step_most false u w m = omega arith
+step_most true true w m = omega arith
+step_most true false true m = omega arith
+step_most true false false m = omega arith
+
+step_least : (u w : Bool) (m : ℕ) → m ≤ step true u w m
+step_least true w m = omega arith
+step_least false true m = omega arith
+step_least false false m = omega arith
+
+step_other : (t w : Bool) (m n : ℕ) → m ≤ suc n → step t false w m ≤ suc n
+step_other false w m n h = omega arith
+step_other true true m n h = omega arith
+step_other true false m n h = omega arith
+
+step_white : (t : Bool) (m : ℕ) → step t false true m ≤ m
+step_white false m = omega arith
+step_white true m = omega arith
+
+step_escaped : (t p x w : Bool) (m : ℕ) → step t (p && not x) w m ≤ step t (p && true) w m
+step_escaped t false x w m = omega arith
+step_escaped t true false w m = omega arith
+step_escaped false true true w m = omega arith
+step_escaped true true true true m = omega arith
+step_escaped true true true false m = omega arith
+
+-- no fewer where no backslash stands before
+cells_unescaped : (b : ℕ) (bs : List ℕ) → cells_of b bs ≤ cells_of 0 bs
+unfolding cells_of
+cells_unescaped b [] = omega arith
+cells_unescaped b (c ∷ cs) = step_escaped (is_content c) (is_pipe c) (b == backslash) (is_white c) (cells_of c cs)
+
+-- white space before gives none
+white_other : (t : Bool) (c : ℕ) → is_pipe c ≡ t → is_white c ≡ true → is_pipe c ≡ false
+white_other true c p w = absurd (true≢false (sym w ∙ ap is_white (eqb-true c 124 p)))
+white_other false c p w = p
+
+cells_white_by : (t : Bool) (b c : ℕ) (cs : List ℕ) → is_white c ≡ t → cells_of c cs ≤ cells_of 0 (drop (prefix_len is_white cs) cs)
+    → cells_of b (c ∷ cs) ≤ cells_of 0 (drop (prefix_len is_white (c ∷ cs)) (c ∷ cs))
+unfolding cells_of
+cells_white_by true b c cs h more =
+    let other = white_other (is_pipe c) c refl h in
+    let none : (is_pipe c && not (b == backslash)) ≡ false = ap (λ (p : Bool). p && not (b == backslash)) other in
+    let here = ap (λ (u : Bool). step (is_content c) u (is_white c) (cells_of c cs)) none ∙ ap (λ (w : Bool). step (is_content c) false w (cells_of c cs)) h in
+    let low = step_white (is_content c) (cells_of c cs) in
+    let n : prefix_len is_white (c ∷ cs) ≡ prefix_len is_white cs + 1 = rw h (omega arith) in
+    let rest = drop_next (prefix_len is_white cs) c cs in
+    let behind = ap (λ (k : ℕ). cells_of 0 (drop k (c ∷ cs))) n ∙ ap (λ (xs : List ℕ). cells_of 0 xs) rest in
+    omega arith
+cells_white_by false b c cs h more =
+    let n : prefix_len is_white (c ∷ cs) ≡ 0 = rw h in
+    let behind = ap (λ (k : ℕ). cells_of 0 (drop k (c ∷ cs))) n in
+    let low = cells_unescaped b (c ∷ cs) in
+    omega arith
+
+cells_white : (b : ℕ) (bs : List ℕ) → cells_of b bs ≤ cells_of 0 (drop (prefix_len is_white bs) bs)
+unfolding cells_of
+cells_white b [] = omega arith
+cells_white b (c ∷ cs) = cells_white_by (is_white c) b c cs refl (cells_white c cs)
+
+-- where the line ends there are none
+line_end_by : (t u : Bool) (b n : ℕ) (k : Option ℕ) → (b == 10) ≡ t → (b == 13) ≡ u → (if t then Some 1 else (if u then k else None)) ≡ Some n → is_content b ≡ false
+line_end_by true u b n k h l e = ap is_content (eqb-true b 10 h)
+line_end_by false true b n k h l e = ap is_content (eqb-true b 13 l)
+line_end_by false false b n k h l e = absurd (none-some n e)
+
+cells_end : (b : ℕ) (bs : List ℕ) (n : ℕ) → eol_len bs ≡ Some n → cells_of b bs ≡ 0
+unfolding cells_of
+cells_end b [] n e = refl
+cells_end b (c ∷ cs) n e =
+    let ends = line_end_by (c == 10) (c == 13) c n _ refl refl e in
+    ap (λ (t : Bool). step t (is_pipe c && not (b == backslash)) (is_white c) (cells_of c cs)) ends
+
+-- behind a pipe, or where none stands
+first_by : (text : List ℕ) (at : ℕ) (t : Bool) → (slice_index text at == pipe) ≡ t
+    → cells_of 0 (drop at text) ≤ (if t then 1 else 0) + cells_of 0 (drop (cell_start text at) text)
+unfolding cells_of
+first_by text at true here =
+    let begins : cell_start text at ≡ at + 1 = ap (λ (t : Bool). if t then at + 1 else at) here in
+    let behind = ap (λ (k : ℕ). cells_of 0 (drop k text)) begins in
+    elim (cases_lt at (length text)) [
+      | inl inside ↦
+          let c = slice_index text at in
+          let cs = drop (at + 1) text in
+          let read = at_drop_more (cells_of 0) text at 0 inside in
+          let most = step_most (is_content c) (is_pipe c && not (0 == backslash)) (is_white c) (cells_of c cs) in
+          let low = cells_unescaped c cs in
+          omega arith
+      | inr past ↦ absurd (true≢false (sym here ∙ ap (λ (b : ℕ). b == pipe) (get_or_past text at 0 past)))
+    ]
+first_by text at false here =
+    let begins : cell_start text at ≡ at = ap (λ (t : Bool). if t then at + 1 else at) here in
+    let behind = ap (λ (k : ℕ). cells_of 0 (drop k text)) begins in
+    omega arith
+
+-- up to the content of the cell there
+to_text : (text : List ℕ) (at : ℕ) → cells_of 0 (drop at text) ≤ (if slice_index text at == pipe then 1 else 0) + cells_of 0 (drop (cell_text text at) text)
+to_text text at =
+    let first = first_by text at (slice_index text at == pipe) refl in
+    let start : ℕ = cell_start text at in
+    let white = cells_white 0 (drop start text) in
+    let same = ap (λ (bs : List ℕ). cells_of 0 bs) (drop-drop (prefix_len is_white (drop start text)) start text) in
+    omega arith
+
+-- the content of a cell gives one
+escaped_by : (t : Bool) (b c : ℕ) → is_pipe c ≡ t → (c ≡ pipe → b ≡ backslash) → (is_pipe c && not (b == backslash)) ≡ false
+escaped_by true b c p h =
+    let behind = eq-eqb b 92 (h (eqb-true c 124 p)) in
+    ap (λ (x : Bool). x && not (b == backslash)) p ∙ ap not behind
+escaped_by false b c p h = ap (λ (x : Bool). x && not (b == backslash)) p
+
+through : (text : List ℕ) (n at b stop : ℕ) → at + n ≡ stop → (at < stop → slice_index text at ≡ pipe → b ≡ backslash)
+    → ((k : ℕ) → at < k → k < stop → slice_index text k ≡ pipe → slice_index text (k - 1) ≡ backslash)
+    → cells_of b (drop at text) ≤ suc (cells_of 0 (drop stop text) - 1)
+unfolding cells_of
+through text zero at b stop same here escaped =
+    let low = cells_unescaped b (drop at text) in
+    let there : at ≡ stop = omega arith in
+    let read = ap (λ (k : ℕ). cells_of 0 (drop k text)) there in
+    omega arith
+through text (suc n) at b stop same here escaped =
+    elim (cases_lt at (length text)) [
+      | inl inside ↦
+          let c = slice_index text at in
+          let cs = drop (at + 1) text in
+          let read = at_drop_more (cells_of b) text at 0 inside in
+          let none = escaped_by (is_pipe c) b c refl (here (omega arith)) in
+          let step_is = ap (λ (u : Bool). step (is_content c) u (is_white c) (cells_of c cs)) none in
+          let back : at + 1 - 1 ≡ at = omega arith in
+          let rest = through text n (at + 1) c stop (omega arith)
+          (λ low stands. sym (ap (slice_index text) back) ∙ escaped (at + 1) (omega arith) low stands)
+          (λ k low high stands. escaped k (omega arith) high stands) in
+          let most = step_other (is_content c) (is_white c) (cells_of c cs) (cells_of 0 (drop stop text) - 1) rest in
+          omega arith
+      | inr past ↦ let none = at_drop_all (cells_of b) text at past in omega arith
+    ]
+
+one_cell : (d : Document) (at : ℕ) (tokens : List Item) (stop : ℕ) → has d.options tables ≡ true → IsCell (cell_content d at) tokens stop
+    → cells_of 0 (drop at d.text) ≤ suc (cells_of 0 (drop stop d.text) - 1)
+one_cell d at tokens stop on is =
+    let escaped : PipesAreEscaped d.text at stop = cell_pipes (cell_content d at) refl on is in
+    let reach = pieces_reach (cell_content d at) at is.pieces stop is.division.divided in
+    through d.text (stop - at) at 0 stop (omega arith) (λ low stands. absurd (let first = (escaped at (omega arith) low stands).0 in omega arith))
+    (λ k low high stands. (escaped k (omega arith) high stands).1)
+
+-- a row has so many cells, but for the pipe that it begins with
+at_most_one : (t : Bool) → (if t then 1 else 0) ≤ 1
+at_most_one true = omega arith
+at_most_one false = omega arith
+
+cells_least : (d : Document) (at : ℕ) (cells : List (List (ℕ × Item))) («end» : ℕ) → has d.options tables ≡ true → AreCells d at cells «end»
+    → cells_of 0 (drop at d.text) ≤ (if slice_index d.text at == pipe then 1 else 0) + length cells
+unfolding AreCells
+cells_least d at [] end on (n, e, is) =
+    let first = to_text d.text at in
+    let none = cells_end 0 (drop (cell_text d.text at) d.text) n e in
+    omega arith
+cells_least d at (cell ∷ cells) end on (line, tokens, stop, is, same, more) =
+    let first = to_text d.text at in
+    let here = one_cell d (cell_text d.text at) tokens stop on is in
+    let rest = cells_least d stop cells end on more in
+    let one = at_most_one (slice_index d.text stop == pipe) in
+    omega arith
+
+-- where something stands before the line end there is one
+end_blank : (b : ℕ) (bs : List ℕ) (t u : Bool) → (b == 10) ≡ t → (b == 13) ≡ u → is_content b ≡ false → is_blank_line (b ∷ bs) ≡ true
+end_blank b bs true u h k is = ap (λ (x : ℕ). is_blank_line (x ∷ bs)) (eqb-true b 10 h)
+end_blank b bs false true h k is = ap (λ (x : ℕ). is_blank_line (x ∷ bs)) (eqb-true b 13 k)
+end_blank b bs false false h k is = absurd (true≢false (sym (rw (h, k) refl) ∙ is))
+
+some_mapped : {A B : Type 0} (f : A → B) (o : Option A) → is_some (option_map f o) ≡ is_some o
+some_mapped f None = refl
+some_mapped f (Some x) = refl
+
+white_blank : (b : ℕ) (bs : List ℕ) → is_white b ≡ true → is_blank_line (b ∷ bs) ≡ is_blank_line bs
+white_blank b bs h =
+    let n : prefix_len is_white (b ∷ bs) ≡ prefix_len is_white bs + 1 = rw h (omega arith) in
+    let rest = drop_next (prefix_len is_white bs) b bs in
+    some_mapped _ (eol_len (drop (prefix_len is_white (b ∷ bs)) (b ∷ bs)))
+    ∙ ap (λ (k : ℕ). at_line_end (drop k (b ∷ bs))) n ∙ ap (λ (xs : List ℕ). at_line_end xs) rest
+    ∙ sym (some_mapped _ (eol_len (drop (prefix_len is_white bs) bs)))
+
+step_some : (u : Bool) (m : ℕ) → 1 ≤ step true u false m
+step_some true m = omega arith
+step_some false m = omega arith
+
+some_by : (t w : Bool) (b c : ℕ) (cs : List ℕ) → is_content c ≡ t → is_white c ≡ w → is_blank_line (c ∷ cs) ≡ false
+    → (is_blank_line cs ≡ false → 1 ≤ cells_of c cs) → 1 ≤ cells_of b (c ∷ cs)
+unfolding cells_of
+some_by false w b c cs h k blank more = absurd (true≢false (sym (end_blank c cs (c == 10) (c == 13) refl refl h) ∙ blank))
+some_by true true b c cs h k blank more =
+    let rest = more (sym (white_blank c cs k) ∙ blank) in
+    let here = ap (λ (t : Bool). step t (is_pipe c && not (b == backslash)) (is_white c) (cells_of c cs)) h in
+    let least = step_least (is_pipe c && not (b == backslash)) (is_white c) (cells_of c cs) in
+    omega arith
+some_by true false b c cs h k blank more =
+    let here = ap (λ (t : Bool). step t (is_pipe c && not (b == backslash)) (is_white c) (cells_of c cs)) h in
+    let other = ap (λ (w : Bool). step true (is_pipe c && not (b == backslash)) w (cells_of c cs)) k in
+    let some = step_some (is_pipe c && not (b == backslash)) (cells_of c cs) in
+    omega arith
+
+some_left : (b : ℕ) (bs : List ℕ) → is_blank_line bs ≡ false → 1 ≤ cells_of b bs
+some_left b [] blank = absurd (true≢false blank)
+some_left b (c ∷ cs) blank = some_by (is_content c) (is_white c) b c cs refl refl blank (some_left c cs)
+
+tail_by : (t : Bool) (bs : List ℕ) (b : ℕ) → is_blank_line bs ≡ t → (if is_blank_line bs then 0 else 1) ≤ cells_of b bs
+tail_by true bs b h = rw h (omega arith)
+tail_by false bs b h = (let some = some_left b bs h in rw h some)
+
+-- up to the last pipe there is one for each, and one more where something stands behind it
+abbrev UpTo : ℕ → List ℕ → ℕ → Type 0
+UpTo b bs last = pipes_behind b (take (last + 1) bs) + (if is_blank_line (drop (last + 1) bs) then 0 else 1) ≤ cells_of b bs
+
+abbrev one_if : Bool → ℕ
+one_if t = if t then 1 else 0
+
+abbrev none_if : Bool → ℕ
+none_if t = if t then 0 else 1
+
+step_counted : (u w : Bool) (m : ℕ) → (if u then 1 else 0) + m ≤ step true u w m
+step_counted true w m = omega arith
+step_counted false true m = omega arith
+step_counted false false m = omega arith
+
+further_up : (b c : ℕ) (cs : List ℕ) (k : ℕ) → is_content c ≡ true → UpTo c cs k → UpTo b (c ∷ cs) (k + 1)
+unfolding cells_of
+further_up b c cs k h more =
+    let u : Bool = is_pipe c && not (b == backslash) in
+    let front = take_next (k + 1) c cs in
+    let behind = drop_next (k + 1) c cs in
+    let pipes = ap (λ (xs : List ℕ). pipes_behind b xs) front in
+    let tail : none_if (is_blank_line (drop (k + 1 + 1) (c ∷ cs))) ≡ none_if (is_blank_line (drop (k + 1) cs)) =
+    ap (λ (xs : List ℕ). none_if (is_blank_line xs)) behind in
+    let low : pipes_behind c (take (k + 1) cs) + none_if (is_blank_line (drop (k + 1) cs)) ≤ cells_of c cs = more in
+    let here = ap (λ (t : Bool). step t u (is_white c) (cells_of c cs)) h in
+    let counted = step_counted u (is_white c) (cells_of c cs) in
+    omega arith
+
+last_up : (b c : ℕ) (cs : List ℕ) → is_content c ≡ true → (is_pipe c && not (b == backslash)) ≡ true → UpTo b (c ∷ cs) 0
+unfolding cells_of
+last_up b c cs h p =
+    let tail = tail_by (is_blank_line cs) cs c refl in
+    let here = ap (λ (t : Bool). step t (is_pipe c && not (b == backslash)) (is_white c) (cells_of c cs)) h in
+    let counted = step_counted (is_pipe c && not (b == backslash)) (is_white c) (cells_of c cs) in
+    omega arith
+
+up_by : (u : Bool) (o : Option ℕ) (b c : ℕ) (cs : List ℕ) (last : ℕ) → is_content c ≡ true → (is_pipe c && not (b == backslash)) ≡ u
+    → ((k : ℕ) → o ≡ Some k → UpTo c cs k) → option_map_or (λ k. Some (k + 1)) o (if u then Some 0 else None) ≡ Some last → UpTo b (c ∷ cs) last
+up_by u (Some k) b c cs last h p more e = subst (UpTo b (c ∷ cs)) (same_Some (k + 1) last e) (further_up b c cs k h (more k refl))
+up_by true None b c cs last h p more e = subst (UpTo b (c ∷ cs)) (same_Some 0 last e) (last_up b c cs h p)
+up_by false None b c cs last h p more e = absurd (none-some last e)
+
+up_if : (t : Bool) (b c : ℕ) (cs : List ℕ) (last : ℕ) → is_content c ≡ t → ((k : ℕ) → last_pipe_behind c (take_while is_content cs) ≡ Some k → UpTo c cs k)
+    → last_pipe_behind b (if t then c ∷ take_while is_content cs else []) ≡ Some last → UpTo b (c ∷ cs) last
+up_if true b c cs last h more e =
+    up_by (is_pipe c && not (b == backslash)) (last_pipe_behind c (take_while is_content cs)) b c cs last h refl more e
+up_if false b c cs last h more e = absurd (none-some last e)
+
+content_front : (t : Bool) (c : ℕ) (cs : List ℕ) → is_content c ≡ t → take_while is_content (c ∷ cs) ≡ (if t then c ∷ take_while is_content cs else [])
+content_front true c cs h =
+    let n : prefix_len is_content (c ∷ cs) ≡ prefix_len is_content cs + 1 = rw h (omega arith) in
+    let front = take_next (prefix_len is_content cs) c cs in
+    ap (λ (k : ℕ). take k (c ∷ cs)) n ∙ front
+content_front false c cs h =
+    let n : prefix_len is_content (c ∷ cs) ≡ 0 = rw h in
+    ap (λ (k : ℕ). take k (c ∷ cs)) n
+
+up_to_last : (b : ℕ) (bs : List ℕ) (last : ℕ) → last_pipe_behind b (take_while is_content bs) ≡ Some last → UpTo b bs last
+up_to_last b [] last e = absurd (none-some last e)
+up_to_last b (c ∷ cs) last e =
+    up_if (is_content c) b c cs last refl (up_to_last c cs) (ap (last_pipe_behind b) (sym (content_front (is_content c) c cs refl)) ∙ e)
+
+-- so a header row has no more columns, without the pipe that it begins with
+less_first : (pipes tail most : ℕ) (t : Bool) → pipes + tail ≤ most → pipes - (if t then 1 else 0) + tail ≤ most
+less_first pipes tail most true h = omega arith
+less_first pipes tail most false h = omega arith
+
+leads_by : (t : Bool) (c : ℕ) (cs : List ℕ) (last n : ℕ) → is_pipe c ≡ t → UpTo 0 (c ∷ cs) last → cells_of 0 (c ∷ cs) ≤ (if t then 1 else 0) + n
+    → header_columns (c ∷ cs) last ≤ n
+leads_by true c cs last n p up most =
+    let front = take_next last c cs in
+    let pipes = ap (λ (xs : List ℕ). pipes_behind 0 xs) front in
+    let one : one_if (is_pipe c && not (0 == backslash)) ≡ 1 = ap (λ (x : Bool). one_if (x && true)) p in
+    let none = ap is_white (eqb-true c 124 p) in
+    let white : prefix_len is_white (c ∷ cs) ≡ 0 = rw none in
+    let begins_it = ap (λ (k : ℕ). begins pipe (drop k (c ∷ cs))) white ∙ p in
+    let less : one_if (begins pipe (drop (prefix_len is_white (c ∷ cs)) (c ∷ cs))) ≡ 1 = ap one_if begins_it in
+    let low : pipes_of (take (last + 1) (c ∷ cs)) + none_if (is_blank_line (drop (last + 1) (c ∷ cs))) ≤ cells_of 0 (c ∷ cs) = up in
+    omega arith
+leads_by false c cs last n p up most =
+    less_first (pipes_of (take (last + 1) (c ∷ cs))) (if is_blank_line (drop (last + 1) (c ∷ cs)) then 0 else 1) n
+    (begins pipe (drop (prefix_len is_white (c ∷ cs)) (c ∷ cs))) (omega arith)
+
+columns_by : (bs : List ℕ) (o : Option ℕ) (n : ℕ) → last_pipe_behind 0 (take_while is_content bs) ≡ o → cells_of 0 bs ≤ (if begins pipe bs then 1 else 0) + n
+    → option_map_or (header_columns bs) o 0 ≤ n
+columns_by bs None n e most = omega arith
+columns_by [] (Some last) n e most = absurd (none-some last e)
+columns_by (c ∷ cs) (Some last) n e most = leads_by (is_pipe c) c cs last n refl (up_to_last 0 (c ∷ cs) last e) most
+
+columns_most : (bs : List ℕ) (n : ℕ) → cells_of 0 bs ≤ (if begins pipe bs then 1 else 0) + n → head_columns bs ≤ n
+unfolding head_columns
+columns_most bs n most = columns_by bs (last_pipe_behind 0 (take_while is_content bs)) n refl most
+
+begins_there : (text : List ℕ) (at : ℕ) → begins pipe (drop at text) ≡ (slice_index text at == pipe)
+begins_there text at =
+    elim (cases_lt at (length text)) [
+      | inl inside ↦ at_drop_more (begins pipe) text at 0 inside
+      | inr past ↦ at_drop_all (begins pipe) text at past ∙ sym (ap (λ (b : ℕ). b == pipe) (get_or_past text at 0 past))
+    ]
+
+-- A row that begins at an offset has at least as many cells as its line has columns as a header row.
+pub head_has_cells : (d : Document) (at : ℕ) (cells : List (List (ℕ × Item))) («end» : ℕ) → has d.options tables ≡ true → AreCells d at cells «end»
+    → head_columns (drop at d.text) ≤ length cells
+head_has_cells d at cells end on are =
+    let least = cells_least d at cells end on are in
+    let there = ap (λ (t : Bool). one_if t + length cells) (begins_there d.text at) in
+    columns_most (drop at d.text) (length cells) (omega arith)
+
+-- the columns of a table that a text heads
+as_many_by : (t : Bool) (columns : ℕ) (xs alignments : List Alignment) → (length xs == columns) ≡ t → (if t then Some xs else None) ≡ Some alignments
+    → length alignments ≡ columns
+as_many_by true columns xs alignments same e = ap length (sym (same_Some xs alignments e)) ∙ eqb-true (length xs) columns same
+as_many_by false columns xs alignments same e = absurd (none-some alignments e)
+
+table_columns : (columns : ℕ) (o : Option (List Alignment)) (alignments : List Alignment) → option_and_then (if_as_many columns) o ≡ Some alignments
+    → length alignments ≡ columns
+table_columns columns None alignments e = absurd (none-some alignments e)
+table_columns columns (Some xs) alignments e = as_many_by (length xs == columns) columns xs alignments refl e
+
+headed_by : (t s : Bool) (o : Option (List Alignment)) (alignments : List Alignment) → (if t && s then o else None) ≡ Some alignments
+    → (t ≡ true) × (o ≡ Some alignments)
+headed_by true true o alignments e = (refl, e)
+headed_by true false o alignments e = absurd (none-some alignments e)
+headed_by false s o alignments e = absurd (none-some alignments e)
+
+-- Nothing is filled into a header row.
+pub head_is_full : (d : Document) (path : List Container) (p : Place) (alignments : List Alignment) (cells : List (List (ℕ × Item))) («end» : ℕ) → IsAt d.text p
+    → headed_table (around d path) p.rest.left ≡ Some alignments → AreCells d (offset p) cells «end» → filled (length alignments) cells ≡ 0
+unfolding headed_table table_at
+head_is_full d path p alignments cells end i e are =
+    let headed = headed_by (has d.options tables) (not (ends_in_backslash p.rest.left)) _ alignments e in
+    let columns = table_columns (head_columns p.rest.left) (alignments_behind path p.rest.left) alignments headed.1 in
+    let least = head_has_cells d (offset p) cells end headed.0 are in
+    let here = ap (λ (bs : List ℕ). head_columns bs) i in
+    omega arith
+
+pub heads_are_full : (d : Document) → HeadsAreFull d
+heads_are_full d path p alignments lines t i e h = (let none = head_is_full d path p alignments h.cells h.head_end i e h.are_cells in omega arith)

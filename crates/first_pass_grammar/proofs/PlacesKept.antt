@@ -1,0 +1,202 @@
+-- What is left at a place is the text from its offset on: this is so of the lines of a text, behind columns, markers and the prefixes of containers, and at
+-- the places and in the lines that stand behind a leaf block.
+use Rattle.std.proofs.Common.{◌≡◌, ℕ, zero, suc, ◌+◌, ◌-◌, ◌%◌, ◌==◌, nat_lt, Bool, true, false, List, [], ◌∷◌, drop, Option, Some, None, refl, sym, ap, subst, ◌∙◌, arith, drop-drop, if◌then◌else◌}
+use Rattle.std.specs.Option.{option_map, option_and_then}
+use Rattle.std.proofs.lemmas.Option.{none-some, same_Some}
+use Rattle.first_pass_items.specs.declared.option_set.Options.{Options}
+use Rattle.first_pass_items.specs.OptionWords.{has, tasklists}
+use Rattle.first_pass_lines.specs.Rest.{Rest, indent, past_byte, past_bytes, past_quote_byte, past_quote, column_of_byte, column_of, next_column, after_columns}
+use Rattle.first_pass_lines.specs.Places.{Place, place_at, offset}
+use Rattle.first_pass_lines.proofs.Columns.{after-more, after-none}
+use Rattle.first_pass_scan.specs.Markers.{item_of, task_of}
+use Rattle.first_pass_scan.proofs.MarkerPlaces.{IsMarked, item-marked, task-marked}
+use Rattle.first_pass_grammar.specs.declared.kind.Container.{Container}
+use Rattle.first_pass_grammar.specs.declared.kind.Container.TheVariants.{BlockQuote, ListItem}
+use Rattle.first_pass_grammar.specs.Containers.{at_rest, has_columns, prefix, after, or_shorter, front, taken}
+use Rattle.first_pass_grammar.specs.Kinds.{all_taken, unindented, quote_inside, item_at}
+use Rattle.first_pass_grammar.specs.CodeBlocks.{code_place, code_by, code_lines}
+use Rattle.first_pass_grammar.specs.Extents.{Extent, Verdict, GoesOn, IsLast, Closes, Stops, extent_by, extent}
+use Rattle.first_pass_grammar.specs.Skeleton.{task_by, task_behind}
+
+-- what is left there is the text from its offset on; and so at each of these places
+abbrev pub IsAt : List ℕ → Place → Type 0
+IsAt text p = p.rest.left ≡ drop (offset p) text
+
+abbrev pub AreAt : List ℕ → List Place → Type 0
+AreAt text [] = Unit {0}
+AreAt text (p ∷ ps) = IsAt text p × AreAt text ps
+
+-- the second stands behind the first: without its first bytes, which are taken
+abbrev pub Follows : Rest → Rest → Type 0
+Follows r s = (n : ℕ) × (s.left ≡ drop n r.left) × (s.taken ≡ r.taken + n)
+
+follows_none : (r : Rest) → Follows r r
+follows_none r = (0, refl, omega arith)
+
+follows_both : (r s q : Rest) → Follows r s → Follows s q → Follows r q
+follows_both r s q (n, e, f) (m, g, h) = (n + m, g ∙ ap (drop m) e ∙ drop-drop m n r.left, omega arith)
+
+pub at_behind : (text : List ℕ) (line : ℕ) (r s : Rest) → Follows r s → IsAt text (place_at line r) → IsAt text (place_at line s)
+at_behind text line r s (n, e, f) i =
+    let same : line + r.taken + n ≡ line + s.taken = omega arith in
+    e ∙ ap (drop n) i ∙ drop-drop n (line + r.taken) text ∙ ap (λ (k : ℕ). drop k text) same
+
+-- behind a byte
+byte_follows : (r : Rest) (b : ℕ) (bs : List ℕ) → r.left ≡ b ∷ bs → bs ≡ drop 1 r.left
+byte_follows r b bs e = sym (ap (drop 1) e)
+
+-- behind columns
+column_by : (t u : Bool) (r s : Rest) (b : ℕ) (bs : List ℕ) → r.left ≡ b ∷ bs
+    → (if t then Some (past_byte r bs) else (if u then Some (record { left = bs; taken = r.taken + 1; owed = 3 - r.column % 4; column = 0 }) else None)) ≡ Some s
+    → Follows r s
+column_by true u r s b bs e h = subst (Follows r) (same_Some (past_byte r bs) s h) (1, byte_follows r b bs e, refl)
+column_by false true r s b bs e h =
+    subst (Follows r) (same_Some (record { left = bs; taken = r.taken + 1; owed = 3 - r.column % 4; column = 0 }) s h) (1, byte_follows r b bs e, refl)
+column_by false false r s b bs e h = absurd (none-some s h)
+
+column_byte : (r s : Rest) (bs : List ℕ) → r.left ≡ bs → column_of_byte r bs ≡ Some s → Follows r s
+column_byte r s [] e h = absurd (none-some s h)
+column_byte r s (b ∷ bs) e h = column_by (b == 32) (b == 9) r s b bs e h
+
+column_follows : (owed : ℕ) (r s : Rest) → column_of owed r ≡ Some s → Follows r s
+column_follows zero r s h = column_byte r s r.left refl h
+column_follows (suc owed) r s h = subst (Follows r) (same_Some (record r { owed = owed }) s h) (0, refl, omega arith)
+
+columns_step : (k : ℕ) (r : Rest) (o : Option Rest) → next_column r ≡ o → ((s : Rest) → Follows s (after_columns k s)) → Follows r (after_columns (suc k) r)
+columns_step k r None e f = subst (Follows r) (sym (after-none (suc k) r e)) (follows_none r)
+columns_step k r (Some s) e f =
+    subst (Follows r) (sym (after-more (suc k) k r s refl e)) (follows_both r s (after_columns k s) (column_follows r.owed r s e) (f s))
+
+columns_follow : (k : ℕ) (r : Rest) → Follows r (after_columns k r)
+columns_follow zero r = follows_none r
+columns_follow (suc k) r = columns_step k r (next_column r) refl (columns_follow k)
+
+-- behind the sign of a block quote
+quote_by : (t : Bool) (r s : Rest) (b : ℕ) (bs : List ℕ) → r.left ≡ b ∷ bs → (if t then Some (past_byte r bs) else None) ≡ Some s → Follows r s
+quote_by true r s b bs e h = subst (Follows r) (same_Some (past_byte r bs) s h) (1, byte_follows r b bs e, refl)
+quote_by false r s b bs e h = absurd (none-some s h)
+
+quote_byte : (r s : Rest) (bs : List ℕ) → r.left ≡ bs → past_quote_byte r bs ≡ Some s → Follows r s
+quote_byte r s [] e h = absurd (none-some s h)
+quote_byte r s (b ∷ bs) e h = quote_by (b == 62) r s b bs e h
+
+quote_if : (t : Bool) (r s : Rest) → (if t then past_quote_byte r r.left else None) ≡ Some s → Follows r s
+quote_if true r s h = quote_byte r s r.left refl h
+quote_if false r s h = absurd (none-some s h)
+
+-- behind the prefix of a container, of a path, and of what a line goes on with of one
+mapped_by : (o : Option Rest) (r s : Rest) → ((q : Rest) → o ≡ Some q → Follows r q) → option_map (after_columns 1) o ≡ Some s → Follows r s
+mapped_by None r s f h = absurd (none-some s h)
+mapped_by (Some q) r s f h = subst (Follows r) (same_Some (after_columns 1 q) s h) (follows_both r q (after_columns 1 q) (f q refl) (columns_follow 1 q))
+
+columns_if : (t : Bool) (n : ℕ) (r s : Rest) → (if t then Some (after_columns n r) else None) ≡ Some s → Follows r s
+columns_if true n r s h = subst (Follows r) (same_Some (after_columns n r) s h) (columns_follow n r)
+columns_if false n r s h = absurd (none-some s h)
+
+prefix_follows : (c : Container) (r s : Rest) → prefix c r ≡ Some s → Follows r s
+unfolding prefix
+prefix_follows (BlockQuote kind) r s h =
+    let three : Rest = after_columns 3 r in
+    mapped_by (past_quote three) r s (λ q e. follows_both r three q (columns_follow 3 r) (quote_if (three.owed == 0) three q e)) h
+prefix_follows (ListItem n) r s h = columns_if (has_columns n r) n r s h
+
+after_by : (c : Container) (o : Option Rest) (r s : Rest) → ((q : Rest) → o ≡ Some q → Follows r q) → option_and_then (prefix c) o ≡ Some s → Follows r s
+after_by c None r s f h = absurd (none-some s h)
+after_by c (Some q) r s f h = follows_both r q s (f q refl) (prefix_follows c q s h)
+
+after_follows : (path : List Container) (r s : Rest) → after path r ≡ Some s → Follows r s
+unfolding after
+after_follows [] r s h = subst (Follows r) (same_Some r s h) (follows_none r)
+after_follows (c ∷ path) r s h = after_by c (after path r) r s (after_follows path r) h
+
+front_by : (o : Option Rest) (r s : Rest) → ((q : Rest) → o ≡ Some q → Follows r q) → Follows r s → Follows r (or_shorter o s)
+front_by None r s f h = h
+front_by (Some q) r s f h = f q refl
+
+front_follows : (path : List Container) (r : Rest) → Follows r (front path r)
+unfolding front
+front_follows [] r = follows_none r
+front_follows (c ∷ path) r = front_by (after (c ∷ path) r) r (front path r) (after_follows (c ∷ path) r) (front_follows path r)
+
+-- behind all columns of a place, and there in a line
+pub at_unindented : (text : List ℕ) (p : Place) → IsAt text p → IsAt text (unindented p)
+at_unindented text p i = at_behind text p.line p.rest (all_taken p.rest) (columns_follow (indent p.rest) p.rest) i
+
+pub at_front : (text : List ℕ) (path : List Container) (line : Place) → IsAt text line → IsAt text (unindented (at_rest line (front path line.rest)))
+at_front text path line i =
+    at_unindented text (at_rest line (front path line.rest)) (at_behind text line.line line.rest (front path line.rest) (front_follows path line.rest) i)
+
+taken_by : (text : List ℕ) (line q : Place) (o : Option Rest) → ((s : Rest) → o ≡ Some s → Follows line.rest s) → option_map (at_rest line) o ≡ Some q
+    → IsAt text line → IsAt text q
+taken_by text line q None f h i = absurd (none-some q h)
+taken_by text line q (Some s) f h i = subst (IsAt text) (same_Some (at_rest line s) q h) (at_behind text line.line line.rest s (f s refl) i)
+
+pub at_taken : (text : List ℕ) (path : List Container) (line q : Place) → taken path line ≡ Some q → IsAt text line → IsAt text q
+at_taken text path line q h i = taken_by text line q (after path line.rest) (after_follows path line.rest) h i
+
+-- inside a block quote
+pub at_quote : (text : List ℕ) (p inside : Place) → quote_inside p ≡ Some inside → IsAt text p → IsAt text inside
+at_quote text p inside h i = taken_by text p inside (prefix (BlockQuote None) p.rest) (prefix_follows (BlockQuote None) p.rest) h i
+
+-- behind the marker of an item, and of a task
+marked_follows : (r s : Rest) → IsMarked r s → Follows r s
+marked_follows r s m =
+    let one : Rest = past_bytes m.width r in
+    let two : Rest = after_columns m.first one in
+    subst (Follows r) (sym m.same)
+    (follows_both r two (after_columns m.further two) (follows_both r one two (m.width, refl, refl) (columns_follow m.first one)) (columns_follow m.further two))
+
+item_if : (t : Bool) (r : Rest) (item : (ℕ × ℕ × ℕ) × Rest) → (if t then item_of (indent r) (all_taken r) else None) ≡ Some item → Follows r item.1
+item_if true r item h =
+    follows_both r (all_taken r) item.1 (columns_follow (indent r) r) (marked_follows (all_taken r) item.1 (item-marked (indent r) (all_taken r) item h))
+item_if false r item h = absurd (none-some item h)
+
+pub item_follows : (r : Rest) (item : (ℕ × ℕ × ℕ) × Rest) → item_at r ≡ Some item → Follows r item.1
+unfolding item_at
+item_follows r item h = item_if (nat_lt (indent r) 4) r item h
+
+task_follows_by : (line : ℕ) (r : Rest) (o : Option (Bool × Rest)) → ((task : Bool × Rest) → o ≡ Some task → Follows r task.1) → Follows r (task_by line r o).1
+task_follows_by line r None f = follows_none r
+task_follows_by line r (Some task) f = f task refl
+
+task_if : (t : Bool) (r : Rest) (task : Bool × Rest) → (if t then task_of r else None) ≡ Some task → Follows r task.1
+task_if true r task h =
+    follows_both r (after_columns 3 r) task.1 (columns_follow 3 r) (marked_follows (after_columns 3 r) task.1 (task-marked r task h))
+task_if false r task h = absurd (none-some task h)
+
+pub task_follows : (options : Options) (line : ℕ) (r : Rest) → Follows r (task_behind options line r).1
+task_follows options line r = task_follows_by line r (if has options tasklists then task_of r else None) (task_if (has options tasklists) r)
+
+pub at_item : (text : List ℕ) (options : Options) (p : Place) (item : (ℕ × ℕ × ℕ) × Rest) → item_at p.rest ≡ Some item → IsAt text p
+    → IsAt text (at_rest p (task_behind options p.line item.1).1)
+at_item text options p item h i =
+    let task : Rest = (task_behind options p.line item.1).1 in
+    at_behind text p.line p.rest task (follows_both p.rest item.1 task (item_follows p.rest item h) (task_follows options p.line item.1)) i
+
+-- the lines that a block leaves
+extent_by_at : (text : List ℕ) (v : Verdict) (line : Place) (lines : List Place) (e : Extent) → AreAt text (line ∷ lines) → AreAt text e.left
+    → AreAt text (extent_by v line lines e).left
+extent_by_at text (GoesOn p) line lines e h k = k
+extent_by_at text (IsLast p) line lines e h k = h.1
+extent_by_at text (Closes at) line lines e h k = h.1
+extent_by_at text (Stops at) line lines e h k = h
+
+pub extent_at : (text : List ℕ) (judge : Place → Verdict) (n : ℕ) (lines : List Place) → AreAt text lines → AreAt text (extent judge n lines).left
+unfolding extent
+extent_at text judge n [] h = tt
+extent_at text judge n (line ∷ lines) h = extent_by_at text (judge line) line lines (extent judge n lines) h (extent_at text judge n lines h.1)
+
+pub tag_left_at : (text : List ℕ) (t : Bool) (p : Place) (lines : List Place) (e : Extent) → AreAt text lines → AreAt text e.left
+    → AreAt text (extent_by (if t then IsLast p else GoesOn p) p lines e).left
+tag_left_at text true p lines e h k = h
+tag_left_at text false p lines e h k = k
+
+code_by_at : (text : List ℕ) (o : Option Place) (line : Place) (lines : List Place) (further : List Place × List Place) → AreAt text (line ∷ lines)
+    → AreAt text further.1 → AreAt text (code_by lines (line ∷ lines) o further).1
+code_by_at text None line lines further h k = h
+code_by_at text (Some p) line lines further h k = k
+
+pub code_at : (text : List ℕ) (path : List Container) (lines : List Place) → AreAt text lines → AreAt text (code_lines path lines).1
+unfolding code_lines
+code_at text path [] h = tt
+code_at text path (line ∷ lines) h = code_by_at text (code_place path line) line lines (code_lines path lines) h (code_at text path lines h.1)

@@ -1,0 +1,266 @@
+-- What the nodes of a table show: as many cells in each row as columns, and no more of them filled in than may be.
+use Rattle.std.proofs.Common.{◌≡◌, inl, inr, ℕ, zero, suc, ◌+◌, ◌-◌, ◌<◌, ◌≤◌, ◌==◌, nat_lt, nat_le, Bool, true, false, List, [], ◌∷◌, ◌++◌, length, map, take, drop, replicate, refl, sym, ap, ◌∙◌, arith, if◌then◌else◌}
+use Rattle.std.proofs.lemmas.Bool.{cases_lt, and_parts, eq-eqb, ne_eqb, leb-true, true≢false}
+use Rattle.std.proofs.lemmas.List.{append_assoc, append-nil, at_drop_all}
+use Rattle.first_pass_items.specs.declared.item.Alignment.{Alignment}
+use Rattle.first_pass_items.specs.declared.item.Item.{Item}
+use Rattle.first_pass_items.specs.declared.item.ItemBody.{ItemBody}
+use Rattle.first_pass_items.specs.declared.item.ItemBody.TheVariants.{Table, TableHead, TableRow}
+use Rattle.first_pass_tree.specs.Forest.{at_depth, block_of}
+use Rattle.first_pass_lines.specs.Lines.{at_line_end}
+use Rattle.first_pass_lines.specs.Places.{Place, offset, start_of}
+use Rattle.first_pass_lines.proofs.LineFacts.{line_len-within}
+use Rattle.first_pass_tokens.specs.LineTokens.{IsCell}
+use Rattle.first_pass_tokens.specs.TreeTokens.{leaves}
+use Rattle.first_pass_tokens.proofs.LineLemmas.{cell_ends}
+use Rattle.first_pass_grammar.specs.declared.kind.Container.{Container}
+use Rattle.first_pass_grammar.specs.Names.{Names}
+use Rattle.first_pass_grammar.specs.Leaves.{Document}
+use Rattle.first_pass_grammar.specs.Tables.{cell_content, cell_start, cell_text, cell_block, AreCells, filled, side_by_side, row_cells, row_block, Taken, AreRows, most_filled, IsTable}
+use Rattle.first_pass_grammar.specs.WholeTables.{Mark, ATable, ARow, ACell, shown, marks, RowCells, row_marks, table_marks, how_often, filled_in, HaveCells, AreFull, AreWholeTables}
+use Rattle.first_pass_grammar.proofs.EachToken.{AreEach, HoldsOfTokens, cell_each}
+use Rattle.first_pass_grammar.proofs.RowEnds.{row_ends_its_line}
+use Rattle.first_pass_grammar.proofs.TableRows.{as_many_cells}
+use Rattle.first_pass_tokens.proofs.PieceFacts.{is_markup}
+use Rattle.first_pass_items.specs.declared.item.ItemBody.TheVariants.{MaybeCode, MaybeHtml, MaybeLinkOpen, MaybeLinkClose, MaybeImage}
+
+-- more nodes, and nodes at another depth
+pub marks-append : (names : Names) (nodes more : List (ℕ × Item)) → marks names (nodes ++ more) ≡ marks names nodes ++ marks names more
+unfolding marks
+marks-append names [] more = refl
+marks-append names (n ∷ nodes) more =
+    let first = shown names n.1.start n.1.«end» n.1.body in
+    ap (λ (z : List Mark). first ++ z) (marks-append names nodes more) ∙ sym (append_assoc first (marks names nodes) (marks names more))
+
+pub marks-at_depth : (names : Names) (depth : ℕ) (nodes : List (ℕ × Item)) → marks names (at_depth depth nodes) ≡ marks names nodes
+unfolding marks
+marks-at_depth names depth [] = refl
+marks-at_depth names depth (n ∷ nodes) = ap (λ (z : List Mark). shown names n.1.start n.1.«end» n.1.body ++ z) (marks-at_depth names depth nodes)
+
+-- a node that shows nothing, wherever it stands and whatever indices name
+abbrev pub ShowsNothing : ItemBody → Type 0
+ShowsNothing body = (names : Names) (start «end» : ℕ) → shown names start «end» body ≡ []
+
+markup_shows : (body : ItemBody) → is_markup body ≡ true → ShowsNothing body
+markup_shows (MaybeCode n escaped) h = λ names start end. refl
+markup_shows MaybeHtml h = λ names start end. refl
+markup_shows MaybeLinkOpen h = λ names start end. refl
+markup_shows (MaybeLinkClose b) h = λ names start end. refl
+markup_shows MaybeImage h = λ names start end. refl
+markup_shows _ h = absurd (true≢false (sym h))
+
+pub tokens_show : HoldsOfTokens ShowsNothing
+tokens_show =
+    record {
+      text = λ escaped names start end. refl;
+      soft = λ names start end. refl;
+      hard = λ by_backslash names start end. refl;
+      markup = markup_shows;
+      html = λ names start end. refl;
+      columns = λ ix names start end. refl;
+    }
+
+pub leaves_show : (names : Names) (chain : List Item) → AreEach ShowsNothing chain → marks names (leaves chain) ≡ []
+unfolding marks
+leaves_show names [] h = refl
+leaves_show names (x ∷ chain) h = rw (h.0 names x.start x.«end», leaves_show names chain h.1) refl
+
+-- a block whose own node shows nothing, with a chain of such nodes
+pub block_shows : (names : Names) (x : Item) (chain : List Item) → ShowsNothing x.body → AreEach ShowsNothing chain
+    → marks names (block_of x (leaves chain)) ≡ []
+unfolding marks
+block_shows names x chain own h =
+    ap (λ (z : List Mark). z ++ marks names (at_depth 1 (leaves chain))) (own names x.start x.«end»)
+    ∙ marks-at_depth names 1 (leaves chain) ∙ leaves_show names chain h
+
+-- These blocks show cells that start at these offsets.
+unfoldable pub ShowCells : Names → List (List (ℕ × Item)) → List ℕ → Type 0
+ShowCells names [] [] = Unit {0}
+ShowCells names (block ∷ blocks) (start ∷ starts) = (marks names block ≡ ACell start ∷ []) × ShowCells names blocks starts
+ShowCells names _ _ = ⊥
+
+first_show : (names : Names) (n : ℕ) (blocks : List (List (ℕ × Item))) (starts : List ℕ) → ShowCells names blocks starts
+    → ShowCells names (take n blocks) (take n starts)
+unfolding ShowCells
+first_show names zero blocks starts h = tt
+first_show names (suc n) [] [] h = tt
+first_show names (suc n) [] (start ∷ starts) h = absurd h
+first_show names (suc n) (block ∷ blocks) [] h = absurd h
+first_show names (suc n) (block ∷ blocks) (start ∷ starts) h = (h.0, first_show names n blocks starts h.1)
+
+copies_show : (names : Names) (n : ℕ) (block : List (ℕ × Item)) (start : ℕ) → marks names block ≡ ACell start ∷ []
+    → ShowCells names (replicate n block) (replicate n start)
+unfolding ShowCells
+copies_show names zero block start h = tt
+copies_show names (suc n) block start h = (h, copies_show names n block start h)
+
+both_show : (names : Names) (xs ys : List (List (ℕ × Item))) (ss ts : List ℕ) → ShowCells names xs ss → ShowCells names ys ts
+    → ShowCells names (xs ++ ys) (ss ++ ts)
+unfolding ShowCells
+both_show names [] ys [] ts h k = k
+both_show names [] ys (s ∷ ss) ts h k = absurd h
+both_show names (x ∷ xs) ys [] ts h k = absurd h
+both_show names (x ∷ xs) ys (s ∷ ss) ts h k = (h.0, both_show names xs ys ss ts h.1 k)
+
+side_shows : (names : Names) (blocks : List (List (ℕ × Item))) (starts : List ℕ) → ShowCells names blocks starts
+    → (marks names (side_by_side blocks) ≡ map ACell starts) × (length starts ≡ length blocks)
+unfolding ShowCells marks
+side_shows names [] [] h = (refl, refl)
+side_shows names [] (start ∷ starts) h = absurd h
+side_shows names (block ∷ blocks) [] h = absurd h
+side_shows names (block ∷ blocks) (start ∷ starts) h =
+    let rest = side_shows names blocks starts h.1 in
+    let own = h.0 in
+    let both = marks-append names block (side_by_side blocks) in
+    (both ∙ ap (λ (z : List Mark). z ++ marks names (side_by_side blocks)) own ∙ ap (λ (z : List Mark). ACell start ∷ z) rest.0, ap suc rest.1)
+
+-- each of these offsets lies before an end
+unfoldable AreBefore : ℕ → List ℕ → Type 0
+AreBefore «end» [] = Unit {0}
+AreBefore «end» (start ∷ starts) = (start < «end») × AreBefore «end» starts
+
+first_before : (end n : ℕ) (starts : List ℕ) → AreBefore end starts → AreBefore end (take n starts)
+unfolding AreBefore
+first_before end zero starts h = tt
+first_before end (suc n) [] h = tt
+first_before end (suc n) (start ∷ starts) h = (h.0, first_before end n starts h.1)
+
+never : (end : ℕ) (starts : List ℕ) → AreBefore end starts → how_often end starts ≡ 0
+unfolding AreBefore how_often
+never end [] h = refl
+never end (start ∷ starts) h =
+    let rest = never end starts h.1 in
+    let low = h.0 in
+    let other : (start == end) ≡ false = ne_eqb start end (λ same. omega arith) in
+    rw (other, rest) refl
+
+always : (end n : ℕ) → how_often end (replicate n end) ≡ n
+unfolding how_often
+always end zero = refl
+always end (suc n) = (let rest = always end n in let same = eq-eqb end end refl in rw same (omega arith))
+
+often_both : (end : ℕ) (xs ys : List ℕ) → how_often end (xs ++ ys) ≡ how_often end xs + how_often end ys
+unfolding how_often
+often_both end [] ys = omega arith
+often_both end (x ∷ xs) ys = (let rest = often_both end xs ys in omega arith)
+
+-- a cell that is written starts before its row ends
+at_or_behind : (t : Bool) (at : ℕ) → at ≤ (if t then at + 1 else at)
+at_or_behind true at = omega arith
+at_or_behind false at = omega arith
+
+written_before : (d : Document) (at : ℕ) (tokens : List Item) (stop : ℕ) (cells : List (List (ℕ × Item))) («end» : ℕ)
+    → at_line_end (drop (cell_text d.text at) d.text) ≡ false → IsCell (cell_content d (cell_text d.text at)) tokens stop → AreCells d stop cells «end»
+    → (cell_start d.text at < «end») × (stop ≤ length d.text)
+written_before d at tokens stop cells end on cell more =
+    elim (cases_lt (cell_text d.text at) (length d.text)) [
+      | inl inside ↦
+          let ends = cell_ends (omega arith) cell in
+          let from : cell_text d.text at ≤ stop = ends.from in
+          let within : stop ≤ length d.text = ends.within in
+          let line = row_ends_its_line d stop cells end within more in (
+            elim (cases_lt stop (length d.text)) [
+              | inl short ↦ (let some = (line_len-within d.text stop short).0 in omega arith)
+              | inr all ↦ omega arith
+            ],
+            within,
+          )
+      | inr past ↦ absurd (true≢false (sym (at_drop_all (λ (bs : List ℕ). at_line_end bs) d.text (cell_text d.text at) past) ∙ on))
+    ]
+
+-- the cells of a row show where they start
+cell_shows : (d : Document) (at start : ℕ) (tokens : List Item) (stop : ℕ) → IsCell (cell_content d at) tokens stop
+    → marks d.names (cell_block start stop tokens) ≡ ACell start ∷ []
+unfolding marks
+cell_shows d at start tokens stop h =
+    ap (λ (z : List Mark). ACell start ∷ z)
+    (marks-at_depth d.names 1 (leaves tokens) ∙ leaves_show d.names tokens (cell_each ShowsNothing tokens_show (cell_content d at) tokens stop h))
+
+cells_show : (d : Document) (at : ℕ) (cells : List (List (ℕ × Item))) («end» : ℕ) → AreCells d at cells «end»
+    → (starts : List ℕ) × ShowCells d.names cells starts × AreBefore «end» starts
+unfolding AreCells ShowCells AreBefore
+cells_show d at [] end h = ([], tt, tt)
+cells_show d at (cell ∷ cells) end (on, tokens, stop, is, e, more) =
+    let rest = cells_show d stop cells end more in
+    let here = written_before d at tokens stop cells end on is more in
+    let own = cell_shows d (cell_text d.text at) (cell_start d.text at) tokens stop is in
+    (cell_start d.text at ∷ rest.0, (ap (marks d.names) e ∙ own, rest.1), (here.0, rest.2))
+
+filled_shows : (names : Names) («end» : ℕ) → marks names (cell_block «end» «end» []) ≡ ACell «end» ∷ []
+unfolding marks
+filled_shows names end = refl
+
+-- what a row shows: where it ends, and as many cells as columns, of which those that are filled in start at its end
+pub row_shows : (d : Document) (body : ItemBody) (columns start at : ℕ) (cells : List (List (ℕ × Item))) («end» : ℕ)
+    → shown d.names start «end» body ≡ ARow «end» ∷ [] → AreCells d at cells «end»
+    → (starts : List ℕ) × (marks d.names (row_block body columns start cells «end») ≡ ARow «end» ∷ map ACell starts)
+    × (length starts ≡ columns) × (how_often «end» starts ≡ filled columns cells)
+unfolding marks
+row_shows d body columns start at cells end own are =
+    let (starts, show, before) = cells_show d at cells end are in
+    let n : ℕ = filled columns cells in
+    let both = both_show d.names (take columns cells) (replicate n (cell_block end end [])) (take columns starts) (replicate n end)
+    (first_show d.names columns cells starts show) (copies_show d.names n (cell_block end end []) end (filled_shows d.names end)) in
+    let all = side_shows d.names (take columns cells ++ replicate n (cell_block end end [])) (take columns starts ++ replicate n end) both in
+    let none = never end (take columns starts) (first_before end columns starts before) in
+    let last = always end n in
+    let sum = often_both end (take columns starts) (replicate n end) in (
+      take columns starts ++ replicate n end,
+      ap (λ (z : List Mark). z ++ marks d.names (at_depth 1 (row_cells columns cells end))) own
+          ∙ ap (λ (z : List Mark). ARow end ∷ z) (marks-at_depth d.names 1 (row_cells columns cells end) ∙ all.0),
+      all.1 ∙ as_many_cells columns cells end,
+      omega arith,
+    )
+
+-- what the rows of a body show
+none_over : (d : Document) (columns : ℕ) (items : List (ℕ × Item)) → items ≡ [] → (most : ℕ)
+    → (rows : List RowCells) × (marks d.names items ≡ row_marks rows) × HaveCells columns rows × (filled_in rows ≤ most)
+unfolding marks row_marks HaveCells filled_in
+none_over d columns items e most = ([], ap (marks d.names) e, tt, omega arith)
+
+one_over : (d : Document) (columns most : ℕ) (first more items : List (ℕ × Item)) (row : RowCells) (rows : List RowCells) → items ≡ first ++ more
+    → marks d.names first ≡ ARow row.«end» ∷ map ACell row.starts → length row.starts ≡ columns → marks d.names more ≡ row_marks rows → HaveCells columns rows
+    → how_often row.«end» row.starts + filled_in rows ≤ most
+    → (rows : List RowCells) × (marks d.names items ≡ row_marks rows) × HaveCells columns rows × (filled_in rows ≤ most)
+unfolding row_marks HaveCells filled_in
+one_over d columns most first more items row rows e show size these have few = (
+  row ∷ rows,
+  ap (marks d.names) e ∙ marks-append d.names first more ∙ ap (λ (z : List Mark). z ++ marks d.names more) show
+      ∙ ap (λ (z : List Mark). (ARow row.«end» ∷ map ACell row.starts) ++ z) these,
+  (size, have),
+  few,
+)
+
+pub rows_show : (d : Document) (path : List Container) (columns most : ℕ) (lines : List Place) (t : Taken) → AreRows d path columns most lines t
+    → (rows : List RowCells) × (marks d.names t.items ≡ row_marks rows) × HaveCells columns rows × (filled_in rows ≤ most)
+unfolding AreRows
+rows_show d path columns most [] t e = none_over d columns t.items (ap (λ (z : Taken). z.items) e) most
+rows_show d path columns most (line ∷ lines) t (inl (none, e)) = none_over d columns t.items (ap (λ (z : Taken). z.items) e) most
+rows_show d path columns most (line ∷ lines) t (inr (start, cells, end, at, are, inl (stops, e))) =
+    none_over d columns t.items (ap (λ (z : Taken). z.items) e) most
+rows_show d path columns most (line ∷ lines) t (inr (start, cells, end, at, are, inr (is, more, rest, e))) =
+    let (starts, show, size, often) = row_shows d TableRow columns start start cells end refl are in
+    let (rows, these, have, few) = rows_show d path columns (most - filled columns cells) lines more rest in
+    let fits = leb-true (filled columns cells) most (and_parts (nat_lt 0 (length cells)) (nat_le (filled columns cells) most) is).1 in
+    one_over d columns most (row_block TableRow columns start cells end) more.items t.items (record { «end» = end; starts = starts }) rows
+    (ap (λ (z : Taken). z.items) e) show size these have (omega arith)
+
+-- What a table shows is one table, whole where no more cells are filled into its header row than may be.
+pub table_shows : (d : Document) (path : List Container) (p : Place) (alignments : List Alignment) (lines : List Place) (t : Taken)
+    → (h : IsTable d path p alignments lines t) → filled (length alignments) h.cells ≤ most_filled → AreWholeTables d.names t.items
+unfolding AreWholeTables marks row_marks table_marks HaveCells filled_in AreFull
+table_shows d path p alignments lines t h low =
+    let columns : ℕ = length alignments in
+    let (starts, show, size, often) = row_shows d TableHead columns (offset p) (offset p) h.cells h.head_end refl h.are_cells in
+    let (rows, these, have, few) = rows_show d path columns (most_filled - filled columns h.cells) (drop 1 lines) _ h.are_rows in
+    let head : List (ℕ × Item) = row_block TableHead columns (offset p) h.cells h.head_end in
+    let first : RowCells = record { «end» = h.head_end; starts = starts } in
+    let count : shown d.names (offset p) (start_of (length d.text) t.left) (Table h.index) ≡ ATable columns ∷ [] = rw h.named refl in
+    let inside : marks d.names (at_depth 1 (head ++ h.body)) ≡ row_marks (first ∷ rows) =
+    marks-at_depth d.names 1 (head ++ h.body) ∙ marks-append d.names head h.body ∙ ap (λ (z : List Mark). z ++ marks d.names h.body) show
+    ∙ ap (λ (z : List Mark). (ARow h.head_end ∷ map ACell starts) ++ z) these in (
+      record { columns = columns; rows = first ∷ rows } ∷ [],
+      ap (marks d.names) h.items_are ∙ ap (λ (z : List Mark). z ++ marks d.names (at_depth 1 (head ++ h.body))) count
+          ∙ ap (λ (z : List Mark). ATable columns ∷ z) (inside ∙ sym (append-nil (row_marks (first ∷ rows)))),
+      ((size, have), omega arith, tt),
+    )

@@ -1,0 +1,285 @@
+-- Each block of a derived tree shows whole tables, or nothing.
+use Rattle.std.proofs.Common.{◌≡◌, ℕ, ◌≤◌, Bool, true, false, List, [], ◌∷◌, ◌++◌, length, Option, Some, None, MatchOption, IfSome, refl, sym, ap, subst, ◌∙◌, if◌then◌else◌}
+use Rattle.first_pass_items.specs.declared.item.Alignment.{Alignment}
+use Rattle.first_pass_items.specs.declared.item.BlockQuoteKind.{BlockQuoteKind}
+use Rattle.first_pass_items.specs.declared.item.Item.{Item}
+use Rattle.first_pass_items.specs.declared.item.ItemBody.{ItemBody}
+use Rattle.first_pass_items.specs.declared.item.ItemBody.TheVariants.{Paragraph as ParagraphBody, Rule, Heading as HeadingBody, IndentCodeBlock, FencedCodeBlock, MetadataBlock, HtmlBlock}
+use Rattle.first_pass_lines.specs.Lines.{level_number}
+use Rattle.first_pass_lines.specs.Rest.{Rest, indent}
+use Rattle.first_pass_lines.specs.Places.{Place, offset, start_of, line_of}
+use Rattle.first_pass_scan.specs.Markers.{task_of}
+use Rattle.first_pass_items.specs.OptionWords.{has, tasklists}
+use Rattle.first_pass_grammar.specs.declared.kind.Container.{Container}
+use Rattle.first_pass_grammar.specs.declared.kind.Container.TheVariants.{BlockQuote, ListItem}
+use Rattle.first_pass_grammar.specs.Names.{Names}
+use Rattle.first_pass_grammar.specs.Containers.{Context, context, at_rest, front}
+use Rattle.first_pass_grammar.specs.Kinds.{Kind, Blank, IndentedCode, Metadata, HtmlToEnd, HtmlToBlank, ThematicBreak, AtxHeading, FencedCode, LinkDefinitions, Paragraph, unindented, is_blank_rest, quote_inside, item_at, ends_tag}
+use Rattle.first_pass_grammar.specs.Leaves.{Document, around, heading_text_at, block_with, marker_items}
+use Rattle.first_pass_grammar.specs.CodeBlocks.{fence_judge, metadata_judge, metadata_kind}
+use Rattle.first_pass_grammar.specs.Extents.{in_containers}
+use Rattle.first_pass_grammar.specs.HtmlBlocks.{holds, tag_judge, blank_judge}
+use Rattle.first_pass_grammar.specs.LinkTables.{LinkEntry}
+use Rattle.first_pass_grammar.specs.LinkRuns.{kind_in, Beyond, Ended, FlowsOn}
+use Rattle.first_pass_grammar.specs.RawLines.{range_text, range_html}
+use Rattle.first_pass_grammar.specs.TableHeads.{headed_table}
+use Rattle.first_pass_grammar.specs.Tables.{filled, Taken, most_filled, IsTable}
+use Rattle.first_pass_grammar.specs.Texts.{IsPlainText, IsText}
+use Rattle.first_pass_grammar.specs.Skeleton.{Leaf, BlankLine, Block, OpensBeyond, OpensRun, opened, From, Line, Blanks, At, May, Anything, ALeafAlone, TextOf, MarkAlone, behind_marker, Opening, OpensLeaf, OpensNode, OpensText, OpensAs, OpensBlockAt, next_is_blank, item_head, task_by, task_behind, behind_task, task_alone, item_opening, tag_behind, behind_tag, quote_opening, OpensQuote, OpensFrom, OpensIf, OpensAt, Skeleton, Nil, Then, Node, Begins, behind_first, IsFirst, IsSequence}
+use Rattle.first_pass_grammar.specs.WholeTables.{Mark, marks, table_marks, AreFull, AreWholeTables}
+use Rattle.first_pass_grammar.proofs.EachToken.{AreEach, paragraph_each, marked_each, heading_each, range_text_each, range_html_each, raw_lines_each}
+use Rattle.first_pass_grammar.proofs.PlacesKept.{IsAt, AreAt, at_unindented, at_front, at_taken, at_quote, at_item, extent_at, tag_left_at, code_at}
+use Rattle.first_pass_grammar.proofs.LinesLeft.{BeyondAt, run_at, text_left}
+use Rattle.first_pass_grammar.proofs.TableMarks.{ShowsNothing, tokens_show, block_shows, table_shows}
+
+-- nodes that show nothing
+pub whole_none : (names : Names) (nodes : List (ℕ × Item)) → marks names nodes ≡ [] → AreWholeTables names nodes
+unfolding AreWholeTables table_marks AreFull
+whole_none names nodes h = ([], h, tt)
+
+-- In each of its tables the header row has so many cells that no more are filled in than may be.
+abbrev pub HeadsAreFull : Document → Type 0
+HeadsAreFull d =
+    (path : List Container) (p : Place) (alignments : List Alignment) (lines : List Place) (t : Taken) → IsAt d.text p
+    → headed_table (around d path) p.rest.left ≡ Some alignments → (h : IsTable d path p alignments lines t) → filled (length alignments) h.cells ≤ most_filled
+
+-- what a leaf shows, and what stands where blocks go on
+abbrev pub WholeLeaf : Names → Leaf → Type 0
+WholeLeaf names BlankLine = Unit {0}
+WholeLeaf names (Block b) = AreWholeTables names b.items
+
+abbrev pub PlainMay : May → Type 0
+PlainMay Anything = Unit {0}
+PlainMay ALeafAlone = Unit {0}
+PlainMay (TextOf marker) = ShowsNothing marker.body
+PlainMay (MarkAlone marker blanks) = ShowsNothing marker.body
+
+abbrev pub PlainFrom : List ℕ → From → Type 0
+PlainFrom text Line = Unit {0}
+PlainFrom text (Blanks e) = Unit {0}
+PlainFrom text (At p may) = IsAt text p × PlainMay may
+
+abbrev pub WholeOpening : Document → Opening → Type 0
+WholeOpening d (OpensLeaf leaf there left) = WholeLeaf d.names leaf × PlainFrom d.text there × AreAt d.text left
+WholeOpening d (OpensNode head inside behind) = PlainFrom d.text inside × AreAt d.text behind
+
+abbrev ShownBy : Option Item → Type 0
+ShownBy marker = IfSome marker (λ x. ShowsNothing x.body)
+
+-- a block with a chain shows nothing
+chain_whole : (names : Names) (start stop : ℕ) (body : ItemBody) (chain : List Item) (items : List (ℕ × Item)) → items ≡ block_with start stop body chain
+    → ShowsNothing body → AreEach ShowsNothing chain → AreWholeTables names items
+chain_whole names start stop body chain items is own h =
+    whole_none names items (ap (marks names) is ∙ block_shows names (record { start = start; «end» = stop; body = body }) chain own h)
+
+module _ (d : Document) (full : HeadsAreFull d) where
+  -- what stands for a text
+  text_by : (path : List Container) (p : Place) (marker : Option Item) (lines : List Place) (t : Taken) (o : Option (List Alignment))
+      → headed_table (around d path) p.rest.left ≡ o → IsAt d.text p → ShownBy marker
+      → MatchOption o (IsPlainText d path p marker lines t) (λ alignments. IsTable d path p alignments lines t) → AreWholeTables d.names t.items
+  text_by path p marker lines t None e i plain (chain, is, same) =
+      chain_whole d.names (offset p) (start_of (length d.text) t.left) ParagraphBody (marker_items marker ++ chain) t.items same (λ names start end. refl)
+      (marked_each ShowsNothing tokens_show marker chain plain (paragraph_each ShowsNothing tokens_show d path (offset p) [] lines chain t.left tt is))
+  text_by path p marker lines t (Some alignments) e i plain h = table_shows d path p alignments lines t h (full path p alignments lines t i e h)
+
+  text_whole : (path : List Container) (p : Place) (marker : Option Item) (lines : List Place) (t : Taken) → IsAt d.text p → ShownBy marker
+      → IsText d path p marker lines t → AreWholeTables d.names t.items
+  unfolding IsText
+  text_whole path p marker lines t i plain is = text_by path p marker lines t (headed_table (around d path) p.rest.left) refl i plain is
+
+  opens_text : (path : List Container) (p : Place) (lines : List Place) (marker : Option Item) (o : Opening) → IsAt d.text p → AreAt d.text lines
+      → ShownBy marker → OpensText d path p lines marker o → WholeOpening d o
+  unfolding OpensText
+  opens_text path p lines marker o i h plain (t, is, e) =
+      subst (WholeOpening d) (sym e)
+      (text_whole path (unindented p) marker lines t (at_unindented d.text p i) plain is, tt, text_left d path (unindented p) marker lines t h is)
+
+  -- what a run of definitions opens
+  opens_beyond : (path : List Container) (xs : List LinkEntry) (b : Beyond) (o : Opening) → BeyondAt d.text b → OpensBeyond d path xs b o → WholeOpening d o
+  unfolding marks
+  opens_beyond path xs (Ended p left) o h e = subst (WholeOpening d) (sym e) (whole_none d.names [] refl, tt, h)
+  opens_beyond path xs (FlowsOn p lines) o h (t, is, e) =
+      subst (WholeOpening d) (sym e) (text_whole path p None lines t h.0 tt is, tt, text_left d path p None lines t h.1 is)
+
+  opens_run : (path : List Container) (p : Place) (lines : List Place) (o : Opening) → IsAt d.text p → AreAt d.text lines → OpensRun d path p lines o
+      → WholeOpening d o
+  unfolding OpensRun
+  opens_run path p lines o i h (xs, b, run, opens) =
+      opens_beyond path xs b o (run_at d.text (around d path) (unindented p) lines xs b (at_unindented d.text p i) h run) opens
+
+  -- what a kind opens
+  opens_as : (path : List Container) (p : Place) (lines : List Place) (kind : Kind) (o : Opening) → IsAt d.text p → AreAt d.text lines
+      → OpensAs d path p lines kind o → WholeOpening d o
+  unfolding OpensAs
+  opens_as path p lines Blank o i h e = subst (WholeOpening d) (sym e) (tt, tt, h)
+  opens_as path p lines IndentedCode o i h (items, is, e) =
+      subst (WholeOpening d) (sym e) (
+        chain_whole d.names _ _ IndentCodeBlock is.chain items is.items_are (λ names start end. refl)
+            (raw_lines_each ShowsNothing tokens_show range_text d [] _ is.chain (range_text_each ShowsNothing tokens_show) tt is.lines),
+        tt,
+        code_at d.text path lines h,
+      )
+  opens_as path p lines (Metadata byte) o i h (items, is, e) =
+      subst (WholeOpening d) (sym e) (
+        chain_whole d.names _ _ (MetadataBlock (metadata_kind byte)) is.chain items is.items_are (λ names start end. refl)
+            (raw_lines_each ShowsNothing tokens_show range_text d [] _ is.chain (range_text_each ShowsNothing tokens_show) tt is.lines),
+        tt,
+        extent_at d.text (in_containers path (metadata_judge byte)) (length d.text) lines h,
+      )
+  opens_as path p lines HtmlToEnd o i h (text, found, (items, is, e)) =
+      subst (WholeOpening d) (sym e) (
+        chain_whole d.names _ _ HtmlBlock is.chain items is.items_are (λ names start end. refl)
+            (raw_lines_each ShowsNothing tokens_show range_html d [] _ is.chain (range_html_each ShowsNothing tokens_show) tt is.lines),
+        tt,
+        tag_left_at d.text (holds text (line_of (unindented p))) (unindented p) lines _ h (extent_at d.text (in_containers path (tag_judge text)) (length d.text) lines h),
+      )
+  opens_as path p lines HtmlToBlank o i h (items, is, e) =
+      subst (WholeOpening d) (sym e) (
+        chain_whole d.names _ _ HtmlBlock is.chain items is.items_are (λ names start end. refl)
+            (raw_lines_each ShowsNothing tokens_show range_html d [] _ is.chain (range_html_each ShowsNothing tokens_show) tt is.lines),
+        tt,
+        extent_at d.text (in_containers path blank_judge) (length d.text) lines h,
+      )
+  opens_as path p lines (ThematicBreak size) o i h e =
+      subst (WholeOpening d) (sym e) (chain_whole d.names _ _ Rule [] _ refl (λ names start end. refl) tt, tt, h)
+  opens_as path p lines (AtxHeading level) o i h (chain, stop, is, e) =
+      subst (WholeOpening d) (sym e) (
+        chain_whole d.names _ _ (HeadingBody level None) chain _ refl (λ names start end. refl)
+            (heading_each ShowsNothing tokens_show d (heading_text_at d.text (offset (unindented p)) (level_number level)) chain stop is),
+        tt,
+        h,
+      )
+  opens_as path p lines (FencedCode count byte) o i h (items, is, e) =
+      subst (WholeOpening d) (sym e) (
+        chain_whole d.names _ _ (FencedCodeBlock is.info) is.chain items is.items_are (λ names start end. refl)
+            (raw_lines_each ShowsNothing tokens_show range_text d [] _ is.chain (range_text_each ShowsNothing tokens_show) tt is.lines),
+        tt,
+        extent_at d.text (in_containers path (fence_judge (indent p.rest) byte count)) (length d.text) lines h,
+      )
+  opens_as path p lines LinkDefinitions o i h opens = opens_run path p lines o i h opens
+  opens_as path p lines Paragraph o i h opens = opens_text path p lines None o i h tt opens
+
+  opens_block : (path : List Container) (p : Place) (lines : List Place) (o : Opening) → IsAt d.text p → AreAt d.text lines → OpensBlockAt d path p lines o
+      → WholeOpening d o
+  opens_block path p lines o i h (k, is, opens) = opens_as path p lines (kind_in (around d path) p k) o i h opens
+
+  -- what a list item opens
+  task_plain : (line : ℕ) (r : Rest) (o : Option (Bool × Rest)) → ShownBy (task_by line r o).0
+  task_plain line r None = tt
+  task_plain line r (Some task) = λ names start end. refl
+
+  behind_plain : (marker : Option Item) (p : Place) → ShownBy marker → IsAt d.text p → PlainFrom d.text (behind_task marker p)
+  behind_plain None p h i = (i, tt)
+  behind_plain (Some marker) p h i = (i, h)
+
+  marker_plain : (blanks : Option ℕ) → PlainFrom d.text (behind_marker blanks)
+  marker_plain None = tt
+  marker_plain (Some e) = tt
+
+  alone_plain : (marker : Option Item) (p : Place) (blanks : Option ℕ) → ShownBy marker → IsAt d.text p → PlainFrom d.text (task_alone marker p blanks)
+  alone_plain None p blanks h i = marker_plain blanks
+  alone_plain (Some marker) p blanks h i = (i, h)
+
+  unless_opens : (t : Bool) (o o' : Opening) → WholeOpening d o → WholeOpening d o' → WholeOpening d (if t then o else o')
+  unless_opens true o o' h k = h
+  unless_opens false o o' h k = k
+
+  item_opens : (path : List Container) (p : Place) (lines : List Place) (byte number columns : ℕ) (task : Option Item × Rest) → ShownBy task.0
+      → IsAt d.text (at_rest p task.1) → AreAt d.text lines → WholeOpening d (item_opening d path p lines (byte, number, columns) task)
+  item_opens path p lines byte number columns (marker, r) plain i h =
+      let blanks : Option ℕ = Some (start_of (length d.text) lines) in
+      unless_opens (is_blank_rest r) _ _
+      (unless_opens (next_is_blank (ListItem columns ∷ path) lines) (OpensNode (item_head p byte number 0) (task_alone marker (at_rest p r) blanks) lines)
+      (OpensNode (item_head p byte number columns) (task_alone marker (at_rest p r) None) lines)
+      (alone_plain marker (at_rest p r) blanks plain i, h) (alone_plain marker (at_rest p r) None plain i, h))
+      (behind_plain marker (at_rest p r) plain i, h)
+
+  -- what a block quote opens
+  tag_by : (t : Bool) (a b : From × List Place) → PlainFrom d.text a.0 × AreAt d.text a.1 → PlainFrom d.text b.0 × AreAt d.text b.1
+      → PlainFrom d.text (if◌then◌else◌ {A = From × List Place} t a b).0 × AreAt d.text (if◌then◌else◌ {A = From × List Place} t a b).1
+  tag_by true a b h k = h
+  tag_by false a b h k = k
+
+  tag_opens : (c : Context) (lines : List Place) → AreAt d.text lines → PlainFrom d.text (behind_tag c lines).0 × AreAt d.text (behind_tag c lines).1
+  tag_opens c [] h = (tt, tt)
+  tag_opens c (line ∷ lines) h =
+      tag_by (ends_tag c line.rest) (Line, line ∷ lines) (At (unindented (at_rest line (front c.path line.rest))) ALeafAlone, lines) (tt, h)
+      ((at_front d.text c.path line h.0, tt), h.1)
+
+  quote_opens : (c : Context) (p inside : Place) (lines : List Place) (kind : Option BlockQuoteKind) → IsAt d.text inside → AreAt d.text lines
+      → WholeOpening d (quote_opening c p inside lines kind)
+  quote_opens c p inside lines None i h = ((i, tt), h)
+  quote_opens c p inside lines (Some kind) i h = tag_opens (context c.options (BlockQuote (Some kind) ∷ c.path)) lines h
+
+  opens_quote : (path : List Container) (p : Place) (lines : List Place) (q : Option Place) (o : Opening) → quote_inside p ≡ q → IsAt d.text p
+      → AreAt d.text lines → OpensQuote d path p lines q o → WholeOpening d o
+  opens_quote path p lines (Some inside) o is i h e =
+      subst (WholeOpening d) (sym e) (quote_opens (around d path) p inside lines (tag_behind d.options inside.rest) (at_quote d.text p inside is i) h)
+  opens_quote path p lines None o is i h e = opens_block path p lines o i h e
+
+  opens_from : (path : List Container) (p : Place) (lines : List Place) (item : Option ((ℕ × ℕ × ℕ) × Rest)) (o : Opening) → item_at p.rest ≡ item
+      → IsAt d.text p → AreAt d.text lines → OpensFrom d path p lines item o → WholeOpening d o
+  unfolding OpensFrom
+  opens_from path p lines (Some item) o is i h e =
+      subst (WholeOpening d) (sym e)
+      (item_opens path p lines item.0.0 item.0.1 item.0.2 (task_behind d.options p.line item.1)
+      (task_plain p.line item.1 (if has d.options tasklists then task_of item.1 else None)) (at_item d.text d.options p item is i) h)
+  opens_from path p lines None o is i h e = opens_quote path p lines (quote_inside p) o refl i h e
+
+  opens_any : (path : List Container) (p : Place) (lines : List Place) (o : Opening) → IsAt d.text p → AreAt d.text lines
+      → OpensFrom d path p lines (item_at p.rest) o → WholeOpening d o
+  opens_any path p lines o i h e = opens_from path p lines (item_at p.rest) o refl i h e
+
+  opens_if : (path : List Container) (may : May) (p : Place) (lines : List Place) (o : Opening) → PlainMay may → IsAt d.text p → AreAt d.text lines
+      → OpensIf d path may p lines o → WholeOpening d o
+  unfolding marks
+  opens_if path Anything p lines o plain i h e = opens_any path p lines o i h e
+  opens_if path ALeafAlone p lines o plain i h e = opens_block path p lines o i h e
+  opens_if path (TextOf marker) p lines o plain i h e = opens_text path p lines (Some marker) o i h plain e
+  opens_if path (MarkAlone marker blanks) p lines o plain i h e =
+      subst (WholeOpening d) (sym e)
+      (whole_none d.names ((0, marker) ∷ []) (ap (λ (z : List Mark). z ++ []) (plain d.names marker.start marker.«end»)), tt, h)
+
+  -- what opens where blocks go on
+  opens_at : (path : List Container) (from : From) (lines : List Place) (p : Place) (behind : List Place) (o : Opening) → PlainFrom d.text from
+      → AreAt d.text lines → Begins path from lines p behind → OpensAt d path from p behind o → WholeOpening d o
+  opens_at path Line [] p behind o plain h begins opens = absurd begins
+  opens_at path Line (line ∷ lines) p behind o plain h (is, same) opens =
+      opens_any path p behind o (at_taken d.text path line p is h.0) (subst (AreAt d.text) (sym same) h.1) opens
+  opens_at path (Blanks e) [] p behind o plain h begins opens = absurd begins
+  opens_at path (Blanks e) (line ∷ lines) p behind o plain h (is, same, blank) opens =
+      opens_any path p behind o (at_taken d.text path line p is h.0) (subst (AreAt d.text) (sym same) h.1) opens
+  opens_at path (At q may) lines p behind o plain h (is, same) opens =
+      opens_if path may p behind o plain.1 (subst (IsAt d.text) (sym is) plain.0) (subst (AreAt d.text) (sym same) h) opens
+
+  first_whole : (path : List Container) (from : From) (lines : List Place) (o : Opening) → PlainFrom d.text from → AreAt d.text lines
+      → IsFirst d path from lines o → WholeOpening d o
+  first_whole path from lines o plain h f = opens_at path from lines f.place f.behind o plain h f.begins f.opens
+
+  behind_first_plain : (from there : From) → PlainFrom d.text there → PlainFrom d.text (behind_first from there)
+  behind_first_plain (Blanks e) there k = tt
+  behind_first_plain Line there k = k
+  behind_first_plain (At p Anything) there k = k
+  behind_first_plain (At p ALeafAlone) there k = k
+  behind_first_plain (At p (TextOf marker)) there k = k
+  behind_first_plain (At p (MarkAlone marker blanks)) there k = marker_plain blanks
+
+-- each block of a sequence shows whole tables, or nothing
+unfoldable pub WholeSkeleton : Names → Skeleton → Type 0
+WholeSkeleton names Nil = Unit {0}
+WholeSkeleton names (Then leaf next) = WholeLeaf names leaf × WholeSkeleton names next
+WholeSkeleton names (Node head e kids next) = WholeSkeleton names kids × WholeSkeleton names next
+
+pub sequence_whole : (d : Document) → HeadsAreFull d → (s : Skeleton) (path : List Container) (from : From) (lines left : List Place) → PlainFrom d.text from
+    → AreAt d.text lines → IsSequence d s path from lines left → WholeSkeleton d.names s × AreAt d.text left
+unfolding IsSequence WholeSkeleton
+sequence_whole d full Nil path from lines left plain h (ends, e) = (tt, subst (AreAt d.text) (sym e) h)
+sequence_whole d full (Then leaf next) path from lines left plain h (there, mid, first, more) =
+    let one = first_whole d full path from lines (OpensLeaf leaf there mid) plain h first in
+    let rest = sequence_whole d full next path (behind_first from there) mid left (behind_first_plain d full from there one.1) one.2 more in
+    ((one.0, rest.0), rest.1)
+sequence_whole d full (Node head e kids next) path from lines left plain h (inside, behind, mid, first, inner, is, more) =
+    let one = first_whole d full path from lines (OpensNode head inside behind) plain h first in
+    let below = sequence_whole d full kids (opened head.opener ∷ path) inside behind mid one.0 one.1 inner in
+    let rest = sequence_whole d full next path (behind_first from Line) mid left (behind_first_plain d full from Line tt) below.1 more in
+    ((below.0, rest.0), rest.1)

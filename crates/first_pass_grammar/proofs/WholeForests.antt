@@ -1,0 +1,142 @@
+-- A derived tree shows whole tables.
+use Rattle.std.proofs.Common.{◌≡◌, ℕ, suc, ◌==◌, ◌||◌, Bool, true, false, List, [], ◌∷◌, ◌++◌, length, map, refl, sym, ap, subst, ◌∙◌, if◌then◌else◌}
+use Rattle.std.proofs.lemmas.List.{append_assoc}
+use Rattle.first_pass_items.specs.declared.item.Item.{Item}
+use Rattle.first_pass_items.specs.declared.item.ItemBody.{ItemBody}
+use Rattle.first_pass_items.specs.declared.item.ItemBody.TheVariants.{Paragraph as ParagraphBody}
+use Rattle.first_pass_tree.specs.Forest.{at_depth}
+use Rattle.first_pass_lines.specs.Places.{lines_at}
+use Rattle.first_pass_grammar.specs.Names.{Names}
+use Rattle.first_pass_grammar.specs.Leaves.{Document}
+use Rattle.first_pass_grammar.specs.Skeleton.{BlankLine, Block, Opener, QuoteMarker, ItemMarker, Line, Skeleton, Nil, Then, Node}
+use Rattle.first_pass_grammar.specs.Rows.{What, ALeaf, AQuote, AList, AnItem, Row, Rows, End, OneOf, behind, ends_in_gap, is_loose, is_list_of, items_behind, list_behind, what_of, row_of, container_row, is_quote_marker, counts_behind, rows_of}
+use Rattle.first_pass_grammar.specs.Derivation.{tight_body, tightened, row_items, tight_in, items_of, Tables, root_of, Derives}
+use Rattle.first_pass_grammar.specs.WholeTables.{Mark, ATable, shown, marks, row_marks, TableRows, table_marks, AreFull, AreWholeTables}
+use Rattle.first_pass_grammar.proofs.HeadCells.{heads_are_full}
+use Rattle.first_pass_grammar.proofs.LinesLeft.{lines_are_at}
+use Rattle.first_pass_grammar.proofs.TableMarks.{marks-append, marks-at_depth}
+use Rattle.first_pass_grammar.proofs.WholeBlocks.{whole_none, WholeSkeleton, sequence_whole}
+
+-- whole tables behind each other
+table_marks-append : (a b : List TableRows) → table_marks (a ++ b) ≡ table_marks a ++ table_marks b
+unfolding table_marks
+table_marks-append [] b = refl
+table_marks-append (t ∷ a) b =
+    let first : List Mark = ATable t.columns ∷ row_marks t.rows in
+    ap (λ (z : List Mark). first ++ z) (table_marks-append a b) ∙ sym (append_assoc first (table_marks a) (table_marks b))
+
+both_full : (a b : List TableRows) → AreFull a → AreFull b → AreFull (a ++ b)
+unfolding AreFull
+both_full [] b h k = k
+both_full (t ∷ a) b h k = (h.0, h.1, both_full a b h.2 k)
+
+pub whole_both : (names : Names) (nodes more : List (ℕ × Item)) → AreWholeTables names nodes → AreWholeTables names more → AreWholeTables names (nodes ++ more)
+unfolding AreWholeTables
+whole_both names nodes more (a, e, h) (b, f, k) =
+    let first = ap (λ (z : List Mark). z ++ marks names more) e in
+    let second = ap (λ (z : List Mark). table_marks a ++ z) f in
+    (a ++ b, marks-append names nodes more ∙ first ∙ second ∙ sym (table_marks-append a b), both_full a b h k)
+
+-- nodes that show the same
+pub whole_same : (names : Names) (nodes more : List (ℕ × Item)) → marks names more ≡ marks names nodes → AreWholeTables names nodes → AreWholeTables names more
+unfolding AreWholeTables
+whole_same names nodes more same (a, e, h) = (a, same ∙ e, h)
+
+-- a paragraph made tight shows nothing still
+tight_shows : (names : Names) (start «end» : ℕ) (b : ItemBody) → shown names start «end» (tight_body b) ≡ shown names start «end» b
+tight_shows names start end ParagraphBody = refl
+tight_shows names start end b = refl
+
+tight_by : (names : Names) (t : Bool) (x : Item)
+    → (let y : Item = if t then record { start = x.start; «end» = x.«end»; body = tight_body x.body } else x in shown names y.start y.«end» y.body)
+    ≡ shown names x.start x.«end» x.body
+tight_by names true x = tight_shows names x.start x.«end» x.body
+tight_by names false x = refl
+
+marks-tightened : (names : Names) (depth : ℕ) (nodes : List (ℕ × Item)) → marks names (map (tightened depth) nodes) ≡ marks names nodes
+unfolding marks
+marks-tightened names depth [] = refl
+marks-tightened names depth (n ∷ nodes) =
+    ap (λ (z : List Mark). z ++ marks names (map (tightened depth) nodes)) (tight_by names (n.0 == depth) n.1)
+    ∙ ap (λ (z : List Mark). shown names n.1.start n.1.«end» n.1.body ++ z) (marks-tightened names depth nodes)
+
+-- the leaves of rows show whole tables, or nothing
+abbrev WholeWhat : Names → What → Type 0
+WholeWhat names (ALeaf block) = AreWholeTables names block.items
+WholeWhat names (AQuote kind e) = Unit {0}
+WholeWhat names (AList byte number e) = Unit {0}
+WholeWhat names (AnItem columns e) = Unit {0}
+
+unfoldable WholeRows : Names → Rows → Type 0
+WholeRows names (End gap) = Unit {0}
+WholeRows names (OneOf row inner next) = WholeWhat names row.what × WholeRows names inner × WholeRows names next
+
+behind_whole : (names : Names) (run : Bool) (rows : Rows) → WholeRows names rows → WholeRows names (behind run rows)
+unfolding WholeRows
+behind_whole names run (End gap) h = tt
+behind_whole names run (OneOf row inner next) h = h
+
+unless_whole : (names : Names) (t : Bool) (a b : Rows) → WholeRows names a → WholeRows names b → WholeRows names (if t then a else b)
+unless_whole names true a b h k = h
+unless_whole names false a b h k = k
+
+items_whole : (names : Names) (byte : ℕ) (rows : Rows) → WholeRows names rows → WholeRows names (items_behind byte rows)
+unfolding WholeRows
+items_whole names byte (End gap) h = tt
+items_whole names byte (OneOf row inner next) h = unless_whole names (is_list_of byte row.what) (behind row.gap inner) (End false) (behind_whole names row.gap inner h.1) tt
+
+list_whole : (names : Names) (byte : ℕ) (rows : Rows) → WholeRows names rows → WholeRows names (list_behind byte rows)
+unfolding WholeRows
+list_whole names byte (End gap) h = tt
+list_whole names byte (OneOf row inner next) h = unless_whole names (is_list_of byte row.what) next (OneOf row inner next) h.2 h
+
+container_whole : (names : Names) (last : ℕ) (opener : Opener) (row : Row) (inner next : Rows) → WholeWhat names row.what → WholeRows names inner
+    → WholeRows names next → WholeRows names (container_row last opener row inner next)
+unfolding WholeRows
+container_whole names last (QuoteMarker kind) row inner next own h k = (own, h, k)
+container_whole names last (ItemMarker byte number columns) row inner next own h k = (tt, (own, h, items_whole names byte next k), list_whole names byte next k)
+
+what_whole : (names : Names) (opener : Opener) (e : ℕ) → WholeWhat names (what_of opener e)
+what_whole names (QuoteMarker kind) e = tt
+what_whole names (ItemMarker byte number columns) e = tt
+
+rows_whole : (names : Names) (quoted : Bool) (last : ℕ) (s : Skeleton) → WholeSkeleton names s → WholeRows names (rows_of quoted last s)
+unfolding WholeSkeleton WholeRows rows_of
+rows_whole names quoted last Nil h = tt
+rows_whole names quoted last (Then BlankLine next) h = behind_whole names _ (rows_of quoted last next) (rows_whole names quoted last next h.1)
+rows_whole names quoted last (Then (Block block) next) h = (h.0, tt, behind_whole names block.gap (rows_of quoted last next) (rows_whole names quoted last next h.1))
+rows_whole names quoted last (Node head e kids next) h =
+    let inner : Rows = rows_of (is_quote_marker head.opener) e kids in
+    container_whole names last head.opener (row_of head e) inner (behind (ends_in_gap inner || counts_behind head.opener next) (rows_of quoted last next))
+    (what_whole names head.opener e) (rows_whole names (is_quote_marker head.opener) e kids h.0)
+    (behind_whole names (ends_in_gap inner || counts_behind head.opener next) (rows_of quoted last next) (rows_whole names quoted last next h.1))
+
+-- so do their items
+row_whole : (names : Names) (depth : ℕ) (tight loose : Bool) (start : ℕ) (w : What) → WholeWhat names w
+    → AreWholeTables names (row_items depth tight loose start w)
+unfolding marks
+row_whole names depth true loose start (ALeaf block) h =
+    whole_same names block.items _ (marks-tightened names depth (at_depth depth block.items) ∙ marks-at_depth names depth block.items) h
+row_whole names depth false loose start (ALeaf block) h = whole_same names block.items (at_depth depth block.items) (marks-at_depth names depth block.items) h
+row_whole names depth tight loose start (AQuote kind e) h = whole_none names _ refl
+row_whole names depth tight loose start (AList byte number e) h = whole_none names _ refl
+row_whole names depth tight loose start (AnItem columns e) h = whole_none names _ refl
+
+forest_whole : (names : Names) (depth : ℕ) (tight : Bool) (rows : Rows) → WholeRows names rows → AreWholeTables names (items_of depth tight rows)
+unfolding WholeRows items_of marks
+forest_whole names depth tight (End gap) h = whole_none names [] refl
+forest_whole names depth tight (OneOf row inner next) h =
+    whole_both names (row_items depth tight (is_loose inner) row.start row.what) _
+    (row_whole names depth tight (is_loose inner) row.start row.what h.0)
+    (whole_both names (items_of (suc depth) (tight_in tight (is_loose inner) row.what) inner) (items_of depth tight next)
+    (forest_whole names (suc depth) (tight_in tight (is_loose inner) row.what) inner h.1) (forest_whole names depth tight next h.2))
+
+-- What a text derives shows whole tables.
+pub derived_whole : (d : Document) (nodes : List (ℕ × Item)) (tables : Tables) → Derives d nodes tables → AreWholeTables d.names nodes
+unfolding marks
+derived_whole d nodes tables h =
+    let s = (sequence_whole d (heads_are_full d) h.skeleton [] Line (lines_at 0 d.text) [] tt (lines_are_at d.text) h.sequence).0 in
+    let rows = rows_of false (length d.text) h.skeleton in
+    let all = forest_whole d.names 1 false rows (rows_whole d.names false (length d.text) h.skeleton s) in
+    subst (AreWholeTables d.names) (sym h.forest_is)
+    (whole_both d.names (root_of (length d.text) ∷ []) (items_of 1 false rows) (whole_none d.names (root_of (length d.text) ∷ []) refl) all)

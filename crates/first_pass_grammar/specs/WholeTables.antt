@@ -1,0 +1,71 @@
+-- Tables as their nodes show them: as many cells in each row as columns, and no more of them filled in than may be.
+use Rattle.std.specs.Prelude.{◌≡◌, ℕ, ◌+◌, ◌≤◌, ◌==◌, List, [], ◌∷◌, ◌++◌, length, map, if◌then◌else◌}
+use Rattle.first_pass_items.specs.declared.item.Item.{Item}
+use Rattle.first_pass_items.specs.declared.item.ItemBody.{ItemBody}
+use Rattle.first_pass_items.specs.declared.item.ItemBody.TheVariants.{Table, TableHead, TableRow, TableCell}
+use Rattle.first_pass_grammar.specs.Names.{Names, alignments_named}
+use Rattle.first_pass_grammar.specs.Tables.{most_filled}
+
+-- what a node shows of tables: one of so many columns, a row or header row that ends at an offset, or a cell that starts at one (GFM 4.10)
+pub data Mark : Type 0 where
+  ATable : ℕ → Mark
+  ARow : ℕ → Mark
+  ACell : ℕ → Mark
+
+-- what a node with this range and body shows, whose index names the alignments of a table's columns; a node that is no part of a table shows nothing
+-- (GFM 4.10)
+abbrev pub shown : Names → ℕ → ℕ → ItemBody → List Mark
+shown names start «end» (Table ix) = ATable (length (alignments_named names ix)) ∷ []
+shown names start «end» TableHead = ARow «end» ∷ []
+shown names start «end» TableRow = ARow «end» ∷ []
+shown names start «end» TableCell = ACell start ∷ []
+shown names start «end» _ = []
+
+-- what nodes show, in reading order (this project)
+unfoldable pub marks : Names → List (ℕ × Item) → List Mark
+marks names [] = []
+marks names (n ∷ nodes) = shown names n.1.start n.1.«end» n.1.body ++ marks names nodes
+
+-- a row as it is counted: where it ends, and where its cells start (GFM 4.10)
+pub record RowCells : Type 0 where
+  pub «end» : ℕ
+  pub starts : List ℕ
+
+-- a table as it is counted: how many columns it has, and its rows, the header row first (GFM 4.10)
+pub record TableRows : Type 0 where
+  pub columns : ℕ
+  pub rows : List RowCells
+
+-- what the nodes of rows show, each before its cells (GFM 4.10)
+unfoldable pub row_marks : List RowCells → List Mark
+row_marks [] = []
+row_marks (row ∷ rows) = (ARow row.«end» ∷ map ACell row.starts) ++ row_marks rows
+
+-- what the nodes of tables show, each before its rows (GFM 4.10)
+unfoldable pub table_marks : List TableRows → List Mark
+table_marks [] = []
+table_marks (table ∷ tables) = (ATable table.columns ∷ row_marks table.rows) ++ table_marks tables
+
+-- how many of these offsets are this one (this project)
+unfoldable pub how_often : ℕ → List ℕ → ℕ
+how_often at [] = 0
+how_often at (start ∷ starts) = (if start == at then 1 else 0) + how_often at starts
+
+-- How many cells of rows are filled in: those that start where their row ends. A cell that is written starts before that (GFM 4.10, and this project).
+unfoldable pub filled_in : List RowCells → ℕ
+filled_in [] = 0
+filled_in (row ∷ rows) = how_often row.«end» row.starts + filled_in rows
+
+-- each row has as many cells as there are columns (GFM 4.10)
+unfoldable pub HaveCells : ℕ → List RowCells → Type 0
+HaveCells columns [] = Unit {0}
+HaveCells columns (row ∷ rows) = (length row.starts ≡ columns) × HaveCells columns rows
+
+-- each table has as many cells in each row as columns, and no more of them are filled in than may be (GFM 4.10, and this project)
+unfoldable pub AreFull : List TableRows → Type 0
+AreFull [] = Unit {0}
+AreFull (table ∷ tables) = HaveCells table.columns table.rows × (filled_in table.rows ≤ most_filled) × AreFull tables
+
+-- What these nodes show is such tables, one after the other, and no row or cell outside them (GFM 4.10, and this project).
+unfoldable pub AreWholeTables : Names → List (ℕ × Item) → Type 0
+AreWholeTables names nodes = (tables : List TableRows) × (marks names nodes ≡ table_marks tables) × AreFull tables
