@@ -31,3 +31,7 @@ allocs_of pass = pass.allocs
 -- what a line is read in by it
 abbrev pub context_in : FirstPass → Context
 context_in pass = context_of pass.source.options pass.reading.tree
+
+-- what is remembered with another tree
+abbrev pub with_tree : Reading → Forest Item → Reading
+with_tree r tree = record r { tree = tree }

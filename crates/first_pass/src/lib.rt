@@ -11,6 +11,7 @@ mod list;
 pub mod pass;
 mod raw;
 mod state;
+mod table;
 
 pub use first_pass_below::{below, flank, walk};
 pub use first_pass_names::items;

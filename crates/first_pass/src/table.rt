@@ -1,0 +1,113 @@
+//! Tables, as calls of the pass (GFM 4.10).
+
+ghost use Rattle.std.specs.Prelude.{◌≡◌, ◌≤◌, true, ℕ, length, IfOk, OnOk, IsCharBoundary};
+ghost use Rattle.first_pass_tree.specs.declared.tree_index.TreeIndex.{TreeIndex};
+ghost use Rattle.first_pass_tree.specs.Forest.{in_table};
+ghost use Rattle.first_pass_names.specs.TableEntries.{no_names};
+ghost use Rattle.first_pass_grammar.specs.Leaves.{document};
+ghost use Rattle.first_pass_grammar.specs.Tables.{most_filled};
+ghost use Rattle.first_pass_open.specs.OpenBlock.{IsJustPushed};
+ghost use Rattle.first_pass_tables.specs.Appends.{IsOpenNode, ReadsRow, ReadsRowLine, AppendsRows};
+ghost use Rattle.first_pass.specs.Views.{allocs_of, reading_of, source_of, source_options, source_text, tree_of, with_tree};
+
+use crate::state::FirstPass;
+use first_pass_tables::{row, rows};
+use first_pass_tree::tree_index::TreeIndex;
+use std::alloc::AllocError;
+
+impl<'a> FirstPass<'a> {
+    /// Appends the rows of a table of `table_cols` columns to the table, the innermost open node, which was just
+    /// opened, and closes it behind them: the header row, which begins at the offset `head_start` into the text, and
+    /// the rows among the lines from the offset `body_start` on, up to the first line that is none. Answers the offset
+    /// at which that line begins, or the text's length (GFM 4.10).
+    pub fn parse_table(
+        &mut self,
+        table_cols: usize,
+        head_start: usize,
+        body_start: usize,
+    ) -> Result<usize, AllocError>
+        requires head { IsCharBoundary (source_text self.old) head_start }
+        requires body { IsCharBoundary (source_text self.old) body_start }
+        requires open { (ix : TreeIndex) × IsJustPushed (tree_of self.old) ix }
+        requires table { in_table (tree_of self.old).nodes (tree_of self.old).spine ≡ true }
+        ensures source { OnOk result (source_of self.new ≡ source_of self.old) }
+        ensures allocs { OnOk result (allocs_of self.new ≡ allocs_of self.old) }
+        ensures reading { OnOk result (reading_of self.new ≡ with_tree (reading_of self.old) (tree_of self.new)) }
+        ensures rows { IfOk result (λ next.
+            AppendsRows (document (source_text self.old) (source_options self.old) no_names) table_cols head_start
+            body_start (tree_of self.old) (tree_of self.new) next) }
+    {
+        rows::parse_table(
+            self.alloc,
+            self.source,
+            &self.lookup_table,
+            &mut self.reading.tree,
+            table_cols,
+            head_start,
+            body_start,
+        )
+    }
+
+    /// Appends the row of a table of `row_cells` columns that is in the line which begins at the offset `ix` into the
+    /// text, to the table, the innermost open node; answers as `parse_table_row_inner`. `None` too where the line
+    /// doesn't go on with all open containers, or its text would interrupt a paragraph, as any list item does here
+    /// (GFM 4.10).
+    pub fn parse_table_row(
+        &mut self,
+        ix: usize,
+        row_cells: usize,
+        missing_empty_cells: &mut usize,
+    ) -> Result<Option<(usize, TreeIndex)>, AllocError>
+        requires boundary { IsCharBoundary (source_text self.old) ix }
+        requires open { IsOpenNode (tree_of self.old) }
+        requires table { in_table (tree_of self.old).nodes (tree_of self.old).spine ≡ true }
+        requires few { missing_empty_cells.old ≤ most_filled }
+        ensures source { OnOk result (source_of self.new ≡ source_of self.old) }
+        ensures allocs { OnOk result (allocs_of self.new ≡ allocs_of self.old) }
+        ensures reading { OnOk result (reading_of self.new ≡ with_tree (reading_of self.old) (tree_of self.new)) }
+        ensures row { IfOk result (λ row.
+            ReadsRowLine (document (source_text self.old) (source_options self.old) no_names) row_cells ix
+            (tree_of self.old) (tree_of self.new) missing_empty_cells.old missing_empty_cells.new row) }
+    {
+        rows::parse_table_row(
+            self.alloc,
+            self.source,
+            &self.lookup_table,
+            &mut self.reading.tree,
+            ix,
+            row_cells,
+            missing_empty_cells,
+        )
+    }
+
+    /// Appends the row of a table of `row_cells` columns that begins at the offset `ix` into the text, behind what the
+    /// containers take of its line, to the innermost open node, filled with empty cells where it has too few; they are
+    /// added to `missing_empty_cells`, how many are filled in so far. Answers the offset at which the row ends and the
+    /// row's index; `None`, and nothing is appended, where it has no cell and is not the table's first row, or more
+    /// than 262,144 cells would be filled in (GFM 4.10).
+    pub fn parse_table_row_inner(
+        &mut self,
+        ix: usize,
+        row_cells: usize,
+        missing_empty_cells: &mut usize,
+    ) -> Result<Option<(usize, TreeIndex)>, AllocError>
+        requires within { ix ≤ length (source_text self.old) }
+        requires open { IsOpenNode (tree_of self.old) }
+        requires few { missing_empty_cells.old ≤ most_filled }
+        ensures source { OnOk result (source_of self.new ≡ source_of self.old) }
+        ensures allocs { OnOk result (allocs_of self.new ≡ allocs_of self.old) }
+        ensures reading { OnOk result (reading_of self.new ≡ with_tree (reading_of self.old) (tree_of self.new)) }
+        ensures row { IfOk result (λ row.
+            ReadsRow (document (source_text self.old) (source_options self.old) no_names) row_cells ix
+            (tree_of self.old) (tree_of self.new) missing_empty_cells.old missing_empty_cells.new row) }
+    {
+        row::parse_table_row_inner(
+            self.source,
+            &self.lookup_table,
+            &mut self.reading.tree,
+            ix,
+            row_cells,
+            missing_empty_cells,
+        )
+    }
+}
