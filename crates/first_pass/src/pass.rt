@@ -24,6 +24,7 @@ ghost use Rattle.first_pass.specs.Progress.{ReadsLeaf, WentOn};
 ghost use Rattle.first_pass_text.specs.Found.{IsFoundAt, marked_kind};
 ghost use Rattle.first_pass_text.specs.Between.{StandsBefore};
 ghost use Rattle.first_pass_grammar.specs.Counting.{own_nodes};
+ghost use Rattle.first_pass_grammar.specs.WholeTables.{AreWholeTables};
 ghost use Rattle.first_pass_grammar.specs.Order.{IsOrdered, GrowsBy, is_task_marker};
 ghost use Rattle.first_pass_grammar.specs.OpenOrder.{IsOrderedTo, is_in_item};
 ghost use Rattle.first_pass.specs.State.{Ready, ReadyAt};
@@ -379,8 +380,8 @@ impl<'a> FirstPass<'a> {
 
 /// Reads the blocks of a text: the finished tree that the block grammar derives from the text's lines
 /// under these options, and the tables of what the text defines. The tree has at most four nodes for each
-/// byte, besides its root and cells that rows of tables are filled with. The one error is that a request for memory was
-/// refused.
+/// byte, besides its root and cells that rows of tables are filled with; each row has as many cells as its table has
+/// columns, and at most 262,144 cells are filled into a table. The one error is that a request for memory was refused.
 pub fn run_first_pass<'a>(
     alloc: Global,
     text: &'a str,
@@ -392,6 +393,7 @@ pub fn run_first_pass<'a>(
     ensures order { IfOk result (λ answer. IsOrdered text.now answer.0.nodes) }
     ensures few { IfOk result (λ answer. own_nodes answer.0.nodes ≤ 1 + 4 * length text.now) }
     ensures named { IfOk result (λ answer. AreNamed (names_of answer.1) answer.0.nodes) }
+    ensures whole { IfOk result (λ answer. AreWholeTables (names_of answer.1) answer.0.nodes) }
 {
     let mut pass = FirstPass::new(alloc, text, options)?;
     let mut ix = 0;

@@ -10,6 +10,7 @@ use Rattle.first_pass.specs.Ordered.{reached, IsOrderedAt, IsOrderedFrom}
 use Rattle.first_pass.specs.State.{Ready}
 use Rattle.first_pass_names.specs.TableEntries.{tables, names_of}
 use Rattle.first_pass_grammar.proofs.OwnNodes.{own_at_most}
+use Rattle.first_pass_grammar.proofs.WholeForests.{derived_whole}
 use Rattle.first_pass.proofs.OrderLemmas.{ordered_whole}
 use Rattle.first_pass_open.proofs.FrontLemmas.{outer-none}
 use Rattle.first_pass.proofs.StateLemmas.{ready_finish}
@@ -69,6 +70,12 @@ returns-clause-derived c =
     let here = subst (Ready d (tables c.loop-ix.pass.allocs) c.loop-ix.pass.reading) (lines_at-end c.args.text.now c.loop-ix.ix c.loop-ix-test.false) (i.ready names (extends_equal _ _ refl)) in
     let closed : Ready d (tables c.loop-ix.pass.allocs) now [] = c.close_containers.ensures.ready d (tables c.loop-ix.pass.allocs) [] refl (λ m low high. tt) here in
     ready_finish d (tables c.loop-ix.pass.allocs) now (all_closed c) closed
+
+pub returns-clause-whole : goal.returns-clause-whole
+returns-clause-whole c =
+    let names = names_of c.loop-ix.pass.allocs in
+    let d = document c.args.text.now c.args.options names in
+    derived_whole d c.close_containers.new.reading.tree.nodes (tables c.loop-ix.pass.allocs) (returns-clause-derived c)
 
 pub returns-clause-finished : goal.returns-clause-finished
 returns-clause-finished c = all_closed c
