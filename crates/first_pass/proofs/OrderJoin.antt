@@ -9,8 +9,8 @@ use Rattle.first_pass_tree.specs.declared.tree_index.TreeIndex.{TreeIndex}
 use Rattle.first_pass_tree.specs.Forest.{Forest, IsForest, IsLastAt, depths, item_at, is_text, ends_text_at, joins_at, with_end_at, with_end, appended}
 use Rattle.first_pass_tree.proofs.Keeps.{appended-is, modified-is}
 use Rattle.first_pass_tokens.specs.Order.{AreInOrder}
-use Rattle.first_pass_tokens.specs.TreeTokens.{with_token, with_tokens, AppendsLine}
-use Rattle.first_pass_tokens.proofs.OrderLemmas.{order_bound, order_to, order_from, line_in_order}
+use Rattle.first_pass_tokens.specs.TreeTokens.{with_token, with_tokens, AppendsLine, AppendsCell}
+use Rattle.first_pass_tokens.proofs.OrderLemmas.{order_bound, order_to, order_from, line_in_order, cell_in_order, cell_end_place}
 use Rattle.first_pass_names.specs.TableEntries.{no_names}
 use Rattle.first_pass_grammar.specs.Leaves.{Document, document, content_at}
 use Rattle.first_pass_text.specs.Appends.{text_upto}
@@ -22,6 +22,8 @@ use Rattle.first_pass_grammar.proofs.Orders.{beside, ended_at, laid_open-beside,
 use Rattle.first_pass_lists.specs.declared.reading.Reading.{Reading}
 use Rattle.first_pass.specs.Ordered.{reached, IsOrderedAt}
 use Rattle.first_pass.proofs.OrderLemmas.{ordered_later, ordered_appended, ordered_none}
+use Rattle.first_pass_grammar.specs.Tables.{cell_content}
+use Rattle.first_pass_items.specs.declared.option_set.Options.{Options}
 
 -- a row's last node, with what is below it, and those before it
 abbrev HasLast : Row → Type 0
@@ -265,3 +267,20 @@ tokens_ordered text old new at start to tokens forest o low order within is none
     let low' : e ≤ at = before in
     ordered_none text new to none within
     (subst (λ f. IsOrderedTo text f to) (sym is) (ordered_tokens text old.tree e to tokens forest (order_from text e start to tokens order (omega arith)) within o.ordered))
+
+-- the tokens of a cell added, which begins at an offset of such a text
+pub ordered_cell : (text : List ℕ) (options : Options) (start : ℕ) (end : Option ℕ) (old new : Forest Item) (stop from : ℕ) → IsUtf8 text
+    → IfSome end (λ e. (start ≤ e) × IsCharBoundary text e) → IsCharBoundary text start → IsForest old
+    → AppendsCell (cell_content (document (text_upto text end) options no_names) start) old new stop → from ≤ start → IsOrderedTo text old from
+    → IsOrderedTo text new stop
+ordered_cell text options start None old new stop from u ends boundary forest h low o =
+    let tokens = cell_in_order u boundary boundary.0 h.cell in
+    let place = cell_end_place boundary.0 h.cell in
+    subst (λ f. IsOrderedTo text f stop) (sym h.tree_is)
+    (ordered_tokens text old from stop h.tokens forest (order_from text from start stop h.tokens tokens low) place.0 o)
+ordered_cell text options start (Some e) old new stop from u ends boundary forest h low o =
+    let first = place_in_front text e u ends.1 start ends.0 boundary in
+    let tokens = order_in_text text e u ends.1 start stop h.tokens (cell_in_order (front_utf8 text e u ends.1) first first.0 h.cell) in
+    let place = place_in_text text e u ends.1 stop (cell_end_place first.0 h.cell) in
+    subst (λ f. IsOrderedTo text f stop) (sym h.tree_is)
+    (ordered_tokens text old from stop h.tokens forest (order_from text from start stop h.tokens tokens low) place.0 o)

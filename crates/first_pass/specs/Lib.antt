@@ -1,5 +1,6 @@
 pub mod Adding
 pub mod Completed
+pub mod Lines
 pub mod Opening
 pub mod Ordered
 pub mod Progress

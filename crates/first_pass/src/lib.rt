@@ -7,6 +7,7 @@ mod definition;
 mod interrupt;
 mod laws;
 mod leaf;
+mod line;
 mod list;
 pub mod pass;
 mod raw;

@@ -4,14 +4,11 @@ ghost use Rattle.std.specs.Prelude.{◌≡◌, ◌<◌, ◌≤◌, ◌+◌, ◌-
 ghost use Rattle.first_pass_lines.specs.Places.{offset, line_end, IsPlaceOf};
 ghost use Rattle.first_pass_walk.specs.Walk.{MarksSpecial};
 ghost use Rattle.first_pass_scan.specs.MetadataSearch.{IsKnownOf};
-ghost use Rattle.first_pass_tokens.specs.LineTokens.{EndsLine};
-ghost use Rattle.first_pass_tokens.specs.TreeTokens.{AppendsLine};
 ghost use Rattle.first_pass_grammar.specs.Leaves.{document};
 ghost use Rattle.first_pass_grammar.specs.declared.kind.Container.TheVariants.{BlockQuote};
 ghost use Rattle.first_pass_grammar.specs.Containers.{prefix};
 ghost use Rattle.first_pass_grammar.specs.Derivation.{no_tables, Derives};
 ghost use Rattle.first_pass_grammar.specs.Completion.{lines_from};
-ghost use Rattle.first_pass_text.specs.Appends.{text_upto};
 ghost use Rattle.first_pass_open.specs.OpenBlock.{closed_by};
 ghost use Rattle.first_pass_grammar.specs.Skeleton.{Inside, Line};
 ghost use Rattle.first_pass_grammar.specs.Kinds.{Paragraph, item_at, unindented, IsKind};
@@ -36,7 +33,6 @@ use crate::containers::{Behind, close_containers, enter_line, open_containers};
 use crate::definition::RunEnd;
 pub use crate::state::FirstPass;
 pub use first_pass_below::below::{count_header_cols, get_html_end_tag};
-use first_pass_below::flank::TableParseMode;
 use first_pass_items::item::Item;
 use first_pass_items::option_set::Options;
 use first_pass_lines::places::{next_line, rest_of};
@@ -50,25 +46,11 @@ use first_pass_scan::metadata_search::MetadataEnds;
 use first_pass_text::interrupt::scan_line_behind_tag;
 pub use first_pass_text::interrupt::scan_paragraph_interrupt_no_table;
 use first_pass_text::kinds::{Found, MarkedLeaf, kind_at};
-use first_pass_tokens::line::append_line;
 use first_pass_tree::forest::Tree;
 use first_pass_tree::tree_index::TreeIndex;
 use first_pass_walk::walk::special_bytes;
 use std::alloc::{AllocError, Global};
 use std::cmp::max;
-
-/// The bytes of a text up to an offset, or all.
-fn text_upto(text: &str, end: Option<usize>) -> &[u8]
-    requires { IfSome end (λ e. e ≤ length text.now) }
-    ensures value { result.now ≡ text_upto text.now end }
-    ensures utf8 { IsUtf8 text.now }
-{
-    let bytes = text.as_bytes();
-    match end {
-        Some(end) => &bytes[..end],
-        None => bytes,
-    }
-}
 
 impl<'a> FirstPass<'a> {
     /// A pass over `text` that has read nothing yet.
@@ -319,62 +301,6 @@ impl<'a> FirstPass<'a> {
                 Ok(next)
             }
         }
-    }
-
-    /// Appends the tokens of a line to the innermost open node: the line whose content begins at the
-    /// offset `start` into the text, of which nothing counts from the offset `end` on.
-    ///
-    /// Answers the offset behind the line's end, and its break, which is not appended; `None` where the
-    /// text ends without a line end (CommonMark 2.4, 6.7, 6.8). At most one node is added for each byte that is
-    /// read. No mode makes a difference yet.
-    #[inline(always)]
-    pub fn parse_line(
-        &mut self,
-        start: usize,
-        end: Option<usize>,
-        _mode: TableParseMode,
-    ) -> Result<(usize, Option<Item>), AllocError>
-        requires start { start ≤ length (source_text self.old) }
-        requires end { IfSome end (λ e. (start ≤ e) × (e ≤ length (source_text self.old))) }
-        ensures source { OnOk result (source_of self.new ≡ source_of self.old) }
-        ensures allocs { OnOk result (allocs_of self.new ≡ allocs_of self.old) }
-        ensures reading { OnOk result (reading_of self.new ≡ with_block (reading_of self.old) (tree_of self.new)) }
-        ensures line { IfOk result (λ answer. AppendsLine
-            (record {
-              options = (source_options self.old);
-              text = text_upto (source_text self.old) end;
-              start = start;
-              row = false;
-            })
-            (tree_of self.old) (tree_of self.new) answer) }
-        ensures ends { IfOk result (λ answer. EndsLine
-            (record {
-              options = (source_options self.old);
-              text = text_upto (source_text self.old) end;
-              start = start;
-              row = false;
-            })
-            answer) }
-        ensures boundary { IfOk result (λ answer. end ≡ None → IsCharBoundary (source_text self.old) start
-            → IsCharBoundary (source_text self.old) answer.0) }
-        ensures order { IfOk result (λ answer. IfSome end (λ e. IsCharBoundary (source_text self.old) e)
-            → IsCharBoundary (source_text self.old) start → (at : ℕ) → at ≤ start
-            → IsOrderedAt (source_text self.old) (reading_of self.old) at
-            → IsOrderedAt (source_text self.old) (reading_of self.new) answer.0) }
-        ensures few { IfOk result (λ answer.
-            length (tree_of self.new).nodes ≤ length (tree_of self.old).nodes + (answer.0 - start)) }
-    {
-        self.reading.tree.is_forest();
-        let bytes = text_upto(self.source.text, end);
-        let answer = append_line(
-            bytes,
-            start,
-            self.source.options,
-            &self.lookup_table,
-            &mut self.reading.tree,
-        )?;
-        self.reading.empty_item = None;
-        Ok(answer)
     }
 }
 

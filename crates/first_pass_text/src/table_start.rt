@@ -79,10 +79,35 @@ fn ends_in_backslash(bytes: &[u8]) -> bool
     scan_last_backslashes(&bytes[..content_len(bytes)]) % 2 == 1
 }
 
-/// The alignments of the table that the text heads which begins at the offset `start` into the text, and no container
-/// or other block does; `None` where it heads none, and is a paragraph: with tables, its first line and the next one
-/// are a header row and a delimiter row of as many columns (GFM 4.10). The error is want of memory.
+/// The alignments of the table that the line heads with which `bytes` begin, all that the text has from there on, where
+/// no container or other block begins; `None` where it heads none, and begins a paragraph: with tables, it and the next
+/// line are a header row and a delimiter row of as many columns (GFM 4.10). The error is want of memory.
 #[tactic(auto, unfolding(first_pass_grammar::specs::TableHeads::headed_table))]
+pub fn scan_headed_line(
+    alloc: Global,
+    options: Options,
+    tree: &Tree<Item>,
+    bytes: &[u8],
+) -> Result<Option<Vec<Alignment>>, AllocError>
+    ensures { IfOk result (λ found. option_map (λ v. v.items) found
+        ≡ headed_table (context_of options tree.now) bytes.now) }
+{
+    if !options.contains(Options::ENABLE_TABLES) {
+        return Ok(None);
+    }
+    let Some(alignments) = scan_table_at(alloc, options, tree, bytes)? else {
+        return Ok(None);
+    };
+    if ends_in_backslash(bytes) {
+        Ok(None)
+    } else {
+        Ok(Some(alignments))
+    }
+}
+
+/// The alignments of the table that the text heads which begins at the offset `start` into the text, and no container
+/// or other block does; `None` where it heads none, and is a paragraph (see `scan_headed_line`). The error is want of
+/// memory.
 pub fn scan_headed_table(
     alloc: Global,
     source: Source<'_>,
@@ -93,16 +118,7 @@ pub fn scan_headed_table(
     ensures { IfOk result (λ found. option_map (λ v. v.items) found
         ≡ headed_table (context_of source.entry.options tree.now) (drop start source.entry.text.now)) }
 {
-    if !source.options.contains(Options::ENABLE_TABLES) {
-        return Ok(None);
-    }
     let bytes = rest_of(source.text.as_bytes(), start);
-    let Some(alignments) = scan_table_at(alloc, source.options, tree, bytes)? else {
-        return Ok(None);
-    };
-    if ends_in_backslash(bytes) {
-        Ok(None)
-    } else {
-        Ok(Some(alignments))
-    }
+    let found = scan_headed_line(alloc, source.options, tree, bytes)?;
+    Ok(found)
 }

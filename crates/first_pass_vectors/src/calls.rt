@@ -99,6 +99,21 @@ fn line_end(alloc: Global) -> Result<(usize, bool), AllocError> {
     Ok((next, line_break.is_some()))
 }
 
+// How far a line with a pipe is read in a mode, and whether a break or a table is answered.
+fn line_read(alloc: Global, mode: TableParseMode) -> Result<(usize, bool), AllocError> {
+    let mut pass = FirstPass::new(alloc, "a|b\n-|-\n", Options::ENABLE_TABLES)?;
+    let (next, item) = pass.parse_line(0, None, mode)?;
+    Ok((next, item.is_some()))
+}
+
+#[test]
+fn a_line_in_each_mode(rt: HostRuntime) -> Result<(), Fail> {
+    assert!(rt; line_read(rt.alloc(), TableParseMode::Disabled)? == (4, true));
+    assert!(rt; line_read(rt.alloc(), TableParseMode::Active)? == (1, false));
+    assert!(rt; line_read(rt.alloc(), TableParseMode::Scan)? == (8, true));
+    Ok(())
+}
+
 // Where reading goes on behind a paragraph that is added to an empty item by a call of its own, and behind the
 // blank line there: the item is empty no more.
 fn ends_in_an_empty_item(alloc: Global) -> Result<(usize, usize), AllocError> {

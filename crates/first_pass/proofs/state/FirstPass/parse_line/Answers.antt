@@ -1,41 +1,14 @@
-use Rattle.std.proofs.Common.{◌≡◌, ◌≤◌, ℕ, List, length, Option, Some, None, IfSome, IsCharBoundary, refl, ap, subst, ◌∙◌, arith}
-use Rattle.first_pass_names.specs.TableEntries.{no_names}
-use Rattle.first_pass_grammar.specs.Leaves.{document, content_at}
-use Rattle.first_pass_text.specs.Appends.{text_upto}
-use Rattle.first_pass_tokens.specs.TreeTokens.{AppendsLine}
-use Rattle.first_pass_tokens.proofs.BytesLemmas.{few_of_line}
-use Rattle.first_pass_lists.specs.declared.reading.Reading.{Reading}
-use Rattle.first_pass.specs.Ordered.{reached}
-use Rattle.first_pass.proofs.OrderLemmas.{ordered_none}
-use Rattle.first_pass.proofs.OrderJoin.{ordered_line}
-use Rattle.first_pass_text.proofs.ParagraphLemmas.{next_boundary, same_end}
+use Rattle.std.proofs.Common.{sym, subst}
+use Rattle.first_pass_grammar.specs.Names.{Extends}
+use Rattle.first_pass_names.specs.TableEntries.{names_of}
+use Rattle.first_pass_names.proofs.NameLemmas.{extends_none}
+use Rattle.first_pass.specs.Views.{allocs_of}
 use Rattle.first_pass.proofs.state.FirstPass.parse_line.Goals as goal
 
-pub returns-clause-boundary : goal.returns-clause-boundary
-returns-clause-boundary c = λ whole boundary.
-    let text = c.args.self.now.source.text.now in
-    let e : c.text_upto-bytes.result.now ≡ text = c.text_upto-bytes.ensures.value ∙ ap (text_upto text) whole in
-    let ends = same_end _ _ _ c.args.self.now.source.options c.args.start c.in_ok-answer.answer e refl c.in_ok-answer.ensures.ends in
-    next_boundary (document text c.args.self.now.source.options no_names) c.args.start c.in_ok-answer.answer.0 c.in_ok-answer.answer.1 c.text_upto-bytes.ensures.utf8 boundary ends
+pub returns-in_ok-answer-in-Disabled-clause-names : goal.returns-in_ok-answer-in-Disabled-clause-names
+returns-in_ok-answer-in-Disabled-clause-names c =
+    subst (λ a. Extends (names_of a) (names_of (allocs_of c.args.self.now))) (sym c.in_ok-answer-in-Disabled.ensures.line.allocs) (extends_none (names_of (allocs_of c.args.self.now)))
 
-both_ends : (text : List ℕ) (start : ℕ) (end : Option ℕ) → IfSome end (λ e. (start ≤ e) × (e ≤ length text)) → IfSome end (λ e. IsCharBoundary text e) → IfSome end (λ e. (start ≤ e) × IsCharBoundary text e)
-both_ends text start None h b = tt
-both_ends text start (Some e) h b = (h.0, b)
-
-pub returns-clause-order : goal.returns-clause-order
-returns-clause-order c = λ ends boundary at low o.
-    let self = c.args.self.now in
-    let text = self.source.text.now in
-    let options = self.source.options in
-    let old : Reading = self.reading in
-    let new : Reading = record old { tree = c.append_line.new.tree; empty_item = None } in
-    let answer = c.in_ok-answer.answer in
-    let h : AppendsLine (content_at (document (text_upto text c.args.end) options no_names) c.args.start) old.tree new.tree answer = subst (λ t. AppendsLine (content_at (document t options no_names) c.args.start) old.tree new.tree answer) c.text_upto-bytes.ensures.value c.in_ok-answer.ensures.line in
-    let before = o.later in
-    let e : ℕ = reached old.empty_item at in
-    let low' : e ≤ at = before in
-    let to = ordered_line (document text options no_names) c.args.start c.args.end old.tree new.tree answer.0 answer.1 e c.text_upto-bytes.ensures.utf8 (both_ends text c.args.start c.args.end c.requires.end ends) boundary c.is_forest.ensures h (omega arith) o.ordered in
-    ordered_none text new answer.0 refl to.within to
-
-pub returns-clause-few : goal.returns-clause-few
-returns-clause-few c = few_of_line c.in_ok-answer.ensures.line
+pub returns-in_ok-stop-in-Active-clause-names : goal.returns-in_ok-stop-in-Active-clause-names
+returns-in_ok-stop-in-Active-clause-names c =
+    subst (λ a. Extends (names_of a) (names_of (allocs_of c.args.self.now))) (sym c.in_ok-stop-in-Active.ensures.cell.allocs) (extends_none (names_of (allocs_of c.args.self.now)))

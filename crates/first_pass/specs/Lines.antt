@@ -1,0 +1,61 @@
+-- What a line, or a cell of a table's row, adds to a pass that reads it by itself.
+use Rattle.std.specs.Prelude.{◌≡◌, ℕ, ◌+◌, Bool, true, false, List, length, drop, Option, Some, None, MatchOption}
+use Rattle.std.specs.List.{prefix_len}
+use Rattle.first_pass_items.specs.declared.item.Alignment.{Alignment}
+use Rattle.first_pass_items.specs.declared.item.AlignmentIndex.{AlignmentIndex}
+use Rattle.first_pass_items.specs.declared.item.Item.{Item}
+use Rattle.first_pass_items.specs.declared.item.ItemBody.TheVariants.{Table}
+use Rattle.first_pass_lines.specs.Lines.{is_content}
+use Rattle.first_pass_tokens.specs.Pieces.{Source}
+use Rattle.first_pass_tokens.specs.LineTokens.{EndsLine, EndsCell}
+use Rattle.first_pass_tokens.specs.TreeTokens.{AppendsLine, AppendsCell}
+use Rattle.first_pass_grammar.specs.TableHeads.{headed_table}
+use Rattle.first_pass_below.specs.declared.flank.TableParseMode.{TableParseMode}
+use Rattle.first_pass_below.specs.declared.flank.TableParseMode.TheVariants.{Scan, Active, Disabled}
+use Rattle.first_pass_names.specs.TableEntries.{names_of, with_alignments}
+use Rattle.first_pass_text.specs.Appends.{text_upto, line_end_at}
+use Rattle.first_pass.specs.declared.state.FirstPass.{FirstPass}
+use Rattle.first_pass.specs.Views.{allocs_of, context_in, source_options, source_text, tree_of}
+
+-- the content that begins at an offset, of a text of which nothing counts from another offset on; a cell's or a line's
+abbrev pub content_upto : FirstPass → ℕ → Option ℕ → Bool → Source
+content_upto pass start end row = record { options = source_options pass; text = text_upto (source_text pass) end; start = start; row = row }
+
+-- the tokens of the line are appended, and it is answered where it ends and its break (CommonMark 2.4, 6.7, 6.8)
+pub record ReadsLine (old new : FirstPass) (start : ℕ) (end : Option ℕ) (answer : ℕ × Option Item) : Type 0 where
+  pub line : AppendsLine (content_upto old start end false) (tree_of old) (tree_of new) answer
+  pub ends : EndsLine (content_upto old start end false) answer
+  pub allocs : allocs_of new ≡ allocs_of old
+
+-- the tokens of the cell are appended, and it is answered where its content ends (GFM 4.10)
+pub record ReadsCell (old new : FirstPass) (start : ℕ) (end : Option ℕ) (stop : ℕ) : Type 0 where
+  pub cell : AppendsCell (content_upto old start end true) (tree_of old) (tree_of new) stop
+  pub ends : EndsCell (content_upto old start end true) stop
+  pub allocs : allocs_of new ≡ allocs_of old
+
+-- a table's node from the end of its header row's content up to behind its delimiter row (GFM 4.10)
+abbrev pub table_between : List ℕ → ℕ → AlignmentIndex → Item
+table_between text start ix =
+    record { start = start + prefix_len is_content (drop start text); «end» = line_end_at text (line_end_at text start); body = Table ix }
+
+-- The tokens of a table's header row are appended, as a line's; the alignments of its columns are named, and it is answered where its delimiter row ends, and the
+-- table (GFM 4.10).
+pub record ReadsHead (old new : FirstPass) (start : ℕ) (end : Option ℕ) (alignments : List Alignment) (answer : ℕ × Option Item) : Type 0 where
+  pub index : AlignmentIndex
+  pub index_is : index.0 ≡ length (names_of (allocs_of old)).alignments
+  pub names : names_of (allocs_of new) ≡ with_alignments (names_of (allocs_of old)) alignments
+  pub line_answer : ℕ × Option Item
+  pub line : AppendsLine (content_upto old start end false) (tree_of old) (tree_of new) line_answer
+  pub answer_is : answer ≡ ((table_between (text_upto (source_text old) end) start index).«end», Some (table_between (text_upto (source_text old) end) start index))
+
+-- a line is read that is the header row of a table, or none (GFM 4.10)
+abbrev pub ReadsPossibleHead : FirstPass → FirstPass → ℕ → Option ℕ → ℕ × Option Item → Type 0
+ReadsPossibleHead old new start end answer =
+    MatchOption (headed_table (context_in old) (drop start (text_upto (source_text old) end)))
+    (ReadsLine old new start end answer) (λ alignments. ReadsHead old new start end alignments answer)
+
+-- A line is read, a cell of a row, or a line that may be the header row of a table (CommonMark 2.4, GFM 4.10).
+abbrev pub ReadsInMode : TableParseMode → FirstPass → FirstPass → ℕ → Option ℕ → ℕ × Option Item → Type 0
+ReadsInMode Disabled old new start end answer = ReadsLine old new start end answer
+ReadsInMode Active old new start end answer = ReadsCell old new start end answer.0 × (answer.1 ≡ None)
+ReadsInMode Scan old new start end answer = ReadsPossibleHead old new start end answer

@@ -1,0 +1,182 @@
+//! A line of a paragraph, or a cell of a table's row, as a call of the pass (CommonMark 2.4, 4.8, GFM 4.10).
+
+ghost use Rattle.std.specs.Prelude.{◌≡◌, ◌≤◌, ◌+◌, ◌-◌, ℕ, length, drop, None, Some, IfOk, IfSome, MatchOption, OnOk, IsUtf8, IsCharBoundary};
+ghost use Rattle.std.specs.Option.{option_map};
+ghost use Rattle.first_pass_text.specs.Appends.{text_upto};
+ghost use Rattle.first_pass_lists.specs.Closing.{with_block};
+ghost use Rattle.first_pass_grammar.specs.Names.{Extends};
+ghost use Rattle.first_pass_names.specs.TableEntries.{tables, names_of};
+ghost use Rattle.first_pass.specs.Ordered.{IsOrderedAt};
+ghost use Rattle.first_pass.specs.Lines.{ReadsLine, ReadsCell, ReadsPossibleHead, ReadsInMode};
+ghost use Rattle.first_pass.specs.Views.{allocs_of, reading_of, source_of, source_options, source_text, tree_of};
+
+use crate::state::FirstPass;
+use first_pass_below::flank::TableParseMode;
+use first_pass_items::item::{Item, ItemBody};
+use first_pass_lines::lines::content_len;
+use first_pass_lines::places::{next_line, rest_of};
+use first_pass_text::table_start::scan_headed_line;
+use first_pass_tokens::line::{append_cell, append_line};
+use std::alloc::AllocError;
+
+// The bytes of a text up to an offset, or all.
+fn text_upto(text: &str, end: Option<usize>) -> &[u8]
+    requires { IfSome end (λ e. e ≤ length text.now) }
+    ensures value { result.now ≡ text_upto text.now end }
+    ensures utf8 { IsUtf8 text.now }
+{
+    let bytes = text.as_bytes();
+    match end {
+        Some(end) => &bytes[..end],
+        None => bytes,
+    }
+}
+
+impl<'a> FirstPass<'a> {
+    /// Appends the tokens of a line, or of a cell in a table's row, to the innermost open node: the one whose content
+    /// begins at the offset `start` into the text, of which nothing counts from the offset `end` on.
+    ///
+    /// In mode `Disabled` it is a line's: answers the offset behind the line's end, and its break, which is not
+    /// appended; `None` where the text ends without a line end (CommonMark 2.4, 6.7, 6.8). In mode `Active` it is a
+    /// cell's: answers the offset at which the content ends, at a pipe that is not escaped or with its line, and
+    /// `None` (GFM 4.10). In mode `Scan` it is a line's that may be a table's header row: where it is one, answers the
+    /// offset behind the delimiter row, and in the place of the break a `Table` with the columns' alignments, from
+    /// the line's end up to there, which is not appended either; else as in mode `Disabled`.
+    ///
+    /// At most one node is added for each byte that is read. The error is want of memory.
+    pub fn parse_line(
+        &mut self,
+        start: usize,
+        end: Option<usize>,
+        mode: TableParseMode,
+    ) -> Result<(usize, Option<Item>), AllocError>
+        requires start { start ≤ length (source_text self.old) }
+        requires end { IfSome end (λ e. (start ≤ e) × (e ≤ length (source_text self.old))) }
+        ensures source { OnOk result (source_of self.new ≡ source_of self.old) }
+        ensures names { OnOk result (Extends (names_of (allocs_of self.new)) (names_of (allocs_of self.old))) }
+        ensures tables { OnOk result (tables (allocs_of self.new) ≡ tables (allocs_of self.old)) }
+        ensures reading { OnOk result (reading_of self.new ≡ with_block (reading_of self.old) (tree_of self.new)) }
+        ensures line { IfOk result (λ answer. ReadsInMode mode self.old self.new start end answer) }
+        ensures boundary { IfOk result (λ answer. end ≡ None → IsCharBoundary (source_text self.old) start
+            → IsCharBoundary (source_text self.old) answer.0) }
+        ensures order { IfOk result (λ answer. IfSome end (λ e. IsCharBoundary (source_text self.old) e)
+            → IsCharBoundary (source_text self.old) start → (at : ℕ) → at ≤ start
+            → IsOrderedAt (source_text self.old) (reading_of self.old) at
+            → IsOrderedAt (source_text self.old) (reading_of self.new) answer.0) }
+        ensures few { IfOk result (λ answer.
+            length (tree_of self.new).nodes ≤ length (tree_of self.old).nodes + (answer.0 - start)) }
+    {
+        match mode {
+            TableParseMode::Disabled => {
+                let answer = self.append_content(start, end)?;
+                Ok(answer)
+            }
+            TableParseMode::Active => {
+                let stop = self.append_cell_content(start, end)?;
+                Ok((stop, None))
+            }
+            TableParseMode::Scan => {
+                let answer = self.append_possible_head(start, end)?;
+                Ok(answer)
+            }
+        }
+    }
+
+    // Appends the tokens of a line; answers the offset behind its line end, and its break.
+    fn append_content(
+        &mut self,
+        start: usize,
+        end: Option<usize>,
+    ) -> Result<(usize, Option<Item>), AllocError>
+        requires start { start ≤ length (source_text self.old) }
+        requires end { IfSome end (λ e. (start ≤ e) × (e ≤ length (source_text self.old))) }
+        ensures source { OnOk result (source_of self.new ≡ source_of self.old) }
+        ensures reading { OnOk result (reading_of self.new ≡ with_block (reading_of self.old) (tree_of self.new)) }
+        ensures line { IfOk result (λ answer. ReadsLine self.old self.new start end answer) }
+        ensures boundary { IfOk result (λ answer. end ≡ None → IsCharBoundary (source_text self.old) start
+            → IsCharBoundary (source_text self.old) answer.0) }
+        ensures order { IfOk result (λ answer. IfSome end (λ e. IsCharBoundary (source_text self.old) e)
+            → IsCharBoundary (source_text self.old) start → (at : ℕ) → at ≤ start
+            → IsOrderedAt (source_text self.old) (reading_of self.old) at
+            → IsOrderedAt (source_text self.old) (reading_of self.new) answer.0) }
+        ensures few { IfOk result (λ answer.
+            length (tree_of self.new).nodes ≤ length (tree_of self.old).nodes + (answer.0 - start)) }
+        ensures later { IfOk result (λ answer. start ≤ answer.0) }
+        ensures within { IfOk result (λ answer. answer.0 ≤ length (text_upto (source_text self.old) end)) }
+    {
+        self.reading.tree.is_forest();
+        let bytes = text_upto(self.source.text, end);
+        let options = self.source.options;
+        let lut = &self.lookup_table;
+        let line = append_line(bytes, start, options, lut, &mut self.reading.tree)?;
+        self.reading.empty_item = None;
+        Ok(line)
+    }
+
+    // Appends the tokens of a cell; answers the offset at which its content ends.
+    fn append_cell_content(
+        &mut self,
+        start: usize,
+        end: Option<usize>,
+    ) -> Result<usize, AllocError>
+        requires start { start ≤ length (source_text self.old) }
+        requires end { IfSome end (λ e. (start ≤ e) × (e ≤ length (source_text self.old))) }
+        ensures source { OnOk result (source_of self.new ≡ source_of self.old) }
+        ensures reading { OnOk result (reading_of self.new ≡ with_block (reading_of self.old) (tree_of self.new)) }
+        ensures cell { IfOk result (λ stop. ReadsCell self.old self.new start end stop) }
+        ensures boundary { IfOk result (λ stop. end ≡ None → IsCharBoundary (source_text self.old) stop) }
+        ensures order { IfOk result (λ stop. IfSome end (λ e. IsCharBoundary (source_text self.old) e)
+            → IsCharBoundary (source_text self.old) start → (at : ℕ) → at ≤ start
+            → IsOrderedAt (source_text self.old) (reading_of self.old) at
+            → IsOrderedAt (source_text self.old) (reading_of self.new) stop) }
+        ensures few { IfOk result (λ stop.
+            length (tree_of self.new).nodes ≤ length (tree_of self.old).nodes + (stop - start)) }
+    {
+        self.reading.tree.is_forest();
+        let bytes = text_upto(self.source.text, end);
+        let options = self.source.options;
+        let lut = &self.lookup_table;
+        let stop = append_cell(bytes, start, options, lut, &mut self.reading.tree)?;
+        self.reading.empty_item = None;
+        Ok(stop)
+    }
+
+    // Appends the tokens of a line that may be the header row of a table. Where it is one, answers the offset behind
+    // the delimiter row, and the table from the line's end up to there; else as `append_content`.
+    fn append_possible_head(
+        &mut self,
+        start: usize,
+        end: Option<usize>,
+    ) -> Result<(usize, Option<Item>), AllocError>
+        requires start { start ≤ length (source_text self.old) }
+        requires end { IfSome end (λ e. (start ≤ e) × (e ≤ length (source_text self.old))) }
+        ensures source { OnOk result (source_of self.new ≡ source_of self.old) }
+        ensures names { OnOk result (Extends (names_of (allocs_of self.new)) (names_of (allocs_of self.old))) }
+        ensures tables { OnOk result (tables (allocs_of self.new) ≡ tables (allocs_of self.old)) }
+        ensures reading { OnOk result (reading_of self.new ≡ with_block (reading_of self.old) (tree_of self.new)) }
+        ensures line { IfOk result (λ answer. ReadsPossibleHead self.old self.new start end answer) }
+        ensures boundary { IfOk result (λ answer. end ≡ None → IsCharBoundary (source_text self.old) start
+            → IsCharBoundary (source_text self.old) answer.0) }
+        ensures order { IfOk result (λ answer. IfSome end (λ e. IsCharBoundary (source_text self.old) e)
+            → IsCharBoundary (source_text self.old) start → (at : ℕ) → at ≤ start
+            → IsOrderedAt (source_text self.old) (reading_of self.old) at
+            → IsOrderedAt (source_text self.old) (reading_of self.new) answer.0) }
+        ensures few { IfOk result (λ answer.
+            length (tree_of self.new).nodes ≤ length (tree_of self.old).nodes + (answer.0 - start)) }
+    {
+        let bytes = text_upto(self.source.text, end);
+        let line = rest_of(bytes, start);
+        let found = scan_headed_line(self.alloc, self.source.options, &self.reading.tree, line)?;
+        let (next, line_break) = self.append_content(start, end)?;
+        let Some(alignments) = found else {
+            return Ok((next, line_break));
+        };
+        let index = self.allocs.allocate_alignment(alignments)?;
+        let table = Item {
+            start: start + content_len(line),
+            end: next_line(bytes, next),
+            body: ItemBody::Table(index),
+        };
+        Ok((table.end, Some(table)))
+    }
+}
