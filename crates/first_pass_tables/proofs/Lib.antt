@@ -4,6 +4,7 @@ pub mod DropLemmas
 pub mod RowPlaces
 pub mod BodyLemmas
 pub mod RowsFit
+pub mod RowsAdded
 pub mod TableFits
 pub mod TextsAre
 pub mod RowCells

@@ -23,12 +23,12 @@ use Rattle.first_pass_open.proofs.PlaceLemmas.{all_keep, after_keeps, line_start
 use Rattle.first_pass_tables.proofs.CellsFit.{AreBetween, between-none, between-order, between-join, between-wider, some_cells, row_boundary, row_fits}
 
 -- where the text of a row begins in its line
-record RowPlace (text : List ℕ) (n start : ℕ) : Type 0 where
-  place : Place
-  start_is : start ≡ offset place
-  is : IsPlaceOf text place
-  ends : line_end place ≡ n + line_len (drop n text)
-  behind : n ≤ start
+pub record RowPlace (text : List ℕ) (n start : ℕ) : Type 0 where
+  pub place : Place
+  pub start_is : start ≡ offset place
+  pub is : IsPlaceOf text place
+  pub ends : line_end place ≡ n + line_len (drop n text)
+  pub behind : n ≤ start
 
 uninterrupted : (t : Bool) (m start : ℕ) → (if t then None else Some m) ≡ Some start → m ≡ start
 uninterrupted true m start h = absurd (none-some start h)
@@ -52,7 +52,7 @@ row_by text path n start (Some r) utf8 boundary e h =
       behind = omega arith;
     }
 
-row_place : (text : List ℕ) (path : List Container) (n start : ℕ) → IsUtf8 text → IsCharBoundary text n
+pub row_place : (text : List ℕ) (path : List Container) (n start : ℕ) → IsUtf8 text → IsCharBoundary text n
     → row_text path (line_place n (drop n text)) ≡ Some start → RowPlace text n start
 row_place text path n start utf8 boundary h = row_by text path n start (after path (line_rest (drop n text))) utf8 boundary refl h
 

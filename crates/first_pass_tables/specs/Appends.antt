@@ -8,6 +8,8 @@ use Rattle.first_pass_lines.specs.Places.{line_place}
 use Rattle.first_pass_tokens.specs.LineTokens.{IsCell}
 use Rattle.first_pass_grammar.specs.Leaves.{Document}
 use Rattle.first_pass_grammar.specs.Completion.{lines_from}
+use Rattle.first_pass_grammar.specs.OpenOrder.{within_top}
+use Rattle.first_pass_grammar.specs.Order.{FitsBetween}
 use Rattle.first_pass_grammar.specs.Tables.{cell_content, cell_block, AreCells, filled, side_by_side, row_block, row_text, taking, AreRows, most_filled}
 use Rattle.first_pass_open.specs.OpenBlock.{closed_by}
 use Rattle.first_pass_open.specs.Path.{path_of}
@@ -94,3 +96,9 @@ pub record AppendsRows (d : Document) (columns head_start body_start : ℕ) (old
   pub tree_is : new ≡ closed_by (with_below old (row_block TableHead columns head_start cells head_end ++ body)) next old.spine
   pub later : body_start ≤ next
   pub boundary : IsCharBoundary d.text next
+
+-- Nodes are added to the innermost open node, which is closed behind them at an offset, and they lie between another one and that in order, at most four of their own for each byte there (this project).
+pub record ClosesBetween (text : List ℕ) (from to : ℕ) (old new : Forest Item) : Type 0 where
+  pub items : List (ℕ × Item)
+  pub tree_is : new ≡ closed_by (with_below old items) to old.spine
+  pub fits : FitsBetween text (within_top old) from to items

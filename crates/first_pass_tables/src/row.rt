@@ -1,12 +1,13 @@
 //! A row of a table (GFM 4.10).
 
-ghost use Rattle.std.specs.Prelude.{◌≡◌, ◌≤◌, ◌&&◌, ◌||◌, not, nat_lt, nat_le, IsTrue, ℕ, length, OnOk, IfOk};
+ghost use Rattle.std.specs.Prelude.{◌≡◌, ◌≤◌, ◌&&◌, ◌||◌, not, nat_lt, nat_le, IsTrue, ℕ, length, OnOk, IfOk, IfSome, IsUtf8, IsCharBoundary};
 ghost use Rattle.first_pass_walk.specs.Walk.{MarksSpecial};
 ghost use Rattle.first_pass_tree.specs.declared.tree_index.TreeIndex.{TreeIndex};
 ghost use Rattle.first_pass_names.specs.TableEntries.{no_names};
 ghost use Rattle.first_pass_grammar.specs.Leaves.{document};
 ghost use Rattle.first_pass_grammar.specs.Tables.{most_filled};
 ghost use Rattle.first_pass_open.specs.OpenBlock.{IsJustPushed};
+ghost use Rattle.first_pass_text.specs.Between.{AddsBetween};
 ghost use Rattle.first_pass_tables.specs.Appends.{AppendsCells, AddsHead, IsOpenNode, ReadsRow};
 ghost use Rattle.first_pass_tables.specs.Reading.{AppendsSome};
 
@@ -43,6 +44,7 @@ fn append_some_cells(
     requires marks { MarksSpecial lut.now source.options }
     ensures cells { IfOk result (λ read.
         AppendsSome (document source.entry.text.now source.entry.options no_names) most start tree.old tree.new read) }
+    ensures utf8 { OnOk result (IsUtf8 source.entry.text.now) }
 {
     let bytes = source.text.as_bytes();
     let mut at = start;
@@ -82,6 +84,7 @@ fn append_cells(
     ensures cells { IfOk result (λ answer.
         AppendsCells (document source.entry.text.now source.entry.options no_names) columns start tree.old tree.new
         answer) }
+    ensures utf8 { OnOk result (IsUtf8 source.entry.text.now) }
 {
     source.is_short();
     let kept = append_some_cells(source, lut, tree, start, columns)?;
@@ -150,6 +153,8 @@ pub fn parse_table_row_inner(
     ensures row { IfOk result (λ row.
         ReadsRow (document source.entry.text.now source.entry.options no_names) row_cells ix tree.old tree.new
         missing_empty_cells.old missing_empty_cells.new row) }
+    ensures fits { IfOk result (λ row. IsCharBoundary source.entry.text.now ix → (from : ℕ) → from ≤ ix
+        → IfSome row (λ r. AddsBetween source.entry.text.now from r.0 tree.old tree.new)) }
 {
     tree.is_forest();
     let before = tree.cur();

@@ -10,7 +10,9 @@ ghost use Rattle.first_pass_grammar.specs.Leaves.{document};
 ghost use Rattle.first_pass_grammar.specs.Tables.{most_filled, row_text};
 ghost use Rattle.first_pass_open.specs.OpenBlock.{IsJustPushed};
 ghost use Rattle.first_pass_open.specs.Path.{path_of};
-ghost use Rattle.first_pass_tables.specs.Appends.{IsOpenNode, ReadsRowLine, AppendsRows};
+ghost use Rattle.first_pass_text.specs.Appends.{line_end_at};
+ghost use Rattle.first_pass_text.specs.Between.{AddsBetween};
+ghost use Rattle.first_pass_tables.specs.Appends.{IsOpenNode, ReadsRowLine, AppendsRows, ClosesBetween};
 ghost use Rattle.first_pass_tables.specs.RowsRead.{AppendsBody};
 
 use crate::row::{MAX_AUTOCOMPLETED_CELLS, append_head_row, parse_table_row_inner};
@@ -73,6 +75,8 @@ pub fn parse_table_row(
     ensures row { IfOk result (λ row.
         ReadsRowLine (document source.entry.text.now source.entry.options no_names) row_cells ix tree.old tree.new
         missing_empty_cells.old missing_empty_cells.new row) }
+    ensures fits { IfOk result (λ row. (from : ℕ) → from ≤ ix
+        → IfSome row (λ r. AddsBetween source.entry.text.now from r.0 tree.old tree.new)) }
     ensures utf8 { OnOk result (IsUtf8 source.entry.text.now) }
 {
     let Some(at) = scan_row_text(alloc, source, tree, ix)? else {
@@ -103,6 +107,7 @@ fn append_body(
     ensures body { IfOk result (λ next.
         AppendsBody (document source.entry.text.now source.entry.options no_names) columns filled start tree.old
         tree.new next) }
+    ensures utf8 { OnOk result (IsUtf8 source.entry.text.now) }
 {
     tree.is_forest();
     let mut missing = filled;
@@ -136,6 +141,9 @@ pub fn parse_table(
     ensures rows { IfOk result (λ next.
         AppendsRows (document source.entry.text.now source.entry.options no_names) table_cols head_start body_start
         tree.old tree.new next) }
+    ensures fits { IfOk result (λ next. (from : ℕ) → from ≤ head_start
+        → line_end_at source.entry.text.now head_start ≤ body_start
+        → ClosesBetween source.entry.text.now from next tree.old tree.new) }
 {
     tree.is_forest();
     let missing = append_head_row(source, lut, tree, head_start, table_cols)?;

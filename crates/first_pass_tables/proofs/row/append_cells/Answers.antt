@@ -20,8 +20,8 @@ drop_behind-requires c =
     subst (λ (o : Option TreeIndex). IfSome o (λ ix. IsChild over ix)) (sym c.cur-last.ensures)
     (current_is_child tree over c.is_forest.ensures (has_more d c.in_ok-kept.kept.at c.in_ok-excess.excess.at c.in_ok-excess.excess.count tree over (omega arith) all))
 
-pub returns : goal.returns
-returns c =
+pub returns-clause-cells : goal.returns-clause-cells
+returns-clause-cells c =
     let d = document c.args.source.text.now c.args.source.options no_names in
     let old = c.args.tree.now in
     let tree = c.append_some_cells.new.tree in
@@ -44,4 +44,4 @@ returns c =
           let same = none_more d kept.at excess.at excess.count tree over (omega arith) all in
           (ap (λ (f : Forest Item). f.nodes) w.tree-is ∙ same.0, ap (λ (f : Forest Item). f.spine) w.tree-is ∙ same.1)
     ] in
-    record { cells = first_kept d c.args.columns c.args.start kept.at kept.count excess.at excess.count old tree over new far.0 far.1 all same }
+    first_kept d c.args.columns c.args.start kept.at kept.count excess.at excess.count old tree over new far.0 far.1 all same

@@ -6,8 +6,8 @@ use Rattle.first_pass_tables.specs.Reading.{AreAppended}
 use Rattle.first_pass_tables.proofs.RowCells.{content_found, end_found, cell_read, all_read}
 use Rattle.first_pass_tables.proofs.row.append_some_cells.Goals as goal
 
-pub returns-in-Some : goal.returns-in-Some
-returns-in-Some c =
+pub returns-in-Some-clause-cells : goal.returns-in-Some-clause-cells
+returns-in-Some-clause-cells c =
     let text = c.args.source.text.now in
     let bytes = c.as_bytes-bytes.result.now in
     let at = c.loop-count.at in
@@ -20,13 +20,11 @@ returns-in-Some c =
     let order : at ≤ cell = c.cell_start-cell.ensures.order in
     let eol = c.in-Some.ensures.within in
     record {
-      cells = record {
-        few = c.loop-count.invariant.1;
-        cells = all_read (document text c.args.source.options no_names) c.args.start at c.loop-count.count from c.in-Some.eol c.args.tree.now c.loop-count.tree
-            c.loop-count.invariant.0 (content_found text bytes c.rest_of.result.now at cell c.scan_whitespace_no_nl.result same c.cell_start-cell.ensures.value c.rest_of.ensures.value c.scan_whitespace_no_nl.ensures.value)
-            (omega arith) (omega arith)
-            (end_found text bytes c.rest_of-in-loop-count.result.now from c.scan_eol.result same c.rest_of-in-loop-count.ensures.value c.scan_eol.ensures.value ∙ c.in-Some.is);
-      };
+      few = c.loop-count.invariant.1;
+      cells = all_read (document text c.args.source.options no_names) c.args.start at c.loop-count.count from c.in-Some.eol c.args.tree.now c.loop-count.tree
+          c.loop-count.invariant.0 (content_found text bytes c.rest_of.result.now at cell c.scan_whitespace_no_nl.result same c.cell_start-cell.ensures.value c.rest_of.ensures.value c.scan_whitespace_no_nl.ensures.value)
+          (omega arith) (omega arith)
+          (end_found text bytes c.rest_of-in-loop-count.result.now from c.scan_eol.result same c.rest_of-in-loop-count.ensures.value c.scan_eol.ensures.value ∙ c.in-Some.is);
     }
 
 -- one more cell is appended, and ends further on

@@ -8,6 +8,7 @@ use Rattle.first_pass_grammar.specs.Tables.{most_filled}
 use Rattle.first_pass_tables.specs.Appends.{keeps_row, without_behind}
 use Rattle.first_pass_tables.proofs.RowDrops.{current_is_child, dropped}
 use Rattle.first_pass_tables.proofs.RowClosed.{row_place, row_opened, row_is_open, row_closed, same_test, row_behind, row_read}
+use Rattle.first_pass_tables.proofs.RowsAdded.{row_between}
 use Rattle.first_pass_tables.proofs.row.parse_table_row_inner.Goals as goal
 
 pub append_cells-requires-clause-fresh : goal.append_cells-requires-clause-fresh
@@ -29,8 +30,8 @@ drop_behind-requires c =
     c.in_ok-open_block.ensures c.in_ok-end.ensures.cells c.pop.ensures in
     subst (λ (o : Option TreeIndex). IfSome o (λ ix. IsChild back ix)) (sym c.cur-before.ensures) (current_is_child old back c.is_forest.ensures more)
 
-pub returns-then-not-is_kept : goal.returns-then-not-is_kept
-returns-then-not-is_kept c =
+pub returns-then-not-is_kept-clause-row : goal.returns-then-not-is_kept-clause-row
+returns-then-not-is_kept-clause-row c =
     let d = document c.args.source.text.now c.args.source.options no_names in
     let old = c.args.tree.now in
     let back = c.pop.new.self in
@@ -42,20 +43,18 @@ returns-then-not-is_kept c =
     let behind : c.is_some.result ≡ is_some old.current = c.is_some.ensures ∙ ap (λ (o : Option TreeIndex). is_some o) c.cur-before.ensures in
     let test = same_test c.is_some.result c.args.row_cells most c.in_ok-end.count c.saturating_sub-missing.result adds.cells adds.count missing_is in
     record {
-      row = record {
-        cells = adds.cells;
-        row_end = c.in_ok-end.end;
-        are_cells = adds.are_cells;
-        adds = (
-          ap (λ (t : Bool). keeps_row t c.args.row_cells most adds.cells) (sym behind) ∙ sym test ∙ sym c.is_kept.ensures.value ∙ c.if-not-is_kept.true,
-          c.drop_behind.ensures ∙ ap (without_behind back) c.cur-before.ensures ∙ dropped old back c.is_forest.ensures c.requires.open more,
-          refl,
-        );
-      };
+      cells = adds.cells;
+      row_end = c.in_ok-end.end;
+      are_cells = adds.are_cells;
+      adds = (
+        ap (λ (t : Bool). keeps_row t c.args.row_cells most adds.cells) (sym behind) ∙ sym test ∙ sym c.is_kept.ensures.value ∙ c.if-not-is_kept.true,
+        c.drop_behind.ensures ∙ ap (without_behind back) c.cur-before.ensures ∙ dropped old back c.is_forest.ensures c.requires.open more,
+        refl,
+      );
     }
 
-pub returns : goal.returns
-returns c =
+pub returns-clause-row : goal.returns-clause-row
+returns-clause-row c =
     let d = document c.args.source.text.now c.args.source.options no_names in
     let old = c.args.tree.now in
     let adds = c.in_ok-end.ensures.cells in
@@ -63,12 +62,15 @@ returns c =
     let missing_is = c.saturating_sub-missing.ensures ∙ ap (λ (n : ℕ). c.args.row_cells - n) adds.count in
     let behind : c.is_some.result ≡ is_some old.current = c.is_some.ensures ∙ ap (λ (o : Option TreeIndex). is_some o) c.cur-before.ensures in
     let test = same_test c.is_some.result c.args.row_cells most c.in_ok-end.count c.saturating_sub-missing.result adds.cells adds.count missing_is in
-    record {
-      row = row_read d c.args.row_cells c.args.ix c.in_ok-end.end old c.close_block.new.tree c.args.missing_empty_cells.now
-          (c.args.missing_empty_cells.now + c.saturating_sub-missing.result) adds.cells c.cur.result c.map.result adds.are_cells
-          (ap (λ (t : Bool). keeps_row t c.args.row_cells most adds.cells) (sym behind) ∙ sym test ∙ sym c.is_kept.ensures.value ∙ c.if-not-is_kept.false)
-          (row_closed d c.args.row_cells c.args.ix c.in_ok-end.end c.in_ok-end.count c.saturating_sub-missing.result TableRow old
-          c.open_block.new.tree c.append_cells.new.tree c.fill_row.new.tree c.in_ok-open_block.ensures adds c.saturating_sub-missing.ensures c.in_ok-fill_row.ensures
-          c.close_block.new.tree c.close_block.ensures)
-          (ap (λ (n : ℕ). c.args.missing_empty_cells.now + n) missing_is) c.cur.ensures (search rules);
-    }
+    row_read d c.args.row_cells c.args.ix c.in_ok-end.end old c.close_block.new.tree c.args.missing_empty_cells.now
+    (c.args.missing_empty_cells.now + c.saturating_sub-missing.result) adds.cells c.cur.result c.map.result adds.are_cells
+    (ap (λ (t : Bool). keeps_row t c.args.row_cells most adds.cells) (sym behind) ∙ sym test ∙ sym c.is_kept.ensures.value ∙ c.if-not-is_kept.false)
+    (row_closed d c.args.row_cells c.args.ix c.in_ok-end.end c.in_ok-end.count c.saturating_sub-missing.result TableRow old
+    c.open_block.new.tree c.append_cells.new.tree c.fill_row.new.tree c.in_ok-open_block.ensures adds c.saturating_sub-missing.ensures c.in_ok-fill_row.ensures
+    c.close_block.new.tree c.close_block.ensures)
+    (ap (λ (n : ℕ). c.args.missing_empty_cells.now + n) missing_is) c.cur.ensures (search rules)
+
+pub returns-clause-fits : goal.returns-clause-fits
+returns-clause-fits c = λ begins from low.
+    row_between (document c.args.source.text.now c.args.source.options no_names) c.args.row_cells c.args.ix c.args.tree.now c.close_block.new.tree c.args.missing_empty_cells.now
+    (c.args.missing_empty_cells.now + c.saturating_sub-missing.result) c.map.result c.in_ok-end.ensures.utf8 begins (returns-clause-row c) from low

@@ -27,9 +27,8 @@ rows-preserved c =
     c.parse_table_row.new.missing_empty_cells c.rows.ix c.in_ok-next.ensures.utf8 (open_are_in c.args.tree.now.nodes c.args.tree.now.spine c.is_forest.ensures.opened) c.rows.invariant c.in-Some.next c.in-Some.field-0-1
     (subst (ReadsRowLine (document c.args.source.text.now c.args.source.options no_names) c.args.columns c.rows.ix c.rows.tree c.parse_table_row.new.tree c.rows.missing c.parse_table_row.new.missing_empty_cells) c.in-Some.is c.in_ok-next.ensures.row)).0
 
-pub returns-in-None : goal.returns-in-None
-returns-in-None c = record {
-  body = body_over (document c.args.source.text.now c.args.source.options no_names) c.args.columns c.args.filled c.args.start c.args.tree.now c.rows.tree c.parse_table_row.new.tree c.rows.missing
-      c.parse_table_row.new.missing_empty_cells c.rows.ix c.in_ok-next.ensures.utf8 (open_are_in c.args.tree.now.nodes c.args.tree.now.spine c.is_forest.ensures.opened) c.rows.invariant
-      (subst (ReadsRowLine (document c.args.source.text.now c.args.source.options no_names) c.args.columns c.rows.ix c.rows.tree c.parse_table_row.new.tree c.rows.missing c.parse_table_row.new.missing_empty_cells) c.in-None.is c.in_ok-next.ensures.row);
-}
+pub returns-in-None-clause-body : goal.returns-in-None-clause-body
+returns-in-None-clause-body c =
+    body_over (document c.args.source.text.now c.args.source.options no_names) c.args.columns c.args.filled c.args.start c.args.tree.now c.rows.tree c.parse_table_row.new.tree c.rows.missing
+    c.parse_table_row.new.missing_empty_cells c.rows.ix c.in_ok-next.ensures.utf8 (open_are_in c.args.tree.now.nodes c.args.tree.now.spine c.is_forest.ensures.opened) c.rows.invariant
+    (subst (ReadsRowLine (document c.args.source.text.now c.args.source.options no_names) c.args.columns c.rows.ix c.rows.tree c.parse_table_row.new.tree c.rows.missing c.parse_table_row.new.missing_empty_cells) c.in-None.is c.in_ok-next.ensures.row)

@@ -7,6 +7,7 @@ use Rattle.first_pass_grammar.specs.Leaves.{document}
 use Rattle.first_pass_grammar.specs.Tables.{row_block, most_filled}
 use Rattle.first_pass_open.proofs.PathLemmas.{open_are_in}
 use Rattle.first_pass_tables.proofs.BodyLemmas.{same_table, left_behind, rows_closed}
+use Rattle.first_pass_tables.proofs.RowsAdded.{rows_between}
 use Rattle.first_pass_tables.proofs.rows.parse_table.Goals as goal
 
 pub append_body-requires-clause-table : goal.append_body-requires-clause-table
@@ -15,9 +16,13 @@ append_body-requires-clause-table c =
     same_table c.args.tree.now c.append_head_row.new.tree (at_depth (length c.args.tree.now.spine + 1) (row_block TableHead c.args.table_cols c.args.head_start h.cells h.row_end)) (ap (λ (f : Forest Item). f.nodes) h.tree_is) (ap (λ (f : Forest Item). f.spine) h.tree_is)
     (open_are_in c.args.tree.now.nodes c.args.tree.now.spine c.is_forest.ensures.opened) c.requires.table
 
-pub returns : goal.returns
-returns c = record {
-  rows = rows_closed (document c.args.source.text.now c.args.source.options no_names) c.args.table_cols c.args.head_start c.args.body_start c.in_ok-missing.missing c.min-filled.result c.in_ok-next.next
-      c.args.tree.now c.append_head_row.new.tree c.append_body.new.tree c.close_block.new.tree c.requires.open (open_are_in c.args.tree.now.nodes c.args.tree.now.spine c.is_forest.ensures.opened)
-      c.in_ok-missing.ensures.head (left_behind c.in_ok-missing.missing most_filled c.min-filled.result c.min-filled.ensures) c.in_ok-next.ensures.body c.close_block.ensures;
-}
+pub returns-clause-rows : goal.returns-clause-rows
+returns-clause-rows c =
+    rows_closed (document c.args.source.text.now c.args.source.options no_names) c.args.table_cols c.args.head_start c.args.body_start c.in_ok-missing.missing c.min-filled.result c.in_ok-next.next
+    c.args.tree.now c.append_head_row.new.tree c.append_body.new.tree c.close_block.new.tree c.requires.open (open_are_in c.args.tree.now.nodes c.args.tree.now.spine c.is_forest.ensures.opened)
+    c.in_ok-missing.ensures.head (left_behind c.in_ok-missing.missing most_filled c.min-filled.result c.min-filled.ensures) c.in_ok-next.ensures.body c.close_block.ensures
+
+pub returns-clause-fits : goal.returns-clause-fits
+returns-clause-fits c = λ from low behind.
+    rows_between (document c.args.source.text.now c.args.source.options no_names) c.args.table_cols c.args.head_start c.args.body_start c.in_ok-next.next from c.args.tree.now
+    c.close_block.new.tree c.in_ok-next.ensures.utf8 c.requires.head c.requires.body (returns-clause-rows c) low behind

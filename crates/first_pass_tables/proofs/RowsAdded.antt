@@ -1,0 +1,120 @@
+-- A row that is read lies in order where it is added, and so do the rows of a table, before the table is closed.
+use Rattle.std.proofs.Common.{◌≡◌, ◌⊎◌, inl, inr, ℕ, ◌-◌, ◌<◌, ◌≤◌, List, ◌++◌, length, Option, Some, None, IfSome, IsUtf8, IsCharBoundary, refl, sym, subst, arith}
+use Rattle.std.proofs.lemmas.Bool.{cases_lt}
+use Rattle.std.proofs.lemmas.Option.{none-some}
+use Rattle.first_pass_items.specs.declared.item.Item.{Item}
+use Rattle.first_pass_items.specs.declared.item.ItemBody.{ItemBody}
+use Rattle.first_pass_items.specs.declared.item.ItemBody.TheVariants.{TableHead, TableRow}
+use Rattle.first_pass_tree.specs.declared.tree_index.TreeIndex.{TreeIndex}
+use Rattle.first_pass_tree.specs.Forest.{Forest}
+use Rattle.first_pass_lines.specs.Places.{start_of}
+use Rattle.first_pass_lines.proofs.LineFacts.{line_len-within}
+use Rattle.first_pass_lines.proofs.PlaceFacts.{start_of-lines}
+use Rattle.first_pass_grammar.specs.Completion.{lines_from}
+use Rattle.first_pass_grammar.specs.Leaves.{Document}
+use Rattle.first_pass_grammar.specs.OpenOrder.{within_top}
+use Rattle.first_pass_grammar.specs.Order.{Within, Elsewhere, FitsBetween}
+use Rattle.first_pass_grammar.specs.Tables.{AreCells, filled, row_block, taking, most_filled}
+use Rattle.first_pass_grammar.proofs.Orders.{between-any}
+use Rattle.first_pass_grammar.proofs.OwnNodes.{own_join}
+use Rattle.first_pass_grammar.proofs.RowEnds.{row_ends_its_line}
+use Rattle.first_pass_grammar.proofs.TableEnds.{cells_end}
+use Rattle.first_pass_open.specs.Path.{path_of}
+use Rattle.first_pass_text.specs.Appends.{line_end_at}
+use Rattle.first_pass_text.specs.Between.{AddsBetween}
+use Rattle.first_pass_tables.specs.Appends.{ReadsRow, ReadsRowLine, AppendsRows, ClosesBetween}
+use Rattle.first_pass_tables.proofs.CellsFit.{OneRow, between-order, between-join, between-wider, row_fits}
+use Rattle.first_pass_tables.proofs.RowsFit.{row_place, RowsBetween, rows_fit}
+
+-- a row fits wherever it stands, behind an offset before it
+row_fits_behind : (d : Document) (body : ItemBody) (columns start : ℕ) (cells : List (List (ℕ × Item))) (stop : ℕ) (w : Within) (from : ℕ) → IsUtf8 d.text
+    → IsCharBoundary d.text start → AreCells d start cells stop → from ≤ start → FitsBetween d.text w from stop (row_block body columns start cells stop)
+row_fits_behind d body columns start cells stop w from utf8 boundary are low =
+    let block : List (ℕ × Item) = row_block body columns start cells stop in
+    let row = row_fits d body columns start cells stop utf8 boundary are in
+    let few = row.few in
+    let order = between-order d.text start stop block row.between in
+    let wide = between-wider d.text from start stop stop block low (omega arith) row.between in
+    between-any d.text w from stop block (wide.0, wide.1, wide.2, λ room. omega arith)
+
+-- A row that is read lies between an offset before it and where it ends.
+pub row_between : (d : Document) (columns start : ℕ) (old new : Forest Item) (before after : ℕ) (answer : Option (ℕ × TreeIndex)) → IsUtf8 d.text
+    → IsCharBoundary d.text start → ReadsRow d columns start old new before after answer → (from : ℕ) → from ≤ start
+    → IfSome answer (λ r. AddsBetween d.text from r.0 old new)
+row_between d columns start old new before after None utf8 boundary r from low = tt
+row_between d columns start old new before after (Some (stop, ix)) utf8 boundary r from low =
+    let a = r.adds in
+    let block : List (ℕ × Item) = row_block TableRow columns start r.cells r.row_end in
+    record {
+      items = block;
+      tree_is = a.1;
+      fits = subst (λ (n : ℕ). FitsBetween d.text (within_top old) from n block) (sym a.3)
+          (row_fits_behind d TableRow columns start r.cells r.row_end (within_top old) from utf8 boundary r.are_cells low);
+    }
+
+-- It ends in the text.
+pub row_ends : (d : Document) (columns start : ℕ) (old new : Forest Item) (before after : ℕ) (answer : Option (ℕ × TreeIndex)) → start ≤ length d.text
+    → ReadsRow d columns start old new before after answer → IfSome answer (λ r. r.0 ≤ length d.text)
+row_ends d columns start old new before after None within r = tt
+row_ends d columns start old new before after (Some (stop, ix)) within r =
+    let ends = (cells_end d start r.cells r.row_end within r.are_cells).1 in
+    let is : stop ≡ r.row_end = r.adds.3 in
+    omega arith
+
+-- Where no row is read the tree stays as it is.
+pub row_none : (d : Document) (columns start : ℕ) (old new : Forest Item) (before after : ℕ) (answer : Option (ℕ × TreeIndex))
+    → ReadsRow d columns start old new before after answer → answer ≡ None → new ≡ old
+row_none d columns start old new before after None r is = r.adds.1
+row_none d columns start old new before after (Some (stop, ix)) r is = absurd (none-some (stop, ix) (sym is))
+
+-- the same of a line
+pub line_row_ends : (d : Document) (columns n : ℕ) (old new : Forest Item) (before after : ℕ) (answer : Option (ℕ × TreeIndex)) → IsUtf8 d.text
+    → IsCharBoundary d.text n → ReadsRowLine d columns n old new before after answer → IfSome answer (λ r. r.0 ≤ length d.text)
+line_row_ends d columns n old new before after answer utf8 boundary (inl (none, is, same, count)) =
+    subst (λ (o : Option (ℕ × TreeIndex)). IfSome o (λ r. r.0 ≤ length d.text)) (sym is) tt
+line_row_ends d columns n old new before after answer utf8 boundary (inr (start, begins, r)) =
+    let p = row_place d.text (path_of old) n start utf8 boundary begins in
+    row_ends d columns start old new before after answer (subst (λ (k : ℕ). k ≤ length d.text) (sym p.start_is) p.is.within) r
+
+pub line_row_none : (d : Document) (columns n : ℕ) (old new : Forest Item) (before after : ℕ) (answer : Option (ℕ × TreeIndex))
+    → ReadsRowLine d columns n old new before after answer → answer ≡ None → new ≡ old
+line_row_none d columns n old new before after answer (inl (none, nothing, same, count)) is = same
+line_row_none d columns n old new before after answer (inr (start, begins, r)) is = row_none d columns start old new before after answer r is
+
+-- a header row and the rows behind it, where the header row has a byte or none are behind it
+both_between : (text : List ℕ) (from start mid behind next : ℕ) (head body : List (ℕ × Item)) → from ≤ start → mid ≤ behind → (start < mid) ⊎ (next ≤ start)
+    → OneRow text start mid head → RowsBetween text behind next body → FitsBetween text Elsewhere from next (head ++ body)
+both_between text from start mid behind next head body low apart some row rows =
+    let header = between-order text start mid head row.between in
+    let others = between-order text behind next body rows.between in
+    let join = own_join None head body in
+    let few_row = row.few in
+    let few_rows = rows.few in
+    let kids = between-join text from mid next head body (between-wider text from start mid mid head low (omega arith) row.between)
+    (between-wider text mid behind next next body apart (omega arith) rows.between) in
+    (kids.0, kids.1, kids.2, λ room. elim some [ inl more ↦ omega arith | inr none ↦ omega arith ])
+
+-- The rows of a table lie between an offset before its header row and the first line that is none, where those of its body are behind the header row's line.
+pub rows_between : (d : Document) (columns head_start body_start next from : ℕ) (old new : Forest Item) → IsUtf8 d.text → IsCharBoundary d.text head_start
+    → IsCharBoundary d.text body_start → AppendsRows d columns head_start body_start old new next → from ≤ head_start
+    → line_end_at d.text head_start ≤ body_start → ClosesBetween d.text from next old new
+rows_between d columns head_start body_start next from old new utf8 head_begins body_begins r low behind =
+    let text = d.text in
+    let head : List (ℕ × Item) = row_block TableHead columns head_start r.cells r.head_end in
+    let ends : r.head_end ≡ line_end_at text head_start = row_ends_its_line d head_start r.cells r.head_end head_begins.0 r.are_cells in
+    let row = row_fits d TableHead columns head_start r.cells r.head_end utf8 head_begins r.are_cells in
+    let stop : start_of (length text) (lines_from text next) ≡ next = start_of-lines text next r.boundary.0 in
+    let rows = subst (λ (k : ℕ). RowsBetween text body_start k r.body) stop
+    (rows_fit d (path_of old) columns (most_filled - filled columns r.cells) (lines_from text body_start) body_start (taking r.body (lines_from text next)) utf8 body_begins
+    refl r.are_rows) in
+    let within = r.boundary.0 in
+    let some : (head_start < r.head_end) ⊎ (next ≤ head_start) = elim (cases_lt head_start (length text)) [
+      | inl inside ↦ let size = line_len-within text head_start inside in let byte = size.0 in inl (omega arith)
+      | inr past ↦ inr (omega arith)
+    ] in
+    record {
+      items = head ++ r.body;
+      tree_is = r.tree_is;
+      fits = between-any text (within_top old) from next (head ++ r.body)
+          (both_between text from head_start r.head_end body_start next head r.body low (omega arith) some row rows);
+    }
