@@ -18,6 +18,7 @@ pub mod OrderSteps
 pub mod PopLemmas
 pub mod RawFits
 pub mod ReadyCompleted
+pub mod RowsOrdered
 pub mod RuleLemmas
 pub mod RunLemmas
 pub mod StateLemmas

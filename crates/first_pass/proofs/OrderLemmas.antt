@@ -166,7 +166,7 @@ closed_levels text f at e ix rest root (level ∷ levels) row is places fits who
   whole = whole;
 }
 
-ordered_closed : (text : List ℕ) (f : Forest Item) (at e : ℕ) (ix : TreeIndex) (rest : List TreeIndex) → f.spine ≡ ix ∷ rest → at ≤ e → e ≤ length text → IsCharBoundary text e → IsOrderedTo text f at → IsOrderedTo text (closed_by f e (ix ∷ rest)) e
+pub ordered_closed : (text : List ℕ) (f : Forest Item) (at e : ℕ) (ix : TreeIndex) (rest : List TreeIndex) → f.spine ≡ ix ∷ rest → at ≤ e → e ≤ length text → IsCharBoundary text e → IsOrderedTo text f at → IsOrderedTo text (closed_by f e (ix ∷ rest)) e
 ordered_closed text f at e ix rest spine later within ends h =
     closed_levels text f at e ix rest h.root h.levels h.row h.nodes (subst (λ (s : List TreeIndex). AreAt h.root h.levels s) spine h.places) h.fits h.whole later within ends
 

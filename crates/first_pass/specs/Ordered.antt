@@ -1,5 +1,6 @@
 -- How far what the pass remembers is in order.
 use Rattle.std.specs.Prelude.{◌≡◌, ◌⊎◌, ℕ, ◌≤◌, ◌<◌, true, List, length, drop, Option, Some, None, IsCharBoundary}
+use Rattle.first_pass_tree.specs.declared.tree_index.TreeIndex.{TreeIndex}
 use Rattle.first_pass_lines.specs.Rest.{Rest}
 use Rattle.first_pass_lines.specs.Places.{line_rest, place_at, offset}
 use Rattle.first_pass_grammar.specs.Containers.{after}
@@ -34,3 +35,8 @@ pub record IsHandedOn (text : List ℕ) (r : Reading) (at : ℕ) : Type 0 where
 -- what the pass remembers is in order up to an offset at which reading goes on, or a blank line is handed on there
 abbrev pub IsOrderedFrom : List ℕ → Reading → ℕ → Type 0
 IsOrderedFrom text r at = IsOrderedAt text r at ⊎ IsHandedOn text r at
+
+-- where reading goes on behind the row of a table: at its end, or at an offset where there is none (this project)
+abbrev pub behind_row : Option (ℕ × TreeIndex) → ℕ → ℕ
+behind_row None at = at
+behind_row (Some row) at = row.0

@@ -1,13 +1,17 @@
 //! Tables, as calls of the pass (GFM 4.10).
 
-ghost use Rattle.std.specs.Prelude.{◌≡◌, ◌≤◌, true, ℕ, length, IfOk, OnOk, IsCharBoundary};
+ghost use Rattle.std.specs.Prelude.{◌≡◌, ◌<◌, ◌≤◌, true, ℕ, length, IfOk, OnOk, IsCharBoundary};
 ghost use Rattle.first_pass_tree.specs.declared.tree_index.TreeIndex.{TreeIndex};
 ghost use Rattle.first_pass_tree.specs.Forest.{in_table};
 ghost use Rattle.first_pass_names.specs.TableEntries.{no_names};
 ghost use Rattle.first_pass_grammar.specs.Leaves.{document};
+ghost use Rattle.first_pass_grammar.specs.OpenOrder.{IsOrderedTo};
+ghost use Rattle.first_pass_grammar.specs.Order.{GrowsBy};
 ghost use Rattle.first_pass_grammar.specs.Tables.{most_filled};
 ghost use Rattle.first_pass_open.specs.OpenBlock.{IsJustPushed};
+ghost use Rattle.first_pass_text.specs.Appends.{line_end_at};
 ghost use Rattle.first_pass_tables.specs.Appends.{IsOpenNode, ReadsRow, ReadsRowLine, AppendsRows};
+ghost use Rattle.first_pass.specs.Ordered.{behind_row};
 ghost use Rattle.first_pass.specs.Views.{allocs_of, reading_of, source_of, source_options, source_text, tree_of, with_tree};
 
 use crate::state::FirstPass;
@@ -36,8 +40,15 @@ impl<'a> FirstPass<'a> {
         ensures rows { IfOk result (λ next.
             AppendsRows (document (source_text self.old) (source_options self.old) no_names) table_cols head_start
             body_start (tree_of self.old) (tree_of self.new) next) }
+        ensures order { IfOk result (λ next. (at : ℕ) → at ≤ head_start
+            → line_end_at (source_text self.old) head_start ≤ body_start
+            → IsOrderedTo (source_text self.old) (tree_of self.old) at
+            → IsOrderedTo (source_text self.old) (tree_of self.new) next) }
+        ensures few { IfOk result (λ next. (from : ℕ) → from ≤ head_start
+            → line_end_at (source_text self.old) head_start ≤ body_start → from < next
+            → GrowsBy from next (tree_of self.old).nodes (tree_of self.new).nodes) }
     {
-        rows::parse_table(
+        let next = rows::parse_table(
             self.alloc,
             self.source,
             &self.lookup_table,
@@ -45,7 +56,8 @@ impl<'a> FirstPass<'a> {
             table_cols,
             head_start,
             body_start,
-        )
+        )?;
+        Ok(next)
     }
 
     /// Appends the row of a table of `row_cells` columns that is in the line which begins at the offset `ix` into the
@@ -68,8 +80,13 @@ impl<'a> FirstPass<'a> {
         ensures row { IfOk result (λ row.
             ReadsRowLine (document (source_text self.old) (source_options self.old) no_names) row_cells ix
             (tree_of self.old) (tree_of self.new) missing_empty_cells.old missing_empty_cells.new row) }
+        ensures order { IfOk result (λ row. (at : ℕ) → at ≤ ix
+            → IsOrderedTo (source_text self.old) (tree_of self.old) at
+            → IsOrderedTo (source_text self.old) (tree_of self.new) (behind_row row ix)) }
+        ensures few { IfOk result (λ row. (from : ℕ) → from ≤ ix → from < behind_row row ix
+            → GrowsBy from (behind_row row ix) (tree_of self.old).nodes (tree_of self.new).nodes) }
     {
-        rows::parse_table_row(
+        let row = rows::parse_table_row(
             self.alloc,
             self.source,
             &self.lookup_table,
@@ -77,7 +94,8 @@ impl<'a> FirstPass<'a> {
             ix,
             row_cells,
             missing_empty_cells,
-        )
+        )?;
+        Ok(row)
     }
 
     /// Appends the row of a table of `row_cells` columns that begins at the offset `ix` into the text, behind what the
@@ -100,14 +118,21 @@ impl<'a> FirstPass<'a> {
         ensures row { IfOk result (λ row.
             ReadsRow (document (source_text self.old) (source_options self.old) no_names) row_cells ix
             (tree_of self.old) (tree_of self.new) missing_empty_cells.old missing_empty_cells.new row) }
+        ensures order { IfOk result (λ row. IsCharBoundary (source_text self.old) ix → (at : ℕ) → at ≤ ix
+            → IsOrderedTo (source_text self.old) (tree_of self.old) at
+            → IsOrderedTo (source_text self.old) (tree_of self.new) (behind_row row ix)) }
+        ensures few { IfOk result (λ row. IsCharBoundary (source_text self.old) ix → (from : ℕ) → from ≤ ix
+            → from < behind_row row ix
+            → GrowsBy from (behind_row row ix) (tree_of self.old).nodes (tree_of self.new).nodes) }
     {
-        row::parse_table_row_inner(
+        let row = row::parse_table_row_inner(
             self.source,
             &self.lookup_table,
             &mut self.reading.tree,
             ix,
             row_cells,
             missing_empty_cells,
-        )
+        )?;
+        Ok(row)
     }
 }

@@ -1,0 +1,54 @@
+-- Order is kept as the rows of a table are added, and at most four nodes are for each byte of them.
+use Rattle.std.proofs.Common.{◌≡◌, ℕ, ◌+◌, ◌<◌, ◌≤◌, List, ◌∷◌, ◌++◌, length, Option, Some, None, IfSome, IsCharBoundary, refl, sym, ap, subst, ◌∙◌, arith}
+use Rattle.first_pass_items.specs.declared.item.Item.{Item}
+use Rattle.first_pass_tree.specs.declared.tree_index.TreeIndex.{TreeIndex}
+use Rattle.first_pass_tree.specs.Forest.{Forest, added, at_depth}
+use Rattle.first_pass_grammar.specs.Counting.{own_nodes}
+use Rattle.first_pass_grammar.specs.OpenOrder.{IsOrderedTo}
+use Rattle.first_pass_grammar.specs.Order.{GrowsBy}
+use Rattle.first_pass_grammar.proofs.OwnNodes.{own_ended, own_added}
+use Rattle.first_pass_open.specs.OpenBlock.{IsJustPushed, closed_by}
+use Rattle.first_pass_text.specs.Between.{AddsBetween}
+use Rattle.first_pass_tables.specs.Appends.{with_below, ClosesBetween}
+use Rattle.first_pass.specs.Ordered.{behind_row}
+use Rattle.first_pass.proofs.CountLemmas.{block_count}
+use Rattle.first_pass.proofs.OrderLemmas.{ordered_same, ordered_later, ordered_added, ordered_closed}
+
+-- a row added, or none
+pub row_ordered : (text : List ℕ) (old new : Forest Item) (at ix : ℕ) (row : Option (ℕ × TreeIndex)) → at ≤ ix → ix ≤ length text → (row ≡ None → new ≡ old)
+    → IfSome row (λ r. r.0 ≤ length text) → IfSome row (λ r. AddsBetween text at r.0 old new) → IsOrderedTo text old at → IsOrderedTo text new (behind_row row ix)
+row_ordered text old new at ix None low within same ends adds o =
+    subst (λ (f : Forest Item). IsOrderedTo text f ix) (sym (same refl)) (ordered_later text old at ix low within o)
+row_ordered text old new at ix (Some (stop, place)) low within same ends adds o =
+    subst (λ (f : Forest Item). IsOrderedTo text f stop) (sym adds.tree_is) (ordered_added text old at stop adds.items adds.fits ends o)
+
+pub row_count : (text : List ℕ) (old new : Forest Item) (from ix : ℕ) (row : Option (ℕ × TreeIndex)) → (row ≡ None → new ≡ old)
+    → IfSome row (λ r. AddsBetween text from r.0 old new) → from < behind_row row ix → GrowsBy from (behind_row row ix) old.nodes new.nodes
+row_count text old new from ix None same adds apart =
+    let is = ap (λ (f : Forest Item). own_nodes f.nodes) (same refl) in
+    omega arith
+row_count text old new from ix (Some (stop, place)) same adds apart = block_count text from stop old new adds apart
+
+-- the tree with nodes below the innermost open one, which is closed behind them
+closed_is : (text : List ℕ) (old new : Forest Item) (from next : ℕ) (ix : TreeIndex) (pushed : IsJustPushed old ix) (c : ClosesBetween text from next old new)
+    → new ≡ closed_by (with_below old c.items) next (ix ∷ pushed.rest)
+closed_is text old new from next ix pushed c = c.tree_is ∙ ap (closed_by (with_below old c.items) next) pushed.innermost
+
+-- the rows of a table added, and the table closed behind them
+pub rows_ordered : (text : List ℕ) (old new : Forest Item) (at next : ℕ) (ix : TreeIndex) → IsJustPushed old ix → IsCharBoundary text next
+    → ClosesBetween text at next old new → IsOrderedTo text old at → IsOrderedTo text new next
+rows_ordered text old new at next ix pushed ends c o =
+    let f : Forest Item = with_below old c.items in
+    let here : next ≤ next = omega arith in
+    let rows = ordered_same text (added old c.items) f next refl refl (ordered_added text old at next c.items c.fits ends.0 o) in
+    subst (λ (g : Forest Item). IsOrderedTo text g next) (sym (closed_is text old new at next ix pushed c))
+    (ordered_closed text f next next ix pushed.rest pushed.innermost here ends.0 ends rows)
+
+pub rows_count : (text : List ℕ) (old new : Forest Item) (from next : ℕ) (ix : TreeIndex) → IsJustPushed old ix → ClosesBetween text from next old new → from < next
+    → GrowsBy from next old.nodes new.nodes
+rows_count text old new from next ix pushed c apart =
+    let few = c.fits.3 apart in
+    let tree = ap (λ (f : Forest Item). own_nodes f.nodes) (closed_is text old new from next ix pushed c) in
+    let same = own_ended (old.nodes ++ at_depth (length old.spine + 1) c.items) ix.0 next in
+    let more = own_added old.nodes c.items (length old.spine + 1) in
+    omega arith
