@@ -24,6 +24,7 @@ pub mod RowLemmas
 pub mod RowsAlike
 pub mod RunsFound
 pub mod SequencesFound
+pub mod SilentNodes
 pub mod TableEnds
 pub mod TableItems
 pub mod TableMarks
@@ -33,5 +34,6 @@ pub mod TablesFound
 pub mod TextsNamed
 pub mod Tightening
 pub mod Unique
+pub mod WholeBefore
 pub mod WholeBlocks
 pub mod WholeForests

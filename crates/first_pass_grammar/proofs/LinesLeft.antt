@@ -1,11 +1,9 @@
 -- The lines of a text, and those that paragraphs, runs of definitions, tables and what else takes lines leave, are places of it.
-use Rattle.std.proofs.Common.{◌≡◌, inl, inr, ℕ, ◌+◌, ◌-◌, nat_lt, Bool, true, false, List, [], ◌∷◌, drop, Option, Some, None, MatchOption, sym, ap, subst, arith, if◌then◌else◌}
-use Rattle.std.specs.List.{All}
-use Rattle.std.proofs.lemmas.List.Elements.{All-head, All-tail}
+use Rattle.std.proofs.Common.{◌≡◌, inl, inr, ℕ, ◌+◌, ◌-◌, nat_lt, Bool, true, false, List, [], ◌∷◌, drop, drop-drop, Option, Some, None, MatchOption, refl, sym, ap, ◌∙◌, subst, arith, if◌then◌else◌}
 use Rattle.first_pass_items.specs.declared.item.Item.{Item}
 use Rattle.first_pass_items.specs.declared.item.Alignment.{Alignment}
-use Rattle.first_pass_lines.specs.Places.{Place, line_place, lines_at, offset, IsLinePlace}
-use Rattle.first_pass_lines.proofs.LineFacts.{lines_at-places}
+use Rattle.first_pass_lines.specs.Places.{Place, line_place, lines_behind, lines_at, offset}
+use Rattle.first_pass_lines.specs.Lines.{ends_line}
 use Rattle.first_pass_grammar.specs.declared.kind.Container.{Container}
 use Rattle.first_pass_grammar.specs.Containers.{Context, at_rest, front}
 use Rattle.first_pass_grammar.specs.Kinds.{unindented}
@@ -15,32 +13,45 @@ use Rattle.first_pass_grammar.specs.LinkTables.{LinkEntry}
 use Rattle.first_pass_grammar.specs.LinkRuns.{lines_beyond, Beyond, Ended, FlowsOn, IsRun}
 use Rattle.first_pass_grammar.specs.TableHeads.{headed_table}
 use Rattle.first_pass_grammar.specs.Tables.{filled, Taken, AreRows, IsTable}
+use Rattle.first_pass_grammar.specs.Completion.{lines_from}
 use Rattle.first_pass_grammar.specs.Texts.{IsPlainText, IsText}
 use Rattle.first_pass_grammar.proofs.PlacesKept.{IsAt, AreAt, at_front}
 
--- the lines of a text
-line_at : (text : List ℕ) (p : Place) → IsLinePlace text p → IsAt text p
-line_at text p is =
-    let same : p.line + 0 ≡ p.line = omega arith in
-    let start : IsAt text (line_place p.line (drop p.line text)) = ap (λ (k : ℕ). drop k text) (sym same) in
-    subst (IsAt text) (sym is) start
+-- the lines of a text from an offset on
+unless_at : (text : List ℕ) (t : Bool) (further all : List Place) → AreAt text further → AreAt text all → AreAt text (if t then further else all)
+unless_at text true further all h k = h
+unless_at text false further all h k = k
 
-lines_of : (text : List ℕ) (ps : List Place) → All (IsLinePlace text) ps → AreAt text ps
-lines_of text [] h = tt
-lines_of text (p ∷ ps) h = (line_at text p (All-head (IsLinePlace text) p ps h), lines_of text ps (All-tail (IsLinePlace text) p ps h))
+place_is_at : (text : List ℕ) (start : ℕ) (bs : List ℕ) → drop start text ≡ bs → IsAt text (line_place start bs)
+place_is_at text start bs h = (let same : start ≡ start + 0 = omega arith in sym h ∙ ap (λ (k : ℕ). drop k text) same)
+
+behind_at : (text : List ℕ) (b start : ℕ) (bs : List ℕ) → drop start text ≡ bs → AreAt text (lines_behind b start bs)
+unfolding lines_behind
+behind_at text b start [] h = tt
+behind_at text b start (c ∷ cs) h =
+    let next : drop (start + 1) text ≡ cs = sym (drop-drop 1 start text) ∙ ap (drop 1) h in
+    let further = behind_at text c (start + 1) cs next in
+    unless_at text (ends_line b (c ∷ cs)) (line_place start (c ∷ cs) ∷ lines_behind c (start + 1) cs) (lines_behind c (start + 1) cs)
+    (place_is_at text start (c ∷ cs) h, further) further
+
+lines_by : (text : List ℕ) (start : ℕ) (bs : List ℕ) → drop start text ≡ bs → AreAt text (lines_at start bs)
+unfolding lines_at
+lines_by text start [] h = tt
+lines_by text start (b ∷ bs) h =
+    let next : drop (start + 1) text ≡ bs = sym (drop-drop 1 start text) ∙ ap (drop 1) h in
+    (place_is_at text start (b ∷ bs) h, behind_at text b (start + 1) bs next)
+
+pub lines_from_at : (text : List ℕ) (start : ℕ) → AreAt text (lines_from text start)
+lines_from_at text start = lines_by text start (drop start text) refl
 
 pub lines_are_at : (text : List ℕ) → AreAt text (lines_at 0 text)
-lines_are_at text = lines_of text (lines_at 0 text) (lines_at-places text)
+lines_are_at text = lines_from_at text 0
 
 -- the lines behind an offset
-beyond_by : (text : List ℕ) (t : Bool) (further all : List Place) → AreAt text further → AreAt text all → AreAt text (if t then further else all)
-beyond_by text true further all h k = h
-beyond_by text false further all h k = k
-
 pub beyond_at : (text : List ℕ) (e : ℕ) (lines : List Place) → AreAt text lines → AreAt text (lines_beyond e lines)
 unfolding lines_beyond
 beyond_at text e [] h = tt
-beyond_at text e (line ∷ lines) h = beyond_by text (nat_lt line.line e) (lines_beyond e lines) (line ∷ lines) (beyond_at text e lines h.1) h
+beyond_at text e (line ∷ lines) h = unless_at text (nat_lt line.line e) (lines_beyond e lines) (line ∷ lines) (beyond_at text e lines h.1) h
 
 -- what stands behind a run of definitions
 abbrev pub BeyondAt : List ℕ → Beyond → Type 0

@@ -1,12 +1,12 @@
 -- What is named stays named while more is named.
-use Rattle.std.proofs.Common.{◌≡◌, ℕ, zero, suc, ◌<◌, List, [], ◌∷◌, ◌++◌, length, slice_get, Some, refl, sym, ap, ◌∙◌, arith, append_assoc}
+use Rattle.std.proofs.Common.{◌≡◌, ℕ, zero, suc, ◌<◌, List, [], ◌∷◌, ◌++◌, length, slice_get, Option, Some, unwrap_or, refl, sym, ap, ◌∙◌, arith, append_assoc}
 use Rattle.std.proofs.lemmas.List.{append-nil}
 use Rattle.std.proofs.lemmas.Option.{slice_get_within}
 use Rattle.first_pass_items.specs.declared.cow_str.CowStr.{CowStr}
 use Rattle.first_pass_items.specs.declared.item.Alignment.{Alignment}
 use Rattle.first_pass_items.specs.declared.item.AlignmentIndex.{AlignmentIndex}
 use Rattle.first_pass_items.specs.declared.item.CowIndex.{CowIndex}
-use Rattle.first_pass_grammar.specs.Names.{Names, NamesAlignments, Extends, with_named, with_alignments}
+use Rattle.first_pass_grammar.specs.Names.{Names, NamesAlignments, Extends, with_named, with_alignments, alignments_named}
 
 -- no more is named
 pub extends_none : (names : Names) → Extends names names
@@ -69,6 +69,13 @@ still_named new old i named e h = still_there new.texts old.texts e.more_texts i
 pub still_aligned : (new old : Names) (ix : AlignmentIndex) (alignments : List Alignment) → Extends new old → NamesAlignments old ix alignments
     → NamesAlignments new ix alignments
 still_aligned new old ix alignments e h = still_there new.alignments old.alignments e.more_alignments ix.0 alignments e.alignments h
+
+-- an index of alignments that names an entry names the same
+pub alignments_kept : (new old : Names) (ix : AlignmentIndex) → Extends new old → ix.0 < length old.alignments
+    → alignments_named new ix ≡ alignments_named old ix
+alignments_kept new old ix e h =
+    ap (λ (o : Option (List Alignment)). unwrap_or o [])
+    (ap (λ (xs : List (List Alignment)). slice_get xs ix.0) e.alignments ∙ named_front old.alignments e.more_alignments ix.0 h)
 
 -- The index of a text, or of alignments, that were put behind those that are named names them, whatever more is named.
 pub text_last : (old new more : Names) (ix : CowIndex) (cow : CowStr) → ix.0 ≡ length old.texts → new ≡ with_named old cow

@@ -18,7 +18,7 @@ use Rattle.first_pass_grammar.proofs.TableMarks.{marks-append, marks-at_depth}
 use Rattle.first_pass_grammar.proofs.WholeBlocks.{whole_none, WholeSkeleton, sequence_whole}
 
 -- whole tables behind each other
-table_marks-append : (a b : List TableRows) → table_marks (a ++ b) ≡ table_marks a ++ table_marks b
+pub table_marks-append : (a b : List TableRows) → table_marks (a ++ b) ≡ table_marks a ++ table_marks b
 unfolding table_marks
 table_marks-append [] b = refl
 table_marks-append (t ∷ a) b =
@@ -43,7 +43,7 @@ unfolding AreWholeTables
 whole_same names nodes more same (a, e, h) = (a, same ∙ e, h)
 
 -- a paragraph made tight shows nothing still
-tight_shows : (names : Names) (start «end» : ℕ) (b : ItemBody) → shown names start «end» (tight_body b) ≡ shown names start «end» b
+pub tight_shows : (names : Names) (start «end» : ℕ) (b : ItemBody) → shown names start «end» (tight_body b) ≡ shown names start «end» b
 tight_shows names start end ParagraphBody = refl
 tight_shows names start end b = refl
 
@@ -53,7 +53,7 @@ tight_by : (names : Names) (t : Bool) (x : Item)
 tight_by names true x = tight_shows names x.start x.«end» x.body
 tight_by names false x = refl
 
-marks-tightened : (names : Names) (depth : ℕ) (nodes : List (ℕ × Item)) → marks names (map (tightened depth) nodes) ≡ marks names nodes
+pub marks-tightened : (names : Names) (depth : ℕ) (nodes : List (ℕ × Item)) → marks names (map (tightened depth) nodes) ≡ marks names nodes
 unfolding marks
 marks-tightened names depth [] = refl
 marks-tightened names depth (n ∷ nodes) =
@@ -61,17 +61,17 @@ marks-tightened names depth (n ∷ nodes) =
     ∙ ap (λ (z : List Mark). shown names n.1.start n.1.«end» n.1.body ++ z) (marks-tightened names depth nodes)
 
 -- the leaves of rows show whole tables, or nothing
-abbrev WholeWhat : Names → What → Type 0
+abbrev pub WholeWhat : Names → What → Type 0
 WholeWhat names (ALeaf block) = AreWholeTables names block.items
 WholeWhat names (AQuote kind e) = Unit {0}
 WholeWhat names (AList byte number e) = Unit {0}
 WholeWhat names (AnItem columns e) = Unit {0}
 
-unfoldable WholeRows : Names → Rows → Type 0
+unfoldable pub WholeRows : Names → Rows → Type 0
 WholeRows names (End gap) = Unit {0}
 WholeRows names (OneOf row inner next) = WholeWhat names row.what × WholeRows names inner × WholeRows names next
 
-behind_whole : (names : Names) (run : Bool) (rows : Rows) → WholeRows names rows → WholeRows names (behind run rows)
+pub behind_whole : (names : Names) (run : Bool) (rows : Rows) → WholeRows names rows → WholeRows names (behind run rows)
 unfolding WholeRows
 behind_whole names run (End gap) h = tt
 behind_whole names run (OneOf row inner next) h = h
@@ -80,12 +80,12 @@ unless_whole : (names : Names) (t : Bool) (a b : Rows) → WholeRows names a →
 unless_whole names true a b h k = h
 unless_whole names false a b h k = k
 
-items_whole : (names : Names) (byte : ℕ) (rows : Rows) → WholeRows names rows → WholeRows names (items_behind byte rows)
+pub items_whole : (names : Names) (byte : ℕ) (rows : Rows) → WholeRows names rows → WholeRows names (items_behind byte rows)
 unfolding WholeRows
 items_whole names byte (End gap) h = tt
 items_whole names byte (OneOf row inner next) h = unless_whole names (is_list_of byte row.what) (behind row.gap inner) (End false) (behind_whole names row.gap inner h.1) tt
 
-list_whole : (names : Names) (byte : ℕ) (rows : Rows) → WholeRows names rows → WholeRows names (list_behind byte rows)
+pub list_whole : (names : Names) (byte : ℕ) (rows : Rows) → WholeRows names rows → WholeRows names (list_behind byte rows)
 unfolding WholeRows
 list_whole names byte (End gap) h = tt
 list_whole names byte (OneOf row inner next) h = unless_whole names (is_list_of byte row.what) next (OneOf row inner next) h.2 h
@@ -100,7 +100,7 @@ what_whole : (names : Names) (opener : Opener) (e : ℕ) → WholeWhat names (wh
 what_whole names (QuoteMarker kind) e = tt
 what_whole names (ItemMarker byte number columns) e = tt
 
-rows_whole : (names : Names) (quoted : Bool) (last : ℕ) (s : Skeleton) → WholeSkeleton names s → WholeRows names (rows_of quoted last s)
+pub rows_whole : (names : Names) (quoted : Bool) (last : ℕ) (s : Skeleton) → WholeSkeleton names s → WholeRows names (rows_of quoted last s)
 unfolding WholeSkeleton WholeRows rows_of
 rows_whole names quoted last Nil h = tt
 rows_whole names quoted last (Then BlankLine next) h = behind_whole names _ (rows_of quoted last next) (rows_whole names quoted last next h.1)
@@ -122,7 +122,7 @@ row_whole names depth tight loose start (AQuote kind e) h = whole_none names _ r
 row_whole names depth tight loose start (AList byte number e) h = whole_none names _ refl
 row_whole names depth tight loose start (AnItem columns e) h = whole_none names _ refl
 
-forest_whole : (names : Names) (depth : ℕ) (tight : Bool) (rows : Rows) → WholeRows names rows → AreWholeTables names (items_of depth tight rows)
+pub forest_whole : (names : Names) (depth : ℕ) (tight : Bool) (rows : Rows) → WholeRows names rows → AreWholeTables names (items_of depth tight rows)
 unfolding WholeRows items_of marks
 forest_whole names depth tight (End gap) h = whole_none names [] refl
 forest_whole names depth tight (OneOf row inner next) h =
