@@ -10,8 +10,8 @@ ghost use Rattle.first_pass_grammar.specs.Order.{GrowsBy};
 ghost use Rattle.first_pass_grammar.specs.Tables.{most_filled};
 ghost use Rattle.first_pass_open.specs.OpenBlock.{IsJustPushed};
 ghost use Rattle.first_pass_text.specs.Appends.{line_end_at};
-ghost use Rattle.first_pass_tables.specs.Appends.{IsOpenNode, ReadsRow, ReadsRowLine, AppendsRows};
 ghost use Rattle.first_pass.specs.Ordered.{behind_row};
+ghost use Rattle.first_pass_tables.specs.Appends.{IsOpenNode, ReadsRow, ReadsRowLine, AppendsRows, AddsWholeRows};
 ghost use Rattle.first_pass.specs.Views.{allocs_of, reading_of, source_of, source_options, source_text, tree_of, with_tree};
 
 use crate::state::FirstPass;
@@ -24,6 +24,9 @@ impl<'a> FirstPass<'a> {
     /// opened, and closes it behind them: the header row, which begins at the offset `head_start` into the text, and
     /// the rows among the lines from the offset `body_start` on, up to the first line that is none. Answers the offset
     /// at which that line begins, or the text's length (GFM 4.10).
+    ///
+    /// Each row has `table_cols` cells then. Where the line at `head_start` has as many columns as a header row, at
+    /// most 262,144 of them are filled in (this project).
     pub fn parse_table(
         &mut self,
         table_cols: usize,
@@ -47,6 +50,9 @@ impl<'a> FirstPass<'a> {
         ensures few { IfOk result (λ next. (from : ℕ) → from ≤ head_start
             → line_end_at (source_text self.old) head_start ≤ body_start → from < next
             → GrowsBy from next (tree_of self.old).nodes (tree_of self.new).nodes) }
+        ensures whole { IfOk result (λ next.
+            AddsWholeRows (document (source_text self.old) (source_options self.old) no_names) table_cols head_start
+            (tree_of self.old) (tree_of self.new) next) }
     {
         let next = rows::parse_table(
             self.alloc,

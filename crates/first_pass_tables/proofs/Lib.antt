@@ -10,3 +10,4 @@ pub mod TextsAre
 pub mod RowCells
 pub mod RowClosed
 pub mod RowDrops
+pub mod WholeRows

@@ -2,15 +2,19 @@
 use Rattle.std.specs.Prelude.{◌≡◌, ◌⊎◌, ℕ, ◌+◌, ◌-◌, ◌≤◌, ◌&&◌, ◌||◌, not, Bool, true, false, nat_lt, nat_le, List, ◌∷◌, ◌++◌, length, drop, take, Option, Some, None, is_some, slice_get, IsCharBoundary}
 use Rattle.first_pass_items.specs.declared.item.Item.{Item}
 use Rattle.first_pass_items.specs.declared.item.ItemBody.TheVariants.{TableHead, TableRow, TableCell}
+use Rattle.first_pass_items.specs.OptionWords.{has, tables}
 use Rattle.first_pass_tree.specs.declared.tree_index.TreeIndex.{TreeIndex}
 use Rattle.first_pass_tree.specs.Forest.{Forest, added, at_depth, kept_after, childless}
 use Rattle.first_pass_lines.specs.Places.{line_place}
+use Rattle.first_pass_table_scan.specs.TableHead.{head_columns}
 use Rattle.first_pass_tokens.specs.LineTokens.{IsCell}
+use Rattle.first_pass_grammar.specs.Names.{Names}
 use Rattle.first_pass_grammar.specs.Leaves.{Document}
 use Rattle.first_pass_grammar.specs.Completion.{lines_from}
 use Rattle.first_pass_grammar.specs.OpenOrder.{within_top}
 use Rattle.first_pass_grammar.specs.Order.{FitsBetween}
 use Rattle.first_pass_grammar.specs.Tables.{cell_content, cell_block, AreCells, filled, side_by_side, row_block, row_text, taking, AreRows, most_filled}
+use Rattle.first_pass_grammar.specs.WholeTables.{marks, RowCells, row_marks, filled_in, HaveCells}
 use Rattle.first_pass_open.specs.OpenBlock.{closed_by}
 use Rattle.first_pass_open.specs.Path.{path_of}
 
@@ -102,3 +106,13 @@ pub record ClosesBetween (text : List ℕ) (from to : ℕ) (old new : Forest Ite
   pub items : List (ℕ × Item)
   pub tree_is : new ≡ closed_by (with_below old items) to old.spine
   pub fits : FitsBetween text (within_top old) from to items
+
+-- The rows of a table that were added, with the table closed behind them: each has as many cells as the table has columns, and where the line of the header row
+-- has as many columns no more of them are filled in than may be (GFM 4.10, and this project).
+pub record AddsWholeRows (d : Document) (columns head_start : ℕ) (old new : Forest Item) (next : ℕ) : Type 0 where
+  pub items : List (ℕ × Item)
+  pub tree_is : new ≡ closed_by (with_below old items) next old.spine
+  pub rows : List RowCells
+  pub show : (names : Names) → marks names items ≡ row_marks rows
+  pub have_cells : HaveCells columns rows
+  pub few : has d.options tables ≡ true → head_columns (drop head_start d.text) ≡ columns → filled_in rows ≤ most_filled

@@ -12,7 +12,7 @@ ghost use Rattle.first_pass_open.specs.OpenBlock.{IsJustPushed};
 ghost use Rattle.first_pass_open.specs.Path.{path_of};
 ghost use Rattle.first_pass_text.specs.Appends.{line_end_at};
 ghost use Rattle.first_pass_text.specs.Between.{AddsBetween};
-ghost use Rattle.first_pass_tables.specs.Appends.{IsOpenNode, ReadsRowLine, AppendsRows, ClosesBetween};
+ghost use Rattle.first_pass_tables.specs.Appends.{IsOpenNode, ReadsRowLine, AppendsRows, AddsWholeRows, ClosesBetween};
 ghost use Rattle.first_pass_tables.specs.RowsRead.{AppendsBody};
 
 use crate::row::{MAX_AUTOCOMPLETED_CELLS, append_head_row, parse_table_row_inner};
@@ -124,6 +124,9 @@ fn append_body(
 /// and closes it behind them: the header row, which begins at the offset `head_start` into the text, and the rows among
 /// the lines from the offset `body_start` on, up to the first line that is none. Answers the offset at which that line
 /// begins, or the text's length; the error is want of memory (GFM 4.10).
+///
+/// Each row has `table_cols` cells then. Where the line at `head_start` has as many columns as a header row, at most
+/// 262,144 of them are filled in (this project).
 pub fn parse_table(
     alloc: Global,
     source: Source<'_>,
@@ -144,6 +147,9 @@ pub fn parse_table(
     ensures fits { IfOk result (λ next. (from : ℕ) → from ≤ head_start
         → line_end_at source.entry.text.now head_start ≤ body_start
         → ClosesBetween source.entry.text.now from next tree.old tree.new) }
+    ensures whole { IfOk result (λ next.
+        AddsWholeRows (document source.entry.text.now source.entry.options no_names) table_cols head_start tree.old
+        tree.new next) }
 {
     tree.is_forest();
     let missing = append_head_row(source, lut, tree, head_start, table_cols)?;

@@ -8,6 +8,7 @@ use Rattle.first_pass_grammar.specs.Tables.{row_block, most_filled}
 use Rattle.first_pass_open.proofs.PathLemmas.{open_are_in}
 use Rattle.first_pass_tables.proofs.BodyLemmas.{same_table, left_behind, rows_closed}
 use Rattle.first_pass_tables.proofs.RowsAdded.{rows_between}
+use Rattle.first_pass_tables.proofs.WholeRows.{added_whole}
 use Rattle.first_pass_tables.proofs.rows.parse_table.Goals as goal
 
 pub append_body-requires-clause-table : goal.append_body-requires-clause-table
@@ -26,3 +27,8 @@ pub returns-clause-fits : goal.returns-clause-fits
 returns-clause-fits c = λ from low behind.
     rows_between (document c.args.source.text.now c.args.source.options no_names) c.args.table_cols c.args.head_start c.args.body_start c.in_ok-next.next from c.args.tree.now
     c.close_block.new.tree c.in_ok-next.ensures.utf8 c.requires.head c.requires.body (returns-clause-rows c) low behind
+
+pub returns-clause-whole : goal.returns-clause-whole
+returns-clause-whole c =
+    added_whole (document c.args.source.text.now c.args.source.options no_names) c.args.table_cols c.args.head_start c.args.body_start c.args.tree.now c.close_block.new.tree
+    c.in_ok-next.next (returns-clause-rows c)
