@@ -19,6 +19,7 @@ pub mod PopLemmas
 pub mod RawFits
 pub mod ReadyCompleted
 pub mod RowsOrdered
+pub mod ReadyWhole
 pub mod RuleLemmas
 pub mod RunLemmas
 pub mod StateLemmas

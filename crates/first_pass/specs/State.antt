@@ -8,7 +8,8 @@ use Rattle.first_pass_tree.specs.declared.tree_index.TreeIndex.{TreeIndex}
 use Rattle.first_pass_tree.specs.Forest.{Forest, body_at}
 use Rattle.first_pass_lines.specs.Places.{Place}
 use Rattle.first_pass_grammar.specs.declared.kind.Container.TheVariants.{BlockQuote, ListItem}
-use Rattle.first_pass_grammar.specs.Leaves.{Document}
+use Rattle.first_pass_grammar.specs.Names.{Names, Extends}
+use Rattle.first_pass_grammar.specs.Leaves.{Document, document}
 use Rattle.first_pass_grammar.specs.Derivation.{Tables}
 use Rattle.first_pass_grammar.specs.Skeleton.{From, Line, Blanks, Ends, next_is_blank}
 use Rattle.first_pass_grammar.specs.Completion.{NoList, Frame, InContainer, InList, Completes}
@@ -68,6 +69,10 @@ ReadyWith d defined r lines (Some e) = ReadyEmpty d defined r e lines
 -- what the pass remembers begins a derivation of the text that goes on with these lines
 unfoldable pub Ready : Document → Tables → Reading → List Place → Type 0
 Ready d defined r lines = ReadyWith d defined r lines r.empty_item
+
+-- it does so whatever more is named
+abbrev pub StaysReady : Document → Tables → Reading → List Place → Type 0
+StaysReady d defined r lines = (more : Names) → Extends more d.names → Ready (document d.text d.options more) defined r lines
 
 -- no more than so many of the open nodes go on with the first of these lines
 abbrev pub NoMore : Forest Item → ℕ → List Place → Type 0

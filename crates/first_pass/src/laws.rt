@@ -1,12 +1,14 @@
 //! Laws of what the pass remembers between two blocks.
 
-ghost use Rattle.std.specs.Prelude.{List};
+ghost use Rattle.std.specs.Prelude.{List, ℕ};
 ghost use Rattle.first_pass_lines.specs.Places.{Place};
 ghost use Rattle.first_pass_grammar.specs.Leaves.{Document, document};
 ghost use Rattle.first_pass_grammar.specs.Derivation.{Tables};
-ghost use Rattle.first_pass_grammar.specs.Names.{Names, Extends};
+ghost use Rattle.first_pass_grammar.specs.Completion.{lines_from};
+ghost use Rattle.first_pass_grammar.specs.WholeTables.{AreWholeTables};
+ghost use Rattle.first_pass_grammar.specs.Names.{Names, Extends, AreNamed};
 ghost use Rattle.first_pass_lists.specs.declared.reading.Reading.{Reading};
-ghost use Rattle.first_pass.specs.State.{Ready};
+ghost use Rattle.first_pass.specs.State.{Ready, StaysReady};
 ghost use Rattle.first_pass.specs.Completed.{IsCompleted};
 
 /// What is ready can be completed. Where what the pass remembers begins a derivation of the text that goes
@@ -17,4 +19,14 @@ pub fn ready_is_completed()
     ensures { (d : Document) (defined : Tables) (r : Reading) (lines : List Place)
         → ((more : Names) → Extends more d.names → Ready (document d.text d.options more) defined r lines)
         → IsCompleted d defined r lines }
+{}
+
+/// What is ready shows whole tables already. Where what the pass remembers begins a derivation of the text that
+/// goes on at an offset, under the present names and under all that go on with them, and each index that its
+/// nodes keep names an entry, rows and cells stand in tables alone, each row has as many cells as its table has
+/// columns, and of the cells of a table at most 262,144 are filled in.
+pub fn ready_is_whole()
+    ensures { (d : Document) (defined : Tables) (r : Reading) (start : ℕ)
+        → StaysReady d defined r (lines_from d.text start) → AreNamed d.names r.tree.nodes
+        → AreWholeTables d.names r.tree.nodes }
 {}

@@ -24,7 +24,7 @@ ghost use Rattle.first_pass_grammar.specs.Counting.{own_nodes};
 ghost use Rattle.first_pass_grammar.specs.WholeTables.{AreWholeTables};
 ghost use Rattle.first_pass_grammar.specs.Order.{IsOrdered, GrowsBy, is_task_marker};
 ghost use Rattle.first_pass_grammar.specs.OpenOrder.{IsOrderedTo, is_in_item};
-ghost use Rattle.first_pass.specs.State.{Ready, ReadyAt};
+ghost use Rattle.first_pass.specs.State.{Ready, ReadyAt, StaysReady};
 ghost use Rattle.first_pass_names.specs.TableEntries.{tables, names_of};
 ghost use Rattle.first_pass_grammar.specs.Names.{Names, Extends, AreNamed};
 ghost use Rattle.first_pass.specs.Views.{allocs_of, reading_of, source_of, source_options, source_text, tree_of};
@@ -110,6 +110,11 @@ impl<'a> FirstPass<'a> {
             (tree_of self.new).nodes) }
         ensures named { OnOk result (AreNamed (names_of (allocs_of self.old)) (tree_of self.old).nodes
             → AreNamed (names_of (allocs_of self.new)) (tree_of self.new).nodes) }
+        ensures whole { IfOk result (λ next. AreNamed (names_of (allocs_of self.old)) (tree_of self.old).nodes
+            → StaysReady
+            (document (source_text self.old) (source_options self.old) (names_of (allocs_of self.new)))
+            (tables (allocs_of self.old)) (reading_of self.old) (lines_from (source_text self.old) start_ix)
+            → AreWholeTables (names_of (allocs_of self.new)) (tree_of self.new).nodes) }
     {
         let Some(mut place) = enter_line(&mut self.reading, self.source, start_ix) else {
             return Ok(next_line(self.source.text.as_bytes(), start_ix));

@@ -1,10 +1,18 @@
-use Rattle.std.proofs.Common.{◌≡◌, inl, ◌+◌, drop, IsCharBoundary, sym, ap, subst, ◌∙◌, arith}
+use Rattle.std.proofs.Common.{◌≡◌, inl, ℕ, ◌+◌, drop, IsCharBoundary, sym, ap, subst, ◌∙◌, arith}
 use Rattle.first_pass_lines.specs.Lines.{line_len}
-use Rattle.first_pass_lines.specs.Places.{offset, line_end}
+use Rattle.first_pass_lines.specs.Places.{Place, offset, line_end}
 use Rattle.first_pass_lines.proofs.PlaceFacts.{line_end_boundary}
-use Rattle.first_pass_names.specs.TableEntries.{names_of}
+use Rattle.first_pass_grammar.specs.Leaves.{Document, document}
+use Rattle.first_pass_grammar.specs.Derivation.{Tables}
+use Rattle.first_pass_grammar.specs.Completion.{lines_from}
+use Rattle.first_pass_grammar.specs.Skeleton.{Inside}
+use Rattle.first_pass_lists.specs.declared.reading.Reading.{Reading}
+use Rattle.first_pass_names.specs.TableEntries.{tables, names_of}
 use Rattle.first_pass_names.proofs.NameLemmas.{extends_none}
-use Rattle.first_pass.specs.Opening.{IsBehind, GrowsText, GrowsBehind}
+use Rattle.first_pass.specs.Opening.{IsBehind, ReadyText, ReadyBehind, GrowsText, GrowsBehind}
+use Rattle.first_pass.specs.State.{Ready, ReadyAt}
+use Rattle.first_pass.specs.declared.containers.Behind.{Behind}
+use Rattle.first_pass.proofs.ReadyWhole.{ready_whole}
 use Rattle.first_pass.proofs.OrderSteps.{line_later, ordered_entered, place_before_end}
 use Rattle.first_pass.proofs.state.FirstPass.parse_block.Goals as goal
 
@@ -129,3 +137,107 @@ pub returns-in_ok-next-in-Tag-clause-named : goal.returns-in_ok-next-in-Tag-clau
 returns-in_ok-next-in-Tag-clause-named c =
     let names = names_of c.args.self.now.allocs in
     λ h. c.in_ok-next-in-Tag.ensures.read.named (c.in_ok-open_containers.ensures.named names (c.enter_line.ensures.named names h))
+
+-- what is behind the containers that begin in the line goes on
+opened_ready : (d : Document) (defined : Tables) (before after : Reading) («end» : ℕ) (p q : Place) (behind answer : Behind) → line_end p ≡ «end»
+    → behind ≡ answer → (ReadyAt d defined before.tree before.blank (Inside p) (lines_from d.text (line_end p)) → ReadyBehind d defined after q (line_end p) behind)
+    → ReadyAt d defined before.tree before.blank (Inside p) (lines_from d.text «end») → ReadyBehind d defined after q (line_end p) answer
+opened_ready d defined before after end p q behind answer ends is opens h =
+    subst (ReadyBehind d defined after q (line_end p)) is
+    (opens (subst (λ (n : ℕ). ReadyAt d defined before.tree before.blank (Inside p) (lines_from d.text n)) (sym ends) h))
+
+pub returns-in_default-clause-ready : goal.returns-in_default-clause-ready
+returns-in_default-clause-ready c =
+    let self = c.args.self.now in
+    let text = self.source.text.now in
+    let next = c.next_line.ensures.value ∙ ap (λ bs. c.args.start_ix + line_len (drop c.args.start_ix bs)) c.as_bytes.ensures.value in
+    λ more x h.
+    subst (λ (n : ℕ). Ready (document text self.source.options more) (tables self.allocs) c.enter_line.new.reading (lines_from text n)) (sym next)
+    (c.in_default.ensures.ready more (tables self.allocs) h)
+
+pub returns-in_ok-next-in-Leaf-clause-ready : goal.returns-in_ok-next-in-Leaf-clause-ready
+returns-in_ok-next-in-Leaf-clause-ready c =
+    let self = c.args.self.now in
+    let p = c.in-Some.place in
+    let q = c.open_containers.new.place in
+    let after = c.open_containers.new.reading in
+    let opens = c.in_ok-open_containers.ensures in
+    let none = subst (λ o. IsBehind o after q.rest (line_end p)) c.in-Leaf.is opens.behind in
+    λ more x h.
+    let d : Document = document self.source.text.now self.source.options more in
+    let opened = opened_ready d (tables self.allocs) c.enter_line.new.reading after _ p q _ _ c.in-Some.ensures.same_end c.in-Leaf.is
+    (opens.ready more (tables self.allocs)) (c.in-Some.ensures.ready more (tables self.allocs) h) in
+    let here = subst (λ (n : ℕ). ReadyAt d (tables self.allocs) after.tree after.blank (Inside q) (lines_from d.text n)) (sym opens.same_end) opened in
+    c.in_ok-next-in-Leaf.ensures.read.ready more x (inl (none.0, none.1, here))
+
+pub returns-in_ok-next-in-TaskText-clause-ready : goal.returns-in_ok-next-in-TaskText-clause-ready
+returns-in_ok-next-in-TaskText-clause-ready c =
+    let self = c.args.self.now in
+    let p = c.in-Some.place in
+    let q = c.open_containers.new.place in
+    let after = c.open_containers.new.reading in
+    let opens = c.in_ok-open_containers.ensures in
+    λ more x h.
+    let d : Document = document self.source.text.now self.source.options more in
+    let opened = opened_ready d (tables self.allocs) c.enter_line.new.reading after _ p q _ _ c.in-Some.ensures.same_end c.in-TaskText.is
+    (opens.ready more (tables self.allocs)) (c.in-Some.ensures.ready more (tables self.allocs) h) in
+    let here = subst (λ (n : ℕ). ReadyText d (tables self.allocs) after c.in-TaskText.marker q (lines_from d.text n)) (sym opens.same_end) opened in
+    c.in_ok-next-in-TaskText.ensures.read.ready more x here
+
+pub returns-in-NextLine-clause-ready : goal.returns-in-NextLine-clause-ready
+returns-in-NextLine-clause-ready c =
+    let self = c.args.self.now in
+    λ more x h.
+    let d : Document = document self.source.text.now self.source.options more in
+    opened_ready d (tables self.allocs) c.enter_line.new.reading c.open_containers.new.reading _ c.in-Some.place c.open_containers.new.place _ _
+    c.in-Some.ensures.same_end c.in-NextLine.is (c.in_ok-open_containers.ensures.ready more (tables self.allocs))
+    (c.in-Some.ensures.ready more (tables self.allocs) h)
+
+pub returns-in_ok-next-in-Tag-clause-ready : goal.returns-in_ok-next-in-Tag-clause-ready
+returns-in_ok-next-in-Tag-clause-ready c =
+    let self = c.args.self.now in
+    λ more x h.
+    let d : Document = document self.source.text.now self.source.options more in
+    let opened = opened_ready d (tables self.allocs) c.enter_line.new.reading c.open_containers.new.reading _ c.in-Some.place c.open_containers.new.place _ _
+    c.in-Some.ensures.same_end c.in-Tag.is (c.in_ok-open_containers.ensures.ready more (tables self.allocs))
+    (c.in-Some.ensures.ready more (tables self.allocs) h) in
+    c.in_ok-next-in-Tag.ensures.read.ready more x opened
+
+-- so the nodes show whole tables
+pub returns-in_default-clause-whole : goal.returns-in_default-clause-whole
+returns-in_default-clause-whole c =
+    let self = c.args.self.now in
+    λ named ready.
+    ready_whole (document self.source.text.now self.source.options (names_of self.allocs)) (tables self.allocs) c.enter_line.new.reading c.next_line.result
+    (λ more x. returns-in_default-clause-ready c more x (ready more x)) (returns-in_default-clause-named c named)
+
+pub returns-in_ok-next-in-Leaf-clause-whole : goal.returns-in_ok-next-in-Leaf-clause-whole
+returns-in_ok-next-in-Leaf-clause-whole c =
+    let source = c.args.self.now.source in
+    let now = c.parse_leaf.new.self in
+    λ named ready.
+    ready_whole (document source.text.now source.options (names_of now.allocs)) (tables now.allocs) now.reading c.in_ok-next-in-Leaf.next
+    (λ more x. returns-in_ok-next-in-Leaf-clause-ready c more x (ready more x)) (returns-in_ok-next-in-Leaf-clause-named c named)
+
+pub returns-in_ok-next-in-TaskText-clause-whole : goal.returns-in_ok-next-in-TaskText-clause-whole
+returns-in_ok-next-in-TaskText-clause-whole c =
+    let source = c.args.self.now.source in
+    let now = c.parse_task_text.new.self in
+    λ named ready.
+    ready_whole (document source.text.now source.options (names_of now.allocs)) (tables now.allocs) now.reading c.in_ok-next-in-TaskText.next
+    (λ more x. returns-in_ok-next-in-TaskText-clause-ready c more x (ready more x)) (returns-in_ok-next-in-TaskText-clause-named c named)
+
+pub returns-in-NextLine-clause-whole : goal.returns-in-NextLine-clause-whole
+returns-in-NextLine-clause-whole c =
+    let self = c.args.self.now in
+    λ named ready.
+    ready_whole (document self.source.text.now self.source.options (names_of self.allocs)) (tables self.allocs) c.open_containers.new.reading c.in-NextLine.next
+    (λ more x. returns-in-NextLine-clause-ready c more x (ready more x)) (returns-in-NextLine-clause-named c named)
+
+pub returns-in_ok-next-in-Tag-clause-whole : goal.returns-in_ok-next-in-Tag-clause-whole
+returns-in_ok-next-in-Tag-clause-whole c =
+    let source = c.args.self.now.source in
+    let now = c.parse_tagged.new.self in
+    λ named ready.
+    ready_whole (document source.text.now source.options (names_of now.allocs)) (tables now.allocs) now.reading c.in_ok-next-in-Tag.next
+    (λ more x. returns-in_ok-next-in-Tag-clause-ready c more x (ready more x)) (returns-in_ok-next-in-Tag-clause-named c named)
