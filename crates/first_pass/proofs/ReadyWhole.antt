@@ -53,12 +53,13 @@ abbrev IsWholeOnce : Names → List (ℕ × Item) → Type 0
 IsWholeOnce names nodes = (more : Names) × Extends more names × AreWholeTables more nodes
 
 module _ (d : Document) (defined : Tables) (lines : List Place) (at : AreAt d.text lines) where
-  whole_at : (tree : Forest Item) (run : Bool) (from : From) → PlainFrom d.text from → CompletedAt d defined tree run from lines → IsWholeOnce d.names tree.nodes
+  whole_at : (tree : Forest Item) (run : Bool) (from : From) → PlainFrom d.text from → CompletedAt d defined tree run from lines
+      → IsWholeOnce d.names tree.nodes
   whole_at tree run from plain c = (
     c.completion.names,
     c.completion.extends,
-    completed_whole d c.frames (map (λ (ix : TreeIndex). ix.0) tree.spine) (record { nodes = tree.nodes; list = NoList; run = run; defined = defined }) from lines
-        plain at (all_silent tree.nodes tree.spine c.frames c.are_open) tt c.completion c.derives,
+    completed_whole d c.frames (map (λ (ix : TreeIndex). ix.0) tree.spine) (record { nodes = tree.nodes; list = NoList; run = run; defined = defined }) from
+        lines plain at (all_silent tree.nodes tree.spine c.frames c.are_open) tt c.completion c.derives,
   )
 
   -- an item that takes blank lines alone shows nothing either

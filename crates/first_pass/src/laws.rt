@@ -2,13 +2,13 @@
 
 ghost use Rattle.std.specs.Prelude.{List, ℕ};
 ghost use Rattle.first_pass_lines.specs.Places.{Place};
-ghost use Rattle.first_pass_grammar.specs.Leaves.{Document, document};
+ghost use Rattle.first_pass_grammar.specs.Leaves.{Document};
 ghost use Rattle.first_pass_grammar.specs.Derivation.{Tables};
 ghost use Rattle.first_pass_grammar.specs.Completion.{lines_from};
 ghost use Rattle.first_pass_grammar.specs.WholeTables.{AreWholeTables};
-ghost use Rattle.first_pass_grammar.specs.Names.{Names, Extends, AreNamed};
+ghost use Rattle.first_pass_grammar.specs.Names.{AreNamed};
 ghost use Rattle.first_pass_lists.specs.declared.reading.Reading.{Reading};
-ghost use Rattle.first_pass.specs.State.{Ready, StaysReady};
+ghost use Rattle.first_pass.specs.State.{StaysReady};
 ghost use Rattle.first_pass.specs.Completed.{IsCompleted};
 
 /// What is ready can be completed. Where what the pass remembers begins a derivation of the text that goes
@@ -17,8 +17,7 @@ ghost use Rattle.first_pass.specs.Completed.{IsCompleted};
 /// derives.
 pub fn ready_is_completed()
     ensures { (d : Document) (defined : Tables) (r : Reading) (lines : List Place)
-        → ((more : Names) → Extends more d.names → Ready (document d.text d.options more) defined r lines)
-        → IsCompleted d defined r lines }
+        → StaysReady d defined r lines → IsCompleted d defined r lines }
 {}
 
 /// What is ready shows whole tables already. Where what the pass remembers begins a derivation of the text that

@@ -90,6 +90,10 @@ impl<'a> FirstPass<'a> {
     /// Where the nodes so far begin a derivation of the text that goes on at `start_ix`, they begin one
     /// then that goes on at the answer. At most four nodes are added for each byte that is read, cells apart
     /// that rows of tables are filled with.
+    ///
+    /// Where they begin one whatever more is named, and each index that they keep names an entry, rows and cells
+    /// stand in tables alone then, each row has as many cells as its table has columns, and of the cells of a table
+    /// at most 262,144 are filled in (GFM 4.10, and this project).
     pub fn parse_block(&mut self, start_ix: usize) -> Result<usize, AllocError>
         requires within { start_ix < length (source_text self.old) }
         requires boundary { IsCharBoundary (source_text self.old) start_ix }

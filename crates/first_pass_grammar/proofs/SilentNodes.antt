@@ -129,7 +129,8 @@ more_behind names nodes closed more same (tables, e, full) = (
 pub rendered_shows : (names : Names) (depth last : ℕ) (nodes : List (ℕ × Item)) (list : Pending) (rows : Rows) → SilentList nodes list → WholeRows names rows
     → ShowsMore names nodes (rendered depth last nodes list rows)
 unfolding rendered
-rendered_shows names depth last nodes NoList rows silent h = more_behind names nodes nodes (items_of depth false rows) refl (forest_whole names depth false rows h)
+rendered_shows names depth last nodes NoList rows silent h =
+    more_behind names nodes nodes (items_of depth false rows) refl (forest_whole names depth false rows h)
 rendered_shows names depth last nodes (OneList place byte loose) rows silent h =
     let now : Bool = loose || is_loose (items_behind byte rows) in
     more_behind names nodes (list_closed nodes place (suc (suc depth)) now (list_until byte last rows)) _

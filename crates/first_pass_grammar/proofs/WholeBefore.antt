@@ -22,7 +22,8 @@ use Rattle.first_pass_grammar.proofs.WholeBlocks.{HeadsAreFull, PlainFrom, seque
 use Rattle.first_pass_grammar.proofs.WholeForests.{behind_whole, rows_whole, WholeRows, derived_whole}
 
 -- What completes nodes shows what they show, and then tables: each of the containers takes blocks that show whole tables, or nothing.
-further_rows : (names : Names) (quoted : Bool) (w : Standing) (f : Further) → WholeRows names (rows_of quoted f.«end» f.blocks) → WholeRows names (rows_on quoted w f)
+further_rows : (names : Names) (quoted : Bool) (w : Standing) (f : Further) → WholeRows names (rows_of quoted f.«end» f.blocks)
+    → WholeRows names (rows_on quoted w f)
 further_rows names quoted w f h = behind_whole names _ (rows_of quoted f.«end» f.blocks) h
 
 silent_places : (depth last place e : ℕ) (nodes : List (ℕ × Item)) (list : Pending) (rows : Rows) (places : List ℕ) → AreSilent nodes places
@@ -35,7 +36,8 @@ container_shows : (names : Names) (depth place : ℕ) (w : Standing) (f : Furthe
     → WholeRows names rows → ShowsMore names w.nodes (ended (rendered depth f.«end» w.nodes w.list rows) place f.«end»)
 container_shows names depth place w f rows list silent whole =
     let (more, shows) = rendered_shows names depth f.«end» w.nodes w.list rows list whole in
-    (more, marks_ended names (rendered depth f.«end» w.nodes w.list rows) place f.«end» (silent_rendered depth f.«end» w.nodes w.list rows place silent) ∙ shows)
+    let still = silent_rendered depth f.«end» w.nodes w.list rows place silent in
+    (more, marks_ended names (rendered depth f.«end» w.nodes w.list rows) place f.«end» still ∙ shows)
 
 module _ (d : Document) (full : HeadsAreFull d) where
   becomes_shows : (frames : List Frame) (places : List ℕ) (w : Standing) (further : List Further) (from : From) (lines : List Place)
@@ -52,8 +54,8 @@ module _ (d : Document) (full : HeadsAreFull d) where
   becomes_shows (InList byte loose ∷ frames) [] w further from lines forest tables plain at silent list are becomes = absurd becomes
   becomes_shows (InContainer c ∷ frames) [] w further from lines forest tables plain at silent list are becomes = absurd becomes
   becomes_shows (InList byte loose ∷ frames) (place ∷ places) w further from lines forest tables plain at silent list are becomes =
-      becomes_shows frames places (record { nodes = w.nodes; list = OneList place byte loose; run = w.run; defined = w.defined }) further from lines forest tables
-      plain at silent.1 silent.0 are becomes
+      becomes_shows frames places (record { nodes = w.nodes; list = OneList place byte loose; run = w.run; defined = w.defined }) further from lines forest
+      tables plain at silent.1 silent.0 are becomes
   becomes_shows (InContainer c ∷ frames) (place ∷ places) w [] from lines forest tables plain at silent list are becomes = absurd are
   becomes_shows (InContainer c ∷ frames) (place ∷ places) w (f ∷ further) from lines forest tables plain at silent list (left, sequence, ends, are) becomes =
       let rows : Rows = rows_on (is_quote c) w f in

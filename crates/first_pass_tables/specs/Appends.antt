@@ -107,8 +107,8 @@ pub record ClosesBetween (text : List ℕ) (from to : ℕ) (old new : Forest Ite
   pub tree_is : new ≡ closed_by (with_below old items) to old.spine
   pub fits : FitsBetween text (within_top old) from to items
 
--- The rows of a table that were added, with the table closed behind them: each has as many cells as the table has columns, and where the line of the header row
--- has as many columns no more of them are filled in than may be (GFM 4.10, and this project).
+-- Rows were added to a table, which was closed behind them: each has as many cells as the table has columns. With tables, and where the line of the header
+-- row has as many columns, no more of them are filled in than may be (GFM 4.10, and this project).
 pub record AddsWholeRows (d : Document) (columns head_start : ℕ) (old new : Forest Item) (next : ℕ) : Type 0 where
   pub items : List (ℕ × Item)
   pub tree_is : new ≡ closed_by (with_below old items) next old.spine

@@ -140,7 +140,8 @@ returns-in_ok-next-in-Tag-clause-named c =
 
 -- what is behind the containers that begin in the line goes on
 opened_ready : (d : Document) (defined : Tables) (before after : Reading) («end» : ℕ) (p q : Place) (behind answer : Behind) → line_end p ≡ «end»
-    → behind ≡ answer → (ReadyAt d defined before.tree before.blank (Inside p) (lines_from d.text (line_end p)) → ReadyBehind d defined after q (line_end p) behind)
+    → behind ≡ answer
+    → (ReadyAt d defined before.tree before.blank (Inside p) (lines_from d.text (line_end p)) → ReadyBehind d defined after q (line_end p) behind)
     → ReadyAt d defined before.tree before.blank (Inside p) (lines_from d.text «end») → ReadyBehind d defined after q (line_end p) answer
 opened_ready d defined before after end p q behind answer ends is opens h =
     subst (ReadyBehind d defined after q (line_end p)) is
