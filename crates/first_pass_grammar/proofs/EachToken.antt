@@ -17,8 +17,9 @@ use Rattle.first_pass_grammar.specs.declared.kind.Container.{Container}
 use Rattle.first_pass_grammar.specs.Names.{Names}
 use Rattle.first_pass_grammar.specs.Containers.{at_rest, front}
 use Rattle.first_pass_grammar.specs.Kinds.{unindented}
-use Rattle.first_pass_grammar.specs.Leaves.{Document, content_at, add_break, IsParagraph, heading_chain, IsHeading, marker_items}
+use Rattle.first_pass_grammar.specs.Leaves.{Document, content_at, add_break, heading_chain, IsHeading, marker_items, TextLines, AreTextLines}
 use Rattle.first_pass_grammar.specs.RawLines.{AreColumns, Ranges, range_text, range_html, ends_with_both, raw_items, IsRawLine, AreRawLines}
+use Rattle.first_pass_grammar.specs.Texts.{text_children}
 
 -- each of these items is one of which this holds
 abbrev pub AreEach : (ItemBody → Type 0) → List Item → Type 0
@@ -109,21 +110,24 @@ module _ (P : ItemBody → Type 0) (holds : HoldsOfTokens P) where
   broken_each None chain k h = h
   broken_each (Some x) chain k h = both_each chain (x ∷ []) h (k, tt)
 
-  -- the chain of a paragraph
-  pub paragraph_each : (d : Document) (path : List Container) (start : ℕ) (chain : List Item) (lines : List Place) (w : List Item) (l : List Place)
-      → AreEach P chain → IsParagraph d path start chain lines w l → AreEach P w
-  unfolding IsParagraph
-  paragraph_each d path start chain [] w l h (t, a, i, e, f) =
-      subst (AreEach P) (sym e) (closed_each a.1 (add_tokens chain t) (tokens_each chain t h (line_each (content_at d start) t a i)))
-  paragraph_each d path start chain (line ∷ lines) w l h (t, a, i, inl (ends, e, f)) =
-      subst (AreEach P) (sym e) (closed_each a.1 (add_tokens chain t) (tokens_each chain t h (line_each (content_at d start) t a i)))
-  paragraph_each d path start chain (line ∷ lines) w l h (t, a, i, inr (goes, more)) =
-      paragraph_each d path (offset (unindented (at_rest line (front path line.rest)))) (add_break a.1 (add_tokens chain t)) lines w l
-      (broken_each a.1 (add_tokens chain t) (break_each (content_at d start) t a i) (tokens_each chain t h (line_each (content_at d start) t a i))) more
+  -- the chain of a text's lines
+  pub lines_each : (d : Document) (path : List Container) (start : ℕ) (chain : List Item) (lines : List Place) (t : TextLines) → AreEach P chain
+      → AreTextLines d path start chain lines t → AreEach P t.chain
+  unfolding AreTextLines
+  lines_each d path start chain [] t h (k, a, i, e) =
+      subst (λ (z : TextLines). AreEach P z.chain) (sym e) (tokens_each chain k h (line_each (content_at d start) k a i))
+  lines_each d path start chain (line ∷ lines) t h (k, a, i, inl (ends, e)) =
+      subst (λ (z : TextLines). AreEach P z.chain) (sym e) (tokens_each chain k h (line_each (content_at d start) k a i))
+  lines_each d path start chain (line ∷ lines) t h (k, a, i, inr (goes, more)) =
+      lines_each d path (offset (unindented (at_rest line (front path line.rest)))) (add_break a.1 (add_tokens chain k)) lines t
+      (broken_each a.1 (add_tokens chain k) (break_each (content_at d start) k a i) (tokens_each chain k h (line_each (content_at d start) k a i))) more
 
   pub marked_each : (marker : Option Item) (chain : List Item) → IfSome marker (λ x. P x.body) → AreEach P chain → AreEach P (marker_items marker ++ chain)
   marked_each None chain h k = k
   marked_each (Some x) chain h k = (h, k)
+
+  pub children_each : (marker : Option Item) (t : TextLines) → IfSome marker (λ x. P x.body) → AreEach P t.chain → AreEach P (text_children marker t)
+  children_each marker t h k = marked_each marker (close_break t.break t.chain) h (closed_each t.break t.chain k)
 
   -- the chain of a heading
   cut_item_each : (t : Bool) (e : ℕ) (x : Item) → P x.body → P (if◌then◌else◌ {A = Item} t (record x { «end» = e }) x).body

@@ -11,53 +11,49 @@ use Rattle.first_pass_tokens.specs.LineTokens.{IsLine}
 use Rattle.first_pass_grammar.specs.declared.kind.Container.{Container}
 use Rattle.first_pass_grammar.specs.Names.{Names}
 use Rattle.first_pass_grammar.specs.Containers.{context, at_rest, front}
-use Rattle.first_pass_grammar.specs.Kinds.{unindented, ends_paragraph}
-use Rattle.first_pass_grammar.specs.Leaves.{document, add_break, IsParagraph, kept_len, heading_chain, IsHeading}
+use Rattle.first_pass_grammar.specs.Kinds.{unindented, ends_text}
+use Rattle.first_pass_grammar.specs.Leaves.{document, add_break, kept_len, heading_chain, IsHeading, TextLines, text_lines, AreTextLines}
 
--- the chain of a paragraph, whatever is named, and the lines that it leaves
-pub record ParagraphFrom (text : List ℕ) (options : Options) (path : List Container) (start : ℕ) (chain : List Item) (lines : List Place) : Type 0 where
-  pub whole : List Item
-  pub left : List Place
-  pub is : (names : Names) → IsParagraph (document text options names) path start chain lines whole left
-  pub shorter : length left ≤ length lines
+-- what the lines of a text give, whatever is named
+pub record LinesFrom (text : List ℕ) (options : Options) (path : List Container) (start : ℕ) (chain : List Item) (lines : List Place) : Type 0 where
+  pub given : TextLines
+  pub are : (names : Names) → AreTextLines (document text options names) path start chain lines given
+  pub shorter : length given.left ≤ length lines
 
 source_at : List ℕ → Options → ℕ → Source
 source_at text options start = record { options = options; text = text; start = start; row = false }
 
-paragraph_by : (text : List ℕ) (options : Options) (path : List Container) (start : ℕ) (chain tokens : List Item) (answer : ℕ × Option Item) (line : Place)
-    (lines : List Place) (t : Bool) → ends_paragraph (context options path) line.rest ≡ t
+lines_by : (text : List ℕ) (options : Options) (path : List Container) (start : ℕ) (chain tokens : List Item) (answer : ℕ × Option Item) (line : Place)
+    (lines : List Place) (t : Bool) → ends_text (context options path) line.rest ≡ t
     → IsLine (source_at text options start) tokens answer
-    → ParagraphFrom text options path (offset (unindented (at_rest line (front path line.rest)))) (add_break answer.1 (add_tokens chain tokens)) lines
-    → ParagraphFrom text options path start chain (line ∷ lines)
-unfolding IsParagraph source_at
-paragraph_by text options path start chain tokens answer line lines true h is further = record {
-  whole = close_break answer.1 (add_tokens chain tokens);
-  left = line ∷ lines;
-  is = λ names. (tokens, answer, is, inl (h, refl, refl));
+    → LinesFrom text options path (offset (unindented (at_rest line (front path line.rest)))) (add_break answer.1 (add_tokens chain tokens)) lines
+    → LinesFrom text options path start chain (line ∷ lines)
+unfolding AreTextLines source_at
+lines_by text options path start chain tokens answer line lines true h is further = record {
+  given = text_lines (add_tokens chain tokens) answer.1 (line ∷ lines);
+  are = λ names. (tokens, answer, is, inl (h, refl));
   shorter = omega arith;
 }
-paragraph_by text options path start chain tokens answer line lines false h is further = record {
-  whole = further.whole;
-  left = further.left;
-  is = λ names. (tokens, answer, is, inr (h, further.is names));
+lines_by text options path start chain tokens answer line lines false h is further = record {
+  given = further.given;
+  are = λ names. (tokens, answer, is, inr (h, further.are names));
   shorter = let less = further.shorter in omega arith;
 }
 
-pub paragraph_found : (text : List ℕ) (options : Options) (path : List Container) (lines : List Place) (start : ℕ) (chain : List Item)
-    → ParagraphFrom text options path start chain lines
-unfolding IsParagraph source_at
-paragraph_found text options path [] start chain =
+pub lines_found : (text : List ℕ) (options : Options) (path : List Container) (lines : List Place) (start : ℕ) (chain : List Item)
+    → LinesFrom text options path start chain lines
+unfolding AreTextLines source_at
+lines_found text options path [] start chain =
     let line = line_found (source_at text options start) refl in
     record {
-      whole = close_break line.1.1 (add_tokens chain line.0);
-      left = [];
-      is = λ names. (line.0, line.1, line.2, refl, refl);
+      given = text_lines (add_tokens chain line.0) line.1.1 [];
+      are = λ names. (line.0, line.1, line.2, refl);
       shorter = omega arith;
     }
-paragraph_found text options path (line ∷ lines) start chain =
+lines_found text options path (line ∷ lines) start chain =
     let first = line_found (source_at text options start) refl in
-    paragraph_by text options path start chain first.0 first.1 line lines (ends_paragraph (context options path) line.rest) refl first.2
-    (paragraph_found text options path lines (offset (unindented (at_rest line (front path line.rest))))
+    lines_by text options path start chain first.0 first.1 line lines (ends_text (context options path) line.rest) refl first.2
+    (lines_found text options path lines (offset (unindented (at_rest line (front path line.rest))))
     (add_break first.1.1 (add_tokens chain first.0)))
 
 -- the chain of a heading, whatever is named

@@ -7,15 +7,16 @@ use Rattle.first_pass_lines.specs.Lines.{ends_line}
 use Rattle.first_pass_grammar.specs.declared.kind.Container.{Container}
 use Rattle.first_pass_grammar.specs.Containers.{Context, at_rest, front}
 use Rattle.first_pass_grammar.specs.Kinds.{unindented}
-use Rattle.first_pass_grammar.specs.Leaves.{Document, around, add_break, IsParagraph}
+use Rattle.first_pass_grammar.specs.Leaves.{Document, around, add_break, TextLines, AreTextLines}
 use Rattle.first_pass_tokens.specs.Chains.{add_tokens}
 use Rattle.first_pass_grammar.specs.LinkTables.{LinkEntry}
 use Rattle.first_pass_grammar.specs.LinkRuns.{lines_beyond, Beyond, Ended, FlowsOn, IsRun}
 use Rattle.first_pass_grammar.specs.TableHeads.{headed_table}
 use Rattle.first_pass_grammar.specs.Tables.{filled, Taken, AreRows, IsTable}
 use Rattle.first_pass_grammar.specs.Completion.{lines_from}
-use Rattle.first_pass_grammar.specs.Texts.{IsPlainText, IsText}
+use Rattle.first_pass_grammar.specs.Texts.{IsPlainText, IsText, underline_first, plain_text, underlined_text}
 use Rattle.first_pass_grammar.proofs.PlacesKept.{IsAt, AreAt, at_front}
+use Rattle.first_pass_items.specs.declared.item.HeadingLevel.{HeadingLevel}
 
 -- the lines of a text from an offset on
 unless_at : (text : List ℕ) (t : Bool) (further all : List Place) → AreAt text further → AreAt text all → AreAt text (if t then further else all)
@@ -67,14 +68,14 @@ run_at text around p lines (x ∷ xs) b i h (at, inr (line, left, is, on, more))
     let behind : AreAt text (line ∷ left) = subst (AreAt text) is (beyond_at text x.«end» lines h) in
     run_at text around (unindented (at_rest line (front around.path line.rest))) left xs b (at_front text around.path line behind.0) behind.1 more
 
--- what a paragraph leaves
-pub paragraph_left : (d : Document) (path : List Container) (start : ℕ) (chain : List Item) (lines : List Place) (w : List Item) (left : List Place)
-    → AreAt d.text lines → IsParagraph d path start chain lines w left → AreAt d.text left
-unfolding IsParagraph
-paragraph_left d path start chain [] w left h (t, a, i, e, f) = subst (AreAt d.text) (sym f) tt
-paragraph_left d path start chain (line ∷ lines) w left h (t, a, i, inl (ends, e, f)) = subst (AreAt d.text) (sym f) h
-paragraph_left d path start chain (line ∷ lines) w left h (t, a, i, inr (goes, more)) =
-    paragraph_left d path (offset (unindented (at_rest line (front path line.rest)))) (add_break a.1 (add_tokens chain t)) lines w left h.1 more
+-- what the lines of a text leave
+pub lines_left : (d : Document) (path : List Container) (start : ℕ) (chain : List Item) (lines : List Place) (t : TextLines)
+    → AreAt d.text lines → AreTextLines d path start chain lines t → AreAt d.text t.left
+unfolding AreTextLines
+lines_left d path start chain [] t h (k, a, i, e) = subst (λ (z : TextLines). AreAt d.text z.left) (sym e) tt
+lines_left d path start chain (line ∷ lines) t h (k, a, i, inl (ends, e)) = subst (λ (z : TextLines). AreAt d.text z.left) (sym e) h
+lines_left d path start chain (line ∷ lines) t h (k, a, i, inr (goes, more)) =
+    lines_left d path (offset (unindented (at_rest line (front path line.rest)))) (add_break a.1 (add_tokens chain k)) lines t h.1 more
 
 -- what rows leave
 pub rows_left : (d : Document) (path : List Container) (columns most : ℕ) (lines : List Place) (t : Taken) → AreAt d.text lines
@@ -90,10 +91,17 @@ first_left : (text : List ℕ) (lines : List Place) → AreAt text lines → Are
 first_left text [] h = tt
 first_left text (line ∷ lines) h = h.1
 
+-- what a heading or a paragraph leaves
+ended_left : (d : Document) (path : List Container) (start : ℕ) (marker : Option Item) (l : TextLines) (t : Taken) (o : Option (ℕ × HeadingLevel))
+    → AreAt d.text l.left → MatchOption o (t ≡ plain_text d start marker l) (λ underline. t ≡ underlined_text d start marker underline.1 l) → AreAt d.text t.left
+ended_left d path start marker l t None h e = subst (λ (z : Taken). AreAt d.text z.left) (sym e) h
+ended_left d path start marker l t (Some underline) h e = subst (λ (z : Taken). AreAt d.text z.left) (sym e) (first_left d.text l.left h)
+
 -- what stands for a text leaves
 text_left_by : (d : Document) (path : List Container) (p : Place) (marker : Option Item) (lines : List Place) (t : Taken) (o : Option (List Alignment))
-    → AreAt d.text lines → MatchOption o (IsPlainText d path p marker lines t) (λ alignments. IsTable d path p alignments lines t) → AreAt d.text t.left
-text_left_by d path p marker lines t None h (chain, is, e) = paragraph_left d path (offset p) [] lines chain t.left h is
+    → AreAt d.text lines → MatchOption o (IsPlainText d path (offset p) marker lines t) (λ alignments. IsTable d path p alignments lines t) → AreAt d.text t.left
+text_left_by d path p marker lines t None h (l, are, is) =
+    ended_left d path (offset p) marker l t (underline_first path l.left) (lines_left d path (offset p) [] lines l h are) is
 text_left_by d path p marker lines t (Some alignments) h table =
     rows_left d path _ _ (drop 1 lines) _ (first_left d.text lines h) table.are_rows
 

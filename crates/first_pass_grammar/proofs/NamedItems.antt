@@ -1,5 +1,5 @@
 -- Each index that nodes keep names an entry: what keeps that, and chains and blocks of which it holds.
-use Rattle.std.proofs.Common.{◌≡◌, ℕ, zero, suc, ◌-◌, Bool, true, false, nat_lt, List, [], ◌∷◌, ◌++◌, length, Option, Some, None, IfSome, refl, sym, ap, subst, ◌∙◌, arith, length-append, if◌then◌else◌}
+use Rattle.std.proofs.Common.{◌≡◌, ℕ, zero, suc, ◌-◌, Bool, true, false, nat_lt, List, [], ◌∷◌, ◌++◌, length, Option, Some, None, refl, sym, ap, subst, ◌∙◌, arith, length-append, if◌then◌else◌}
 use Rattle.std.proofs.lemmas.Option.{slice_get_within}
 use Rattle.first_pass_items.specs.declared.item.Item.{Item}
 use Rattle.first_pass_items.specs.declared.item.ItemBody.{ItemBody}
@@ -8,9 +8,9 @@ use Rattle.first_pass_lines.specs.Places.{Place, offset, line_end}
 use Rattle.first_pass_tokens.specs.Chains.{text_token, touches, add_token, add_tokens}
 use Rattle.first_pass_tokens.specs.TreeTokens.{leaves}
 use Rattle.first_pass_grammar.specs.Names.{Names, Extends, Index, TextAt, AlignmentsAt, index_of, NamesEntry, AreNamed}
-use Rattle.first_pass_grammar.specs.Leaves.{Document, block_with, paragraph_block, marker_items}
+use Rattle.first_pass_grammar.specs.Leaves.{Document, block_with}
 use Rattle.first_pass_grammar.specs.RawLines.{AreColumns, Ranges, range_text, range_html, ends_with_both, raw_items, IsRawLine, AreRawLines}
-use Rattle.first_pass_grammar.proofs.NoIndex.{HasNoIndex, HaveNoIndex, marked_free}
+use Rattle.first_pass_grammar.proofs.NoIndex.{HaveNoIndex}
 
 -- an item is read in no node whose index names no entry
 abbrev pub IsNamed : Names → Item → Type 0
@@ -123,8 +123,3 @@ lines_named range d chain (p ∷ places) whole free h (line, is, more) =
 pub block_named : (names : Names) (start stop : ℕ) (body : ItemBody) (chain : List Item) (items : List (ℕ × Item)) → items ≡ block_with start stop body chain → NamesEntry names (index_of body) → AreNamed names (leaves chain) → AreNamed names items
 unfolding AreNamed
 block_named names start stop body chain items is own h = subst (AreNamed names) (sym is) (own, named_deeper names 1 (leaves chain) h)
-
--- a paragraph, whose marker has no index
-pub paragraph_named : (names : Names) (start stop : ℕ) (marker : Option Item) (chain : List Item) → IfSome marker HasNoIndex → HaveNoIndex chain → AreNamed names (paragraph_block start stop (marker_items marker ++ chain))
-unfolding AreNamed
-paragraph_named names start stop marker chain h k = (tt, named_deeper names 1 (leaves (marker_items marker ++ chain)) (free_named names (marker_items marker ++ chain) (marked_free marker chain h k)))

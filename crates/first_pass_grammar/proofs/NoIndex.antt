@@ -17,7 +17,7 @@ use Rattle.first_pass_grammar.specs.declared.kind.Container.{Container}
 use Rattle.first_pass_grammar.specs.Names.{Names, index_of, read}
 use Rattle.first_pass_grammar.specs.Containers.{at_rest, front}
 use Rattle.first_pass_grammar.specs.Kinds.{unindented}
-use Rattle.first_pass_grammar.specs.Leaves.{Document, content_at, add_break, IsParagraph, heading_chain, IsHeading, marker_items}
+use Rattle.first_pass_grammar.specs.Leaves.{Document, content_at, add_break, heading_chain, IsHeading, marker_items, TextLines, AreTextLines}
 
 abbrev pub HasNoIndex : Item → Type 0
 HasNoIndex x = index_of x.body ≡ None
@@ -106,7 +106,7 @@ line_break_free s end =
 break_free : (s : Source) (tokens : List Item) (answer : ℕ × Option Item) → IsLine s tokens answer → IfSome answer.1 HasNoIndex
 break_free s tokens answer h = subst (λ (a : ℕ × Option Item). IfSome a.1 HasNoIndex) (sym h.answer_is) (line_break_free s h.content_end)
 
-closed_free : (o : Option Item) (chain : List Item) → HaveNoIndex chain → HaveNoIndex (close_break o chain)
+pub closed_free : (o : Option Item) (chain : List Item) → HaveNoIndex chain → HaveNoIndex (close_break o chain)
 closed_free None chain h = h
 closed_free (Some x) chain h = unless_free (is_backslash_break x.body) (add_text x.start (x.start + 1) false chain) chain (text_free x.start (x.start + 1) false chain h) h
 
@@ -114,16 +114,17 @@ broken_free : (o : Option Item) (chain : List Item) → IfSome o HasNoIndex → 
 broken_free None chain k h = h
 broken_free (Some x) chain k h = both_free chain (x ∷ []) h (k, tt)
 
--- the chain of a paragraph has no item with an index
-pub paragraph_free : (d : Document) (path : List Container) (start : ℕ) (chain : List Item) (lines : List Place) (w : List Item) (l : List Place) → HaveNoIndex chain → IsParagraph d path start chain lines w l → HaveNoIndex w
-unfolding IsParagraph
-paragraph_free d path start chain [] w l h (t, a, i, e, f) =
-    subst HaveNoIndex (sym e) (closed_free a.1 (add_tokens chain t) (tokens_free chain t h (line_free (content_at d start) t a i)))
-paragraph_free d path start chain (line ∷ lines) w l h (t, a, i, inl (ends, e, f)) =
-    subst HaveNoIndex (sym e) (closed_free a.1 (add_tokens chain t) (tokens_free chain t h (line_free (content_at d start) t a i)))
-paragraph_free d path start chain (line ∷ lines) w l h (t, a, i, inr (goes, more)) =
-    paragraph_free d path (offset (unindented (at_rest line (front path line.rest)))) (add_break a.1 (add_tokens chain t)) lines w l
-    (broken_free a.1 (add_tokens chain t) (break_free (content_at d start) t a i) (tokens_free chain t h (line_free (content_at d start) t a i))) more
+-- the chain of a text's lines has no item with an index
+pub lines_free : (d : Document) (path : List Container) (start : ℕ) (chain : List Item) (lines : List Place) (t : TextLines) → HaveNoIndex chain
+    → AreTextLines d path start chain lines t → HaveNoIndex t.chain
+unfolding AreTextLines
+lines_free d path start chain [] t h (k, a, i, e) =
+    subst (λ (z : TextLines). HaveNoIndex z.chain) (sym e) (tokens_free chain k h (line_free (content_at d start) k a i))
+lines_free d path start chain (line ∷ lines) t h (k, a, i, inl (ends, e)) =
+    subst (λ (z : TextLines). HaveNoIndex z.chain) (sym e) (tokens_free chain k h (line_free (content_at d start) k a i))
+lines_free d path start chain (line ∷ lines) t h (k, a, i, inr (goes, more)) =
+    lines_free d path (offset (unindented (at_rest line (front path line.rest)))) (add_break a.1 (add_tokens chain k)) lines t
+    (broken_free a.1 (add_tokens chain k) (break_free (content_at d start) k a i) (tokens_free chain k h (line_free (content_at d start) k a i))) more
 
 cut_item_free : (t : Bool) (e : ℕ) (x : Item) → HasNoIndex x → HasNoIndex (if t then record x { «end» = e } else x)
 cut_item_free true e x h = h

@@ -40,7 +40,7 @@ pub deeper_free : (depth : ℕ) (nodes : List (ℕ × Item)) → AreFreeNodes no
 deeper_free depth [] h = tt
 deeper_free depth (x ∷ nodes) h = (h.0, deeper_free depth nodes h.1)
 
-leaves_free : (chain : List Item) → HaveNoIndex chain → AreFreeNodes (leaves chain)
+pub leaves_free : (chain : List Item) → HaveNoIndex chain → AreFreeNodes (leaves chain)
 leaves_free [] h = tt
 leaves_free (x ∷ chain) h = (h.0, leaves_free chain h.1)
 

@@ -4,22 +4,23 @@ use Rattle.std.proofs.lemmas.Bool.{true≢false}
 use Rattle.std.proofs.lemmas.Option.{none-some, same_Some}
 use Rattle.first_pass_items.specs.declared.item.Alignment.{Alignment}
 use Rattle.first_pass_items.specs.declared.item.Item.{Item}
-use Rattle.first_pass_items.specs.declared.item.ItemBody.TheVariants.{Paragraph as ParagraphBody, Table, TableHead, TableRow}
+use Rattle.first_pass_items.specs.declared.item.ItemBody.TheVariants.{Table, TableHead, TableRow}
 use Rattle.first_pass_tree.specs.Forest.{at_depth, block_of}
 use Rattle.first_pass_lines.specs.Places.{Place, offset, start_of}
 use Rattle.first_pass_tokens.proofs.LineLemmas.{one_cell}
 use Rattle.first_pass_grammar.specs.declared.kind.Container.{Container}
 use Rattle.first_pass_grammar.specs.Names.{Names, read, read_nodes}
-use Rattle.first_pass_grammar.specs.Leaves.{Document, around, paragraph_block, marker_items}
+use Rattle.first_pass_grammar.specs.Leaves.{Document, around, TextLines}
 use Rattle.first_pass_grammar.specs.TableHeads.{headed_table}
 use Rattle.first_pass_grammar.specs.Derivation.{node_of}
 use Rattle.first_pass_grammar.specs.Tables.{cell_start, cell_text, cell_block, AreCells, filled, row_block, is_row, Taken, taking, AreRows, most_filled, IsTable}
-use Rattle.first_pass_grammar.specs.Texts.{IsPlainText, IsText}
-use Rattle.first_pass_grammar.proofs.NoIndex.{HasNoIndex, read_alone, paragraph_free, marked_free}
-use Rattle.first_pass_grammar.proofs.Alike.{with_names, AlikeNodes, block_alike, table_alike}
+use Rattle.first_pass_grammar.specs.Texts.{IsPlainText, IsText, plain_text, underlined_text, underline_first, IsEnded}
+use Rattle.first_pass_grammar.proofs.NoIndex.{HasNoIndex, lines_free}
+use Rattle.first_pass_grammar.proofs.Alike.{with_names, AlikeNodes, table_alike}
 use Rattle.first_pass_grammar.proofs.TableItems.{AreFreeNodes, deeper_free, nodes_alone}
-use Rattle.first_pass_grammar.proofs.TextsNamed.{table_free}
-use Rattle.first_pass_grammar.proofs.LinesAlike.{one_paragraph}
+use Rattle.first_pass_grammar.proofs.TextsNamed.{table_free, ended_free}
+use Rattle.first_pass_grammar.proofs.LinesAlike.{one_lines}
+use Rattle.first_pass_items.specs.declared.item.HeadingLevel.{HeadingLevel}
 
 -- a row has one list of cells, and ends at one place
 pub one_cells : (d : Document) (n : Names) (at : ℕ) (xs ys : List (List (ℕ × Item))) (e f : ℕ) → AreCells d at xs e
@@ -111,27 +112,27 @@ one_table d n path p alignments lines t u h k =
       left,
     )
 
--- a paragraph reads alike
+-- a heading or a paragraph reads alike
+one_ended : (d : Document) (n : Names) (path : List Container) (start : ℕ) (marker : Option Item) (l : TextLines) (t u : Taken) (o : Option (ℕ × HeadingLevel))
+    → MatchOption o (t ≡ plain_text d start marker l) (λ underline. t ≡ underlined_text d start marker underline.1 l)
+    → MatchOption o (u ≡ plain_text (with_names d n) start marker l) (λ underline. u ≡ underlined_text (with_names d n) start marker underline.1 l) → t ≡ u
+one_ended d n path start marker l t u None e f = e ∙ sym f
+one_ended d n path start marker l t u (Some underline) e f = e ∙ sym f
+
 one_plain : (d : Document) (n : Names) (path : List Container) (p : Place) (marker : Option Item) (lines : List Place) (t u : Taken) → IfSome marker HasNoIndex
-    → IsPlainText d path p marker lines t → IsPlainText (with_names d n) path p marker lines u → AlikeTaken d.names n t u
-one_plain d n path p marker lines t u free (c, h, e) (c', h', e') =
-    let s = one_paragraph d n path (offset p) [] lines c c' t.left u.left h h' in
-    let stop : ℕ = start_of (length d.text) t.left in
-    let chain : List Item = marker_items marker ++ c in (
-      ap (read_nodes d.names) e
-          ∙ block_alike d.names n (offset p) stop ParagraphBody ParagraphBody chain chain refl
-          (read_alone d.names n chain (marked_free marker c free (paragraph_free d path (offset p) [] lines c t.left tt h)))
-          ∙ ap (λ z. read_nodes n (paragraph_block (offset p) stop (marker_items marker ++ z))) s.0
-          ∙ ap (λ z. read_nodes n (paragraph_block (offset p) (start_of (length d.text) z) (marker_items marker ++ c'))) s.1
-          ∙ sym (ap (read_nodes n) e'),
-      s.1,
-    )
+    → IsPlainText d path (offset p) marker lines t → IsPlainText (with_names d n) path (offset p) marker lines u → AlikeTaken d.names n t u
+one_plain d n path p marker lines t u free (l, are, is) (l', are', is') =
+    let same : l ≡ l' = one_lines d n path (offset p) [] lines l l' are are' in
+    let one : t ≡ u = one_ended d n path (offset p) marker l t u (underline_first path l.left) is
+    (subst (λ (z : TextLines). IsEnded (with_names d n) path (offset p) marker z u) (sym same) is') in
+    let alone = nodes_alone d.names n t.items (ended_free d (offset p) marker l t (underline_first path l.left) free (lines_free d path (offset p) [] lines l tt are) is) in
+    (alone ∙ ap (λ (z : Taken). read_nodes n z.items) one, ap (λ (z : Taken). z.left) one)
 
 -- what stands for a text reads alike, and leaves the same lines
 text_by : (d : Document) (n : Names) (path : List Container) (p : Place) (marker : Option Item) (lines : List Place) (t u : Taken) (o : Option (List Alignment))
     → IfSome marker HasNoIndex
-    → MatchOption o (IsPlainText d path p marker lines t) (λ alignments. IsTable d path p alignments lines t)
-    → MatchOption o (IsPlainText (with_names d n) path p marker lines u) (λ alignments. IsTable (with_names d n) path p alignments lines u)
+    → MatchOption o (IsPlainText d path (offset p) marker lines t) (λ alignments. IsTable d path p alignments lines t)
+    → MatchOption o (IsPlainText (with_names d n) path (offset p) marker lines u) (λ alignments. IsTable (with_names d n) path p alignments lines u)
     → AlikeTaken d.names n t u
 text_by d n path p marker lines t u None free h k = one_plain d n path p marker lines t u free h k
 text_by d n path p marker lines t u (Some alignments) free h k = one_table d n path p alignments lines t u h k

@@ -19,13 +19,14 @@ use Rattle.first_pass_tokens.proofs.LineLemmas.{cell_ends}
 use Rattle.first_pass_grammar.specs.declared.kind.Container.{Container}
 use Rattle.first_pass_grammar.specs.Names.{Names, Extends}
 use Rattle.first_pass_grammar.specs.Containers.{context}
-use Rattle.first_pass_grammar.specs.Leaves.{document, paragraph_block, marker_items}
+use Rattle.first_pass_grammar.specs.Leaves.{document, Document, TextLines}
 use Rattle.first_pass_grammar.specs.TableHeads.{headed_table}
 use Rattle.first_pass_grammar.specs.Tables.{cell_start, cell_text, cell_block, AreCells, filled, row_block, row_text, is_row, Taken, taking, AreRows, most_filled, IsTable}
-use Rattle.first_pass_grammar.specs.Texts.{IsPlainText, IsText}
+use Rattle.first_pass_grammar.specs.Texts.{IsPlainText, IsText, plain_text, underlined_text, underline_first}
 use Rattle.first_pass_grammar.proofs.Found.{named_alignments}
-use Rattle.first_pass_grammar.proofs.LinesFound.{paragraph_found}
 use Rattle.first_pass_grammar.proofs.MoreNames.{extends_none}
+use Rattle.first_pass_grammar.proofs.LinesFound.{lines_found}
+use Rattle.first_pass_items.specs.declared.item.HeadingLevel.{HeadingLevel}
 
 -- a byte where no line ends
 no_end_byte : (t u : Bool) (n : ℕ) → (if t then Some 1 else (if u then Some n else None)) ≡ None → (t || u) ≡ false
@@ -186,22 +187,40 @@ table_found names text options path p alignments lines =
       shorter = let less = body.shorter in let behind = length-drop 1 lines in omega arith;
     }
 
--- a paragraph
+-- a heading or a paragraph
+ended_by : Document → ℕ → Option Item → TextLines → Option (ℕ × HeadingLevel) → Taken
+ended_by d start marker l None = plain_text d start marker l
+ended_by d start marker l (Some underline) = underlined_text d start marker underline.1 l
+
+ended_is : (d : Document) (start : ℕ) (marker : Option Item) (l : TextLines) (o : Option (ℕ × HeadingLevel))
+    → MatchOption o (ended_by d start marker l o ≡ plain_text d start marker l) (λ underline. ended_by d start marker l o ≡ underlined_text d start marker underline.1 l)
+unfolding ended_by
+ended_is d start marker l None = refl
+ended_is d start marker l (Some underline) = refl
+
+ended_shorter : (d : Document) (start : ℕ) (marker : Option Item) (l : TextLines) (o : Option (ℕ × HeadingLevel))
+    → length (ended_by d start marker l o).left ≤ length l.left
+unfolding ended_by
+ended_shorter d start marker l None = omega arith
+ended_shorter d start marker l (Some underline) = let less = length-drop 1 l.left in omega arith
+
 plain_found : (names : Names) (text : List ℕ) (options : Options) (path : List Container) (p : Place) (marker : Option Item) (lines : List Place)
-    → TakenFrom names lines (λ later t. IsPlainText (document text options later) path p marker lines t)
+    → TakenFrom names lines (λ later t. IsPlainText (document text options later) path (offset p) marker lines t)
+unfolding ended_by
 plain_found names text options path p marker lines =
-    let found = paragraph_found text options path lines (offset p) [] in
+    let found = lines_found text options path lines (offset p) [] in
+    let o = underline_first path found.given.left in
     record {
-      value = taking (paragraph_block (offset p) (start_of (length text) found.left) (marker_items marker ++ found.whole)) found.left;
+      value = ended_by (document text options names) (offset p) marker found.given o;
       more = names;
       extends = extends_none names;
-      holds = λ later e. (found.whole, found.is later, refl);
-      shorter = found.shorter;
+      holds = λ later e. (found.given, found.are later, ended_is (document text options later) (offset p) marker found.given o);
+      shorter = let a = ended_shorter (document text options names) (offset p) marker found.given o in let b = found.shorter in omega arith;
     }
 
 -- what stands for a text
 text_by : (names : Names) (text : List ℕ) (options : Options) (path : List Container) (p : Place) (marker : Option Item) (lines : List Place) (o : Option (List Alignment))
-    → TakenFrom names lines (λ later t. MatchOption o (IsPlainText (document text options later) path p marker lines t) (λ alignments. IsTable (document text options later) path p alignments lines t))
+    → TakenFrom names lines (λ later t. MatchOption o (IsPlainText (document text options later) path (offset p) marker lines t) (λ alignments. IsTable (document text options later) path p alignments lines t))
 text_by names text options path p marker lines None = plain_found names text options path p marker lines
 text_by names text options path p marker lines (Some alignments) = table_found names text options path p alignments lines
 

@@ -1,5 +1,5 @@
 -- Each block of a derived tree shows whole tables, or nothing.
-use Rattle.std.proofs.Common.{◌≡◌, ℕ, ◌≤◌, Bool, true, false, List, [], ◌∷◌, ◌++◌, length, Option, Some, None, MatchOption, IfSome, refl, sym, ap, subst, ◌∙◌, if◌then◌else◌}
+use Rattle.std.proofs.Common.{◌≡◌, ℕ, ◌≤◌, Bool, true, false, List, [], ◌∷◌, ◌++◌, length, Option, Some, None, MatchOption, IfSome, refl, sym, ap, subst, ◌∙◌, if◌then◌else◌, drop}
 use Rattle.first_pass_items.specs.declared.item.Alignment.{Alignment}
 use Rattle.first_pass_items.specs.declared.item.BlockQuoteKind.{BlockQuoteKind}
 use Rattle.first_pass_items.specs.declared.item.Item.{Item}
@@ -15,7 +15,7 @@ use Rattle.first_pass_grammar.specs.declared.kind.Container.TheVariants.{BlockQu
 use Rattle.first_pass_grammar.specs.Names.{Names}
 use Rattle.first_pass_grammar.specs.Containers.{Context, context, at_rest, front}
 use Rattle.first_pass_grammar.specs.Kinds.{Kind, Blank, IndentedCode, Metadata, HtmlToEnd, HtmlToBlank, ThematicBreak, AtxHeading, FencedCode, LinkDefinitions, Paragraph, unindented, is_blank_rest, quote_inside, item_at, ends_tag}
-use Rattle.first_pass_grammar.specs.Leaves.{Document, around, heading_text_at, block_with, marker_items}
+use Rattle.first_pass_grammar.specs.Leaves.{Document, around, heading_text_at, block_with, TextLines}
 use Rattle.first_pass_grammar.specs.CodeBlocks.{fence_judge, metadata_judge, metadata_kind}
 use Rattle.first_pass_grammar.specs.Extents.{in_containers}
 use Rattle.first_pass_grammar.specs.HtmlBlocks.{holds, tag_judge, blank_judge}
@@ -24,13 +24,14 @@ use Rattle.first_pass_grammar.specs.LinkRuns.{kind_in, Beyond, Ended, FlowsOn}
 use Rattle.first_pass_grammar.specs.RawLines.{range_text, range_html}
 use Rattle.first_pass_grammar.specs.TableHeads.{headed_table}
 use Rattle.first_pass_grammar.specs.Tables.{filled, Taken, most_filled, IsTable}
-use Rattle.first_pass_grammar.specs.Texts.{IsPlainText, IsText}
+use Rattle.first_pass_grammar.specs.Texts.{IsPlainText, IsText, text_children, plain_text, underlined_text, underline_first}
 use Rattle.first_pass_grammar.specs.Skeleton.{Leaf, BlankLine, Block, OpensBeyond, OpensRun, opened, From, Line, Blanks, At, May, Anything, ALeafAlone, TextOf, MarkAlone, behind_marker, Opening, OpensLeaf, OpensNode, OpensText, OpensAs, OpensBlockAt, next_is_blank, item_head, task_by, task_behind, behind_task, task_alone, item_opening, tag_behind, behind_tag, quote_opening, OpensQuote, OpensFrom, OpensIf, OpensAt, Skeleton, Nil, Then, Node, Begins, behind_first, IsFirst, IsSequence}
 use Rattle.first_pass_grammar.specs.WholeTables.{Mark, marks, table_marks, AreFull, AreWholeTables}
-use Rattle.first_pass_grammar.proofs.EachToken.{AreEach, paragraph_each, marked_each, heading_each, range_text_each, range_html_each, raw_lines_each}
+use Rattle.first_pass_grammar.proofs.EachToken.{AreEach, heading_each, range_text_each, range_html_each, raw_lines_each, lines_each, children_each}
 use Rattle.first_pass_grammar.proofs.PlacesKept.{IsAt, AreAt, at_unindented, at_front, at_taken, at_quote, at_item, extent_at, tag_left_at, code_at}
 use Rattle.first_pass_grammar.proofs.LinesLeft.{BeyondAt, run_at, text_left}
 use Rattle.first_pass_grammar.proofs.TableMarks.{ShowsNothing, tokens_show, block_shows, table_shows}
+use Rattle.first_pass_items.specs.declared.item.HeadingLevel.{HeadingLevel}
 
 -- nodes that show nothing
 pub whole_none : (names : Names) (nodes : List (ℕ × Item)) → marks names nodes ≡ [] → AreWholeTables names nodes
@@ -73,13 +74,24 @@ chain_whole names start stop body chain items is own h =
     whole_none names items (ap (marks names) is ∙ block_shows names (record { start = start; «end» = stop; body = body }) chain own h)
 
 module _ (d : Document) (full : HeadsAreFull d) where
+  -- a heading or a paragraph
+  ended_whole : (path : List Container) (start : ℕ) (marker : Option Item) (l : TextLines) (t : Taken) (o : Option (ℕ × HeadingLevel))
+      → AreEach ShowsNothing (text_children marker l)
+      → MatchOption o (t ≡ plain_text d start marker l) (λ underline. t ≡ underlined_text d start marker underline.1 l) → AreWholeTables d.names t.items
+  ended_whole path start marker l t None h e =
+      chain_whole d.names start (start_of (length d.text) l.left) ParagraphBody (text_children marker l) t.items (ap (λ (z : Taken). z.items) e)
+      (λ names start end. refl) h
+  ended_whole path start marker l t (Some underline) h e =
+      chain_whole d.names start (start_of (length d.text) (drop 1 l.left)) (HeadingBody underline.1 None) (text_children marker l) t.items
+      (ap (λ (z : Taken). z.items) e) (λ names start end. refl) h
+
   -- what stands for a text
   text_by : (path : List Container) (p : Place) (marker : Option Item) (lines : List Place) (t : Taken) (o : Option (List Alignment))
       → headed_table (around d path) p.rest.left ≡ o → IsAt d.text p → ShownBy marker
-      → MatchOption o (IsPlainText d path p marker lines t) (λ alignments. IsTable d path p alignments lines t) → AreWholeTables d.names t.items
-  text_by path p marker lines t None e i plain (chain, is, same) =
-      chain_whole d.names (offset p) (start_of (length d.text) t.left) ParagraphBody (marker_items marker ++ chain) t.items same (λ names start end. refl)
-      (marked_each ShowsNothing tokens_show marker chain plain (paragraph_each ShowsNothing tokens_show d path (offset p) [] lines chain t.left tt is))
+      → MatchOption o (IsPlainText d path (offset p) marker lines t) (λ alignments. IsTable d path p alignments lines t) → AreWholeTables d.names t.items
+  text_by path p marker lines t None e i plain (l, are, is) =
+      ended_whole path (offset p) marker l t (underline_first path l.left)
+      (children_each ShowsNothing tokens_show marker l plain (lines_each ShowsNothing tokens_show d path (offset p) [] lines l tt are)) is
   text_by path p marker lines t (Some alignments) e i plain h = table_shows d path p alignments lines t h (full path p alignments lines t i e h)
 
   text_whole : (path : List Container) (p : Place) (marker : Option Item) (lines : List Place) (t : Taken) → IsAt d.text p → ShownBy marker

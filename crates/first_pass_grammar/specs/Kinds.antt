@@ -8,13 +8,14 @@ use Rattle.first_pass_html.specs.Tags.{BeginsTagLine}
 use Rattle.std.specs.Option.{option_map}
 use Rattle.first_pass_items.specs.Bytes.{less_than, greater_than}
 use Rattle.first_pass_lines.specs.Lines.{at_line_end, begins, blank_len, atx_level}
-use Rattle.first_pass_scan.specs.LeafLines.{hrule_len, code_fence, metadata_byte}
+use Rattle.first_pass_scan.specs.LeafLines.{hrule_len, code_fence, metadata_byte, setext_underline}
 use Rattle.first_pass_lines.specs.Rest.{Rest, indent, after_columns}
 use Rattle.first_pass_lines.specs.Places.{Place, offset, moved_columns}
 use Rattle.first_pass_scan.specs.Markers.{is_bullet, listitem, item_of}
 use Rattle.first_pass_grammar.specs.declared.kind.Container.TheVariants.{BlockQuote}
 use Rattle.first_pass_grammar.specs.Containers.{Context, at_rest, prefix, after, front}
 use Rattle.first_pass_grammar.specs.TableHeads.{table_interrupts}
+use Rattle.first_pass_grammar.specs.declared.kind.Container.{Container}
 
 -- what begins at a place of a line where no container begins
 pub data Kind : Type 0 where
@@ -143,6 +144,18 @@ interrupts around whole r = if nat_lt (indent r) 4 then interrupts_in around who
 -- the line of which this is left ends a paragraph in the containers of a path (CommonMark 4.8, and 5.1 on lazy continuation lines)
 abbrev pub ends_paragraph : Context → Rest → Bool
 ends_paragraph around r = interrupts around (is_some (after around.path r)) (front around.path r)
+
+-- the underline of a setext heading that is left of a line, at under four columns: how many bytes it has, its end too, and the level (CommonMark 4.3)
+abbrev pub underline_left : Rest → Option (ℕ × HeadingLevel)
+underline_left r = if nat_lt (indent r) 4 then setext_underline (all_taken r).left else None
+
+-- the underline that the line is of which this is left; a line that doesn't go on with the whole path is none (CommonMark 4.3)
+unfoldable pub underline_of : List Container → Rest → Option (ℕ × HeadingLevel)
+underline_of path r = if is_some (after path r) then underline_left (front path r) else None
+
+-- the line of which this is left ends a text before it: it is an underline, or ends a paragraph (CommonMark 4.3, 4.8)
+abbrev pub ends_text : Context → Rest → Bool
+ends_text around r = is_some (underline_of around.path r) || ends_paragraph around r
 
 -- Behind the tag of a block quote, the line of which this is left is read as any other where, at under four columns, it would end a paragraph. Else it
 -- belongs to the quote, whatever containers of the path it goes on with (this project).

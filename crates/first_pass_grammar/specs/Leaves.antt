@@ -17,7 +17,7 @@ use Rattle.first_pass_tokens.specs.Chains.{add_tokens, close_break, cut}
 use Rattle.first_pass_grammar.specs.declared.kind.Container.{Container}
 use Rattle.first_pass_grammar.specs.Names.{Names}
 use Rattle.first_pass_grammar.specs.Containers.{Context, context, at_rest, front}
-use Rattle.first_pass_grammar.specs.Kinds.{unindented, ends_paragraph}
+use Rattle.first_pass_grammar.specs.Kinds.{unindented, ends_text}
 
 -- a text, the options under which it is read, and what the indices of the tree's items name
 pub record Document : Type 0 where
@@ -45,18 +45,26 @@ abbrev pub add_break : Option Item → List Item → List Item
 add_break None chain = chain
 add_break (Some x) chain = chain ++ x ∷ []
 
--- The chain of a paragraph of which the lines from an offset on stand behind a chain: the tokens of each line are joined to it, with the
--- break between two lines. The paragraph takes each line up to the least that interrupts it, whatever containers that line goes on with
--- (CommonMark 4.8, and 5.1 on lazy continuation lines); columns before a line's text are dropped.
-unfoldable pub IsParagraph : Document → List Container → ℕ → List Item → List Place → List Item → List Place → Type 0
-IsParagraph d path start chain [] whole left =
+-- what the lines of a text give: their chain, the break behind the last of them, where there is one, and the lines that they leave
+pub record TextLines : Type 0 where
+  pub chain : List Item
+  pub break : Option Item
+  pub left : List Place
+
+abbrev pub text_lines : List Item → Option Item → List Place → TextLines
+text_lines chain break left = record { chain = chain; break = break; left = left }
+
+-- What the lines of a text give, of which those from an offset on stand behind a chain: the tokens of each line are joined to it, with the break between two
+-- lines. The text takes each line up to the least that is an underline or interrupts it, whatever containers that line goes on with (CommonMark 4.3, 4.8, and
+-- 5.1 on lazy continuation lines); columns before a line's text are dropped.
+unfoldable pub AreTextLines : Document → List Container → ℕ → List Item → List Place → TextLines → Type 0
+AreTextLines d path start chain [] t =
+    (tokens : List Item) × (answer : ℕ × Option Item) × IsLine (content_at d start) tokens answer × (t ≡ text_lines (add_tokens chain tokens) answer.1 [])
+AreTextLines d path start chain (line ∷ lines) t =
     (tokens : List Item) × (answer : ℕ × Option Item) × IsLine (content_at d start) tokens answer
-    × (whole ≡ close_break answer.1 (add_tokens chain tokens)) × (left ≡ [])
-IsParagraph d path start chain (line ∷ lines) whole left =
-    (tokens : List Item) × (answer : ℕ × Option Item) × IsLine (content_at d start) tokens answer
-    × (((ends_paragraph (around d path) line.rest ≡ true) × (whole ≡ close_break answer.1 (add_tokens chain tokens)) × (left ≡ line ∷ lines))
-    ⊎ ((ends_paragraph (around d path) line.rest ≡ false)
-    × IsParagraph d path (offset (unindented (at_rest line (front path line.rest)))) (add_break answer.1 (add_tokens chain tokens)) lines whole left))
+    × (((ends_text (around d path) line.rest ≡ true) × (t ≡ text_lines (add_tokens chain tokens) answer.1 (line ∷ lines)))
+    ⊎ ((ends_text (around d path) line.rest ≡ false)
+    × AreTextLines d path (offset (unindented (at_rest line (front path line.rest)))) (add_break answer.1 (add_tokens chain tokens)) lines t))
 
 -- spaces and line ends
 abbrev pub is_put_aside : ℕ → Bool

@@ -1,20 +1,44 @@
--- What stands for a text that begins where no other block does: a paragraph, or a table (CommonMark 4.8, GFM 4.10).
-use Rattle.std.specs.Prelude.{◌≡◌, ◌++◌, List, [], length, Option, MatchOption}
+-- What stands for a text that begins where no other block does: a paragraph, a heading that is underlined, or a table (CommonMark 4.8, 4.3, GFM 4.10).
+use Rattle.std.specs.Prelude.{◌≡◌, ◌++◌, List, [], ◌∷◌, length, drop, ℕ, Option, None, MatchOption}
+use Rattle.first_pass_items.specs.declared.item.HeadingLevel.{HeadingLevel}
 use Rattle.first_pass_items.specs.declared.item.Item.{Item}
 use Rattle.first_pass_lines.specs.Places.{Place, offset, start_of}
+use Rattle.first_pass_tokens.specs.Chains.{close_break}
 use Rattle.first_pass_grammar.specs.declared.kind.Container.{Container}
-use Rattle.first_pass_grammar.specs.Leaves.{Document, around, IsParagraph, paragraph_block, marker_items}
+use Rattle.first_pass_grammar.specs.Kinds.{underline_of}
+use Rattle.first_pass_grammar.specs.Leaves.{Document, around, TextLines, AreTextLines, paragraph_block, heading_block, marker_items}
 use Rattle.first_pass_grammar.specs.TableHeads.{headed_table}
-use Rattle.first_pass_grammar.specs.Tables.{Taken, IsTable}
+use Rattle.first_pass_grammar.specs.Tables.{Taken, taking, IsTable}
 
--- a paragraph whose text begins at a place, behind a task list item marker or none (CommonMark 4.8, GFM 5.3)
-abbrev pub IsPlainText : Document → List Container → Place → Option Item → List Place → Taken → Type 0
-IsPlainText d path p marker lines t =
-    (chain : List Item) × IsParagraph d path (offset p) [] lines chain t.left
-    × (t.items ≡ paragraph_block (offset p) (start_of (length d.text) t.left) (marker_items marker ++ chain))
+-- the underline that the first of these lines is (CommonMark 4.3)
+abbrev pub underline_first : List Container → List Place → Option (ℕ × HeadingLevel)
+underline_first path [] = None
+underline_first path (line ∷ lines) = underline_of path line.rest
 
--- A text that begins at a place is the table that its first line heads; the marker of a task list item before it is gone then. Else it is a paragraph
--- (CommonMark 4.8, GFM 4.10, and this project).
+-- the children of a paragraph or a heading, the marker of a task list item first: a backslash at the end of the last line is text (CommonMark 6.7, GFM 5.3)
+abbrev pub text_children : Option Item → TextLines → List Item
+text_children marker l = marker_items marker ++ close_break l.break l.chain
+
+-- a paragraph that begins at an offset and has these lines (CommonMark 4.8)
+abbrev pub plain_text : Document → ℕ → Option Item → TextLines → Taken
+plain_text d start marker l = taking (paragraph_block start (start_of (length d.text) l.left) (text_children marker l)) l.left
+
+-- a heading of a level that begins at an offset and has these lines; it takes the first of those that they leave, its underline (CommonMark 4.3)
+abbrev pub underlined_text : Document → ℕ → Option Item → HeadingLevel → TextLines → Taken
+underlined_text d start marker level l =
+    taking (heading_block start (start_of (length d.text) (drop 1 l.left)) level (text_children marker l)) (drop 1 l.left)
+
+-- A text that begins at an offset is a heading where an underline follows its lines, and else a paragraph; behind the marker of a task list item or none
+-- (CommonMark 4.3, 4.8, GFM 5.3).
+abbrev pub IsEnded : Document → List Container → ℕ → Option Item → TextLines → Taken → Type 0
+IsEnded d path start marker l t =
+    MatchOption (underline_first path l.left) (t ≡ plain_text d start marker l) (λ underline. t ≡ underlined_text d start marker underline.1 l)
+
+abbrev pub IsPlainText : Document → List Container → ℕ → Option Item → List Place → Taken → Type 0
+IsPlainText d path start marker lines t = (l : TextLines) × AreTextLines d path start [] lines l × IsEnded d path start marker l t
+
+-- A text that begins at a place is the table that its first line heads; the marker of a task list item before it is gone then. Else it is a heading that is
+-- underlined, or a paragraph (CommonMark 4.3, 4.8, GFM 4.10, and this project).
 unfoldable pub IsText : Document → List Container → Place → Option Item → List Place → Taken → Type 0
 IsText d path p marker lines t =
-    MatchOption (headed_table (around d path) p.rest.left) (IsPlainText d path p marker lines t) (λ alignments. IsTable d path p alignments lines t)
+    MatchOption (headed_table (around d path) p.rest.left) (IsPlainText d path (offset p) marker lines t) (λ alignments. IsTable d path p alignments lines t)
