@@ -9,7 +9,7 @@ use Rattle.first_pass_items.specs.declared.item.ItemBody.TheVariants.{BlockQuote
 use Rattle.first_pass_tree.specs.declared.tree_index.TreeIndex.{TreeIndex}
 use Rattle.first_pass_tree.specs.Forest.{Forest, empty_forest, with_end_at, with_body_at, body_at, modify, at_depth, appended, added, item_at}
 use Rattle.first_pass_grammar.specs.Derivation.{list_flags, tightened}
-use Rattle.first_pass_grammar.specs.Order.{Extent, is_paragraph, is_task_marker, is_list_item, extent_of, extents, Row, Empty, Node, laid, IsBetween, Elsewhere, InItem, Fits, FitsBetween, IsOrdered}
+use Rattle.first_pass_grammar.specs.Order.{Extent, is_text_block, is_task_marker, is_list_item, extent_of, extents, Row, Empty, Node, laid, IsBetween, Elsewhere, InItem, Fits, FitsBetween, IsOrdered}
 use Rattle.first_pass_grammar.specs.OpenOrder.{laid_open, AreAt, open_item, FitsOpen, item_on_top, within_top, IsOrderedTo}
 use Rattle.first_pass_grammar.proofs.Orders.{beside, ended_at, extents-append, length-extents, extents-at_depth, laid-at_depth, laid-one, laid_open-beside, laid_open-pushed, laid_open-level, laid_open-popped, laid_open-root, length-places, fits-one, fits_open-later, fits_open-beside, fits_open-pushed, fits_open-popped, extents-ended, extents-kept, extent-tightened, fits-whole}
 use Rattle.first_pass_open.specs.OpenBlock.{closed_by}
@@ -133,7 +133,7 @@ first_at text utf8 =
     let z : 0 ≤ 0 = omega arith in
     let l : length text ≤ length text = omega arith in
     record {
-      root = record { start = 0; «end» = length text; paragraph = false; marker = false; item = false };
+      root = record { start = 0; «end» = length text; text_block = false; marker = false; item = false };
       levels = [];
       row = Empty;
       nodes = refl;
@@ -300,15 +300,15 @@ ordered_item_finished text r at h =
     ordered_none text (item_finished r) at p.1 h.within p.0
 
 -- a list made loose keeps its extent
-list_extent : (x : Item) (a b : ItemBody) → x.body ≡ a → is_paragraph a ≡ is_paragraph b → is_task_marker a ≡ is_task_marker b → is_list_item a ≡ is_list_item b → extent_of (record { start = x.start; «end» = x.«end»; body = b }) ≡ extent_of x
+list_extent : (x : Item) (a b : ItemBody) → x.body ≡ a → is_text_block a ≡ is_text_block b → is_task_marker a ≡ is_task_marker b → is_list_item a ≡ is_list_item b → extent_of (record { start = x.start; «end» = x.«end»; body = b }) ≡ extent_of x
 list_extent x a b is p m i =
-    ap (λ (t : Bool). record { start = x.start; «end» = x.«end»; paragraph = t; marker = is_task_marker b; item = is_list_item b }) (sym p)
-    ∙ ap (λ (t : Bool). record { start = x.start; «end» = x.«end»; paragraph = is_paragraph a; marker = t; item = is_list_item b }) (sym m)
-    ∙ ap (λ (t : Bool). record { start = x.start; «end» = x.«end»; paragraph = is_paragraph a; marker = is_task_marker a; item = t }) (sym i)
-    ∙ ap (λ (c : ItemBody). record { start = x.start; «end» = x.«end»; paragraph = is_paragraph c; marker = is_task_marker c; item = is_list_item c }) (sym is)
+    ap (λ (t : Bool). record { start = x.start; «end» = x.«end»; text_block = t; marker = is_task_marker b; item = is_list_item b }) (sym p)
+    ∙ ap (λ (t : Bool). record { start = x.start; «end» = x.«end»; text_block = is_text_block a; marker = t; item = is_list_item b }) (sym m)
+    ∙ ap (λ (t : Bool). record { start = x.start; «end» = x.«end»; text_block = is_text_block a; marker = is_task_marker a; item = t }) (sym i)
+    ∙ ap (λ (c : ItemBody). record { start = x.start; «end» = x.«end»; text_block = is_text_block c; marker = is_task_marker c; item = is_list_item c }) (sym is)
 
 -- another body at a place, which is a paragraph, a marker or an item as before
-pub extents-body : (nodes : List (ℕ × Item)) (k : ℕ) (a b : ItemBody) → body_at nodes k ≡ Some a → is_paragraph a ≡ is_paragraph b → is_task_marker a ≡ is_task_marker b → is_list_item a ≡ is_list_item b
+pub extents-body : (nodes : List (ℕ × Item)) (k : ℕ) (a b : ItemBody) → body_at nodes k ≡ Some a → is_text_block a ≡ is_text_block b → is_task_marker a ≡ is_task_marker b → is_list_item a ≡ is_list_item b
     → extents (modify nodes k (λ x. record x { body = b })) ≡ extents nodes
 extents-body nodes k a b is p m i = extents-kept nodes k (λ x. record x { body = b }) a is (λ x e. list_extent x a b e p m i)
 

@@ -11,7 +11,7 @@ use Rattle.first_pass_tokens.specs.Order.{AreInOrder}
 use Rattle.first_pass_tokens.specs.TreeTokens.{leaves}
 use Rattle.first_pass_tokens.proofs.OrderLemmas.{order_bound}
 use Rattle.first_pass_grammar.specs.Derivation.{tight_body, tightened}
-use Rattle.first_pass_grammar.specs.Order.{Extent, is_paragraph, is_task_marker, is_list_item, extent_of, extents, Row, Empty, Node, laid, IsBetween, Within, Elsewhere, InItem, InText, in_item, below, beyond, IsLead, Fits, FitsBetween}
+use Rattle.first_pass_grammar.specs.Order.{Extent, is_text_block, is_task_marker, is_list_item, extent_of, extents, Row, Empty, Node, laid, IsBetween, Within, Elsewhere, InItem, InText, in_item, below, beyond, IsLead, Fits, FitsBetween}
 use Rattle.first_pass_grammar.specs.OpenOrder.{laid_open, AreAt, open_item, FitsOpen}
 use Rattle.first_pass_grammar.proofs.OwnNodes.{own_at_most}
 
@@ -22,7 +22,7 @@ beside (Node x kids next) more = Node x kids (beside next more)
 
 -- a range with another end
 abbrev pub ended_at : Extent → ℕ → Extent
-ended_at x e = record { start = x.start; «end» = e; paragraph = x.paragraph; marker = x.marker; item = x.item }
+ended_at x e = record { start = x.start; «end» = e; text_block = x.text_block; marker = x.marker; item = x.item }
 
 -- the extents of more nodes
 pub extents-append : (nodes more : List (ℕ × Item)) → extents (nodes ++ more) ≡ extents nodes ++ extents more
@@ -131,7 +131,7 @@ pub fits-any : (text : List ℕ) (w : Within) (from to : ℕ) (row : Row) → Fi
 unfolding Fits
 fits-any text w from to Empty h = h
 fits-any text w from to (Node x kids next) (inl (b, k, n)) =
-    inl (b, any_by text x.item (if in_item w && x.paragraph then InText from else Elsewhere) x.start x.«end» kids (λ e. fits-any text _ x.start x.«end» kids e) k, fits-any text (beyond w) x.«end» to next n)
+    inl (b, any_by text x.item (if in_item w && x.text_block then InText from else Elsewhere) x.start x.«end» kids (λ e. fits-any text _ x.start x.«end» kids e) k, fits-any text (beyond w) x.«end» to next n)
 fits-any text w from to (Node x kids next) (inr (l, k, n)) = absurd l
 
 fits-beyond : (text : List ℕ) (w : Within) (from to : ℕ) (row : Row) → Fits text (beyond w) from to row → Fits text w from to row
@@ -165,7 +165,7 @@ below_by text false false a b from to row more h = h
 earlier_by : (text : List ℕ) (w : Within) (a b to : ℕ) (row : Row) → ((x : Extent) → IsLead text w b x → ⊥) → a ≤ b → Fits text w b to row → Fits text w a to row
 unfolding Fits
 earlier_by text w a b to Empty none more h = let t : b ≤ to = h in omega arith
-earlier_by text w a b to (Node x kids next) none more (inl (h, k, n)) = inl (between-earlier text a b to x more h, below_by text x.item (in_item w && x.paragraph) a b x.start x.«end» kids more k, n)
+earlier_by text w a b to (Node x kids next) none more (inl (h, k, n)) = inl (between-earlier text a b to x more h, below_by text x.item (in_item w && x.text_block) a b x.start x.«end» kids more k, n)
 earlier_by text w a b to (Node x kids next) none more (inr (l, k, n)) = absurd (none x l)
 
 -- a row fits from an earlier offset on
@@ -207,7 +207,7 @@ fits_open-beside text mid to [] row more h behind = fits-beside text Elsewhere 0
 fits_open-beside text mid to (level ∷ levels) row more (before, m, h, starts, rest) behind = (
   before,
   m,
-  fits-beside text (below (open_item levels) before level.1) level.1.start mid to row more h (beyond_by text level.1.item (open_item levels && level.1.paragraph) before mid to more behind),
+  fits-beside text (below (open_item levels) before level.1) level.1.start mid to row more h (beyond_by text level.1.item (open_item levels && level.1.text_block) before mid to more behind),
   starts,
   rest,
 )
@@ -255,7 +255,7 @@ extents-kept [] k g b is same = refl
 extents-kept (n ∷ nodes) zero g b is same = (let e : n.1.body ≡ b = cc in ap (λ (x : Extent). (n.0, x) ∷ extents nodes) (same n.1 e))
 extents-kept (n ∷ nodes) (suc k) g b is same = ap (λ (z : List (ℕ × Extent)). (n.0, extent_of n.1) ∷ z) (extents-kept nodes k g b is same)
 
-paragraph_tight : (b : ItemBody) → is_paragraph (tight_body b) ≡ is_paragraph b
+paragraph_tight : (b : ItemBody) → is_text_block (tight_body b) ≡ is_text_block b
 paragraph_tight ParagraphBody = refl
 paragraph_tight b = refl
 
@@ -269,9 +269,9 @@ item_tight b = refl
 
 extent_by : (t : Bool) (x : Item) → extent_of (if t then record { start = x.start; «end» = x.«end»; body = tight_body x.body } else x) ≡ extent_of x
 extent_by true x =
-    ap (λ (p : Bool). record { start = x.start; «end» = x.«end»; paragraph = p; marker = is_task_marker (tight_body x.body); item = is_list_item (tight_body x.body) }) (paragraph_tight x.body)
-    ∙ ap (λ (m : Bool). record { start = x.start; «end» = x.«end»; paragraph = is_paragraph x.body; marker = m; item = is_list_item (tight_body x.body) }) (marker_tight x.body)
-    ∙ ap (λ (i : Bool). record { start = x.start; «end» = x.«end»; paragraph = is_paragraph x.body; marker = is_task_marker x.body; item = i }) (item_tight x.body)
+    ap (λ (p : Bool). record { start = x.start; «end» = x.«end»; text_block = p; marker = is_task_marker (tight_body x.body); item = is_list_item (tight_body x.body) }) (paragraph_tight x.body)
+    ∙ ap (λ (m : Bool). record { start = x.start; «end» = x.«end»; text_block = is_text_block x.body; marker = m; item = is_list_item (tight_body x.body) }) (marker_tight x.body)
+    ∙ ap (λ (i : Bool). record { start = x.start; «end» = x.«end»; text_block = is_text_block x.body; marker = is_task_marker x.body; item = i }) (item_tight x.body)
 extent_by false x = refl
 
 -- a paragraph made tight keeps its extent

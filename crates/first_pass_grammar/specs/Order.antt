@@ -2,21 +2,22 @@
 use Rattle.std.specs.Prelude.{◌≡◌, ◌⊎◌, ℕ, suc, ◌+◌, ◌-◌, ◌*◌, ◌<◌, ◌≤◌, ◌&&◌, Bool, true, false, List, [], ◌∷◌, ◌++◌, length, map, IsCharBoundary, if◌then◌else◌}
 use Rattle.first_pass_items.specs.declared.item.Item.{Item}
 use Rattle.first_pass_items.specs.declared.item.ItemBody.{ItemBody}
-use Rattle.first_pass_items.specs.declared.item.ItemBody.TheVariants.{Paragraph, TightParagraph, TaskListMarker, ListItem}
+use Rattle.first_pass_items.specs.declared.item.ItemBody.TheVariants.{Paragraph, TightParagraph, Heading, TaskListMarker, ListItem}
 use Rattle.first_pass_grammar.specs.Counting.{own_nodes}
 
--- the range of a node, and whether it is a paragraph, the marker of a task list item, or a list item
+-- the range of a node, and whether it is a paragraph or a heading, the marker of a task list item, or a list item
 pub record Extent : Type 0 where
   pub start : ℕ
   pub «end» : ℕ
-  pub paragraph : Bool
+  pub text_block : Bool
   pub marker : Bool
   pub item : Bool
 
-abbrev pub is_paragraph : ItemBody → Bool
-is_paragraph Paragraph = true
-is_paragraph TightParagraph = true
-is_paragraph _ = false
+abbrev pub is_text_block : ItemBody → Bool
+is_text_block Paragraph = true
+is_text_block TightParagraph = true
+is_text_block (Heading level ix) = true
+is_text_block _ = false
 
 abbrev pub is_task_marker : ItemBody → Bool
 is_task_marker (TaskListMarker checked) = true
@@ -27,7 +28,7 @@ is_list_item (ListItem columns) = true
 is_list_item _ = false
 
 abbrev pub extent_of : Item → Extent
-extent_of x = record { start = x.start; «end» = x.«end»; paragraph = is_paragraph x.body; marker = is_task_marker x.body; item = is_list_item x.body }
+extent_of x = record { start = x.start; «end» = x.«end»; text_block = is_text_block x.body; marker = is_task_marker x.body; item = is_list_item x.body }
 
 -- the extents of nodes, each with its depth
 abbrev pub extents : List (ℕ × Item) → List (ℕ × Extent)
@@ -51,7 +52,7 @@ pub record IsBetween (text : List ℕ) (from to : ℕ) (x : Extent) : Type 0 whe
   pub starts : IsCharBoundary text x.start
   pub ends : IsCharBoundary text x.«end»
 
--- where a row stands: directly in a list item; directly in a paragraph of one, before whose start the marker of a task may stand, from an offset on; or
+-- where a row stands: directly in a list item; directly in a paragraph or a heading of one, before whose start the marker of a task may stand, from an offset on; or
 -- elsewhere (GFM 5.3, and this project)
 pub data Within : Type 0 where
   Elsewhere : Within
@@ -65,7 +66,7 @@ in_item (InText before) = false
 
 -- what is directly in a node, which stands directly in a list item or not, behind an offset
 abbrev pub below : Bool → ℕ → Extent → Within
-below inside from x = if x.item then InItem else (if inside && x.paragraph then InText from else Elsewhere)
+below inside from x = if x.item then InItem else (if inside && x.text_block then InText from else Elsewhere)
 
 -- what stands in the same node behind another
 abbrev pub beyond : Within → Within
@@ -73,14 +74,14 @@ beyond Elsewhere = Elsewhere
 beyond InItem = InItem
 beyond (InText before) = Elsewhere
 
--- the marker of a task, first in its paragraph
+-- the marker of a task, first in its paragraph or heading
 abbrev pub IsLead : List ℕ → Within → ℕ → Extent → Type 0
 IsLead text Elsewhere from x = ⊥
 IsLead text InItem from x = ⊥
 IsLead text (InText before) from x = (x.marker ≡ true) × IsBetween text before from x
 
 -- The nodes of a row, which stands so, lie between two offsets, one behind the other, and what is below each lies within it. Only the marker of a task that
--- is first in a paragraph may stand before the paragraph's start, within the list item around it, where the paragraph itself might (GFM 5.3, and this
+-- is first in a paragraph or a heading may stand before its start, within the list item around it, where the paragraph itself might (GFM 5.3, and this
 -- project).
 unfoldable pub Fits : List ℕ → Within → ℕ → ℕ → Row → Type 0
 Fits text within from to Empty = from ≤ to

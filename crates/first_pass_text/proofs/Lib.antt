@@ -4,4 +4,5 @@ pub mod OrderHeading
 pub mod OrderParagraph
 pub mod ParagraphLemmas
 pub mod PlainKinds
+pub mod PlainTexts
 pub mod TableLemmas

@@ -239,7 +239,7 @@ heading_text_boundary text start level u b h =
     let same : offset (moved_bytes (prefix_len is_white (drop n (drop start text))) (moved_bytes n p)) ≡ heading_text_at text start n = omega arith in
     subst (IsCharBoundary text) same at
 
-line_stops : (text : List ℕ) (start : ℕ) → IsUtf8 text → IsCharBoundary text start → IsCharBoundary text (line_end_at text start)
+pub line_stops : (text : List ℕ) (start : ℕ) → IsUtf8 text → IsCharBoundary text start → IsCharBoundary text (line_end_at text start)
 line_stops text start u b = subst (IsCharBoundary text) (line_start_end text start) (place_end text (line_place start (drop start text)) u (line_is_place text start b))
 
 -- An ATX heading fits in its line, where the chain of its line is in order.

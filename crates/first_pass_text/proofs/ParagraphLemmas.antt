@@ -1,6 +1,6 @@
--- The lines of a paragraph, one after the other.
-use Rattle.std.proofs.Common.{◌≡◌, ◌⊎◌, inl, inr, ℕ, zero, suc, ◌+◌, ◌<◌, ◌≤◌, Bool, true, false, List, [], ◌∷◌, ◌++◌, length, drop, ◌^◌, if◌then◌else◌, Option, Some, None, is_some, IfSome, IsUtf8, IsCharBoundary, refl, sym, ap, subst, ◌∙◌, arith}
-use Rattle.std.proofs.lemmas.Bool.{cases_lt, false≢true}
+-- The lines of a text, one after the other.
+use Rattle.std.proofs.Common.{◌≡◌, ◌⊎◌, inl, inr, ℕ, zero, suc, ◌+◌, ◌<◌, ◌≤◌, Bool, true, false, List, [], ◌∷◌, ◌++◌, length, drop, ◌^◌, if◌then◌else◌, Option, Some, None, is_some, IfSome, IsUtf8, IsCharBoundary, refl, sym, ap, subst, ◌∙◌, arith, ◌||◌}
+use Rattle.std.proofs.lemmas.Bool.{cases_lt, false≢true, cond_both}
 use Rattle.std.proofs.lemmas.Str.{IsCharBoundary-end}
 use Rattle.first_pass_items.specs.declared.item.Item.{Item}
 use Rattle.first_pass_items.specs.declared.option_set.Options.{Options}
@@ -18,15 +18,22 @@ use Rattle.first_pass_tokens.specs.Chains.{add_tokens, close_break, is_backslash
 use Rattle.first_pass_tokens.specs.TreeTokens.{chained, with_tokens, JoinsNone, AppendsLine}
 use Rattle.first_pass_tokens.proofs.ChainLemmas.{with_tokens-chained, with_text-chained, appended-chained}
 use Rattle.first_pass_grammar.specs.Containers.{Context, context, after, front}
-use Rattle.first_pass_grammar.specs.Kinds.{unindented, interrupts, ends_paragraph}
-use Rattle.first_pass_grammar.specs.Leaves.{Document, document, around, content_at, add_break, IsParagraph}
+use Rattle.first_pass_grammar.specs.Kinds.{unindented, interrupts, ends_paragraph, ends_text, underline_left, underline_of}
+use Rattle.first_pass_grammar.specs.Leaves.{Document, document, around, content_at, add_break, TextLines, text_lines, AreTextLines}
 use Rattle.first_pass_grammar.specs.Completion.{lines_from}
-use Rattle.first_pass_text.specs.Appends.{line_end_at, with_closed_break, AppendsParagraph}
+use Rattle.first_pass_text.specs.Appends.{line_end_at, with_closed_break, AppendsLines}
 use Rattle.first_pass_open.specs.OpenBlock.{with_child}
 use Rattle.first_pass_open.specs.Path.{container_of, with_container, path_of}
-use Rattle.first_pass_text.specs.Reading.{ParagraphSoFar}
+use Rattle.first_pass_text.specs.Reading.{LinesSoFar, next_by, next_line_of}
 use Rattle.first_pass_open.proofs.PathLemmas.{AreIn, front-end, path_in-append, path_of-chained, path_of-opened, opened_in}
 use Rattle.first_pass_open.proofs.PlaceLemmas.{text_place}
+use Rattle.first_pass_items.specs.declared.item.HeadingLevel.{HeadingLevel}
+use Rattle.first_pass_grammar.specs.Texts.{underline_first}
+use Rattle.first_pass_scan.specs.LeafLines.{setext_underline}
+use Rattle.std.specs.Option.{option_map}
+use Rattle.std.proofs.lemmas.Option.{none-some}
+use Rattle.first_pass_text.specs.declared.interrupt.NextLine.{NextLine}
+use Rattle.first_pass_text.specs.declared.interrupt.NextLine.TheVariants.{More, Underline, Other}
 
 -- At the end of the text a paragraph ends.
 interrupts-end : (around : Context) (whole : Bool) → interrupts around whole (line_rest []) ≡ true
@@ -48,6 +55,35 @@ goes_within around text n h =
           ∙ interrupts-end around (is_some (after around.path (line_rest [])))))
     ]
 
+-- It has no underline there.
+underline-end : (path : List Container) → underline_of path (line_rest []) ≡ None
+unfolding underline_of setext_underline
+underline-end path =
+    let none : underline_left (front path (line_rest [])) ≡ None = ap underline_left (front-end path) in
+    cond_both (is_some (after path (line_rest []))) (underline_left (front path (line_rest []))) None (λ (o : Option (ℕ × HeadingLevel)). o ≡ None) (λ e. none) (λ e. refl)
+
+second_none : (t u : Bool) → (t || u) ≡ false → u ≡ false
+second_none true u h = cc
+second_none false u h = h
+
+text_within : (c : Context) (text : List ℕ) (n : ℕ) → ends_text c (line_rest (drop n text)) ≡ false → n < length text
+text_within c text n h = goes_within c text n (second_none (is_some (underline_of c.path (line_rest (drop n text)))) (ends_paragraph c (line_rest (drop n text))) h)
+
+pub underline_within : (path : List Container) (text : List ℕ) (n : ℕ) (underline : ℕ × HeadingLevel) → underline_of path (line_rest (drop n text)) ≡ Some underline → n < length text
+underline_within path text n underline h =
+    elim (cases_lt n (length text)) [
+      | inl more ↦ more
+      | inr past ↦ absurd (none-some underline (sym (underline-end path) ∙ ap (λ bs. underline_of path (line_rest bs)) (sym (ends_past text n past)) ∙ h))
+    ]
+
+-- the underline that the line is which begins at an offset
+pub underline_there : (path : List Container) (text : List ℕ) (n : ℕ) → underline_first path (lines_from text n) ≡ underline_of path (line_rest (drop n text))
+underline_there path text n =
+    elim (cases_lt n (length text)) [
+      | inl within ↦ ap (underline_first path) (lines_at-line text n within)
+      | inr past ↦ ap (underline_first path) (lines_at-end text n past) ∙ sym (ap (λ bs. underline_of path (line_rest bs)) (ends_past text n past) ∙ underline-end path)
+    ]
+
 -- The text of a line ends where the line ends.
 pub line_end-text : (path : List Container) (text : List ℕ) (n : ℕ) → IsUtf8 text → IsCharBoundary text n → line_end_at text (offset (unindented (place_at n (front path (line_rest (drop n text)))))) ≡ line_end_at text n
 line_end-text path text n u b =
@@ -56,45 +92,45 @@ line_end-text path text n u b =
     let e = p.1 in
     omega arith
 
--- one more line of a paragraph
-paragraph_more : (path : List Container) (d : Document) (ix n : ℕ) (chain tokens whole : List Item) (line_break : Option Item) (left : List Place) → IsLine (content_at d ix) tokens (n, line_break) → n ≡ line_end_at d.text ix
-    → ends_paragraph (around d path) (line_rest (drop n d.text)) ≡ false → IsUtf8 d.text → IsCharBoundary d.text n
-    → (let at : ℕ = offset (unindented (place_at n (front path (line_rest (drop n d.text))))) in IsParagraph d path at (add_break line_break (add_tokens chain tokens)) (lines_from d.text (line_end_at d.text at)) whole left)
-    → IsParagraph d path ix chain (lines_from d.text (line_end_at d.text ix)) whole left
-unfolding IsParagraph front
-paragraph_more path d ix n chain tokens whole line_break left line place goes u b more =
-    let within = goes_within (around d path) d.text n goes in
+-- one more line of a text
+lines_more : (path : List Container) (d : Document) (ix n : ℕ) (chain tokens : List Item) (line_break : Option Item) (t : TextLines) → IsLine (content_at d ix) tokens (n, line_break) → n ≡ line_end_at d.text ix
+    → ends_text (around d path) (line_rest (drop n d.text)) ≡ false → IsUtf8 d.text → IsCharBoundary d.text n
+    → (let at : ℕ = offset (unindented (place_at n (front path (line_rest (drop n d.text))))) in AreTextLines d path at (add_break line_break (add_tokens chain tokens)) (lines_from d.text (line_end_at d.text at)) t)
+    → AreTextLines d path ix chain (lines_from d.text (line_end_at d.text ix)) t
+unfolding AreTextLines front
+lines_more path d ix n chain tokens line_break t line place goes u b more =
+    let within = text_within (around d path) d.text n goes in
     let first : lines_from d.text n ≡ line_place n (drop n d.text) ∷ lines_from d.text (line_end_at d.text n) = lines_at-line d.text n within in
-    let rest : IsParagraph d path (offset (unindented (place_at n (front path (line_rest (drop n d.text)))))) (add_break line_break (add_tokens chain tokens)) (lines_from d.text (line_end_at d.text n)) whole left =
-    subst (λ e. IsParagraph d path (offset (unindented (place_at n (front path (line_rest (drop n d.text)))))) (add_break line_break (add_tokens chain tokens)) (lines_from d.text e) whole left) (line_end-text path d.text n u b) more in
-    let all : IsParagraph d path ix chain (line_place n (drop n d.text) ∷ lines_from d.text (line_end_at d.text n)) whole left = (tokens, (n, line_break), line, inr (goes, rest)) in
-    subst (λ lines. IsParagraph d path ix chain lines whole left) (sym first ∙ ap (lines_from d.text) place) all
+    let rest : AreTextLines d path (offset (unindented (place_at n (front path (line_rest (drop n d.text)))))) (add_break line_break (add_tokens chain tokens)) (lines_from d.text (line_end_at d.text n)) t =
+    subst (λ e. AreTextLines d path (offset (unindented (place_at n (front path (line_rest (drop n d.text)))))) (add_break line_break (add_tokens chain tokens)) (lines_from d.text e) t) (line_end-text path d.text n u b) more in
+    let all : AreTextLines d path ix chain (line_place n (drop n d.text) ∷ lines_from d.text (line_end_at d.text n)) t = (tokens, (n, line_break), line, inr (goes, rest)) in
+    subst (λ lines. AreTextLines d path ix chain lines t) (sym first ∙ ap (lines_from d.text) place) all
 
--- the last line of a paragraph
+-- the last line of a text
 last_by : (path : List Container) (d : Document) (ix n : ℕ) (chain tokens : List Item) (line_break : Option Item) (lines : List Place) → IsLine (content_at d ix) tokens (n, line_break)
-    → (lines ≡ []) ⊎ ((more : List Place) × (lines ≡ line_place n (drop n d.text) ∷ more)) → ends_paragraph (around d path) (line_rest (drop n d.text)) ≡ true
-    → IsParagraph d path ix chain lines (close_break line_break (add_tokens chain tokens)) lines
-unfolding IsParagraph front
+    → (lines ≡ []) ⊎ ((more : List Place) × (lines ≡ line_place n (drop n d.text) ∷ more)) → ends_text (around d path) (line_rest (drop n d.text)) ≡ true
+    → AreTextLines d path ix chain lines (text_lines (add_tokens chain tokens) line_break lines)
+unfolding AreTextLines front
 last_by path d ix n chain tokens line_break lines line (inl none) ends =
-    let whole : List Item = close_break line_break (add_tokens chain tokens) in
-    let p : IsParagraph d path ix chain [] whole [] = (tokens, (n, line_break), line, refl, refl) in
-    subst (λ ls. IsParagraph d path ix chain ls whole ls) (sym none) p
+    let given : TextLines = text_lines (add_tokens chain tokens) line_break [] in
+    let p : AreTextLines d path ix chain [] given = (tokens, (n, line_break), line, refl) in
+    subst (λ ls. AreTextLines d path ix chain ls (text_lines (add_tokens chain tokens) line_break ls)) (sym none) p
 last_by path d ix n chain tokens line_break lines line (inr (more, some)) ends =
-    let whole : List Item = close_break line_break (add_tokens chain tokens) in
     let here : List Place = line_place n (drop n d.text) ∷ more in
-    let p : IsParagraph d path ix chain here whole here = (tokens, (n, line_break), line, inl (ends, refl, refl)) in
-    subst (λ ls. IsParagraph d path ix chain ls whole ls) (sym some) p
+    let given : TextLines = text_lines (add_tokens chain tokens) line_break here in
+    let p : AreTextLines d path ix chain here given = (tokens, (n, line_break), line, inl (ends, refl)) in
+    subst (λ ls. AreTextLines d path ix chain ls (text_lines (add_tokens chain tokens) line_break ls)) (sym some) p
 
-paragraph_last : (path : List Container) (d : Document) (ix n : ℕ) (chain tokens : List Item) (line_break : Option Item) → IsLine (content_at d ix) tokens (n, line_break) → n ≡ line_end_at d.text ix
-    → ends_paragraph (around d path) (line_rest (drop n d.text)) ≡ true
-    → IsParagraph d path ix chain (lines_from d.text (line_end_at d.text ix)) (close_break line_break (add_tokens chain tokens)) (lines_from d.text n)
-paragraph_last path d ix n chain tokens line_break line place ends =
+lines_last : (path : List Container) (d : Document) (ix n : ℕ) (chain tokens : List Item) (line_break : Option Item) → IsLine (content_at d ix) tokens (n, line_break) → n ≡ line_end_at d.text ix
+    → ends_text (around d path) (line_rest (drop n d.text)) ≡ true
+    → AreTextLines d path ix chain (lines_from d.text (line_end_at d.text ix)) (text_lines (add_tokens chain tokens) line_break (lines_from d.text n))
+lines_last path d ix n chain tokens line_break line place ends =
     let lines : (lines_from d.text n ≡ []) ⊎ ((more : List Place) × (lines_from d.text n ≡ line_place n (drop n d.text) ∷ more)) =
     elim (cases_lt n (length d.text)) [
       | inl within ↦ inr (lines_from d.text (line_end_at d.text n), lines_at-line d.text n within)
       | inr past ↦ inl (lines_at-end d.text n past)
     ] in
-    subst (λ e. IsParagraph d path ix chain (lines_from d.text e) (close_break line_break (add_tokens chain tokens)) (lines_from d.text n)) place (last_by path d ix n chain tokens line_break (lines_from d.text n) line lines ends)
+    subst (λ e. AreTextLines d path ix chain (lines_from d.text e) (text_lines (add_tokens chain tokens) line_break (lines_from d.text n))) place (last_by path d ix n chain tokens line_break (lines_from d.text n) line lines ends)
 
 -- the break behind a chain in the tree
 pub with_child-chained : (f : Forest Item) (chain : List Item) (line_break : Option Item) → with_child (chained f chain) line_break ≡ chained f (add_break line_break chain)
@@ -110,8 +146,8 @@ with_closed_break-chained f chain None apart = refl
 with_closed_break-chained f chain (Some x) apart = closed_by (is_backslash_break x.body) f chain x refl apart
 
 -- before the first line
-pub so_far_start : (d : Document) (start : ℕ) (old : Forest Item) → IsCharBoundary d.text start → ParagraphSoFar d start old old start
-so_far_start d start old boundary = record { chain = []; tree_is = refl; boundary = boundary; from = inl refl; goes_on = λ whole left p. p }
+pub so_far_start : (d : Document) (start : ℕ) (old : Forest Item) → IsCharBoundary d.text start → LinesSoFar d start old old start
+so_far_start d start old boundary = record { chain = []; tree_is = refl; boundary = boundary; from = inl refl; goes_on = λ t p. p }
 
 -- A line ends between characters.
 pub next_boundary : (d : Document) (ix n : ℕ) (line_break : Option Item) → IsUtf8 d.text → IsCharBoundary d.text ix → EndsLine (content_at d ix) (n, line_break) → IsCharBoundary d.text n
@@ -125,19 +161,19 @@ next_boundary d ix n line_break utf8 boundary ends =
     ]
 
 -- The tokens of a line open and close nothing.
-read_path : (d : Document) (start ix : ℕ) (old now read : Forest Item) (answer : ℕ × Option Item) → ParagraphSoFar d start old now ix → JoinsNone old
+read_path : (d : Document) (start ix : ℕ) (old now read : Forest Item) (answer : ℕ × Option Item) → LinesSoFar d start old now ix → JoinsNone old
     → AppendsLine (content_at d ix) now read answer → AreIn (length old.nodes) old.spine → path_of read ≡ path_of old
 read_path d start ix old now read answer s apart line there =
     ap path_of (line.tree_is ∙ ap (λ f. with_tokens f line.tokens) s.tree_is ∙ with_tokens-chained old s.chain line.tokens apart) ∙ path_of-chained old (add_tokens s.chain line.tokens) there
 
--- behind a line, where the paragraph goes on
-pub so_far_more : (path : List Container) (d : Document) (start ix n at : ℕ) (old now read new : Forest Item) (line_break : Option Item) → path ≡ path_of old → IsUtf8 d.text → ParagraphSoFar d start old now ix → JoinsNone old
+-- behind a line, where the text goes on
+pub so_far_more : (path : List Container) (d : Document) (start ix n at : ℕ) (old now read new : Forest Item) (line_break : Option Item) → path ≡ path_of old → IsUtf8 d.text → LinesSoFar d start old now ix → JoinsNone old
     → AppendsLine (content_at d ix) now read (n, line_break) → EndsLine (content_at d ix) (n, line_break)
-    → ends_paragraph (around d path) (line_rest (drop n d.text)) ≡ false → at ≡ offset (unindented (place_at n (front path (line_rest (drop n d.text))))) → IsPlaceOf d.text (unindented (place_at n (front path (line_rest (drop n d.text)))))
-    → new ≡ with_child read line_break → (ParagraphSoFar d start old new at) × (ix < at)
+    → ends_text (around d path) (line_rest (drop n d.text)) ≡ false → at ≡ offset (unindented (place_at n (front path (line_rest (drop n d.text))))) → IsPlaceOf d.text (unindented (place_at n (front path (line_rest (drop n d.text)))))
+    → new ≡ with_child read line_break → (LinesSoFar d start old new at) × (ix < at)
 so_far_more path d start ix n at old now read new line_break path_is u s apart line ends goes at_is i new_is =
     let b = next_boundary d ix n line_break u s.boundary ends in
-    let within = goes_within (around d path) d.text n goes in
+    let within = text_within (around d path) d.text n goes in
     let later : ix < length d.text → ix < n = ends.later in
     let from : ix ≤ n = ends.from in
     let chain : List Item = add_tokens s.chain line.tokens in
@@ -147,39 +183,51 @@ so_far_more path d start ix n at old now read new line_break path_is u s apart l
         tree_is = new_is ∙ ap (λ f. with_child f line_break) tree ∙ with_child-chained old chain line_break;
         boundary = subst (IsCharBoundary d.text) (sym at_is) i.boundary;
         from = inr (elim s.from [ inl same ↦ (let e = ap (line_end_at d.text) same in let p : n ≡ line_end_at d.text ix = ends.place in omega arith) | inr past ↦ omega arith ]);
-        goes_on = λ whole left p. s.goes_on whole left (subst (λ c. IsParagraph d c ix s.chain (lines_from d.text (line_end_at d.text ix)) whole left) path_is
-            (paragraph_more path d ix n s.chain line.tokens whole line_break left line.line ends.place goes u b
-            (subst (λ z. IsParagraph d path z (add_break line_break chain) (lines_from d.text (line_end_at d.text z)) whole left) at_is
-            (subst (λ c. IsParagraph d c at (add_break line_break chain) (lines_from d.text (line_end_at d.text at)) whole left) (sym path_is) p))));
+        goes_on = λ t p. s.goes_on t (subst (λ c. AreTextLines d c ix s.chain (lines_from d.text (line_end_at d.text ix)) t) path_is
+            (lines_more path d ix n s.chain line.tokens line_break t line.line ends.place goes u b
+            (subst (λ z. AreTextLines d path z (add_break line_break chain) (lines_from d.text (line_end_at d.text z)) t) at_is
+            (subst (λ c. AreTextLines d c at (add_break line_break chain) (lines_from d.text (line_end_at d.text at)) t) (sym path_is) p))));
       },
       omega arith,
     )
 
 -- behind the last line
-pub so_far_end : (path : List Container) (d : Document) (start ix n : ℕ) (old now read new : Forest Item) (line_break : Option Item) → path ≡ path_of old → ParagraphSoFar d start old now ix → JoinsNone old
+pub so_far_end : (path : List Container) (d : Document) (start ix n : ℕ) (old now read : Forest Item) (line_break : Option Item) (underline : Option HeadingLevel) → path ≡ path_of old → LinesSoFar d start old now ix → JoinsNone old
     → AppendsLine (content_at d ix) now read (n, line_break) → EndsLine (content_at d ix) (n, line_break)
-    → ends_paragraph (around d path) (line_rest (drop n d.text)) ≡ true → IsCharBoundary d.text n
-    → new ≡ with_closed_break read line_break → AppendsParagraph d start old new n
-so_far_end path d start ix n old now read new line_break path_is s apart line ends stops boundary new_is =
+    → ends_text (around d path) (line_rest (drop n d.text)) ≡ true → IsCharBoundary d.text n → IfSome line_break (λ x. x.start < 2 ^ 63)
+    → underline ≡ option_map (λ (found : ℕ × HeadingLevel). found.1) (underline_of path (line_rest (drop n d.text)))
+    → AppendsLines d start old read (record { next = n; line_break = line_break; underline = underline })
+so_far_end path d start ix n old now read line_break underline path_is s apart line ends stops boundary short said =
     let chain : List Item = add_tokens s.chain line.tokens in
     let tree : read ≡ chained old chain = line.tree_is ∙ ap (λ f. with_tokens f line.tokens) s.tree_is ∙ with_tokens-chained old s.chain line.tokens apart in
+    let given : TextLines = text_lines chain line_break (lines_from d.text n) in
     record {
-      chain = close_break line_break chain;
-      lines = s.goes_on (close_break line_break chain) (lines_from d.text n)
-          (subst (λ c. IsParagraph d c ix s.chain (lines_from d.text (line_end_at d.text ix)) (close_break line_break chain) (lines_from d.text n)) path_is (paragraph_last path d ix n s.chain line.tokens line_break line.line ends.place stops));
-      tree_is = new_is ∙ ap (λ f. with_closed_break f line_break) tree ∙ with_closed_break-chained old chain line_break apart;
+      chain = chain;
+      are = s.goes_on given (subst (λ c. AreTextLines d c ix s.chain (lines_from d.text (line_end_at d.text ix)) given) path_is (lines_last path d ix n s.chain line.tokens line_break line.line ends.place stops));
+      tree_is = tree;
+      underline = said ∙ ap (option_map (λ (found : ℕ × HeadingLevel). found.1)) (sym (underline_there path d.text n) ∙ ap (λ c. underline_first c (lines_from d.text n)) path_is);
       later = elim s.from [ inl same ↦ (let e = ap (line_end_at d.text) same in let p : n ≡ line_end_at d.text ix = ends.place in omega arith) | inr past ↦ (let from : ix ≤ n = ends.from in omega arith) ];
       boundary = boundary;
+      short = short;
     }
 
--- what the text of the next line says
-pub goes_by : (t : Bool) (o : Option ℕ) (v at : ℕ) → o ≡ (if t then None else Some v) → o ≡ Some at → (t ≡ false) × (at ≡ v)
-goes_by true o v at e f = cc
-goes_by false o v at e f = (refl, cc)
+-- what the next line says
+pub goes_by : (o : Option (ℕ × HeadingLevel)) (t : Bool) (v at : ℕ) (next : NextLine) → next ≡ next_by o t v → next ≡ More at → ((is_some o || t) ≡ false) × (at ≡ v)
+goes_by (Some underline) t v at next e f = cc
+goes_by None true v at next e f = cc
+goes_by None false v at next e f = (refl, let same : More at ≡ More v = sym f ∙ e in cc)
 
-pub stops_by : (t : Bool) (o : Option ℕ) (v : ℕ) → o ≡ (if t then None else Some v) → o ≡ None → t ≡ true
-stops_by true o v e f = refl
-stops_by false o v e f = cc
+pub stops_by : (o : Option (ℕ × HeadingLevel)) (t : Bool) (v : ℕ) (next : NextLine) → next ≡ next_by o t v → next ≡ Other
+    → ((is_some o || t) ≡ true) × (None ≡ option_map (λ (found : ℕ × HeadingLevel). found.1) o)
+stops_by (Some underline) t v next e f = cc
+stops_by None true v next e f = (refl, refl)
+stops_by None false v next e f = cc
+
+pub underlined_by : (o : Option (ℕ × HeadingLevel)) (t : Bool) (v : ℕ) (level : HeadingLevel) (next : NextLine) → next ≡ next_by o t v → next ≡ Underline level
+    → ((is_some o || t) ≡ true) × (Some level ≡ option_map (λ (found : ℕ × HeadingLevel). found.1) o)
+underlined_by (Some underline) t v level next e f = (refl, let same : Underline level ≡ Underline underline.1 = sym f ∙ e in cc)
+underlined_by None true v level next e f = cc
+underlined_by None false v level next e f = cc
 
 -- the backslash of a hard break is in the text
 pub break_fits : (d : Document) (ix n : ℕ) (line_break : Option Item) → length d.text < 2 ^ 63 → EndsLine (content_at d ix) (n, line_break) → IfSome line_break (λ x. x.start < 2 ^ 63)
@@ -207,29 +255,30 @@ same_end t u o w ix answer e f ends =
     subst (λ z. EndsLine (line_source z u ix) answer) f (subst (λ z. EndsLine (line_source o z ix) answer) e ends)
 
 -- the two steps, of a text that is held by other names before and after the line is read
-pub so_far_next : (first text now_text : List ℕ) (o w : Options) (start ix n at : ℕ) (old now read new : Forest Item) (line_break : Option Item) (found : Option ℕ) (path : List Container)
-    → text ≡ first → o ≡ w → now_text ≡ text → path ≡ path_of read → AreIn (length old.nodes) old.spine → IsUtf8 first → ParagraphSoFar (document first w no_names) start old now ix → JoinsNone old
+pub so_far_next : (first text now_text : List ℕ) (o w : Options) (start ix n at : ℕ) (old now read new : Forest Item) (line_break : Option Item) (found : NextLine) (path : List Container)
+    → text ≡ first → o ≡ w → now_text ≡ text → path ≡ path_of read → AreIn (length old.nodes) old.spine → IsUtf8 first → LinesSoFar (document first w no_names) start old now ix → JoinsNone old
     → AppendsLine (line_source o text ix) now read (n, line_break) → EndsLine (line_source o text ix) (n, line_break)
-    → found ≡ (if ends_paragraph (context w path) ((line_rest (drop n now_text))) then None else Some (offset (unindented (place_at n (front path (line_rest (drop n now_text))))))) → found ≡ Some at
+    → found ≡ next_line_of (context w path) n (line_rest (drop n now_text)) → found ≡ More at
     → IsPlaceOf now_text (unindented (place_at n (front path (line_rest (drop n now_text))))) → new ≡ with_child read line_break
-    → (ParagraphSoFar (document first w no_names) start old new at) × (ix < at)
+    → (LinesSoFar (document first w no_names) start old new at) × (ix < at)
 so_far_next first text now_text o w start ix n at old now read new line_break found path same same_options kept path_is there u s apart line ends value is place new_is =
     let e : now_text ≡ first = kept ∙ same in
-    let goes = goes_by _ _ _ _ (subst (λ t. found ≡ (if ends_paragraph (context w path) ((line_rest (drop n t))) then None else Some (offset (unindented (place_at n (front path (line_rest (drop n t)))))))) e value) is in
+    let goes = goes_by _ _ _ _ _ (subst (λ t. found ≡ next_line_of (context w path) n (line_rest (drop n t))) e value) is in
     so_far_more path (document first w no_names) start ix n at old now read new line_break (path_is ∙ read_path (document first w no_names) start ix old now read (n, line_break) s apart (same_line text first o w ix now read (n, line_break) same same_options line) there) u s apart (same_line text first o w ix now read (n, line_break) same same_options line)
     (same_end text first o w ix (n, line_break) same same_options ends) goes.0 goes.1 (subst (λ t. IsPlaceOf t (unindented (place_at n (front path (line_rest (drop n t)))))) e place) new_is
 
-pub so_far_stop : (first text now_text : List ℕ) (o w : Options) (start ix n : ℕ) (old now read new : Forest Item) (line_break : Option Item) (found : Option ℕ) (path : List Container)
-    → text ≡ first → o ≡ w → now_text ≡ text → path ≡ path_of read → AreIn (length old.nodes) old.spine → IsUtf8 first → ParagraphSoFar (document first w no_names) start old now ix → JoinsNone old
-    → AppendsLine (line_source o text ix) now read (n, line_break) → EndsLine (line_source o text ix) (n, line_break)
-    → found ≡ (if ends_paragraph (context w path) ((line_rest (drop n now_text))) then None else Some (offset (unindented (place_at n (front path (line_rest (drop n now_text))))))) → found ≡ None
-    → IsCharBoundary text n → new ≡ with_closed_break read line_break
-    → AppendsParagraph (document first w no_names) start old new n
-so_far_stop first text now_text o w start ix n old now read new line_break found path same same_options kept path_is there u s apart line ends value is boundary new_is =
+pub so_far_stop : (first text now_text : List ℕ) (o w : Options) (start ix n : ℕ) (old now read : Forest Item) (line_break : Option Item) (underline : Option HeadingLevel) (path : List Container)
+    → text ≡ first → o ≡ w → now_text ≡ text → path ≡ path_of read → AreIn (length old.nodes) old.spine → IsUtf8 first → LinesSoFar (document first w no_names) start old now ix → JoinsNone old
+    → AppendsLine (line_source o text ix) now read (n, line_break) → EndsLine (line_source o text ix) (n, line_break) → length first < 2 ^ 63
+    → (ends_text (context w path) (line_rest (drop n now_text)) ≡ true) × (underline ≡ option_map (λ (u : ℕ × HeadingLevel). u.1) (underline_of path (line_rest (drop n now_text))))
+    → IsCharBoundary text n
+    → AppendsLines (document first w no_names) start old read (record { next = n; line_break = line_break; underline = underline })
+so_far_stop first text now_text o w start ix n old now read line_break underline path same same_options kept path_is there u s apart line ends small said boundary =
     let e : now_text ≡ first = kept ∙ same in
-    let stops = stops_by _ _ _ (subst (λ t. found ≡ (if ends_paragraph (context w path) ((line_rest (drop n t))) then None else Some (offset (unindented (place_at n (front path (line_rest (drop n t)))))))) e value) is in
-    so_far_end path (document first w no_names) start ix n old now read new line_break (path_is ∙ read_path (document first w no_names) start ix old now read (n, line_break) s apart (same_line text first o w ix now read (n, line_break) same same_options line) there) s apart (same_line text first o w ix now read (n, line_break) same same_options line)
-    (same_end text first o w ix (n, line_break) same same_options ends) stops (subst (λ t. IsCharBoundary t n) same boundary) new_is
+    let stops = subst (λ t. (ends_text (context w path) (line_rest (drop n t)) ≡ true) × (underline ≡ option_map (λ (u : ℕ × HeadingLevel). u.1) (underline_of path (line_rest (drop n t))))) e said in
+    let ended = same_end text first o w ix (n, line_break) same same_options ends in
+    so_far_end path (document first w no_names) start ix n old now read line_break underline (path_is ∙ read_path (document first w no_names) start ix old now read (n, line_break) s apart (same_line text first o w ix now read (n, line_break) same same_options line) there) s apart (same_line text first o w ix now read (n, line_break) same same_options line)
+    ended stops.0 (subst (λ t. IsCharBoundary t n) same boundary) (break_fits (document first w no_names) ix n line_break small ended) stops.1
 
 -- a paragraph just opened, with the marker of its task list item
 pub path_of-paragraph : (g p m : Forest Item) (x : Item) (ix : TreeIndex) (marker : Option Item) → container_of x.body ≡ None → p ≡ pushed (appended g x) ix → m ≡ with_child p marker → ix.0 ≡ length g.nodes

@@ -1,14 +1,18 @@
 -- What the leaf parsers append to the tree.
-use Rattle.std.specs.Prelude.{◌≡◌, ◌≤◌, ℕ, ◌+◌, List, [], ◌++◌, take, drop, Option, Some, None, false, IsCharBoundary, if◌then◌else◌}
+use Rattle.std.specs.Prelude.{◌≡◌, ◌≤◌, ℕ, ◌+◌, List, [], ◌++◌, take, drop, Option, Some, None, false, IsCharBoundary, if◌then◌else◌, ◌<◌, ◌^◌, IfSome}
 use Rattle.first_pass_items.specs.declared.item.Item.{Item}
 use Rattle.first_pass_items.specs.declared.item.HeadingLevel.{HeadingLevel}
 use Rattle.first_pass_tree.specs.Forest.{Forest, added, with_text}
 use Rattle.first_pass_lines.specs.Lines.{line_len, level_number}
 use Rattle.first_pass_tokens.specs.Chains.{is_backslash_break}
 use Rattle.first_pass_tokens.specs.TreeTokens.{chained}
-use Rattle.first_pass_grammar.specs.Leaves.{Document, IsParagraph, IsHeading, heading_text_at, heading_block, paragraph_block, marker_items}
+use Rattle.first_pass_grammar.specs.Leaves.{Document, IsHeading, heading_text_at, heading_block, text_lines, AreTextLines}
 use Rattle.first_pass_grammar.specs.Completion.{lines_from}
 use Rattle.first_pass_open.specs.Path.{path_of}
+use Rattle.std.specs.Option.{option_map}
+use Rattle.first_pass_grammar.specs.Texts.{underline_first, IsPlainText}
+use Rattle.first_pass_grammar.specs.Tables.{taking}
+use Rattle.first_pass_text.specs.declared.paragraph.TextEnd.{TextEnd}
 
 -- the bytes of a text up to an offset, or all
 abbrev pub text_upto : List ℕ → Option ℕ → List ℕ
@@ -24,13 +28,16 @@ with_closed_break f (Some x) = if is_backslash_break x.body then with_text f x.s
 abbrev pub line_end_at : List ℕ → ℕ → ℕ
 line_end_at text at = at + line_len (drop at text)
 
--- The chain of the paragraph whose text begins at an offset stands in the innermost open node, and the paragraph leaves the lines from another on.
-pub record AppendsParagraph (d : Document) (start : ℕ) (old new : Forest Item) (next : ℕ) : Type 0 where
+-- The chain of the lines of a text that begins at an offset stands in the innermost open node, with the break behind the last of them apart; they leave those
+-- from another offset on, the first of which is an underline or none (CommonMark 4.3, 4.8).
+pub record AppendsLines (d : Document) (start : ℕ) (old new : Forest Item) (end : TextEnd) : Type 0 where
   pub chain : List Item
-  pub lines : IsParagraph d (path_of old) start [] (lines_from d.text (line_end_at d.text start)) chain (lines_from d.text next)
+  pub are : AreTextLines d (path_of old) start [] (lines_from d.text (line_end_at d.text start)) (text_lines chain end.line_break (lines_from d.text end.next))
   pub tree_is : new ≡ chained old chain
-  pub later : line_end_at d.text start ≤ next
-  pub boundary : IsCharBoundary d.text next
+  pub underline : end.underline ≡ option_map (λ found. found.1) (underline_first (path_of old) (lines_from d.text end.next))
+  pub later : line_end_at d.text start ≤ end.next
+  pub boundary : IsCharBoundary d.text end.next
+  pub short : IfSome end.line_break (λ x. x.start < 2 ^ 63)
 
 -- The chain of the heading whose text begins at an offset stands in the innermost open node, and its line ends before another.
 pub record AppendsHeading (d : Document) (start : ℕ) (old new : Forest Item) (next : ℕ) : Type 0 where
@@ -39,11 +46,12 @@ pub record AppendsHeading (d : Document) (start : ℕ) (old new : Forest Item) (
   pub tree_is : new ≡ chained old chain
   pub end_is : next ≡ line_end_at d.text start
 
--- The paragraph whose text begins at an offset is a last child of the innermost open node, and leaves the lines from another on.
-pub record AddsParagraph (d : Document) (start : ℕ) (marker : Option Item) (old new : Forest Item) (next : ℕ) : Type 0 where
-  pub chain : List Item
-  pub lines : IsParagraph d (path_of old) start [] (lines_from d.text (line_end_at d.text start)) chain (lines_from d.text next)
-  pub tree_is : new ≡ added old (paragraph_block start next (marker_items marker ++ chain))
+-- What stands for the text that begins at an offset and heads no table is a last child of the innermost open node, and leaves the lines from another on
+-- (CommonMark 4.3, 4.8).
+pub record AddsPlainText (d : Document) (start : ℕ) (marker : Option Item) (old new : Forest Item) (next : ℕ) : Type 0 where
+  pub items : List (ℕ × Item)
+  pub is : IsPlainText d (path_of old) start marker (lines_from d.text (line_end_at d.text start)) (taking items (lines_from d.text next))
+  pub tree_is : new ≡ added old items
   pub later : line_end_at d.text start ≤ next
   pub boundary : IsCharBoundary d.text next
 

@@ -1,19 +1,34 @@
 -- How far the reading of a paragraph's lines has come (private functions alone cite this).
-use Rattle.std.specs.Prelude.{◌≡◌, ◌⊎◌, ◌≤◌, ℕ, List, [], IsCharBoundary}
+use Rattle.std.specs.Prelude.{◌≡◌, ◌⊎◌, ◌≤◌, ℕ, List, [], IsCharBoundary, Bool, true, false, Option, Some, None}
 use Rattle.first_pass_items.specs.declared.item.Item.{Item}
 use Rattle.first_pass_tree.specs.Forest.{Forest}
-use Rattle.first_pass_lines.specs.Places.{Place}
+use Rattle.first_pass_lines.specs.Places.{Place, offset, place_at}
 use Rattle.first_pass_tokens.specs.TreeTokens.{chained}
-use Rattle.first_pass_grammar.specs.Leaves.{Document, IsParagraph}
+use Rattle.first_pass_grammar.specs.Leaves.{Document, TextLines, AreTextLines}
 use Rattle.first_pass_grammar.specs.Completion.{lines_from}
 use Rattle.first_pass_text.specs.Appends.{line_end_at}
 use Rattle.first_pass_open.specs.Path.{path_of}
+use Rattle.first_pass_grammar.specs.Kinds.{unindented, underline_of, ends_paragraph}
+use Rattle.first_pass_items.specs.declared.item.HeadingLevel.{HeadingLevel}
+use Rattle.first_pass_text.specs.declared.interrupt.NextLine.{NextLine}
+use Rattle.first_pass_text.specs.declared.interrupt.NextLine.TheVariants.{More, Underline, Other}
+use Rattle.first_pass_lines.specs.Rest.{Rest}
+use Rattle.first_pass_grammar.specs.Containers.{Context, front}
 
--- The lines of a paragraph are read up to where the text of another begins: what is then the chain of the paragraph from there on, is that of the whole.
-pub record ParagraphSoFar (d : Document) (start : ℕ) (old now : Forest Item) (at : ℕ) : Type 0 where
+-- The lines of a text are read up to where the text of another begins: what they give from there on, is what all of them give.
+pub record LinesSoFar (d : Document) (start : ℕ) (old now : Forest Item) (at : ℕ) : Type 0 where
   pub chain : List Item
   pub tree_is : now ≡ chained old chain
   pub boundary : IsCharBoundary d.text at
   pub from : (at ≡ start) ⊎ (line_end_at d.text start ≤ at)
-  pub goes_on : (whole : List Item) (left : List Place) → IsParagraph d (path_of old) at chain (lines_from d.text (line_end_at d.text at)) whole left
-      → IsParagraph d (path_of old) start [] (lines_from d.text (line_end_at d.text start)) whole left
+  pub goes_on : (t : TextLines) → AreTextLines d (path_of old) at chain (lines_from d.text (line_end_at d.text at)) t
+      → AreTextLines d (path_of old) start [] (lines_from d.text (line_end_at d.text start)) t
+
+-- what the line that begins at an offset, and of which this is left, is to a text before it (CommonMark 4.3, 4.8)
+abbrev pub next_by : Option (ℕ × HeadingLevel) → Bool → ℕ → NextLine
+next_by (Some underline) ends at = Underline underline.1
+next_by None true at = Other
+next_by None false at = More at
+
+abbrev pub next_line_of : Context → ℕ → Rest → NextLine
+next_line_of around start r = next_by (underline_of around.path r) (ends_paragraph around r) (offset (unindented (place_at start (front around.path r))))

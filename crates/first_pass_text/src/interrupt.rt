@@ -12,10 +12,12 @@ ghost use Rattle.first_pass_grammar.specs.Definitions.{is_underline, crossed};
 ghost use Rattle.first_pass_open.specs.Path.{path_of, context_of};
 ghost use Rattle.first_pass_tree.specs.Forest.{in_table};
 ghost use Rattle.first_pass_text.specs.Rests.{IsRestOf};
+ghost use Rattle.first_pass_text.specs.Reading.{next_line_of};
+ghost use Rattle.std.specs.Option.{option_map};
 
 use crate::kinds::html_kind;
 use crate::table_start::interrupts_as_table;
-use first_pass_items::item::Item;
+use first_pass_items::item::{HeadingLevel, Item};
 use first_pass_lines::lines::{
     begins, is_plain_front, scan_atx_heading, scan_blank_line, scan_eol,
 };
@@ -137,23 +139,44 @@ fn scan_prefixes<'b>(
     (kept == tree.spine_len(), columns, place)
 }
 
-/// Where the text of the line begins, as an offset into `text`, by which a paragraph goes on at the line
-/// that begins at `start`, whatever open containers that line goes on with; `None` where that line ends the
-/// paragraph (CommonMark 4.8, 5.1).
-#[tactic(auto, unfolding(first_pass_grammar::specs::Kinds::interrupts))]
-pub fn next_paragraph_text(
+/// What a line is to a text whose lines are before it.
+#[derive(Clone, Copy, Drop)]
+pub enum NextLine {
+    /// One more of them, whose own text begins at this offset into the text.
+    More(usize),
+    /// The underline by which they are a heading of this level.
+    Underline(HeadingLevel),
+    /// None of them: they are a paragraph.
+    Other,
+}
+
+// The level of the setext heading whose underline is left of a line, which goes on with all containers or not, behind
+// so many columns of indentation, but 4 where there are more (CommonMark 4.3).
+#[inline(always)]
+fn scan_underline(rest: &LineStart<'_>, whole: bool, columns: usize) -> Option<HeadingLevel>
+    ensures { result ≡ option_map (λ found. found.1)
+        (if whole then (if nat_lt columns 4 then setext_underline rest.now.left else None) else None) }
+{
+    if whole && columns < 4 {
+        scan_setext_heading(rest.left()).map(|underline| underline.1)
+    } else {
+        None
+    }
+}
+
+/// What the line that begins at the offset `start` into the text is to a text before it: an underline, where it goes on
+/// with all open containers; a line that ends a paragraph; or one more line of that text, whatever open containers it
+/// goes on with (CommonMark 4.3, 4.8, 5.1).
+#[tactic(auto, unfolding(first_pass_grammar::specs::Kinds::interrupts, first_pass_grammar::specs::Kinds::underline_of))]
+pub fn scan_next_line(
     alloc: Global,
     source: Source<'_>,
     start: usize,
     tree: &Tree<Item>,
-) -> Result<Option<usize>, AllocError>
+) -> Result<NextLine, AllocError>
     requires { IsCharBoundary source.text.now start }
-    ensures value { IfOk result (λ next.
-        next ≡ (if ends_paragraph (context_of source.entry.options tree.now)
-        (line_rest (drop start source.entry.text.now))
-        then None
-        else Some (offset (unindented (place_at start (front (path_of tree.now)
-        (line_rest (drop start source.entry.text.now)))))))) }
+    ensures value { IfOk result (λ next. next
+        ≡ next_line_of (context_of source.entry.options tree.now) start (line_rest (drop start source.entry.text.now))) }
     ensures place { OnOk result (IsPlaceOf source.entry.text.now
         (unindented (place_at start (front (path_of tree.now) (line_rest (drop start source.entry.text.now)))))) }
     ensures utf8 { IsUtf8 source.entry.text.now }
@@ -161,19 +184,14 @@ pub fn next_paragraph_text(
     source.is_short();
     let bytes = rest_of(source.text.as_bytes(), start);
     let (whole, columns, place) = scan_prefixes(source, start, bytes, tree);
+    if let Some(level) = scan_underline(&place.rest, whole, columns) {
+        return Ok(NextLine::Underline(level));
+    }
     let at = place.offset();
-    let interrupted = if columns < 4 {
-        scan_interruption(
-            alloc,
-            source,
-            tree,
-            rest_of(source.text.as_bytes(), at),
-            whole,
-        )?
-    } else {
-        scan_eol(rest_of(source.text.as_bytes(), at)).is_some()
-    };
-    if interrupted { Ok(None) } else { Ok(Some(at)) }
+    if scan_paragraph_end(alloc, source, tree, at, columns, whole)? {
+        return Ok(NextLine::Other);
+    }
+    Ok(NextLine::More(at))
 }
 
 /// What is left of the line that `bytes` begin with, all that the text has from the line on, behind its columns, where

@@ -1,4 +1,4 @@
-//! The lines of a paragraph.
+//! The lines of a paragraph, or of a heading that is underlined.
 
 ghost use Rattle.std.specs.Prelude.{◌≡◌, ◌<◌, ◌^◌, ℕ, false, IfOk, IfSome, OnOk, IsUtf8, IsCharBoundary};
 ghost use Rattle.first_pass_walk.specs.Walk.{MarksSpecial};
@@ -6,12 +6,13 @@ ghost use Rattle.first_pass_tokens.specs.TreeTokens.{JoinsNone};
 ghost use Rattle.first_pass_names.specs.TableEntries.{no_names};
 ghost use Rattle.first_pass_grammar.specs.Leaves.{document};
 ghost use Rattle.first_pass_tree.specs.Forest.{is_text};
-ghost use Rattle.first_pass_text.specs.Appends.{AppendsParagraph, AddsParagraph, with_closed_break};
+ghost use Rattle.first_pass_text.specs.Appends.{AppendsLines, AddsPlainText, with_closed_break};
 ghost use Rattle.first_pass_open.specs.OpenBlock.{with_child};
 ghost use Rattle.first_pass_text.specs.Between.{AddsBetween, IsInItem, StandsBefore};
 
-use crate::interrupt::next_paragraph_text;
-use first_pass_items::item::{Item, ItemBody};
+use crate::interrupt::{NextLine, scan_next_line};
+use first_pass_items::item::{HeadingLevel, Item, ItemBody};
+use first_pass_lines::places::next_line;
 use first_pass_open::open_block::close_block;
 use first_pass_open::source::Source;
 use first_pass_tokens::line::append_line;
@@ -54,10 +55,19 @@ pub fn append_last_backslash(
     }
 }
 
-/// Appends the paragraph whose first line's text begins at the offset `start_ix` into the text to the innermost
-/// open node of the tree, with the marker of its task list item, if it has one, as its first child. Answers the
-/// offset at which the line begins that ends the paragraph, or the text's length (CommonMark 4.8). The table is
-/// that of the special bytes.
+// Where the lines of a text end: at the offset at which the next line begins, or the text's length; the break behind the
+// last of them; and the level of the heading that they are, where the next line is an underline.
+#[derive(Clone, Copy, Drop)]
+struct TextEnd {
+    next: usize,
+    line_break: Option<Item>,
+    underline: Option<HeadingLevel>,
+}
+
+/// Appends the paragraph, or the heading that is underlined, whose first line's text begins at the offset `start_ix`
+/// into the text to the innermost open node of the tree, with the marker of its task list item, if it has one, as its
+/// first child. Answers the offset at which the line begins that is behind it, or the text's length (CommonMark 4.3,
+/// 4.8). The table is that of the special bytes.
 pub fn parse_paragraph(
     alloc: Global,
     source: Source<'_>,
@@ -70,7 +80,7 @@ pub fn parse_paragraph(
     requires marks { MarksSpecial lut.now source.options }
     requires marker { IfSome tasklist_marker (λ x. is_text x.body ≡ false) }
     ensures block { IfOk result (λ next.
-        AddsParagraph (document source.entry.text.now source.entry.options no_names) start_ix tasklist_marker tree.old
+        AddsPlainText (document source.entry.text.now source.entry.options no_names) start_ix tasklist_marker tree.old
         tree.new next) }
     ensures fits { IfOk result (λ next. IsInItem tree.old tasklist_marker → (from : ℕ)
         → StandsBefore source.entry.text.now from start_ix tasklist_marker
@@ -82,47 +92,60 @@ pub fn parse_paragraph(
         end: 0,
         body: ItemBody::Paragraph,
     })?;
-    tree.push()?;
+    let node_ix = tree.push()?;
     append_item(tree, tasklist_marker)?;
-    let ix = paragraph_lines(alloc, source, lut, tree, start_ix)?;
-    close_block(tree, ix);
-    Ok(ix)
+    let end = append_text_lines(alloc, source, lut, tree, start_ix)?;
+    append_last_backslash(tree, end.line_break)?;
+    let Some(level) = end.underline else {
+        close_block(tree, end.next);
+        return Ok(end.next);
+    };
+    let behind = next_line(source.text.as_bytes(), end.next);
+    close_block(tree, behind);
+    tree.set_body(node_ix, ItemBody::Heading(level, None));
+    Ok(behind)
 }
 
-// Appends the chain of the paragraph whose text begins at `start` to the innermost open node, and answers where
-// the line begins that ends the paragraph, or the text's length.
-fn paragraph_lines(
+// Appends the chain of the lines of the text that begins at `start` to the innermost open node, but for the break behind
+// the last of them.
+fn append_text_lines(
     alloc: Global,
     source: Source<'_>,
     lut: &[bool; 256],
     tree: &mut Tree<Item>,
     start: usize,
-) -> Result<usize, AllocError>
+) -> Result<TextEnd, AllocError>
     requires boundary { IsCharBoundary source.text.now start }
     requires marks { MarksSpecial lut.now source.options }
     requires apart { JoinsNone tree.old }
     ensures utf8 { OnOk result (IsUtf8 source.entry.text.now) }
-    ensures lines { IfOk result (λ next.
-        AppendsParagraph (document source.entry.text.now source.entry.options no_names) start tree.old tree.new next) }
+    ensures lines { IfOk result (λ end.
+        AppendsLines (document source.entry.text.now source.entry.options no_names) start tree.old tree.new end) }
 {
+    source.is_short();
     tree.is_forest();
     let mut ix = start;
     'lines: loop {
-        let (next, line_break) = append_line(
-            source.text.as_bytes(),
-            ix,
-            source.options,
-            lut,
-            tree,
-        )?;
-        match next_paragraph_text(alloc, source, next, tree)? {
-            Some(at) => {
+        let bytes = source.text.as_bytes();
+        let (next, line_break) = append_line(bytes, ix, source.options, lut, tree)?;
+        match scan_next_line(alloc, source, next, tree)? {
+            NextLine::More(at) => {
                 append_item(tree, line_break)?;
                 ix = at;
             }
-            None => {
-                append_last_backslash(tree, line_break)?;
-                return Ok(next);
+            NextLine::Underline(level) => {
+                return Ok(TextEnd {
+                    next,
+                    line_break,
+                    underline: Some(level),
+                });
+            }
+            NextLine::Other => {
+                return Ok(TextEnd {
+                    next,
+                    line_break,
+                    underline: None,
+                });
             }
         }
     }
