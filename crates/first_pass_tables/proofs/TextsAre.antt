@@ -19,7 +19,7 @@ use Rattle.first_pass_grammar.specs.declared.kind.Container.{Container}
 use Rattle.first_pass_grammar.specs.Containers.{Context, context, at_rest, front}
 use Rattle.first_pass_grammar.specs.Kinds.{unindented}
 use Rattle.first_pass_grammar.specs.Names.{Names, Extends, NamesAlignments}
-use Rattle.first_pass_grammar.specs.Leaves.{Document, document, add_break, IsParagraph, paragraph_block, marker_items}
+use Rattle.first_pass_grammar.specs.Leaves.{Document, document, add_break, TextLines, AreTextLines}
 use Rattle.first_pass_grammar.specs.Completion.{lines_from}
 use Rattle.first_pass_grammar.specs.TableHeads.{headed_table}
 use Rattle.first_pass_grammar.specs.Tables.{AreCells, filled, row_block, Taken, taking, AreRows, most_filled, IsTable}
@@ -32,7 +32,7 @@ use Rattle.first_pass_open.proofs.BlockLemmas.{just_pushed}
 use Rattle.first_pass_open.specs.Path.{path_of, context_of}
 use Rattle.first_pass_open.proofs.PathLemmas.{AreIn, get_last, path_of-opened}
 use Rattle.first_pass_open.proofs.PlaceLemmas.{line_start_end, place_end}
-use Rattle.first_pass_text.specs.Appends.{line_end_at, AddsParagraph}
+use Rattle.first_pass_text.specs.Appends.{line_end_at, AddsPlainText}
 use Rattle.first_pass_text.specs.Between.{AddsBetween}
 use Rattle.first_pass_tables.specs.Appends.{with_below, AppendsRows}
 use Rattle.first_pass_tables.specs.TextsAdded.{AddsText}
@@ -54,9 +54,9 @@ rows_renamed text options m n path columns most (line ∷ lines) t (inr (start, 
 
 -- what a text is whose first line heads a table, or none
 text_by : (d : Document) (path : List Container) (p : Place) (marker : Option Item) (lines : List Place) (t : Taken) (o : Option (List Alignment)) → headed_table (context d.options path) p.rest.left ≡ o
-    → MatchOption o (IsPlainText d path p marker lines t) (λ alignments. IsTable d path p alignments lines t) → IsText d path p marker lines t
+    → MatchOption o (IsPlainText d path (offset p) marker lines t) (λ alignments. IsTable d path p alignments lines t) → IsText d path p marker lines t
 unfolding IsText
-text_by d path p marker lines t o e h = subst (λ o. MatchOption o (IsPlainText d path p marker lines t) (λ alignments. IsTable d path p alignments lines t)) (sym e) h
+text_by d path p marker lines t o e h = subst (λ o. MatchOption o (IsPlainText d path (offset p) marker lines t) (λ alignments. IsTable d path p alignments lines t)) (sym e) h
 
 -- where a line ends that has a place
 there_ends : (text : List ℕ) (p : Place) (start : ℕ) → IsPlaceOf text p → offset p ≡ start → line_end_at text start ≡ line_end p
@@ -65,36 +65,35 @@ there_ends text p start i at = ap (line_end_at text) (sym at) ∙ ap (λ bs. off
 headed_at : (context : Context) (text : List ℕ) (p : Place) (start : ℕ) (o : Option (List Alignment)) → IsPlaceOf text p → offset p ≡ start → headed_table context (drop start text) ≡ o → headed_table context p.rest.left ≡ o
 headed_at context text p start o i at h = ap (headed_table context) (i.left ∙ ap (λ n. drop n text) at) ∙ h
 
--- a paragraph's chain names nothing
-paragraph_lines : (text : List ℕ) (options : Options) (m n : Names) (path : List Container) (start : ℕ) (chain : List Item) (lines : List Place) (whole : List Item) (left : List Place)
-    → IsParagraph (document text options m) path start chain lines whole left → IsParagraph (document text options n) path start chain lines whole left
-unfolding IsParagraph
-paragraph_lines text options m n path start chain [] whole left h = h
-paragraph_lines text options m n path start chain (line ∷ lines) whole left (t, a, i, inl x) = (t, a, i, inl x)
-paragraph_lines text options m n path start chain (line ∷ lines) whole left (t, a, i, inr (h, more)) =
-    (t, a, i, inr (h, paragraph_lines text options m n path (offset (unindented (at_rest line (front path line.rest)))) (add_break a.1 (add_tokens chain t)) lines whole left more))
+-- the chain of a text's lines names nothing
+named_lines : (text : List ℕ) (options : Options) (m n : Names) (path : List Container) (start : ℕ) (chain : List Item) (lines : List Place) (t : TextLines)
+    → AreTextLines (document text options m) path start chain lines t → AreTextLines (document text options n) path start chain lines t
+unfolding AreTextLines
+named_lines text options m n path start chain [] t h = h
+named_lines text options m n path start chain (line ∷ lines) t (k, a, i, inl x) = (k, a, i, inl x)
+named_lines text options m n path start chain (line ∷ lines) t (k, a, i, inr (h, more)) =
+    (k, a, i, inr (h, named_lines text options m n path (offset (unindented (at_rest line (front path line.rest)))) (add_break a.1 (add_tokens chain k)) lines t more))
 
--- a paragraph that was added
-pub paragraph_text : (text : List ℕ) (options : Options) (names : Names) (start : ℕ) (marker : Option Item) (old new : Forest Item) (next : ℕ) → headed_table (context_of options old) (drop start text) ≡ None
-    → AddsParagraph (document text options no_names) start marker old new next → AddsText text options names start marker old new next
-paragraph_text text options names start marker old new next none a =
-    let left : List Place = lines_from text next in
-    let items : List (ℕ × Item) = paragraph_block start next (marker_items marker ++ a.chain) in
-    let ends : start_of (length text) left ≡ next = start_of-lines text next a.boundary.0 in
+named_plain : (text : List ℕ) (options : Options) (m n : Names) (path : List Container) (start : ℕ) (marker : Option Item) (lines : List Place) (t : Taken)
+    → IsPlainText (document text options m) path start marker lines t → IsPlainText (document text options n) path start marker lines t
+named_plain text options m n path start marker lines t (l, are, ended) = (l, named_lines text options m n path start [] lines l are, ended)
+
+-- a paragraph, or a heading that is underlined, that was added
+pub plain_text_added : (text : List ℕ) (options : Options) (names : Names) (start : ℕ) (marker : Option Item) (old new : Forest Item) (next : ℕ)
+    → headed_table (context_of options old) (drop start text) ≡ None
+    → AddsPlainText (document text options no_names) start marker old new next → AddsText text options names start marker old new next
+plain_text_added text options names start marker old new next none a =
+    let t : Taken = taking a.items (lines_from text next) in
     record {
-      items = items;
+      items = a.items;
       is_text = λ more e p i at.
           let d = document text options more in
           let path = path_of old in
-          let lines = paragraph_lines text options no_names more path start [] (lines_from text (line_end_at text start)) a.chain left a.lines in
-          let here : IsParagraph d path (offset p) [] (lines_from text (line_end p)) a.chain left =
-          subst (λ k. IsParagraph d path k [] (lines_from text (line_end p)) a.chain left) (sym at)
-          (subst (λ k. IsParagraph d path start [] (lines_from text k) a.chain left) (there_ends text p start i at) lines) in
-          text_by d path p marker (lines_from text (line_end p)) (taking items left) None (headed_at (context options path) text p start None i at none) (
-            a.chain,
-            here,
-            ap (λ k. paragraph_block k next (marker_items marker ++ a.chain)) (sym at) ∙ ap (λ k. paragraph_block (offset p) k (marker_items marker ++ a.chain)) (sym ends),
-          );
+          let plain = named_plain text options no_names more path start marker (lines_from text (line_end_at text start)) t a.is in
+          let here : IsPlainText d path (offset p) marker (lines_from text (line_end p)) t =
+          subst (λ k. IsPlainText d path k marker (lines_from text (line_end p)) t) (sym at)
+          (subst (λ k. IsPlainText d path start marker (lines_from text k) t) (there_ends text p start i at) plain) in
+          text_by d path p marker (lines_from text (line_end p)) t None (headed_at (context options path) text p start None i at none) here;
       tree_is = a.tree_is;
       later = a.later;
       boundary = a.boundary;

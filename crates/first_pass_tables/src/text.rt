@@ -1,5 +1,5 @@
-//! What stands for a text where no other block begins: a paragraph, or the table that its first line heads
-//! (CommonMark 4.8, GFM 4.10).
+//! What stands for a text where no other block begins: a paragraph, a heading that is underlined, or the table that its
+//! first line heads (CommonMark 4.3, 4.8, GFM 4.10).
 
 ghost use Rattle.std.specs.Prelude.{◌≡◌, ◌≤◌, false, ℕ, drop, Option, Some, IfOk, IfSome, OnOk, IsUtf8, IsCharBoundary};
 ghost use Rattle.first_pass_walk.specs.Walk.{MarksSpecial};
@@ -57,10 +57,10 @@ fn append_table(
 }
 
 /// Appends what stands for the text that begins at the offset `start_ix` into the text to the innermost open node: the
-/// table that its first line heads, with tables; else a paragraph, with the marker of its task list item, if it has
-/// one, as its first child. Answers the offset at which the line begins that ends it, or the text's length. The
-/// alignments of a table's columns are put among `allocs`; `lut` is the table of the special bytes. The error is want
-/// of memory (CommonMark 4.8, GFM 4.10).
+/// table that its first line heads, with tables; else a heading that is underlined or a paragraph, with the marker of
+/// its task list item, if it has one, as its first child. Answers the offset at which the line begins that is behind it,
+/// or the text's length. The alignments of a table's columns are put among `allocs`; `lut` is the table of the special
+/// bytes. The error is want of memory (CommonMark 4.3, 4.8, GFM 4.10).
 pub fn parse_paragraph(
     alloc: Global,
     source: Source<'_>,
