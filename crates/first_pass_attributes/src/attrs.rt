@@ -1,0 +1,103 @@
+//! The attribute block at the end of a heading (this project).
+
+ghost use Rattle.std.specs.List.{suffix_len};
+ghost use Rattle.std.specs.Option.{option_map};
+ghost use Rattle.std.specs.Prelude.{◌≡◌, ◌≤◌, ◌<◌, ◌+◌, ◌-◌, length, true, take, slice_index, IfSome, Some, None};
+ghost use Rattle.first_pass_items.specs.Bytes.{left_brace, right_brace};
+ghost use Rattle.first_pass_attributes.specs.AttributeBlocks.{ends as ends_with, is_behind_block, is_inside_block, opening_brace as opening_of, length_before_block, inside_block};
+
+use first_pass_lines::lines::{is_blank, is_line_end};
+use std::ops::Range;
+
+/// Where the content of a heading ends, and its attribute block: how many bytes of the text `heading` stand before
+/// the block, white space directly before it too, and the offsets in `heading` between which lies what the braces
+/// enclose, none for `{}`. The block is the last of the heading, spaces, tabs and line ends aside, and between its
+/// braces stands no `{`, `}`, `<`, `>`, `\` or line end. Where there is no such block, the heading's whole length
+/// and `None` (this project).
+#[tactic(auto, unfolding(crate::specs::AttributeBlocks::attribute_block))]
+pub fn extract_attribute_block_content_from_header_text(
+    heading: &[u8],
+) -> (usize, Option<Range<usize>>)
+    ensures before { result.0 ≡ length_before_block heading.now }
+    ensures inside { option_map (λ r. (r.start, r.«end»)) result.1 ≡ inside_block heading.now }
+    ensures within { result.0 ≤ length heading.now }
+    ensures places { IfSome result.1 (λ r. (r.start ≡ result.0 + 1) × (r.start ≤ r.«end») × (r.«end» < length heading.now)) }
+    ensures opens { IfSome result.1 (λ r. slice_index heading.now result.0 ≡ left_brace) }
+    ensures closes { IfSome result.1 (λ r. slice_index heading.now r.«end» ≡ right_brace) }
+{
+    let kept = without_last(heading, scan_behind_block(heading));
+    if !ends(kept, b'}') {
+        return (heading.len(), None);
+    }
+    let closing = kept.len() - 1;
+    match opening_brace(without_last(kept, 1)) {
+        None => (heading.len(), None),
+        Some(opening) => (opening, Some(opening + 1..closing)),
+    }
+}
+
+// How many bytes stand last that may stand behind an attribute block.
+fn scan_behind_block(bytes: &[u8]) -> usize
+    ensures value { result ≡ suffix_len is_behind_block bytes.now }
+    ensures within { result ≤ length bytes.now }
+{
+    bytes
+        .iter()
+        .rev()
+        .take_while(|b| is_blank(**b) || is_line_end(**b))
+        .count()
+}
+
+// How many bytes stand last that may stand between the braces of an attribute block.
+fn scan_inside_block(bytes: &[u8]) -> usize
+    ensures value { result ≡ suffix_len is_inside_block bytes.now }
+    ensures within { result ≤ length bytes.now }
+{
+    bytes
+        .iter()
+        .rev()
+        .take_while(|b| is_inside_block(**b))
+        .count()
+}
+
+// Whether a byte may stand between the braces of an attribute block.
+fn is_inside_block(byte: u8) -> bool
+    ensures { result ≡ is_inside_block byte }
+{
+    !matches!(byte, b'{' | b'}' | b'<' | b'>' | b'\\' | b'\n' | b'\r')
+}
+
+// Without so many bytes at the end.
+fn without_last(bytes: &[u8], count: usize) -> &[u8]
+    requires { count ≤ length bytes.now }
+    ensures { result.now ≡ take (length bytes.now - count) bytes.now }
+{
+    &bytes[..bytes.len() - count]
+}
+
+// Whether the byte, which isn't 0, stands last.
+fn ends(bytes: &[u8], byte: u8) -> bool
+    requires { 0 < byte }
+    ensures value { result ≡ ends_with byte bytes.now }
+    ensures some { result ≡ true → 0 < length bytes.now }
+{
+    match bytes.last() {
+        None => false,
+        Some(last) => *last == byte,
+    }
+}
+
+// Where the brace stands that opens a block which is closed behind these bytes.
+#[tactic(auto, unfolding(crate::specs::AttributeBlocks::opening_brace))]
+fn opening_brace(bytes: &[u8]) -> Option<usize>
+    ensures value { result ≡ opening_of bytes.now }
+    ensures within { IfSome result (λ opening. opening < length bytes.now) }
+    ensures opens { IfSome result (λ opening. slice_index bytes.now opening ≡ left_brace) }
+{
+    let front = without_last(bytes, scan_inside_block(bytes));
+    if ends(front, b'{') {
+        Some(front.len() - 1)
+    } else {
+        None
+    }
+}
