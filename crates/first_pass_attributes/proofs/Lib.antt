@@ -1,0 +1,2 @@
+pub mod AttributeFacts
+pub mod WordFacts

@@ -1,1 +1,2 @@
 pub mod AttributeBlocks
+pub mod Attributes

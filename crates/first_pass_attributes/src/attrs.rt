@@ -1,12 +1,14 @@
-//! The attribute block at the end of a heading (this project).
+//! The attribute block at the end of a heading, and the attributes that it gives (this project).
 
 ghost use Rattle.std.specs.List.{suffix_len};
 ghost use Rattle.std.specs.Option.{option_map};
-ghost use Rattle.std.specs.Prelude.{◌≡◌, ◌≤◌, ◌<◌, ◌+◌, ◌-◌, length, true, take, slice_index, IfSome, Some, None};
+ghost use Rattle.std.specs.Prelude.{◌≡◌, ◌≤◌, ◌<◌, ◌+◌, ◌-◌, length, true, take, slice_index, IfSome, IfOk, OnOk, IsSomeAnd, Some, None, filter, [], ◌∷◌};
 ghost use Rattle.first_pass_items.specs.Bytes.{left_brace, right_brace};
 ghost use Rattle.first_pass_attributes.specs.AttributeBlocks.{ends as ends_with, is_behind_block, is_inside_block, opening_brace as opening_of, length_before_block, inside_block};
+ghost use Rattle.first_pass_attributes.specs.Attributes.{is_telling, key_and_value as key_and_value_of, with_words, attributes_of, pair_in, attributes_in};
 
 use first_pass_lines::lines::{is_blank, is_line_end};
+use std::alloc::{AllocError, Global};
 use std::ops::Range;
 
 /// Where the content of a heading ends, and its attribute block: how many bytes of the text `heading` stand before
@@ -99,5 +101,67 @@ fn opening_brace(bytes: &[u8]) -> Option<usize>
         Some(front.len() - 1)
     } else {
         None
+    }
+}
+
+/// The attributes that the attribute block of a heading gives it, all of them slices of the text that was read:
+/// the id behind the last `#`, the classes behind `.` in order, and the keys in order, each with its value if it
+/// has one (this project).
+#[derive(Drop)]
+pub struct HeadingAttributes<'a> {
+    pub id: Option<&'a str>,
+    pub classes: Vec<&'a str>,
+    pub attrs: Vec<(&'a str, Option<&'a str>)>,
+}
+
+/// The attributes that the text between the braces of an attribute block gives, never `None`. Its words stand
+/// between tabs, 0x0C, spaces and line ends, and those of one byte give nothing. `#install` gives an id, and the
+/// last one stays; `.wide` a class; any other word a key, with what stands behind the first `=` in it as its value,
+/// which may be empty, as the key may. The error is want of memory (this project).
+pub fn parse_inside_attribute_block<'a>(
+    alloc: Global,
+    inside_attr_block: &'a str,
+) -> Result<Option<HeadingAttributes<'a>>, AllocError>
+    ensures { IfOk result (λ answer. IsSomeAnd answer (λ h. attributes_in h ≡ attributes_of inside_attr_block.now)) }
+{
+    let mut attributes = HeadingAttributes {
+        id: None,
+        classes: Vec::new(alloc),
+        attrs: Vec::new(alloc),
+    };
+    for word in inside_attr_block.split_ascii_whitespace() {
+        add_word(&mut attributes, word)?;
+    }
+    Ok(Some(attributes))
+}
+
+// Adds what a word gives.
+fn add_word<'a>(attributes: &mut HeadingAttributes<'a>, word: &'a str) -> Result<(), AllocError>
+    ensures { OnOk result (attributes_in attributes.new
+        ≡ with_words (attributes_in attributes.old) (filter is_telling (word.now ∷ []))) }
+{
+    if word.len() < 2 {
+        return Ok(());
+    }
+    if let Some(id) = word.strip_prefix('#') {
+        attributes.id = Some(id);
+        return Ok(());
+    }
+    if let Some(class) = word.strip_prefix('.') {
+        attributes.classes.push(class)?;
+        return Ok(());
+    }
+    attributes.attrs.push(key_and_value(word))?;
+    Ok(())
+}
+
+// The key that a word gives, and its value.
+#[tactic(auto, unfolding(crate::specs::Attributes::key_and_value))]
+fn key_and_value(word: &str) -> (&str, Option<&str>)
+    ensures { pair_in result ≡ key_and_value_of word.now }
+{
+    match word.split_once('=') {
+        None => (word, None),
+        Some((key, value)) => (key, Some(value)),
     }
 }
