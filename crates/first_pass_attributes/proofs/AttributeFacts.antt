@@ -6,7 +6,8 @@ use Rattle.first_pass_lines.specs.Lines.{begins}
 use Rattle.first_pass_attributes.specs.Attributes.{Attributes, is_telling, gives_key, key_and_value, last_or, with_words}
 
 -- attributes are their three parts
-pub same_parts : {i j : Option (List ℕ)} {c d : List (List ℕ)} {e f : List (List ℕ × Option (List ℕ))} → i ≡ j → c ≡ d → e ≡ f → ◌≡◌ {A = Attributes} (record { id = i; classes = c; attrs = e }) (record { id = j; classes = d; attrs = f })
+pub same_parts : {i j : Option (List ℕ)} {c d : List (List ℕ)} {e f : List (List ℕ × Option (List ℕ))}
+    → i ≡ j → c ≡ d → e ≡ f → ◌≡◌ {A = Attributes} (record { id = i; classes = c; attrs = e }) (record { id = j; classes = d; attrs = f })
 same_parts p q r = rw (p, q, r) refl
 
 pub with-none : (a : Attributes) → with_words a [] ≡ a
@@ -21,16 +22,19 @@ pub with-class : (a : Attributes) (x : List ℕ) → with_words a ((full_stop �
 unfolding with_words
 with-class a x = same_parts refl refl (append-nil a.attrs)
 
-pub with-key : (a : Attributes) (w : List ℕ) → begins number_sign w ≡ false → begins full_stop w ≡ false → with_words a (w ∷ []) ≡ record { id = a.id; classes = a.classes; attrs = a.attrs ++ key_and_value w ∷ [] }
+pub with-key : (a : Attributes) (w : List ℕ) → begins number_sign w ≡ false → begins full_stop w ≡ false
+    → with_words a (w ∷ []) ≡ record { id = a.id; classes = a.classes; attrs = a.attrs ++ key_and_value w ∷ [] }
 unfolding with_words
 with-key a w e f = rw (e, f) (same_parts refl (append-nil a.classes) refl)
 
 -- one value more, of a word that is kept or not
-last-more : {X Y : Type 0} (f : X → Y) (t : Bool) (w : X) (ws : List X) (o : Option Y) → last_or o (map f (cond t (w ∷ ws) ws)) ≡ last_or (last_or o (map f (cond t (w ∷ []) []))) (map f ws)
+last-more : {X Y : Type 0} (f : X → Y) (t : Bool) (w : X) (ws : List X) (o : Option Y)
+    → last_or o (map f (cond t (w ∷ ws) ws)) ≡ last_or (last_or o (map f (cond t (w ∷ []) []))) (map f ws)
 last-more f true w ws o = refl
 last-more f false w ws o = refl
 
-all-more : {X Y : Type 0} (f : X → Y) (t : Bool) (w : X) (ws : List X) (ys : List Y) → ys ++ map f (cond t (w ∷ ws) ws) ≡ (ys ++ map f (cond t (w ∷ []) [])) ++ map f ws
+all-more : {X Y : Type 0} (f : X → Y) (t : Bool) (w : X) (ws : List X) (ys : List Y)
+    → ys ++ map f (cond t (w ∷ ws) ws) ≡ (ys ++ map f (cond t (w ∷ []) [])) ++ map f ws
 all-more f true w ws ys = sym (append_assoc ys (f w ∷ []) (map f ws))
 all-more f false w ws ys = ap (λ zs. zs ++ map f ws) (sym (append-nil ys))
 
@@ -43,36 +47,37 @@ with-first a w ws =
     (all-more (drop 1) (begins full_stop w) w (filter (begins full_stop) ws) a.classes)
     (all-more key_and_value (gives_key w) w (filter gives_key ws) a.attrs)
 
-with-told : (a : Attributes) (t : Bool) (w : List ℕ) (ws : List (List ℕ)) → with_words a (cond t (w ∷ ws) ws) ≡ with_words (with_words a (cond t (w ∷ []) [])) ws
+with-told : (a : Attributes) (t : Bool) (w : List ℕ) (ws : List (List ℕ))
+    → with_words a (cond t (w ∷ ws) ws) ≡ with_words (with_words a (cond t (w ∷ []) [])) ws
 with-told a true w ws = with-first a w ws
 with-told a false w ws = ap (λ b. with_words b ws) (sym (with-none a))
 
 -- and so does one that may tell nothing
-pub with-next : (a : Attributes) (w : List ℕ) (ws : List (List ℕ)) → with_words a (filter is_telling (w ∷ ws)) ≡ with_words (with_words a (filter is_telling (w ∷ []))) (filter is_telling ws)
+pub with-next : (a : Attributes) (w : List ℕ) (ws : List (List ℕ))
+    → with_words a (filter is_telling (w ∷ ws)) ≡ with_words (with_words a (filter is_telling (w ∷ []))) (filter is_telling ws)
 with-next a w ws = with-told a (is_telling w) w (filter is_telling ws)
 
 -- a word that tells nothing
-pub told-none : (a : Attributes) (w : List ℕ) → length w < 2 → with_words a (filter is_telling (w ∷ [])) ≡ a
-told-none a w h =
-    let no : is_telling w ≡ false = grind (arith, nat_tests) in
-    ap (λ t. with_words a (cond t (w ∷ []) [])) no ∙ with-none a
+pub told-none : (a : Attributes) (w : List ℕ) → is_telling w ≡ false → with_words a (filter is_telling (w ∷ [])) ≡ a
+told-none a w h = ap (λ t. with_words a (cond t (w ∷ []) [])) h ∙ with-none a
 
 -- one that does
-telling : (a : Attributes) (w : List ℕ) → 2 ≤ length w → with_words a (filter is_telling (w ∷ [])) ≡ with_words a (w ∷ [])
-telling a w h =
-    let yes_so : is_telling w ≡ true = grind (arith, nat_tests) in
-    ap (λ t. with_words a (cond t (w ∷ []) [])) yes_so
+telling : (a : Attributes) (w : List ℕ) → is_telling w ≡ true → with_words a (filter is_telling (w ∷ [])) ≡ with_words a (w ∷ [])
+telling a w h = ap (λ t. with_words a (cond t (w ∷ []) [])) h
 
-pub told-id : (a : Attributes) (w x : List ℕ) → 2 ≤ length w → w ≡ number_sign ∷ x → with_words a (filter is_telling (w ∷ [])) ≡ record { id = Some x; classes = a.classes; attrs = a.attrs }
+pub told-id : (a : Attributes) (w x : List ℕ) → is_telling w ≡ true → w ≡ number_sign ∷ x
+    → with_words a (filter is_telling (w ∷ [])) ≡ record { id = Some x; classes = a.classes; attrs = a.attrs }
 told-id a w x h e = telling a w h ∙ ap (λ v. with_words a (v ∷ [])) e ∙ with-id a x
 
-pub told-class : (a : Attributes) (w x : List ℕ) → 2 ≤ length w → w ≡ full_stop ∷ x → with_words a (filter is_telling (w ∷ [])) ≡ record { id = a.id; classes = a.classes ++ x ∷ []; attrs = a.attrs }
+pub told-class : (a : Attributes) (w x : List ℕ) → is_telling w ≡ true → w ≡ full_stop ∷ x
+    → with_words a (filter is_telling (w ∷ [])) ≡ record { id = a.id; classes = a.classes ++ x ∷ []; attrs = a.attrs }
 told-class a w x h e = telling a w h ∙ ap (λ v. with_words a (v ∷ [])) e ∙ with-class a x
 
 begins-none : (c : ℕ) (w : List ℕ) → ((rest : List ℕ) → ¬ (w ≡ c ∷ rest)) → begins c w ≡ false
 begins-none c [] h = refl
 begins-none c (b ∷ bs) h = ne_eqb b c (λ e. h bs (ap (λ x. x ∷ bs) e))
 
-pub told-key : (a : Attributes) (w : List ℕ) → 2 ≤ length w → ((rest : List ℕ) → ¬ (w ≡ number_sign ∷ rest)) → ((rest : List ℕ) → ¬ (w ≡ full_stop ∷ rest))
+pub told-key : (a : Attributes) (w : List ℕ) → is_telling w ≡ true → ((rest : List ℕ) → ¬ (w ≡ number_sign ∷ rest))
+    → ((rest : List ℕ) → ¬ (w ≡ full_stop ∷ rest))
     → with_words a (filter is_telling (w ∷ [])) ≡ record { id = a.id; classes = a.classes; attrs = a.attrs ++ key_and_value w ∷ [] }
 told-key a w h e f = telling a w h ∙ with-key a w (begins-none number_sign w e) (begins-none full_stop w f)

@@ -19,7 +19,8 @@ is_white b = grind (arith, nat_tests)
 no_white : (b : ℕ) → 128 ≤ b → is_between_words b ≡ false
 no_white b h = grind (arith, nat_tests)
 
-kept : (x : List ℕ) (parts : List (List ℕ)) → 0 < length x → filter (λ part. nat_lt 0 (length part)) (x ∷ parts) ≡ x ∷ filter (λ part. nat_lt 0 (length part)) parts
+kept : (x : List ℕ) (parts : List (List ℕ)) → 0 < length x
+    → filter (λ part. nat_lt 0 (length part)) (x ∷ parts) ≡ x ∷ filter (λ part. nat_lt 0 (length part)) parts
 kept [] parts h = absurd (omega arith)
 kept (b ∷ bs) parts h =
     let more : nat_lt 0 (length (b ∷ bs)) ≡ true = grind (arith, nat_tests) in
@@ -42,19 +43,23 @@ words-behind : (gap bs : List ℕ) → All (λ b. is_between_words b ≡ true) g
 unfolding words
 words-behind [] bs h = refl
 words-behind (b ∷ gap) bs h =
-    ap (filter (λ part. nat_lt 0 (length part))) (slice_split-cons_yes is_between_words b (gap ++ bs) (All-head (λ c. is_between_words c ≡ true) b gap h))
+    ap (filter (λ part. nat_lt 0 (length part))) 
+        (slice_split-cons_yes is_between_words b (gap ++ bs) (All-head (λ c. is_between_words c ≡ true) b gap h))
     ∙ words-behind gap bs (All-tail (λ c. is_between_words c ≡ true) b gap h)
 
 word-last : (x : List ℕ) → 0 < length x → All (λ b. is_between_words b ≡ false) x → words x ≡ x ∷ []
 unfolding words
 word-last x some h = ap (filter (λ part. nat_lt 0 (length part))) (slice_split_none is_between_words x h) ∙ kept x [] some
 
-word-before : (x : List ℕ) (b : ℕ) (rest : List ℕ) → 0 < length x → All (λ b. is_between_words b ≡ false) x → is_between_words b ≡ true → words (x ++ b ∷ rest) ≡ x ∷ words rest
+word-before : (x : List ℕ) (b : ℕ) (rest : List ℕ) → 0 < length x → All (λ b. is_between_words b ≡ false) x
+    → is_between_words b ≡ true → words (x ++ b ∷ rest) ≡ x ∷ words rest
 unfolding words
 word-before x b rest some h e =
     ap (filter (λ part. nat_lt 0 (length part))) (slice_split_at is_between_words x b rest h e) ∙ kept x (slice_split is_between_words rest) some
 
-word-first : (x sep rest : List ℕ) → 0 < length x → All (λ b. is_between_words b ≡ false) x → All (λ b. is_between_words b ≡ true) sep → length sep ≤ 1 → (length sep ≡ 0 → length rest ≡ 0) → words (x ++ (sep ++ rest)) ≡ x ∷ words rest
+word-first : (x sep rest : List ℕ) → 0 < length x → All (λ b. is_between_words b ≡ false) x
+    → All (λ b. is_between_words b ≡ true) sep → length sep ≤ 1 → (length sep ≡ 0 → length rest ≡ 0)
+    → words (x ++ (sep ++ rest)) ≡ x ∷ words rest
 unfolding words
 word-first x [] [] some h s one none = ap words (append-nil x) ∙ word-last x some h
 word-first x [] (b ∷ rest) some h s one none = absurd (let no = none refl in omega arith)
@@ -62,7 +67,8 @@ word-first x (b ∷ []) rest some h s one none = word-before x b rest some h (Al
 word-first x (b ∷ c ∷ sep) rest some h s one none = absurd (omega arith)
 
 -- a word is cut off behind white space
-pub words-cut : (gap x sep rest bs : List ℕ) → bs ≡ gap ++ (x ++ (sep ++ rest)) → 0 < length x → NoCharPasses is_ascii_whitespace x → AllPass is_ascii_whitespace gap → IsAsciiSeparator sep rest → words bs ≡ x ∷ words rest
+pub words-cut : (gap x sep rest bs : List ℕ) → bs ≡ gap ++ (x ++ (sep ++ rest)) → 0 < length x
+    → NoCharPasses is_ascii_whitespace x → AllPass is_ascii_whitespace gap → IsAsciiSeparator sep rest → words bs ≡ x ∷ words rest
 words-cut gap x sep rest bs e some h g s =
     ap words e ∙ words-behind gap (x ++ (sep ++ rest)) (between gap g) ∙ word-first x sep rest some (within x h) (between sep s.0) s.1 s.2
 

@@ -2,7 +2,7 @@
 
 ghost use Rattle.std.specs.List.{suffix_len};
 ghost use Rattle.std.specs.Option.{option_map};
-ghost use Rattle.std.specs.Prelude.{◌≡◌, ◌≤◌, ◌<◌, ◌+◌, ◌-◌, length, true, take, slice_index, IfSome, IfOk, OnOk, IsSomeAnd, Some, None, filter, [], ◌∷◌};
+ghost use Rattle.std.specs.Prelude.{◌≡◌, ◌≤◌, ◌<◌, ◌+◌, ◌-◌, length, true, take, slice_index, IfSome, IfOk, OnOk, IsSomeAnd, Some, None, IsUtf8, IsCharBoundary, filter, [], ◌∷◌};
 ghost use Rattle.first_pass_items.specs.Bytes.{left_brace, right_brace};
 ghost use Rattle.first_pass_attributes.specs.AttributeBlocks.{ends as ends_with, is_behind_block, is_inside_block, opening_brace as opening_of, length_before_block, inside_block};
 ghost use Rattle.first_pass_attributes.specs.Attributes.{is_telling, key_and_value as key_and_value_of, with_words, attributes_of, pair_in, attributes_in};
@@ -23,9 +23,12 @@ pub fn extract_attribute_block_content_from_header_text(
     ensures before { result.0 ≡ length_before_block heading.now }
     ensures inside { option_map (λ r. (r.start, r.«end»)) result.1 ≡ inside_block heading.now }
     ensures within { result.0 ≤ length heading.now }
-    ensures places { IfSome result.1 (λ r. (r.start ≡ result.0 + 1) × (r.start ≤ r.«end») × (r.«end» < length heading.now)) }
+    ensures places { IfSome result.1 (λ r.
+        (r.start ≡ result.0 + 1) × (r.start ≤ r.«end») × (r.«end» < length heading.now)) }
     ensures opens { IfSome result.1 (λ r. slice_index heading.now result.0 ≡ left_brace) }
     ensures closes { IfSome result.1 (λ r. slice_index heading.now r.«end» ≡ right_brace) }
+    ensures between { IsUtf8 heading.now
+        → IfSome result.1 (λ r. IsCharBoundary heading.now r.start × IsCharBoundary heading.now r.«end») }
 {
     let kept = without_last(heading, scan_behind_block(heading));
     if !ends(kept, b'}') {
@@ -140,7 +143,7 @@ fn add_word<'a>(attributes: &mut HeadingAttributes<'a>, word: &'a str) -> Result
     ensures { OnOk result (attributes_in attributes.new
         ≡ with_words (attributes_in attributes.old) (filter is_telling (word.now ∷ []))) }
 {
-    if word.len() < 2 {
+    if !is_telling(word) {
         return Ok(());
     }
     if let Some(id) = word.strip_prefix('#') {
@@ -153,6 +156,13 @@ fn add_word<'a>(attributes: &mut HeadingAttributes<'a>, word: &'a str) -> Result
     }
     attributes.attrs.push(key_and_value(word))?;
     Ok(())
+}
+
+// Whether a word gives something.
+fn is_telling(word: &str) -> bool
+    ensures { result ≡ is_telling word.now }
+{
+    2 <= word.len()
 }
 
 // The key that a word gives, and its value.

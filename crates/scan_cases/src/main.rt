@@ -18,6 +18,7 @@
 #![tactic(auto)]
 
 mod answer;
+mod attributes;
 mod definitions;
 mod given;
 mod html;

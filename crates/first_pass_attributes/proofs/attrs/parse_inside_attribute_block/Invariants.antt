@@ -4,4 +4,6 @@ use Rattle.first_pass_attributes.specs.Attributes.{is_telling, words, with_words
 use Rattle.first_pass_attributes.proofs.attrs.parse_inside_attribute_block.Given as goal
 
 abbrev pub invariant-loop-word : goal.invariant-loop-word
-invariant-loop-word l = with_words (attributes_in l.attributes) (filter is_telling (words (split_ascii_whitespace_text l.word-iterator))) ≡ attributes_of l.inside_attr_block
+invariant-loop-word l =
+    let rest = words (split_ascii_whitespace_text l.word-iterator) in
+    with_words (attributes_in l.attributes) (filter is_telling rest) ≡ attributes_of l.inside_attr_block

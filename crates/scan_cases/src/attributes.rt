@@ -1,0 +1,69 @@
+//! Calls of `first_pass_attributes`.
+
+use crate::answer::Answer;
+use first_pass_attributes::attrs::{
+    HeadingAttributes, extract_attribute_block_content_from_header_text,
+    parse_inside_attribute_block,
+};
+use std::alloc::{AllocError, Global};
+
+/// Answers a call for a heading's attribute block, or for the attributes that one gives, or tells that it is another
+/// one.
+pub fn answer_attributes(
+    alloc: Global,
+    call: &str,
+    text: &str,
+    answer: &mut Answer,
+) -> Result<bool, AllocError> {
+    match call {
+        "extract_attribute_block_content_from_header_text" => append_block(
+            text.as_bytes(),
+            answer,
+        )?,
+        "parse_inside_attribute_block" => match parse_inside_attribute_block(alloc, text)? {
+            Some(attributes) => append_attributes(&attributes, answer)?,
+            None => answer.none()?,
+        },
+        _ => return Ok(false),
+    }
+    Ok(true)
+}
+
+/// How many bytes stand before a heading's attribute block, and the offsets at which what its braces enclose begins and
+/// ends.
+fn append_block(heading: &[u8], answer: &mut Answer) -> Result<(), AllocError> {
+    let (len, inside) = extract_attribute_block_content_from_header_text(heading);
+    answer.number(len)?;
+    match inside {
+        Some(range) => {
+            answer.number(range.start)?;
+            answer.number(range.end)
+        }
+        None => answer.none(),
+    }
+}
+
+/// The id, each class, and each key with its value.
+fn append_attributes(
+    attributes: &HeadingAttributes<'_>,
+    answer: &mut Answer,
+) -> Result<(), AllocError> {
+    append_named("id", attributes.id, answer)?;
+    for class in attributes.classes.iter() {
+        append_named("class", Some(*class), answer)?;
+    }
+    for (key, value) in attributes.attrs.iter() {
+        append_named("key", Some(*key), answer)?;
+        append_named("value", *value, answer)?;
+    }
+    Ok(())
+}
+
+/// A name, and a text or `none`.
+fn append_named(name: &str, text: Option<&str>, answer: &mut Answer) -> Result<(), AllocError> {
+    answer.word(name)?;
+    match text {
+        Some(text) => answer.text(text),
+        None => answer.none(),
+    }
+}
