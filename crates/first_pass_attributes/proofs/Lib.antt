@@ -1,2 +1,3 @@
 pub mod AttributeFacts
+pub mod BlockFacts
 pub mod WordFacts

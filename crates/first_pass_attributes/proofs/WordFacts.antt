@@ -43,8 +43,8 @@ words-behind : (gap bs : List ℕ) → All (λ b. is_between_words b ≡ true) g
 unfolding words
 words-behind [] bs h = refl
 words-behind (b ∷ gap) bs h =
-    ap (filter (λ part. nat_lt 0 (length part))) 
-        (slice_split-cons_yes is_between_words b (gap ++ bs) (All-head (λ c. is_between_words c ≡ true) b gap h))
+    ap (filter (λ part. nat_lt 0 (length part)))
+    (slice_split-cons_yes is_between_words b (gap ++ bs) (All-head (λ c. is_between_words c ≡ true) b gap h))
     ∙ words-behind gap bs (All-tail (λ c. is_between_words c ≡ true) b gap h)
 
 word-last : (x : List ℕ) → 0 < length x → All (λ b. is_between_words b ≡ false) x → words x ≡ x ∷ []

@@ -1,7 +1,7 @@
 -- The attribute block at the end of a heading, as `{#install .wide}` in `# Install {#install .wide}` (this project).
-use Rattle.std.specs.Prelude.{ℕ, ◌+◌, ◌-◌, ◌==◌, ◌||◌, not, Bool, List, length, take, Option, Some, None, slice_index, if◌then◌else◌}
+use Rattle.std.specs.Prelude.{◌≡◌, true, ◌∷◌, ◌++◌, ℕ, ◌+◌, ◌-◌, ◌==◌, ◌||◌, not, Bool, List, length, take, Option, Some, None, slice_index, if◌then◌else◌}
 use Rattle.std.specs.Option.{option_map, option_map_or}
-use Rattle.std.specs.List.{suffix_len}
+use Rattle.std.specs.List.{list_all, suffix_len}
 use Rattle.first_pass_items.specs.Bytes.{less_than, greater_than, backslash, left_brace, right_brace}
 use Rattle.first_pass_lines.specs.Lines.{is_line_end, is_blank}
 
@@ -21,11 +21,12 @@ breaks_block b = b == left_brace || b == right_brace || b == less_than || b == g
 abbrev pub is_inside_block : ℕ → Bool
 is_inside_block b = not (breaks_block b)
 
--- the offsets of the braces of an attribute block
+-- the offsets of the braces of an attribute block (this project)
 pub record Braces : Type 0 where
   pub opening : ℕ
   pub closing : ℕ
 
+-- the braces at two offsets (this project)
 abbrev pub braces : ℕ → ℕ → Braces
 braces opening closing = record { opening = opening; closing = closing }
 
@@ -41,6 +42,18 @@ attribute_block bs =
     let kept = take (length bs - suffix_len is_behind_block bs) bs in
     let closing = length kept - 1 in
     if ends right_brace kept then option_map (λ opening. braces opening closing) (opening_brace (take closing kept)) else None
+
+-- the braces of a heading's attribute block: nothing that breaks it stands between them, and nothing but spaces, tabs and line ends behind it
+-- (this project)
+pub record IsAttributeBlock (heading : List ℕ) (block : Braces) : Type 0 where
+  pub front : List ℕ
+  pub inside : List ℕ
+  pub behind : List ℕ
+  pub parts : heading ≡ front ++ left_brace ∷ (inside ++ right_brace ∷ behind)
+  pub plain : list_all is_inside_block inside ≡ true
+  pub aside : list_all is_behind_block behind ≡ true
+  pub opens : block.opening ≡ length front
+  pub closes : block.closing ≡ length front + 1 + length inside
 
 -- how many bytes of a heading stand before its attribute block, white space too: all, where it has none (this project)
 abbrev pub length_before_block : List ℕ → ℕ

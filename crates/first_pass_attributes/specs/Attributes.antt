@@ -32,7 +32,7 @@ unfoldable pub key_and_value : List ℕ → List ℕ × Option (List ℕ)
 key_and_value word =
     option_map_or (λ at. (take at word, Some (drop (at + 1) word))) (position (λ b. b == equals_sign) word) (word, None)
 
--- the attributes of a heading: an id, classes in order, and keys with their values in order
+-- the attributes of a heading: an id, classes in order, and keys with their values in order (this project)
 pub record Attributes : Type 0 where
   pub id : Option (List ℕ)
   pub classes : List (List ℕ)

@@ -2,3 +2,4 @@
 #![tactic(auto)]
 
 pub mod attrs;
+pub mod laws;

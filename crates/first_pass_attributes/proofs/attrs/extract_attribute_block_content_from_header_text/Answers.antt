@@ -1,4 +1,4 @@
-use Rattle.std.proofs.Common.{◌≡◌, ℕ, ◌+◌, ◌-◌, ◌<◌, List, length, slice_index, arith}
+use Rattle.std.proofs.Common.{◌≡◌, ℕ, ◌-◌, ◌<◌, List, length, slice_index, arith}
 use Rattle.std.proofs.lemmas.Grind.{common_steps}
 use Rattle.std.proofs.lemmas.Str.{IsCharBoundary-before_ascii, IsCharBoundary-after_ascii}
 use Rattle.first_pass_items.specs.Bytes.{left_brace, right_brace}
@@ -13,4 +13,5 @@ returns-in-Some-clause-between c =
     let ends : closing < length heading = grind (arith, common_steps) in
     let opens : slice_index heading opening ≡ left_brace = grind (arith, common_steps) in
     let closes : slice_index heading closing ≡ right_brace = grind (arith, common_steps) in
-    λ utf8. (IsCharBoundary-after_ascii heading opening utf8 within (omega (arith, opens)), IsCharBoundary-before_ascii heading closing ends (omega (arith, closes)))
+    let behind = IsCharBoundary-before_ascii heading closing ends (omega (arith, closes)) in
+    λ utf8. (IsCharBoundary-after_ascii heading opening utf8 within (omega (arith, opens)), behind)

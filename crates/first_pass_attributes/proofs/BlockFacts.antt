@@ -1,0 +1,174 @@
+-- The attribute block of a heading, by the parts of its bytes.
+use Rattle.std.proofs.Common.{◌≡◌, ℕ, suc, ◌+◌, ◌-◌, ◌<◌, Bool, true, false, List, [], ◌∷◌, ◌++◌, length, take, drop, slice_index_or, Option, Some, None, refl, sym, ap, ◌∙◌, append_assoc, arith, eq-eqb, length-append, if◌then◌else◌}
+use mathlib.Core.List.{reverse}
+use Rattle.std.specs.Option.{option_map}
+use Rattle.std.specs.List.{list_all, suffix_len}
+use Rattle.std.proofs.lemmas.Bool.{eqb-true}
+use Rattle.std.proofs.lemmas.Grind.{common_steps}
+use Rattle.std.proofs.lemmas.List.{get_or-reverse, get_or-drop, get_or-append-add, drop_more, take-append-drop, length-take, length-drop}
+use Rattle.std.proofs.lemmas.List.Sums.{prefix_len_passes, suffix_len_is, suffix_len-le-length, AllPass-from_list_all, list_all-from_AllPass}
+use Rattle.std.proofs.Math.Seq.{take-append_seam, drop-length, get_or-append_seam}
+use Rattle.first_pass_items.specs.Bytes.{left_brace, right_brace}
+use Rattle.first_pass_attributes.specs.AttributeBlocks.{ends, is_behind_block, is_inside_block, Braces, braces, opening_brace, attribute_block, IsAttributeBlock}
+
+-- what is left of bytes without those at the end that pass, and those
+abbrev left : (ℕ → Bool) → List ℕ → List ℕ
+left p bs = take (length bs - suffix_len p bs) bs
+
+abbrev behind : (ℕ → Bool) → List ℕ → List ℕ
+behind p bs = drop (length bs - suffix_len p bs) bs
+
+behind-passes : (p : ℕ → Bool) (bs : List ℕ) → list_all p (behind p bs) ≡ true
+behind-passes p bs =
+    let n : ℕ = length bs - suffix_len p bs in
+    list_all-from_AllPass p (drop n bs) (λ k d l.
+    let short = suffix_len-le-length p bs in
+    let long : length (drop n bs) ≡ length bs - n = length-drop n bs in
+    let j : ℕ = length bs - 1 - (n + k) in
+    let low : j < suffix_len p bs = omega arith in
+    let back : length bs - 1 - j ≡ n + k = omega arith in
+    let e : slice_index_or (reverse bs) j d ≡ slice_index_or bs (length bs - 1 - j) d = get_or-reverse bs j d (omega arith) in
+    let f : slice_index_or (drop n bs) k d ≡ slice_index_or bs (n + k) d = get_or-drop n bs k d in
+    ap p (f ∙ ap (λ i. slice_index_or bs i d) (sym back) ∙ sym e) ∙ prefix_len_passes p (reverse bs) j d low)
+
+left-and-behind : (p : ℕ → Bool) (bs : List ℕ) → bs ≡ left p bs ++ behind p bs
+left-and-behind p bs = sym (take-append-drop (length bs - suffix_len p bs) bs)
+
+-- a byte that doesn't pass, before bytes that do
+suffix-at : (p : ℕ → Bool) (xs : List ℕ) (x : ℕ) (ys : List ℕ) → p x ≡ false → list_all p ys ≡ true → suffix_len p (xs ++ x ∷ ys) ≡ length ys
+suffix-at p xs x ys e h =
+    let bs : List ℕ = xs ++ x ∷ ys in
+    let front : List ℕ = xs ++ x ∷ [] in
+    let long : length bs ≡ length xs + suc (length ys) = length-append xs (x ∷ ys) in
+    let short : length front ≡ length xs + 1 = length-append xs (x ∷ []) in
+    let last : length xs + 1 - 1 ≡ length xs = omega arith in
+    suffix_len_is p bs (length xs + 1) 0 (omega arith)
+    (λ k low high.
+    let j : ℕ = k - length front in
+    let on : k ≡ length front + j = omega arith in
+    ap (λ l. p (slice_index_or l k 0)) (sym (append_assoc xs (x ∷ []) ys))
+    ∙ ap (λ i. p (slice_index_or (front ++ ys) i 0)) on
+    ∙ ap p (get_or-append-add front ys j 0)
+    ∙ AllPass-from_list_all p ys h j 0 (omega arith))
+    (λ _. ap (λ i. p (slice_index_or bs i 0)) last ∙ ap p (get_or-append_seam xs x ys 0) ∙ e)
+    ∙ omega arith
+
+left-at : (p : ℕ → Bool) (xs : List ℕ) (x : ℕ) (ys : List ℕ) → p x ≡ false → list_all p ys ≡ true → left p (xs ++ x ∷ ys) ≡ xs ++ x ∷ []
+left-at p xs x ys e h =
+    let bs : List ℕ = xs ++ x ∷ ys in
+    let front : List ℕ = xs ++ x ∷ [] in
+    let long : length bs ≡ length xs + suc (length ys) = length-append xs (x ∷ ys) in
+    let short : length front ≡ length xs + 1 = length-append xs (x ∷ []) in
+    let same : length bs - suffix_len p bs ≡ length front = omega (arith, suffix-at p xs x ys e h) in
+    ap (λ n. take n bs) same ∙ ap (take (length front)) (sym (append_assoc xs (x ∷ []) ys)) ∙ take-append_seam front ys
+
+-- bytes with one more behind them
+ends-with : (xs : List ℕ) (x : ℕ) → ends x (xs ++ x ∷ []) ≡ true
+ends-with xs x =
+    let short : length (xs ++ x ∷ []) ≡ length xs + 1 = length-append xs (x ∷ []) in
+    let at : slice_index_or (xs ++ x ∷ []) (length (xs ++ x ∷ []) - 1) 0 ≡ x = grind (arith, common_steps) in
+    eq-eqb _ x at
+
+front-length : (xs : List ℕ) (x : ℕ) → length (xs ++ x ∷ []) - 1 ≡ length xs
+front-length xs x = omega (arith, length-append xs (x ∷ []))
+
+front-bytes : (xs : List ℕ) (x : ℕ) → take (length (xs ++ x ∷ []) - 1) (xs ++ x ∷ []) ≡ xs
+front-bytes xs x = ap (λ n. take n (xs ++ x ∷ [])) (front-length xs x) ∙ take-append_seam xs (x ∷ [])
+
+some-end : (bs : List ℕ) (x : ℕ) → ends x bs ≡ true → 0 < x → 0 < length bs
+some-end [] x e h = absurd (let same : 0 ≡ x = eqb-true 0 x e in omega arith)
+some-end (b ∷ bs) x e h = omega arith
+
+split-end : (bs : List ℕ) (x : ℕ) → ends x bs ≡ true → 0 < x → bs ≡ take (length bs - 1) bs ++ x ∷ []
+split-end bs x e h =
+    let n : ℕ = length bs - 1 in
+    let some = some-end bs x e h in
+    let at : slice_index_or bs n 0 ≡ x = eqb-true _ x e in
+    let on : n + 1 ≡ length bs = omega arith in
+    let rest : drop (n + 1) bs ≡ [] = ap (λ k. drop k bs) on ∙ drop-length bs in
+    sym (take-append-drop n bs) ∙ ap (λ ys. take n bs ++ ys) (drop_more bs n 0 (omega arith) ∙ (λ i. at i ∷ rest i))
+
+-- the bytes before a closing brace
+opening-at : (front inside : List ℕ) → list_all is_inside_block inside ≡ true → opening_brace (front ++ left_brace ∷ inside) ≡ Some (length front)
+unfolding opening_brace
+opening-at front inside h =
+    let kept = left-at is_inside_block front left_brace inside refl h in
+    ap (λ bs. if ends left_brace bs then Some (length bs - 1) else None) kept
+    ∙ ap (λ t. if t then Some (length (front ++ left_brace ∷ []) - 1) else None) (ends-with front left_brace)
+    ∙ ap Some (front-length front left_brace)
+
+block-at : (front inside behind : List ℕ) → list_all is_inside_block inside ≡ true → list_all is_behind_block behind ≡ true
+    → attribute_block ((front ++ left_brace ∷ inside) ++ right_brace ∷ behind) ≡ Some (braces (length front) (length (front ++ left_brace ∷ inside)))
+unfolding attribute_block
+block-at front inside behind h g =
+    let before : List ℕ = front ++ left_brace ∷ inside in
+    let whole : List ℕ = before ++ right_brace ∷ [] in
+    let last : ℕ = length whole - 1 in
+    let kept = left-at is_behind_block before right_brace behind refl g in
+    ap (λ bs. if ends right_brace bs then option_map (λ opening. braces opening (length bs - 1)) (opening_brace (take (length bs - 1) bs)) else None) kept
+    ∙ ap (λ t. if t then option_map (λ opening. braces opening last) (opening_brace (take last whole)) else None) (ends-with before right_brace)
+    ∙ ap (λ bs. option_map (λ opening. braces opening last) (opening_brace bs)) (front-bytes before right_brace)
+    ∙ ap (λ n. option_map (λ opening. braces opening n) (opening_brace before)) (front-length before right_brace)
+    ∙ ap (option_map (λ opening. braces opening (length before))) (opening-at front inside h)
+
+braces-same : (block : Braces) (m n : ℕ) → block.opening ≡ m → block.closing ≡ n → braces m n ≡ block
+braces-same block m n e f = rw (sym e, sym f) refl
+
+pub block-only : (heading : List ℕ) (block : Braces) → IsAttributeBlock heading block → attribute_block heading ≡ Some block
+block-only heading block is =
+    let before : List ℕ = is.front ++ left_brace ∷ is.inside in
+    let long : length before ≡ length is.front + suc (length is.inside) = length-append is.front (left_brace ∷ is.inside) in
+    let parts : heading ≡ before ++ right_brace ∷ is.behind = is.parts ∙ sym (append_assoc is.front (left_brace ∷ is.inside) (right_brace ∷ is.behind)) in
+    ap attribute_block parts ∙ block-at is.front is.inside is.behind is.plain is.aside
+    ∙ ap Some (braces-same block (length is.front) (length before) is.opens (is.closes ∙ omega arith))
+
+-- and back
+if-some : {X : Type 0} (t : Bool) (o : Option X) (x : X) → (if t then o else None) ≡ Some x → (t ≡ true) × (o ≡ Some x)
+if-some true o x e = (refl, e)
+if-some false o x e = absurd cc
+
+mapped-some : (n : ℕ) (o : Option ℕ) (block : Braces) → option_map (λ opening. braces opening n) o ≡ Some block → (o ≡ Some block.opening) × (block.closing ≡ n)
+mapped-some n None block e = absurd cc
+mapped-some n (Some k) block e =
+    let same : braces k n ≡ block = cc in
+    (ap (λ b. Some b.opening) same, ap (λ b. b.closing) (sym same))
+
+opening-found : (bs : List ℕ) (k : ℕ) → opening_brace bs ≡ Some k
+    → (front : List ℕ) × (inside : List ℕ) × (bs ≡ front ++ left_brace ∷ inside) × (list_all is_inside_block inside ≡ true) × (k ≡ length front)
+unfolding opening_brace
+opening-found bs k e =
+    let kept : List ℕ = left is_inside_block bs in
+    let found = if-some (ends left_brace kept) (Some (length kept - 1)) k e in
+    let front : List ℕ = take (length kept - 1) kept in
+    let inside : List ℕ = behind is_inside_block bs in
+    let cut : kept ≡ front ++ left_brace ∷ [] = split-end kept left_brace found.0 (omega arith) in
+    let parts : bs ≡ front ++ left_brace ∷ inside =
+    left-and-behind is_inside_block bs ∙ ap (λ l. l ++ inside) cut ∙ append_assoc front (left_brace ∷ []) inside in
+    let place : length kept - 1 ≡ k = cc in
+    (front, inside, parts, behind-passes is_inside_block bs, sym place ∙ omega (arith, length-take (length kept - 1) kept))
+
+pub block-found : (heading : List ℕ) (block : Braces) → attribute_block heading ≡ Some block → IsAttributeBlock heading block
+unfolding attribute_block
+block-found heading block e =
+    let kept : List ℕ = left is_behind_block heading in
+    let n : ℕ = length kept - 1 in
+    let before : List ℕ = take n kept in
+    let found = if-some (ends right_brace kept) (option_map (λ opening. braces opening n) (opening_brace before)) block e in
+    let some = mapped-some n (opening_brace before) block found.1 in
+    let opened = opening-found before block.opening some.0 in
+    let front : List ℕ = opened.0 in
+    let inside : List ℕ = opened.1 in
+    let rest : List ℕ = behind is_behind_block heading in
+    let cut : kept ≡ before ++ right_brace ∷ [] = split-end kept right_brace found.0 (omega arith) in
+    let long : length before ≡ length front + suc (length inside) = ap length opened.2 ∙ length-append front (left_brace ∷ inside) in
+    record {
+      front = front;
+      inside = inside;
+      behind = rest;
+      parts = left-and-behind is_behind_block heading ∙ ap (λ l. l ++ rest) cut ∙ append_assoc before (right_brace ∷ []) rest
+          ∙ ap (λ l. l ++ right_brace ∷ rest) opened.2 ∙ append_assoc front (left_brace ∷ inside) (right_brace ∷ rest);
+      plain = opened.3;
+      aside = behind-passes is_behind_block heading;
+      opens = opened.4;
+      closes = some.1 ∙ omega (arith, length-take n kept, long);
+    }
