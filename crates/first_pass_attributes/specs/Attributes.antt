@@ -11,7 +11,7 @@ use Rattle.first_pass_attributes.specs.declared.attrs.HeadingAttributes.{Heading
 abbrev pub is_between_words : ℕ → Bool
 is_between_words b = b == tab || b == form_feed || b == space || is_line_end b
 
--- the words of bytes (this project)
+-- the words of bytes: the parts that stand between tabs, 0x0C, spaces and line ends, empty ones aside (this project)
 unfoldable pub words : List ℕ → List (List ℕ)
 words bs = filter (λ part. nat_lt 0 (length part)) (slice_split is_between_words bs)
 
@@ -19,7 +19,7 @@ words bs = filter (λ part. nat_lt 0 (length part)) (slice_split is_between_word
 abbrev pub is_telling : List ℕ → Bool
 is_telling word = nat_lt 1 (length word)
 
--- what stands in the words behind the byte that they begin with (this project)
+-- of the words that begin with a byte, what stands behind it (this project)
 abbrev pub marked : ℕ → List (List ℕ) → List (List ℕ)
 marked mark ws = map (drop 1) (filter (begins mark) ws)
 

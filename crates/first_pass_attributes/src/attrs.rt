@@ -108,8 +108,8 @@ fn opening_brace(bytes: &[u8]) -> Option<usize>
 }
 
 /// The attributes that the attribute block of a heading gives it, all of them slices of the text that was read:
-/// the id behind the last `#`, the classes behind `.` in order, and the keys in order, each with its value if it
-/// has one (this project).
+/// the id, if there is one, the classes in order, and the keys in order, each with its value if it has one (this
+/// project).
 #[derive(Drop)]
 pub struct HeadingAttributes<'a> {
     pub id: Option<&'a str>,
