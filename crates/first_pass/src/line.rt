@@ -114,11 +114,7 @@ impl<'a> FirstPass<'a> {
     }
 
     // Appends the tokens of a cell; answers the offset at which its content ends.
-    fn append_cell_content(
-        &mut self,
-        start: usize,
-        end: Option<usize>,
-    ) -> Result<usize, AllocError>
+    fn append_cell_content(&mut self, start: usize, end: Option<usize>) -> Result<usize, AllocError>
         requires start { start ≤ length (source_text self.old) }
         requires end { IfSome end (λ e. (start ≤ e) × (e ≤ length (source_text self.old))) }
         ensures source { OnOk result (source_of self.new ≡ source_of self.old) }

@@ -81,8 +81,13 @@ module _ (d : Document) (path : List Container) (utf8 : IsUtf8 d.text) (from : �
       let l = one_line d from ix chain tokens answer utf8 boundary h line in
       let last : [] ≡ lines_from d.text (length d.text) = sym (lines_at-end d.text (length d.text) (omega arith)) in
       let within : length d.text ≤ length d.text = omega arith in
-      subst InOrder (sym e) (order_to d.text from answer.0 (length d.text) (close_break answer.1 (add_tokens chain tokens))
-      (order_closed d.text from l.stop answer.0 answer.1 (add_tokens chain tokens) l.order l.before l.break_fits) l.within, length d.text, last, within)
+      subst InOrder (sym e) (
+        order_to d.text from answer.0 (length d.text) (close_break answer.1 (add_tokens chain tokens))
+            (order_closed d.text from l.stop answer.0 answer.1 (add_tokens chain tokens) l.order l.before l.break_fits) l.within,
+        length d.text,
+        last,
+        within,
+      )
   lines_in_order (line ∷ lines) ix chain t is boundary h (tokens, answer, line_is, inl (stops, e)) =
       let l = one_line d from ix chain tokens answer utf8 boundary h line_is in
       let behind : line ∷ lines ≡ lines_from d.text answer.0 = is ∙ ap (lines_from d.text) (sym l.place) in
