@@ -3,6 +3,7 @@ pub mod BytesLemmas
 pub mod CellPipes
 pub mod ChainLemmas
 pub mod CutOrder
+pub mod Escapes
 pub mod LineLemmas
 pub mod MarkupLemmas
 pub mod OrderLemmas
