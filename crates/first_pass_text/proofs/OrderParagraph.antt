@@ -1,22 +1,23 @@
 -- The tokens of a paragraph, or of a heading that is underlined, are in order, and so is its block.
 use Rattle.std.proofs.Common.{◌≡◌, inl, inr, ℕ, ◌+◌, ◌-◌, ◌*◌, ◌<◌, ◌≤◌, suc, ◌&&◌, Bool, true, false, if◌then◌else◌, List, [], ◌∷◌, ◌++◌, length, drop, Option, Some, None, IfSome, IsUtf8, IsCharBoundary, refl, sym, ap, subst, ◌∙◌, arith, MatchOption, length-drop}
 use Rattle.std.proofs.lemmas.List.{append-nil}
-use Rattle.std.proofs.lemmas.Bool.{cases_lt}
+use Rattle.std.proofs.lemmas.Bool.{cases_lt, false≢true}
 use Rattle.first_pass_items.specs.declared.item.Item.{Item}
-use Rattle.first_pass_tree.specs.Forest.{Forest}
+use Rattle.first_pass_tree.specs.Forest.{Forest, is_escaped}
 use Rattle.first_pass_lines.specs.Places.{Place, offset, line_rest, line_place, place_at, IsPlaceOf, start_of}
 use Rattle.first_pass_lines.proofs.LineFacts.{lines_at-line, lines_at-end, line_len-fits}
 use Rattle.first_pass_lines.proofs.PlaceFacts.{start_of-lines}
-use Rattle.first_pass_tokens.specs.LineTokens.{IsLine, IsBreak, EndsLine, text_end}
-use Rattle.first_pass_tokens.specs.Chains.{add_tokens, close_break}
+use Rattle.first_pass_tokens.specs.LineTokens.{IsLine, IsBreak, is_break, EndsLine, text_end}
+use Rattle.first_pass_tokens.specs.Chains.{add_tokens, close_break, cut}
 use Rattle.first_pass_tokens.specs.Order.{AreInOrder, HaveBytes}
 use Rattle.first_pass_tokens.proofs.BytesLemmas.{few_in_order, bytes_adds, bytes_closed, bytes_append, line_has_bytes}
+use Rattle.first_pass_tokens.proofs.Escapes.{EscapesStand, escapes_adds, escapes_append, line_escapes, cut_escaped, cut_has_bytes}
 use Rattle.first_pass_tokens.proofs.LineLemmas.{ends_line}
-use Rattle.first_pass_tokens.proofs.OrderLemmas.{StandsBehind, LineInOrder, line_in_order, line_end_place, order_bound, order_to, order_append, order_adds, order_closed}
+use Rattle.first_pass_tokens.proofs.OrderLemmas.{StandsBehind, LineInOrder, line_in_order, order_bound, order_to, order_from, order_append, order_adds, order_closed}
 use Rattle.first_pass_grammar.specs.declared.kind.Container.{Container}
 use Rattle.first_pass_grammar.specs.Containers.{at_rest, front}
 use Rattle.first_pass_grammar.specs.Kinds.{unindented}
-use Rattle.first_pass_grammar.specs.Leaves.{Document, content_at, add_break, marker_items, TextLines, AreTextLines, block_with}
+use Rattle.first_pass_grammar.specs.Leaves.{Document, content_at, add_break, marker_items, TextLines, text_lines, AreTextLines, block_with}
 use Rattle.first_pass_grammar.specs.Completion.{lines_from}
 use Rattle.first_pass_grammar.specs.Counting.{own_nodes}
 use Rattle.first_pass_grammar.proofs.OwnNodes.{own_at_most}
@@ -29,16 +30,43 @@ use Rattle.first_pass_open.specs.Path.{path_of}
 use Rattle.first_pass_text.proofs.ParagraphLemmas.{line_end-text}
 use Rattle.first_pass_open.proofs.PlaceLemmas.{text_place}
 use Rattle.first_pass_items.specs.declared.item.ItemBody.{ItemBody}
-use Rattle.first_pass_items.specs.declared.item.ItemBody.TheVariants.{Paragraph as ParagraphBody, Heading as HeadingBody}
+use Rattle.first_pass_items.specs.declared.item.ItemBody.TheVariants.{Text, Paragraph as ParagraphBody, Heading as HeadingBody}
 use Rattle.first_pass_items.specs.declared.item.HeadingLevel.{HeadingLevel}
 use Rattle.first_pass_grammar.specs.Texts.{underline_first, plain_text, underlined_text, text_children}
 use Rattle.first_pass_grammar.specs.Tables.{Taken, taking}
 
+-- the offset at which a chain that begins at an offset ends (this project)
+abbrev pub chain_end : ℕ → List Item → ℕ
+chain_end start [] = start
+chain_end start (x ∷ []) = x.«end»
+chain_end start (x ∷ y ∷ ys) = chain_end start (y ∷ ys)
+
+-- A chain in order ends within its bounds, between two characters.
+pub chain_end_place : (text : List ℕ) (from to : ℕ) (chain : List Item) → AreInOrder text from to chain → IsCharBoundary text from
+    → (from ≤ chain_end from chain) × (chain_end from chain ≤ to) × IsCharBoundary text (chain_end from chain)
+chain_end_place text from to [] h boundary = (omega arith, h, boundary)
+chain_end_place text from to (x ∷ []) h boundary = (omega (arith, h.0, h.1), h.4, h.3)
+chain_end_place text from to (x ∷ y ∷ ys) h boundary =
+    let later : AreInOrder text from to (y ∷ ys) = order_from text from x.«end» to (y ∷ ys) h.4 (omega (arith, h.0, h.1)) in
+    chain_end_place text from to (y ∷ ys) later boundary
+
+-- a chain in order, whose escaped texts stand behind their backslashes and whose tokens have bytes
+abbrev ChainStands : List ℕ → ℕ → ℕ → List Item → Type 0
+ChainStands text from to chain = AreInOrder text from to chain × EscapesStand text from chain × HaveBytes chain
+
+break_unescaped : (body : ItemBody) → is_break body ≡ true → is_escaped body ≡ false
+break_unescaped (Text escaped) h = absurd (false≢true h)
+break_unescaped _ h = refl
+
 -- a chain with the break behind it
-order_break : (text : List ℕ) (from at next : ℕ) (break : Option Item) (chain : List Item) → AreInOrder text from at chain → at ≤ next → IfSome break (StandsBehind text at next) → AreInOrder text from next (add_break break chain)
-order_break text from at next None chain h later behind = order_to text from at next chain h later
-order_break text from at next (Some x) chain h later behind =
-    order_append text from at next chain (x ∷ []) h (behind.from, behind.order, behind.starts, behind.ends, omega (arith, behind.to))
+chain_break : (text : List ℕ) (from at start next : ℕ) (break : Option Item) (chain : List Item) → ChainStands text from at chain → at ≤ next → IfSome break (StandsBehind text at next)
+    → IfSome break (IsBreak start next) → ChainStands text from next (add_break break chain)
+chain_break text from at start next None chain h later behind is = (order_to text from at next chain h.0 later, h.1, h.2)
+chain_break text from at start next (Some x) chain h later behind is = (
+  order_append text from at next chain (x ∷ []) h.0 (behind.from, behind.order, behind.starts, behind.ends, omega (arith, behind.to)),
+  escapes_append text from chain x h.1 (break_unescaped x.body is.kind),
+  bytes_append chain (x ∷ []) h.2 (is.before, tt),
+)
 
 -- the first of the lines from an offset on, and the others
 first_line : (text : List ℕ) (n : ℕ) (line : Place) (lines : List Place) → line ∷ lines ≡ lines_from text n → (line ≡ line_place n (drop n text)) × (lines ≡ lines_from text (line_end_at text n))
@@ -51,49 +79,76 @@ first_line text n line lines is =
 -- a line, and its tokens behind a chain
 record OneLine (d : Document) (from ix : ℕ) (chain tokens : List Item) (answer : ℕ × Option Item) : Type 0 where
   stop : ℕ
-  order : AreInOrder d.text from stop (add_tokens chain tokens)
+  stands : ChainStands d.text from stop (add_tokens chain tokens)
   before : stop ≤ answer.0
   within : answer.0 ≤ length d.text
   place : answer.0 ≡ line_end_at d.text ix
   ends : IsCharBoundary d.text answer.0
   break_fits : IfSome answer.1 (StandsBehind d.text stop answer.0)
+  broken : IfSome answer.1 (IsBreak ix answer.0)
 
-one_line : (d : Document) (from ix : ℕ) (chain tokens : List Item) (answer : ℕ × Option Item) → IsUtf8 d.text → IsCharBoundary d.text ix → AreInOrder d.text from ix chain → IsLine (content_at d ix) tokens answer → OneLine d from ix chain tokens answer
+one_line : (d : Document) (from ix : ℕ) (chain tokens : List Item) (answer : ℕ × Option Item)
+    → IsUtf8 d.text → IsCharBoundary d.text ix → ChainStands d.text from ix chain → IsLine (content_at d ix) tokens answer → OneLine d from ix chain tokens answer
 one_line d from ix chain tokens answer utf8 boundary h line =
     let stop : ℕ = text_end (content_at d ix) line.content_end in
     let l : LineInOrder (content_at d ix) stop tokens answer = line_in_order utf8 boundary boundary.0 line in
     let e : EndsLine (content_at d ix) answer = ends_line boundary.0 line in
-    record { stop = stop; order = order_adds d.text from ix stop chain tokens h l.tokens_fit; before = l.before; within = e.within; place = e.place; ends = l.ends; break_fits = l.break_fits }
+    let escapes = escapes_adds d.text from ix stop chain tokens h.0 h.1 l.tokens_fit (line_escapes line) in
+    record {
+      stop = stop;
+      stands = (order_adds d.text from ix stop chain tokens h.0 l.tokens_fit, escapes, bytes_adds chain tokens (line_has_bytes line) h.2);
+      before = l.before;
+      within = e.within;
+      place = e.place;
+      ends = l.ends;
+      break_fits = l.break_fits;
+      broken = e.broken;
+    }
 
 -- the chain of a text's lines, once its last line is ended
 abbrev ended_chain : TextLines → List Item
 ended_chain t = close_break t.break t.chain
 
-module _ (d : Document) (path : List Container) (utf8 : IsUtf8 d.text) (from : ℕ) where
-  -- the chain is in order up to the lines that are left, which are those of the text from an offset on
-  InOrder : TextLines → Type 0
-  InOrder t = AreInOrder d.text from (start_of (length d.text) t.left) (ended_chain t) × (m : ℕ) × (t.left ≡ lines_from d.text m) × (m ≤ length d.text)
+-- The chain of a text's lines is in order up to an offset, behind which the break of the last line stands; the lines left begin behind that.
+pub record TextInOrder (d : Document) (start : ℕ) (t : TextLines) : Type 0 where
+  pub stop : ℕ
+  pub order : AreInOrder d.text start stop t.chain
+  pub escapes : EscapesStand d.text start t.chain
+  pub bytes : HaveBytes t.chain
+  pub before : stop ≤ start_of (length d.text) t.left
+  pub break_fits : IfSome t.break (StandsBehind d.text stop (start_of (length d.text) t.left))
+  pub left_at : ℕ
+  pub left_is : t.left ≡ lines_from d.text left_at
+  pub left_within : left_at ≤ length d.text
 
-  lines_in_order : (lines : List Place) (ix : ℕ) (chain : List Item) (t : TextLines) → lines ≡ lines_from d.text (line_end_at d.text ix) → IsCharBoundary d.text ix → AreInOrder d.text from ix chain
-      → AreTextLines d path ix chain lines t → InOrder t
-  unfolding AreTextLines InOrder
+-- the last line of a text, and the lines behind it
+text_stops : (d : Document) (from ix : ℕ) (chain tokens : List Item) (answer : ℕ × Option Item) (left : List Place) (t : TextLines) → OneLine d from ix chain tokens answer
+    → left ≡ lines_from d.text answer.0 → t ≡ text_lines (add_tokens chain tokens) answer.1 left → TextInOrder d from t
+text_stops d from ix chain tokens answer left t l behind e =
+    let there : start_of (length d.text) left ≡ answer.0 = ap (start_of (length d.text)) behind ∙ start_of-lines d.text answer.0 l.within in
+    let before : l.stop ≤ start_of (length d.text) left = omega (arith, l.before) in
+    subst (TextInOrder d from) (sym e) (record {
+      stop = l.stop;
+      order = l.stands.0;
+      escapes = l.stands.1;
+      bytes = l.stands.2;
+      before = before;
+      break_fits = subst (λ to. IfSome answer.1 (StandsBehind d.text l.stop to)) (sym there) l.break_fits;
+      left_at = answer.0;
+      left_is = behind;
+      left_within = l.within;
+    })
+
+module _ (d : Document) (path : List Container) (utf8 : IsUtf8 d.text) (from : ℕ) where
+  lines_in_order : (lines : List Place) (ix : ℕ) (chain : List Item) (t : TextLines) → lines ≡ lines_from d.text (line_end_at d.text ix) → IsCharBoundary d.text ix → ChainStands d.text from ix chain
+      → AreTextLines d path ix chain lines t → TextInOrder d from t
+  unfolding AreTextLines
   lines_in_order [] ix chain t is boundary h (tokens, answer, line, e) =
       let l = one_line d from ix chain tokens answer utf8 boundary h line in
-      let last : [] ≡ lines_from d.text (length d.text) = sym (lines_at-end d.text (length d.text) (omega arith)) in
-      let within : length d.text ≤ length d.text = omega arith in
-      subst InOrder (sym e) (
-        order_to d.text from answer.0 (length d.text) (close_break answer.1 (add_tokens chain tokens))
-            (order_closed d.text from l.stop answer.0 answer.1 (add_tokens chain tokens) l.order l.before l.break_fits) l.within,
-        length d.text,
-        last,
-        within,
-      )
+      text_stops d from ix chain tokens answer [] t l (is ∙ ap (lines_from d.text) (sym l.place)) e
   lines_in_order (line ∷ lines) ix chain t is boundary h (tokens, answer, line_is, inl (stops, e)) =
       let l = one_line d from ix chain tokens answer utf8 boundary h line_is in
-      let behind : line ∷ lines ≡ lines_from d.text answer.0 = is ∙ ap (lines_from d.text) (sym l.place) in
-      let there : start_of (length d.text) (line ∷ lines) ≡ answer.0 = ap (start_of (length d.text)) behind ∙ start_of-lines d.text answer.0 l.within in
-      let closed = order_closed d.text from l.stop answer.0 answer.1 (add_tokens chain tokens) l.order l.before l.break_fits in
-      subst InOrder (sym e) (subst (λ to. AreInOrder d.text from to (close_break answer.1 (add_tokens chain tokens))) (sym there) closed, answer.0, behind, l.within)
+      text_stops d from ix chain tokens answer (line ∷ lines) t l (is ∙ ap (lines_from d.text) (sym l.place)) e
   lines_in_order (line ∷ lines) ix chain t is boundary h (tokens, answer, line_is, inr (goes, more)) =
       let l = one_line d from ix chain tokens answer utf8 boundary h line_is in
       let n : ℕ = answer.0 in
@@ -102,11 +157,12 @@ module _ (d : Document) (path : List Container) (utf8 : IsUtf8 d.text) (from : �
       let at_is : offset (unindented (at_rest line (front path line.rest))) ≡ at = ap (λ (p : Place). offset (unindented (at_rest p (front path p.rest)))) first.0 in
       let place : IsPlaceOf d.text (unindented (place_at n (front path (line_rest (drop n d.text))))) = (text_place d.text n path utf8 l.ends).0 in
       let chain_next : List Item = add_break answer.1 (add_tokens chain tokens) in
+      let next = chain_break d.text from l.stop ix n answer.1 (add_tokens chain tokens) l.stands l.before l.break_fits l.broken in
       lines_in_order lines at chain_next t (first.1 ∙ ap (lines_from d.text) (sym (line_end-text path d.text n utf8 l.ends))) place.boundary
-      (order_to d.text from n at chain_next (order_break d.text from l.stop n answer.1 (add_tokens chain tokens) l.order l.before l.break_fits) (omega arith))
+      (order_to d.text from n at chain_next next.0 (omega arith), next.1, next.2)
       (subst (λ z. AreTextLines d path z chain_next lines t) at_is more)
 
--- The tokens of a text lie between where it begins and the line behind its lines.
+-- of the lines from an offset on, the first begins before the second does
 first_later : (text : List ℕ) (m : ℕ) → m ≤ length text → start_of (length text) (lines_from text m) ≤ start_of (length text) (drop 1 (lines_from text m))
 first_later text m within =
     elim (cases_lt m (length text)) [
@@ -130,44 +186,20 @@ first_later text m within =
 text_later : (text : List ℕ) (left : List Place) (m : ℕ) → left ≡ lines_from text m → m ≤ length text → start_of (length text) left ≤ start_of (length text) (drop 1 left)
 text_later text left m is within = subst (λ (ls : List Place). start_of (length text) ls ≤ start_of (length text) (drop 1 ls)) (sym is) (first_later text m within)
 
-text_in_order : (d : Document) (path : List Container) (start : ℕ) (t : TextLines) → IsUtf8 d.text → IsCharBoundary d.text start
-    → AreTextLines d path start [] (lines_from d.text (line_end_at d.text start)) t
-    → AreInOrder d.text start (start_of (length d.text) t.left) (ended_chain t) × (m : ℕ) × (t.left ≡ lines_from d.text m) × (m ≤ length d.text)
-unfolding InOrder
-text_in_order d path start t utf8 boundary lines =
-    lines_in_order d path utf8 start (lines_from d.text (line_end_at d.text start)) start [] t refl boundary (omega arith) lines
+-- The chain of the lines of a text is in order from where the text begins.
+pub text_is_in_order : (d : Document) (path : List Container) (start : ℕ) (t : TextLines) → IsUtf8 d.text → IsCharBoundary d.text start
+    → AreTextLines d path start [] (lines_from d.text (line_end_at d.text start)) t → TextInOrder d start t
+text_is_in_order d path start t utf8 boundary lines =
+    lines_in_order d path utf8 start (lines_from d.text (line_end_at d.text start)) start [] t refl boundary (omega arith, tt, tt) lines
 
--- a break behind has a byte
-bytes_break : (start next : ℕ) (break : Option Item) (chain : List Item) → IfSome break (IsBreak start next) → HaveBytes chain → HaveBytes (add_break break chain)
-bytes_break start next None chain b h = h
-bytes_break start next (Some x) chain b h = bytes_append chain (x ∷ []) h (b.before, tt)
-
-module _ (d : Document) (path : List Container) (utf8 : IsUtf8 d.text) where
-  lines_have_bytes : (lines : List Place) (ix : ℕ) (chain : List Item) (t : TextLines) → lines ≡ lines_from d.text (line_end_at d.text ix) → IsCharBoundary d.text ix → HaveBytes chain
-      → AreTextLines d path ix chain lines t → HaveBytes (ended_chain t)
-  unfolding AreTextLines
-  lines_have_bytes [] ix chain t is boundary h (tokens, answer, line, e) =
-      subst (λ (z : TextLines). HaveBytes (ended_chain z)) (sym e) (bytes_closed answer.1 (add_tokens chain tokens) (bytes_adds chain tokens (line_has_bytes line) h))
-  lines_have_bytes (line ∷ lines) ix chain t is boundary h (tokens, answer, line_is, inl (stops, e)) =
-      subst (λ (z : TextLines). HaveBytes (ended_chain z)) (sym e) (bytes_closed answer.1 (add_tokens chain tokens) (bytes_adds chain tokens (line_has_bytes line_is) h))
-  lines_have_bytes (line ∷ lines) ix chain t is boundary h (tokens, answer, line_is, inr (goes, more)) =
-      let n : ℕ = answer.0 in
-      let e : EndsLine (content_at d ix) answer = ends_line boundary.0 line_is in
-      let ends = line_end_place utf8 boundary e in
-      let first = first_line d.text n line lines (is ∙ ap (lines_from d.text) (sym e.place)) in
-      let at : ℕ = offset (unindented (place_at n (front path (line_rest (drop n d.text))))) in
-      let at_is : offset (unindented (at_rest line (front path line.rest))) ≡ at = ap (λ (p : Place). offset (unindented (at_rest p (front path p.rest)))) first.0 in
-      let place : IsPlaceOf d.text (unindented (place_at n (front path (line_rest (drop n d.text))))) = (text_place d.text n path utf8 ends).0 in
-      let chain_next : List Item = add_break answer.1 (add_tokens chain tokens) in
-      lines_have_bytes lines at chain_next t (first.1 ∙ ap (lines_from d.text) (sym (line_end-text path d.text n utf8 ends))) place.boundary
-      (bytes_break ix n answer.1 (add_tokens chain tokens) e.broken (bytes_adds chain tokens (line_has_bytes line_is) h))
-      (subst (λ z. AreTextLines d path z chain_next lines t) at_is more)
-
--- Each token of a text has a byte.
-text_has_bytes : (d : Document) (path : List Container) (start : ℕ) (t : TextLines) → IsUtf8 d.text → IsCharBoundary d.text start
-    → AreTextLines d path start [] (lines_from d.text (line_end_at d.text start)) t → HaveBytes (ended_chain t)
-text_has_bytes d path start t utf8 boundary lines =
-    lines_have_bytes d path utf8 (lines_from d.text (line_end_at d.text start)) start [] t refl boundary tt lines
+-- The chain, cut at an offset in it, with the last line's break behind it, is in order, and each of its tokens has a byte.
+pub cut_text_in_order : (d : Document) (start e : ℕ) (t : TextLines) → (h : TextInOrder d start t) → start ≤ e → e ≤ h.stop → IsCharBoundary d.text e
+    → AreInOrder d.text start (start_of (length d.text) t.left) (close_break t.break (cut e t.chain)) × HaveBytes (close_break t.break (cut e t.chain))
+cut_text_in_order d start e t h low high boundary =
+    let order = order_to d.text start e h.stop (cut e t.chain) (cut_escaped d.text start h.stop e t.chain h.order h.escapes boundary low) high in (
+      order_closed d.text start h.stop (start_of (length d.text) t.left) t.break (cut e t.chain) order h.before h.break_fits,
+      bytes_closed t.break (cut e t.chain) (cut_has_bytes d.text start e t.chain h.bytes h.escapes),
+    )
 
 few_marked : (marker : Option Item) (chain : List Item) → length (marker_items marker ++ chain) ≤ suc (length chain)
 few_marked None chain = omega arith
@@ -258,10 +290,13 @@ pub plain_fits : (d : Document) (start : ℕ) (marker : Option Item) (old new : 
     → IsInItem old marker → (from : ℕ) → StandsBefore d.text from start marker → AddsBetween d.text from next old new
 plain_fits d start marker old new next adds utf8 boundary inside from stands =
     let (l, are, ended) = adds.is in
-    let (order, m, left, within) = text_in_order d (path_of old) start l utf8 boundary are in
-    let bytes = text_has_bytes d (path_of old) start l utf8 boundary are in
+    let h = text_is_in_order d (path_of old) start l utf8 boundary are in
+    let order = order_closed d.text start h.stop (start_of (length d.text) l.left) l.break l.chain h.order h.before h.break_fits in
+    let bytes = bytes_closed l.break l.chain h.bytes in
+    let later = text_later d.text l.left h.left_at h.left_is h.left_within in
     record {
       items = adds.items;
       tree_is = adds.tree_is;
-      fits = ended_between d (within_top old) (path_of old) from start marker l adds.items next (underline_first (path_of old) l.left) utf8 boundary adds.boundary stands (top_stands old marker inside) order bytes (text_later d.text l.left m left within) ended;
+      fits = ended_between d (within_top old) (path_of old) from start marker l adds.items next (underline_first (path_of old) l.left)
+          utf8 boundary adds.boundary stands (top_stands old marker inside) order bytes later ended;
     }
