@@ -22,7 +22,6 @@ use Rattle.first_pass_grammar.specs.Rows.{is_paragraph}
 use Rattle.first_pass_grammar.specs.Skeleton.{block_at, leaf_block, Line, Opening, OpensLeaf, OpensAs}
 use Rattle.first_pass_grammar.specs.Completion.{lines_from}
 use Rattle.first_pass_open.specs.Path.{path_of, context_of}
-use Rattle.first_pass_names.specs.TableEntries.{no_names}
 use Rattle.first_pass_raw.specs.RawBlocks.{IsPlaceAt, behind_line_at, code_behind, AddsIndented, AddsRaw, metadata_behind, fenced_behind, html_to_end, html_to_blank}
 use Rattle.first_pass.specs.Adding.{AddsKind}
 use Rattle.first_pass_text.specs.Found.{marked_kind}
@@ -153,21 +152,12 @@ module _ (text : List ℕ) (options : Options) (names : Names) (p : Place) (old 
     opens = λ more extends. opens_rule (document text options more) (path_of old) p at next size at_is next_is;
   }
 
-  -- an ATX heading, whose chain names nothing
-  heading_named : (more : Names) (level : HeadingLevel) → AddsHeading (document text options no_names) at level old new next → AddsHeading (document text options more) at level old new next
-  heading_named more level h = record {
-    chain = h.chain;
-    line = record { tokens = h.line.tokens; break = h.line.break; line = h.line.line; chain_is = h.line.chain_is };
-    tree_is = h.tree_is;
-    end_is = h.end_is;
-  }
-
-  pub heading_added : (level : HeadingLevel) → AddsHeading (document text options no_names) at level old new next → AddsKind text options names p (AtxHeading level) false old new next
-  unfolding heading_named
+  -- an ATX heading
+  pub heading_added : (level : HeadingLevel) → AddsHeading text options names at level old new next → AddsKind text options names p (AtxHeading level) false old new next
   heading_added level h = record {
-    items = heading_block at next level h.chain;
+    items = heading_block at next level h.index h.chain;
     tree_is = h.tree_is;
-    opens = λ more extends. opens_heading (document text options more) (path_of old) old new p at next level at_is place (heading_named more level h);
+    opens = λ more extends. opens_heading text options names more (path_of old) old new p at next level at_is place h extends;
   }
 
 -- behind a leaf block of a kind

@@ -5,7 +5,6 @@ use Rattle.first_pass_lines.specs.Places.{Place, offset, line_end, IsPlaceOf}
 use Rattle.first_pass_grammar.specs.Names.{Extends}
 use Rattle.first_pass_grammar.specs.Kinds.{Kind, unindented}
 use Rattle.first_pass_names.specs.TableEntries.{tables, names_of}
-use Rattle.first_pass_names.proofs.NameLemmas.{extends_equal}
 use Rattle.first_pass_raw.specs.RawBlocks.{behind_line_at}
 use Rattle.first_pass_lists.specs.Closing.{with_block}
 use Rattle.first_pass_lists.specs.declared.reading.Reading.{Reading}
@@ -58,8 +57,8 @@ module _ (old new : FirstPass) (p : Place) (at next : ℕ) (u : IsUtf8 (source_t
       }
 
   -- one that names nothing
-  pub text_added : (k kind : Kind) → kind ≡ k → (reading_of old).blank ≡ false → source_of new ≡ source_of old → allocs_of new ≡ allocs_of old → reading_of new ≡ with_block (reading_of old) (tree_of new) → next ≡ line_end p
+  pub text_added : (k kind : Kind) → kind ≡ k → (reading_of old).blank ≡ false → source_of new ≡ source_of old → Extends (names_of (allocs_of new)) (names_of (allocs_of old))
+      → tables (allocs_of new) ≡ tables (allocs_of old) → reading_of new ≡ with_block (reading_of old) (tree_of new) → next ≡ line_end p
       → ((from : ℕ) → from ≤ at → AddsBetween (source_text old) from next (tree_of old) (tree_of new))
       → AddsKind (source_text old) (source_options old) (names_of (allocs_of new)) p k false (tree_of old) (tree_of new) next → AddsLeaf old new p kind next
-  text_added k kind is blank source same reading ends fits block =
-      leaf_added k kind is blank source (extends_equal (names_of (allocs_of new)) (names_of (allocs_of old)) (ap names_of same)) (ap tables same) reading (line_read ends) fits block
+  text_added k kind is blank source names tables reading ends fits block = leaf_added k kind is blank source names tables reading (line_read ends) fits block

@@ -21,7 +21,9 @@ use Rattle.first_pass_grammar.specs.declared.kind.Container.{Container}
 use Rattle.first_pass_grammar.specs.declared.kind.Container.TheVariants.{BlockQuote}
 use Rattle.first_pass_grammar.specs.Containers.{Context, at_rest, prefix}
 use Rattle.first_pass_grammar.specs.Kinds.{Kind, Blank, ThematicBreak, AtxHeading, LinkDefinitions, Paragraph, unindented, item_at, IsKind}
-use Rattle.first_pass_grammar.specs.Leaves.{Document, around, IsHeading, heading_text_at, rule_block, heading_block}
+use Rattle.first_pass_grammar.specs.Names.{Names, Extends}
+use Rattle.first_pass_items.specs.declared.option_set.Options.{Options}
+use Rattle.first_pass_grammar.specs.Leaves.{Document, document, around, IsHeading, heading_text_at, rule_block, heading_block}
 use Rattle.first_pass_grammar.specs.Skeleton.{BlankLine, LeafBlock, Block, run_block, flowing_block, OpensBeyond, OpensRun, block_at, leaf_block, Line, Inside, At, ALeafAlone, IsFirst, Opening, OpensLeaf, OpensText, OpensAs, OpensBlockAt, OpensQuote, OpensFrom, Opens}
 use Rattle.first_pass_grammar.specs.Tables.{taking}
 use Rattle.first_pass_grammar.specs.Texts.{IsText}
@@ -152,16 +154,19 @@ ready_blank_leaf d defined r p lines kind none (inr lazy) =
     subst (λ q. Ready d defined q lines) (sym (kind_blank_is r (top_body r.tree) lazy.kind lazy.quote)) (ready_plain d defined r lines none (subst (λ t. ReadyAt d defined f t Line lines) (sym lazy.blank) now))
 
 -- a heading that was added is what opens at its place
-pub opens_heading : (d : Document) (path : List Container) (old new : Forest Item) (p : Place) (at next : ℕ) (level : HeadingLevel) → at ≡ offset (unindented p) → IsPlaceOf d.text (unindented p) → (h : AddsHeading d at level old new next)
-    → OpensAs d path p (lines_from d.text (line_end p)) (AtxHeading level) (OpensLeaf (leaf_block (AtxHeading level) p (heading_block at next level h.chain) false) Line (lines_from d.text next))
+pub opens_heading : (text : List ℕ) (options : Options) (names more : Names) (path : List Container) (old new : Forest Item) (p : Place) (at next : ℕ) (level : HeadingLevel) → at ≡ offset (unindented p)
+    → IsPlaceOf text (unindented p) → (h : AddsHeading text options names at level old new next) → Extends more names
+    → OpensAs (document text options more) path p (lines_from text (line_end p)) (AtxHeading level)
+    (OpensLeaf (leaf_block (AtxHeading level) p (heading_block at next level h.index h.chain) false) Line (lines_from text next))
 unfolding OpensAs
-opens_heading d path old new p at next level at_is place h =
-    let next_is : next ≡ line_end p = h.end_is ∙ ap (line_end_at d.text) at_is ∙ line_end_of d.text p place in (
+opens_heading text options names more path old new p at next level at_is place h e =
+    let next_is : next ≡ line_end p = h.end_is ∙ ap (line_end_at text) at_is ∙ line_end_of text p place in (
+      h.index,
       h.chain,
       next,
-      subst (λ k. IsHeading d (heading_text_at d.text k (level_number level)) h.chain next) at_is h.line,
-      ap (λ k. OpensLeaf (leaf_block (AtxHeading level) p (heading_block k next level h.chain) false) Line (lines_from d.text next)) at_is
-          ∙ ap (λ n. OpensLeaf (leaf_block (AtxHeading level) p (heading_block (offset (unindented p)) next level h.chain) false) Line (lines_from d.text n)) next_is,
+      subst (λ k. IsHeading (document text options more) (heading_text_at text k (level_number level)) h.index h.chain next) at_is (h.line more e),
+      ap (λ k. OpensLeaf (leaf_block (AtxHeading level) p (heading_block k next level h.index h.chain) false) Line (lines_from text next)) at_is
+          ∙ ap (λ n. OpensLeaf (leaf_block (AtxHeading level) p (heading_block (offset (unindented p)) next level h.index h.chain) false) Line (lines_from text n)) next_is,
     )
 
 -- a thematic break

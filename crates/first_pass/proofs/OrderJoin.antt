@@ -14,8 +14,7 @@ use Rattle.first_pass_tokens.proofs.OrderLemmas.{order_bound, order_to, order_fr
 use Rattle.first_pass_names.specs.TableEntries.{no_names}
 use Rattle.first_pass_grammar.specs.Leaves.{Document, document, content_at}
 use Rattle.first_pass_text.specs.Appends.{text_upto}
-use Rattle.std.proofs.lemmas.Str.{IsUtf8-take, IsCharBoundary-from_take}
-use Rattle.std.proofs.lemmas.List.{length-take-le}
+use Rattle.first_pass_text.proofs.TextFronts.{front_utf8, place_in_front, place_in_text, order_in_text}
 use Rattle.first_pass_grammar.specs.Order.{Extent, extent_of, extents, is_task_marker, Row, Empty, Node, laid, IsBetween, Within, Elsewhere, InItem, InText, in_item, below, beyond, IsLead, Fits}
 use Rattle.first_pass_grammar.specs.OpenOrder.{laid_open, open_item, FitsOpen, IsOrderedTo}
 use Rattle.first_pass_grammar.proofs.Orders.{beside, ended_at, laid_open-beside, length-places, fits-order, fits-later, extents-ended}
@@ -213,37 +212,6 @@ ordered_tokens text f from to (x ∷ xs) forest h high o =
     let within = order_bound text x.«end» to xs h.4 in
     let one = token_by (is_text x.body && joins_at f x.start f.current) text f from x refl forest (record { behind = h.0; order = h.1; before = omega arith; starts = h.2; ends = h.3 }) (omega arith) o in
     ordered_tokens text (with_token f x) x.«end» to xs one.0 h.4 high one.1
-
--- a front of a front
-take_less : (i e : ℕ) (xs : List ℕ) → i ≤ e → take i (take e xs) ≡ take i xs
-take_less zero e xs h = refl
-take_less (suc i) zero xs h = absurd (omega arith)
-take_less (suc i) (suc e) [] h = refl
-take_less (suc i) (suc e) (x ∷ xs) h = ap (λ z. x ∷ z) (take_less i e xs (omega arith))
-
-module _ (text : List ℕ) (e : ℕ) (utf8 : IsUtf8 text) (ends : IsCharBoundary text e) where
-  -- of the front of a text, which ends between two characters
-  front_len : length (take e text) ≡ e
-  front_len = length-take-le e text ends.0
-
-  front_utf8 : IsUtf8 (take e text)
-  front_utf8 = IsUtf8-take text e utf8 ends
-
-  place_in_text : (i : ℕ) → IsCharBoundary (take e text) i → IsCharBoundary text i
-  place_in_text i b =
-      let n = front_len in
-      let low = b.0 in
-      let high = ends.0 in
-      IsCharBoundary-from_take text i utf8 (omega arith) (subst IsUtf8 (take_less i e text (omega arith)) (IsUtf8-take (take e text) i front_utf8 b))
-
-  place_in_front : (i : ℕ) → i ≤ e → IsCharBoundary text i → IsCharBoundary (take e text) i
-  place_in_front i low b =
-      let n = front_len in
-      IsCharBoundary-from_take (take e text) i front_utf8 (omega arith) (subst IsUtf8 (sym (take_less i e text low)) (IsUtf8-take text i utf8 b))
-
-  order_in_text : (from to : ℕ) (chain : List Item) → AreInOrder (take e text) from to chain → AreInOrder text from to chain
-  order_in_text from to [] h = h
-  order_in_text from to (x ∷ xs) h = (h.0, h.1, place_in_text x.start h.2, place_in_text x.«end» h.3, order_in_text x.«end» to xs h.4)
 
 -- the tokens of a line added, which begins at an offset of a text of which nothing counts from another on, or all
 pub ordered_line : (d : Document) (start : ℕ) (end : Option ℕ) (old new : Forest Item) (next : ℕ) (line_break : Option Item) (from : ℕ) → IsUtf8 d.text → IfSome end (λ e. (start ≤ e) × IsCharBoundary d.text e) → IsCharBoundary d.text start → IsForest old

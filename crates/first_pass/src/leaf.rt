@@ -3,9 +3,9 @@
 ghost use Rattle.std.specs.Prelude.{◌≡◌, ℕ, ◌+◌, ◌≤◌, drop, Some, false, length, IfOk, IfSome, OnOk, IsCharBoundary};
 ghost use Rattle.first_pass_lines.specs.Lines.{atx_level as atx_level_of};
 ghost use Rattle.first_pass_tree.specs.Forest.{added, is_text};
-ghost use Rattle.first_pass_names.specs.TableEntries.{tables, names_of, no_names};
+ghost use Rattle.first_pass_names.specs.TableEntries.{tables, names_of};
 ghost use Rattle.first_pass_grammar.specs.Names.{Extends};
-ghost use Rattle.first_pass_grammar.specs.Leaves.{document, rule_block};
+ghost use Rattle.first_pass_grammar.specs.Leaves.{rule_block};
 ghost use Rattle.first_pass_lists.specs.Closing.{with_block};
 ghost use Rattle.first_pass_text.specs.Appends.{AddsHeading};
 ghost use Rattle.first_pass_tables.specs.TextsAdded.{AddsText};
@@ -58,8 +58,8 @@ impl<'a> FirstPass<'a> {
         Ok(next)
     }
 
-    /// Appends the ATX heading of this level that begins at the offset `start` into the text, and
-    /// answers the offset at which its line ends (CommonMark 4.2).
+    /// Appends the ATX heading of this level that begins at the offset `start` into the text, without its attribute
+    /// block, and answers the offset at which its line ends (CommonMark 4.2).
     pub fn parse_atx_heading(
         &mut self,
         start: usize,
@@ -68,10 +68,11 @@ impl<'a> FirstPass<'a> {
         requires within { start ≤ length (source_text self.old) }
         requires heading { atx_level_of (drop start (source_text self.old)) ≡ Some atx_level }
         ensures source { OnOk result (source_of self.new ≡ source_of self.old) }
-        ensures allocs { OnOk result (allocs_of self.new ≡ allocs_of self.old) }
+        ensures names { OnOk result (Extends (names_of (allocs_of self.new)) (names_of (allocs_of self.old))) }
+        ensures tables { OnOk result (tables (allocs_of self.new) ≡ tables (allocs_of self.old)) }
         ensures reading { OnOk result (reading_of self.new ≡ with_block (reading_of self.old) (tree_of self.new)) }
         ensures block { IfOk result (λ next.
-            AddsHeading (document (source_text self.old) (source_options self.old) no_names) start atx_level
+            AddsHeading (source_text self.old) (source_options self.old) (names_of (allocs_of self.new)) start atx_level
             (tree_of self.old) (tree_of self.new) next) }
         ensures fits { IfOk result (λ next. (from : ℕ) → from ≤ start → IsCharBoundary (source_text self.old) start
             → AddsBetween (source_text self.old) from next (tree_of self.old) (tree_of self.new)) }
@@ -80,9 +81,11 @@ impl<'a> FirstPass<'a> {
             → IsOrderedAt (source_text self.old) (reading_of self.new) next) }
     {
         let next = heading::parse_atx_heading(
+            self.alloc,
             self.source,
             &self.lookup_table,
             &mut self.reading.tree,
+            &mut self.allocs,
             start,
             atx_level,
         )?;

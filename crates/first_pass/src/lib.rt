@@ -2,6 +2,7 @@
 //! (`pass::run_first_pass`). The names of the crate below are handed out too.
 #![tactic(auto)]
 
+mod attributes;
 pub mod containers;
 mod definition;
 mod interrupt;

@@ -1,18 +1,21 @@
--- Items that read alike: they differ at most in indices that name one text, or the same alignments.
-use Rattle.std.proofs.Common.{◌≡◌, ℕ, zero, suc, ◌+◌, ◌-◌, ◌==◌, Bool, true, false, nat_lt, List, [], ◌∷◌, ◌++◌, map, Option, Some, refl, sym, ap, ◌∙◌, if◌then◌else◌}
-use Rattle.std.specs.Option.{option_and_then}
+-- Items that read alike: they differ at most in indices that name one text, the same alignments, or the same attributes.
+use Rattle.std.proofs.Common.{◌≡◌, ℕ, zero, suc, ◌+◌, ◌-◌, ◌==◌, Bool, true, false, nat_lt, List, [], ◌∷◌, ◌++◌, map, Option, Some, None, refl, sym, ap, ◌∙◌, if◌then◌else◌}
+use Rattle.std.specs.Option.{option_and_then, option_map}
 use Rattle.std.proofs.lemmas.List.{map-append}
 use Rattle.first_pass_items.specs.declared.item.Alignment.{Alignment}
 use Rattle.first_pass_items.specs.declared.item.AlignmentIndex.{AlignmentIndex}
 use Rattle.first_pass_items.specs.declared.item.CowIndex.{CowIndex}
+use Rattle.first_pass_items.specs.declared.item.HeadingIndex.{HeadingIndex}
+use Rattle.first_pass_items.specs.declared.item.HeadingLevel.{HeadingLevel}
 use Rattle.first_pass_items.specs.declared.item.Item.{Item}
 use Rattle.first_pass_items.specs.declared.item.ItemBody.{ItemBody}
-use Rattle.first_pass_items.specs.declared.item.ItemBody.TheVariants.{SynthesizeText, FencedCodeBlock, Table, Paragraph}
+use Rattle.first_pass_items.specs.declared.item.ItemBody.TheVariants.{Heading, SynthesizeText, FencedCodeBlock, Table, Paragraph}
+use Rattle.first_pass_attributes.specs.Attributes.{Attributes}
 use Rattle.first_pass_tree.specs.Forest.{at_depth, is_text}
 use Rattle.first_pass_lines.specs.Places.{Place, offset, line_end}
 use Rattle.first_pass_tokens.specs.TreeTokens.{leaves}
 use Rattle.first_pass_tokens.specs.Chains.{text_token, touches, add_token, add_tokens}
-use Rattle.first_pass_grammar.specs.Names.{Names, NamesText, NamesAlignments, TextAt, AlignmentsAt, Named, AText, Alignments, index_of, kind_alone, named, read, read_nodes}
+use Rattle.first_pass_grammar.specs.Names.{Names, NamesText, NamesAlignments, NamesAttributes, TextAt, AlignmentsAt, AttributesAt, Named, AText, Alignments, OfHeading, index_of, kind_alone, named, read, read_nodes}
 use Rattle.first_pass_grammar.specs.Leaves.{Document, document, block_with}
 use Rattle.first_pass_grammar.specs.RawLines.{AreColumns, ends_with_both, Ranges, range_text, range_html, raw_items, AreRawLines, spaces}
 use Rattle.first_pass_grammar.specs.Skeleton.{LeafBlock, Leaf, BlankLine, Block, From, Line, Blanks, At, Anything, ALeafAlone, TextOf, MarkAlone, Opening, OpensLeaf, OpensNode, Skeleton, Nil, Then, Node}
@@ -92,6 +95,7 @@ text_alone : (b : ItemBody) → is_text (kind_alone b) ≡ is_text b
 text_alone (SynthesizeText ix) = refl
 text_alone (FencedCodeBlock ix) = refl
 text_alone (Table ix) = refl
+text_alone (Heading level ix) = refl
 text_alone b = refl
 
 touches_read : (m : Names) (x y : Item) → touches (read m x).0 (read m y).0 ≡ touches x y
@@ -124,6 +128,27 @@ named_text names ix text (cow, at, is) = rw at (ap (λ z. Some (AText z)) is)
 named_alignments : (names : Names) (ix : AlignmentIndex) (alignments : List Alignment) → NamesAlignments names ix alignments
     → named names (AlignmentsAt ix) ≡ Some (Alignments alignments)
 named_alignments names ix alignments at = rw at refl
+
+named_attributes : (names : Names) (ix : Option HeadingIndex) (attributes : Option Attributes) → NamesAttributes names ix attributes
+    → option_and_then (named names) (option_map AttributesAt ix) ≡ option_map OfHeading attributes
+named_attributes names None None h = refl
+named_attributes names None (Some attributes) h = absurd h
+named_attributes names (Some ix) None h = absurd h
+named_attributes names (Some ix) (Some attributes) h = rw h refl
+
+-- two headings have an index each, or none, where they have the same attributes or none
+abbrev index_alone : Option HeadingIndex → Option HeadingIndex
+index_alone ix = option_map (λ (at : HeadingIndex). record { 0 = 0 }) ix
+
+both_given : (m n : Names) (i j : Option HeadingIndex) (attributes : Option Attributes) → NamesAttributes m i attributes → NamesAttributes n j attributes
+    → index_alone i ≡ index_alone j
+both_given m n None None None h k = refl
+both_given m n None None (Some attributes) h k = refl
+both_given m n None (Some j) None h k = absurd k
+both_given m n None (Some j) (Some attributes) h k = absurd h
+both_given m n (Some i) None None h k = absurd h
+both_given m n (Some i) None (Some attributes) h k = absurd k
+both_given m n (Some i) (Some j) attributes h k = refl
 
 -- Items that differ at most in their indices read alike, where these name the same.
 indexed_alike : (m n : Names) (start «end» : ℕ) (body body' : ItemBody) → kind_alone body ≡ kind_alone body'
@@ -191,12 +216,19 @@ pub table_alike : (m n : Names) (start «end» : ℕ) (i j : AlignmentIndex) (al
 table_alike m n start end i j alignments h k =
     indexed_alike m n start end (Table i) (Table j) refl (named_alignments m i alignments h ∙ sym (named_alignments n j alignments k))
 
+pub heading_alike : (m n : Names) (start «end» : ℕ) (level : HeadingLevel) (i j : Option HeadingIndex) (attributes : Option Attributes) → NamesAttributes m i attributes
+    → NamesAttributes n j attributes → read m (node_of start «end» (Heading level i)) ≡ read n (node_of start «end» (Heading level j))
+heading_alike m n start end level i j attributes h k =
+    indexed_alike m n start end (Heading level i) (Heading level j) (ap (Heading level) (both_given m n i j attributes h k))
+    (named_attributes m i attributes h ∙ sym (named_attributes n j attributes k))
+
 -- Making a paragraph tight leaves an item's index as it is.
 tight_alone : (b : ItemBody) → kind_alone (tight_body b) ≡ tight_body (kind_alone b)
 tight_alone Paragraph = refl
 tight_alone (SynthesizeText ix) = refl
 tight_alone (FencedCodeBlock ix) = refl
 tight_alone (Table ix) = refl
+tight_alone (Heading level ix) = refl
 tight_alone b = refl
 
 tight_index : (b : ItemBody) → index_of (tight_body b) ≡ index_of b

@@ -17,9 +17,13 @@ use Rattle.first_pass_grammar.specs.declared.kind.Container.{Container}
 use Rattle.first_pass_grammar.specs.Names.{Names}
 use Rattle.first_pass_grammar.specs.Containers.{at_rest, front}
 use Rattle.first_pass_grammar.specs.Kinds.{unindented}
-use Rattle.first_pass_grammar.specs.Leaves.{Document, content_at, add_break, heading_chain, IsHeading, marker_items, TextLines, AreTextLines}
+use Rattle.first_pass_grammar.specs.Leaves.{Document, content_at, add_break, heading_content, heading_chain, IsHeading, marker_items, TextLines, AreTextLines}
 use Rattle.first_pass_grammar.specs.RawLines.{AreColumns, Ranges, range_text, range_html, ends_with_both, raw_items, IsRawLine, AreRawLines}
-use Rattle.first_pass_grammar.specs.Texts.{text_children}
+use Rattle.first_pass_grammar.specs.Texts.{text_children, by_backslash, heading_bytes, heading_children}
+use Rattle.first_pass_grammar.specs.Headings.{kept_before, heading_braces}
+use Rattle.first_pass_attributes.specs.AttributeBlocks.{Braces}
+use Rattle.first_pass_items.specs.declared.item.HeadingIndex.{HeadingIndex}
+use Rattle.std.specs.Option.{option_map_or}
 
 -- each of these items is one of which this holds
 abbrev pub AreEach : (ItemBody → Type 0) → List Item → Type 0
@@ -145,11 +149,26 @@ module _ (P : ItemBody → Type 0) (holds : HoldsOfTokens P) where
   unfolding heading_chain
   heading_chain_each kept start chain h = unless_each (kept == 0) [] (cut (start + kept) chain) tt (cut_each (start + kept) chain h)
 
-  pub heading_each : (d : Document) (start : ℕ) (chain : List Item) (e : ℕ) → IsHeading d start chain e → AreEach P chain
-  heading_each d start chain e h =
+  pub heading_each : (d : Document) (start : ℕ) (index : Option HeadingIndex) (chain : List Item) (e : ℕ) → IsHeading d start index chain e → AreEach P chain
+  heading_each d start index chain e h =
       subst (AreEach P) (sym h.chain_is)
-      (heading_chain_each _ start (close_break h.break (add_tokens [] h.tokens))
-      (closed_each h.break (add_tokens [] h.tokens) (tokens_each [] h.tokens tt (line_each (content_at d start) h.tokens (e, h.break) h.line))))
+      (heading_chain_each _ start (close_break h.answer.1 (add_tokens [] h.tokens))
+      (closed_each h.answer.1 (add_tokens [] h.tokens) (tokens_each [] h.tokens tt (line_each (heading_content d start) h.tokens h.answer h.line))))
+
+  -- the children of a heading that is underlined
+  cut_children_each : (d : Document) (start : ℕ) (marker : Option Item) (t : TextLines) (o : Option Braces) → AreEach P (marker_items marker ++ t.chain)
+      → AreEach P (text_children marker t)
+      → AreEach P (option_map_or (λ (block : Braces). close_break t.break (cut (start + kept_before (by_backslash t.break) block.opening (heading_bytes d start marker t)) (marker_items marker ++ t.chain)))
+      o (text_children marker t))
+  cut_children_each d start marker t None h k = k
+  cut_children_each d start marker t (Some block) h k =
+      closed_each t.break _ (cut_each (start + kept_before (by_backslash t.break) block.opening (heading_bytes d start marker t)) (marker_items marker ++ t.chain) h)
+
+  pub heading_children_each : (d : Document) (start : ℕ) (marker : Option Item) (t : TextLines) → IfSome marker (λ x. P x.body) → AreEach P t.chain
+      → AreEach P (heading_children d start marker t)
+  unfolding heading_children
+  heading_children_each d start marker t h k =
+      cut_children_each d start marker t (heading_braces d.options (heading_bytes d start marker t)) (marked_each marker t.chain h k) (children_each marker t h k)
 
   -- the tokens of a cell
   pub cell_each : (s : Source) (tokens : List Item) (stop : ℕ) → IsCell s tokens stop → AreEach P tokens

@@ -1,20 +1,22 @@
 -- Names that go on with others are found, with what they name: texts, info strings, and raw lines.
-use Rattle.std.proofs.Common.{◌≡◌, ℕ, zero, suc, false, List, [], ◌∷◌, ◌++◌, length, slice_get, Some, refl}
+use Rattle.std.proofs.Common.{◌≡◌, ℕ, zero, suc, false, List, [], ◌∷◌, ◌++◌, length, slice_get, Option, Some, None, refl}
 use Rattle.first_pass_items.specs.declared.cow_str.CowStr.{CowStr}
 use Rattle.first_pass_items.specs.declared.cow_str.CowStr.TheVariants.{Borrowed}
 use Rattle.first_pass_items.specs.declared.item.Alignment.{Alignment}
 use Rattle.first_pass_items.specs.declared.item.AlignmentIndex.{AlignmentIndex}
 use Rattle.first_pass_items.specs.declared.item.CowIndex.{CowIndex}
+use Rattle.first_pass_items.specs.declared.item.HeadingIndex.{HeadingIndex}
 use Rattle.first_pass_items.specs.declared.item.Item.{Item}
 use Rattle.first_pass_items.specs.declared.item.ItemBody.TheVariants.{SynthesizeText}
 use Rattle.first_pass_items.specs.declared.option_set.Options.{Options}
 use Rattle.first_pass_lines.specs.Places.{Place, offset, line_end}
 use Rattle.first_pass_links.specs.Escapes.{unescaped}
 use Rattle.first_pass_tokens.specs.Chains.{add_tokens}
-use Rattle.first_pass_grammar.specs.Names.{Names, NamesText, NamesAlignments, Extends, with_named, with_alignments}
+use Rattle.first_pass_grammar.specs.Names.{Names, NamesText, NamesAlignments, NamesAttributes, Extends, with_named, with_alignments, with_heading}
+use Rattle.first_pass_attributes.specs.Attributes.{Attributes}
 use Rattle.first_pass_grammar.specs.Leaves.{document}
 use Rattle.first_pass_grammar.specs.CodeBlocks.{NamesInfo}
-use Rattle.first_pass_grammar.proofs.MoreNames.{extends_none, extends_both, extends_named, extends_alignments, text_last, alignments_last}
+use Rattle.first_pass_grammar.proofs.MoreNames.{extends_none, extends_both, extends_named, extends_alignments, extends_heading, text_last, alignments_last, heading_last}
 use Rattle.first_pass_grammar.specs.RawLines.{spaces, AreColumns, Ranges, raw_items, AreRawLines}
 
 -- A value, and names that go on with these, so that this holds of it for all names that go on with those.
@@ -64,6 +66,18 @@ named_alignments names alignments =
       more = with_alignments names alignments;
       extends = extends_alignments names (with_alignments names alignments) alignments refl;
       holds = λ later e. alignments_last names (with_alignments names alignments) later ix alignments refl refl e;
+    }
+
+-- the attributes of a heading, or none
+pub named_attributes : (names : Names) (attributes : Option Attributes) → Found names (Option HeadingIndex) (λ later ix. NamesAttributes later ix attributes)
+named_attributes names None = record { value = None; more = names; extends = extends_none names; holds = λ later e. tt }
+named_attributes names (Some attributes) =
+    let ix : HeadingIndex = record { 0 = length names.headings } in
+    record {
+      value = Some ix;
+      more = with_heading names attributes;
+      extends = extends_heading names (with_heading names attributes) attributes refl;
+      holds = λ later e. heading_last names (with_heading names attributes) later ix attributes refl refl e;
     }
 
 -- columns, and raw lines

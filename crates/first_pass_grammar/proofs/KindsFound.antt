@@ -265,9 +265,16 @@ leads_heading : (text : List ℕ) (options : Options) (names : Names) (most : �
     (level : HeadingLevel) → Leads names most lines (λ later o. OpensAs (document text options later) path p lines (AtxHeading level) o)
 unfolding OpensAs
 leads_heading text options names most path p lines level =
-    let found = heading_found text options (heading_text_at text (offset (unindented p)) (level_number level)) in
-    leads_leaf (leaf_block (AtxHeading level) p (heading_block (offset (unindented p)) found.1 level found.0) false) lines
-    (λ later. (found.0, found.1, found.2 later, refl)) (omega arith)
+    let found = heading_found names text options (heading_text_at text (offset (unindented p)) (level_number level)) in
+    let h = found.value in
+    let leaf : Leaf = leaf_block (AtxHeading level) p (heading_block (offset (unindented p)) h.1.1 level h.0 h.1.0) false in
+    record {
+      opening = OpensLeaf leaf Line lines;
+      more = found.more;
+      extends = found.extends;
+      opens = λ later x. (h.0, h.1.0, h.1.1, found.holds later x, refl);
+      shrinks = at_next_line most lines leaf lines (omega arith);
+    }
 
 pub leads_text : (text : List ℕ) (options : Options) (names : Names) (most : ℕ) (path : List Container) (p : Place) (lines : List Place)
     (marker : Option Item) → Leads names most lines (λ later o. OpensText (document text options later) path p lines marker o)

@@ -13,7 +13,7 @@ use Rattle.first_pass_grammar.specs.RawLines.{range_text, range_html}
 use Rattle.first_pass_grammar.specs.Skeleton.{Block, Line, Opening, OpensLeaf, leaf_block, OpensAs, OpensRun, OpensText}
 use Rattle.first_pass_grammar.proofs.NoIndex.{heading_free}
 use Rattle.first_pass_grammar.proofs.NamedItems.{named_deeper, free_named, text_is_free, html_is_free, lines_named, block_named}
-use Rattle.first_pass_grammar.proofs.TextsNamed.{text_named}
+use Rattle.first_pass_grammar.proofs.TextsNamed.{given_entry, text_named}
 
 -- what is opened at a place has the items that are said of it
 items_of_leaf : Opening → List (ℕ × Item)
@@ -39,9 +39,9 @@ opens_named d path p lines HtmlToBlank items gap left (own, is, opens) =
     (block_named d.names _ _ _ is.chain own is.items_are tt (lines_named range_html d [] _ is.chain html_is_free tt is.lines))
 opens_named d path p lines (ThematicBreak size) items gap left opens =
     subst (AreNamed d.names) (sym (ap items_of_leaf opens)) (tt, tt)
-opens_named d path p lines (AtxHeading level) items gap left (chain, stop, is, opens) =
+opens_named d path p lines (AtxHeading level) items gap left (index, chain, stop, is, opens) =
     subst (AreNamed d.names) (sym (ap items_of_leaf opens))
-    (tt, named_deeper d.names 1 (leaves chain) (free_named d.names chain (heading_free d _ chain stop is)))
+    (given_entry d.names index _ is.named, named_deeper d.names 1 (leaves chain) (free_named d.names chain (heading_free d _ index chain stop is)))
 opens_named d path p lines (FencedCode count byte) items gap left (own, is, opens) =
     subst (AreNamed d.names) (sym (ap items_of_leaf opens))
     (block_named d.names _ _ _ is.chain own is.items_are (slice_get_within d.names.texts is.info.0 is.names.named is.names.at)

@@ -1,5 +1,6 @@
 -- Paragraphs and headings have one chain, whatever is named.
 use Rattle.std.proofs.Common.{◌≡◌, inl, inr, ℕ, List, [], ◌∷◌, Option, sym, ap, ◌∙◌, subst}
+use Rattle.first_pass_items.specs.declared.item.HeadingIndex.{HeadingIndex}
 use Rattle.first_pass_items.specs.declared.item.Item.{Item}
 use Rattle.first_pass_lines.specs.Places.{Place, offset}
 use Rattle.first_pass_tokens.specs.Chains.{add_tokens}
@@ -36,14 +37,13 @@ one_lines d n path start chain (line ∷ lines) t u (k, a, i, inr (h, more)) (k'
     one_lines d n path (offset (unindented (at_rest line (front path line.rest)))) (add_break a.1 (add_tokens chain k)) lines t u more
     (subst (λ z. AreTextLines (with_names d n) path (offset (unindented (at_rest line (front path line.rest)))) z lines u) same more')
 
--- a heading has one chain and one end
-pub one_heading : (d : Document) (n : Names) (start : ℕ) (c c' : List Item) (e e' : ℕ) → IsHeading d start c e
-    → IsHeading (with_names d n) start c' e' → (c ≡ c') × (e ≡ e')
-one_heading d n start c c' e e' h h' =
+-- an ATX heading has one chain and one end
+pub one_heading : (d : Document) (n : Names) (start : ℕ) (i i' : Option HeadingIndex) (c c' : List Item) (e e' : ℕ) → IsHeading d start i c e
+    → IsHeading (with_names d n) start i' c' e' → (c ≡ c') × (e ≡ e')
+one_heading d n start i i' c c' e e' h h' =
     let o = one_line h.line h'.line in
     let x = o.0 in
-    let ends : e ≡ e' = ap (λ (a : ℕ × Option Item). a.0) o.1 in
-    let breaks : h.break ≡ h'.break = ap (λ (a : ℕ × Option Item). a.1) o.1 in
+    let answers : h.answer ≡ h'.answer = o.1 in
     let z = h.chain_is in
     let w = h'.chain_is in
-    (cc, ends)
+    (cc, h.end_is ∙ sym h'.end_is)

@@ -1,5 +1,6 @@
 -- Each line has tokens, each paragraph and each heading a chain.
-use Rattle.std.proofs.Common.{◌≡◌, inl, inr, ℕ, ◌≤◌, Bool, true, false, List, [], ◌∷◌, length, take, drop, Option, refl, arith}
+use Rattle.std.proofs.Common.{◌≡◌, inl, inr, ℕ, ◌+◌, ◌≤◌, Bool, true, false, List, [], ◌∷◌, length, drop, Option, refl, arith}
+use Rattle.first_pass_items.specs.declared.item.HeadingIndex.{HeadingIndex}
 use Rattle.first_pass_items.specs.declared.item.Item.{Item}
 use Rattle.first_pass_items.specs.declared.option_set.Options.{Options}
 use Rattle.first_pass_lines.specs.Lines.{line_len}
@@ -12,7 +13,9 @@ use Rattle.first_pass_grammar.specs.declared.kind.Container.{Container}
 use Rattle.first_pass_grammar.specs.Names.{Names}
 use Rattle.first_pass_grammar.specs.Containers.{context, at_rest, front}
 use Rattle.first_pass_grammar.specs.Kinds.{unindented, ends_text}
-use Rattle.first_pass_grammar.specs.Leaves.{document, add_break, kept_len, heading_chain, IsHeading, TextLines, text_lines, AreTextLines}
+use Rattle.first_pass_grammar.specs.Headings.{before_attributes, heading_attributes_of}
+use Rattle.first_pass_grammar.specs.Leaves.{Document, document, add_break, line_bytes, heading_content, kept_len, heading_chain, IsHeading, TextLines, text_lines, AreTextLines}
+use Rattle.first_pass_grammar.proofs.Found.{Found, named_attributes}
 
 -- what the lines of a text give, whatever is named
 pub record LinesFrom (text : List ℕ) (options : Options) (path : List Container) (start : ℕ) (chain : List Item) (lines : List Place) : Type 0 where
@@ -56,12 +59,25 @@ lines_found text options path (line ∷ lines) start chain =
     (lines_found text options path lines (offset (unindented (at_rest line (front path line.rest))))
     (add_break first.1.1 (add_tokens chain first.0)))
 
--- the chain of a heading, whatever is named
-pub heading_found : (text : List ℕ) (options : Options) (start : ℕ)
-    → (chain : List Item) × (end_of_line : ℕ) × ((names : Names) → IsHeading (document text options names) start chain end_of_line)
-unfolding source_at
-heading_found text options start =
-    let line = line_found (source_at text options start) refl in
-    let kept : ℕ = kept_len (take (line_len (drop start text)) (drop start text)) in
+-- an ATX heading: its index, its chain and its end
+pub heading_found : (names : Names) (text : List ℕ) (options : Options) (start : ℕ)
+    → Found names (Option HeadingIndex × (List Item × ℕ)) (λ later h. IsHeading (document text options later) start h.0 h.1.0 h.1.1)
+heading_found names text options start =
+    let d : Document = document text options names in
+    let line = line_found (heading_content d start) refl in
+    let kept : ℕ = kept_len (before_attributes options (line_bytes d start)) in
     let chain : List Item = heading_chain kept start (close_break line.1.1 (add_tokens [] line.0)) in
-    (chain, line.1.0, λ names. record { tokens = line.0; break = line.1.1; line = line.2; chain_is = refl })
+    let index = named_attributes names (heading_attributes_of options (line_bytes d start)) in
+    record {
+      value = (index.value, (chain, start + line_len (drop start text)));
+      more = index.more;
+      extends = index.extends;
+      holds = λ later e. record {
+        tokens = line.0;
+        answer = line.1;
+        line = line.2;
+        chain_is = refl;
+        named = index.holds later e;
+        end_is = refl;
+      };
+    }

@@ -14,7 +14,7 @@ use Rattle.first_pass_grammar.specs.LinkRuns.{lines_beyond, Beyond, Ended, Flows
 use Rattle.first_pass_grammar.specs.TableHeads.{headed_table}
 use Rattle.first_pass_grammar.specs.Tables.{filled, Taken, AreRows, IsTable}
 use Rattle.first_pass_grammar.specs.Completion.{lines_from}
-use Rattle.first_pass_grammar.specs.Texts.{IsPlainText, IsText, underline_first, plain_text, underlined_text}
+use Rattle.first_pass_grammar.specs.Texts.{IsPlainText, IsText, IsUnderlined, underline_first, plain_text}
 use Rattle.first_pass_grammar.proofs.PlacesKept.{IsAt, AreAt, at_front}
 use Rattle.first_pass_items.specs.declared.item.HeadingLevel.{HeadingLevel}
 
@@ -93,9 +93,9 @@ first_left text (line ∷ lines) h = h.1
 
 -- what a heading or a paragraph leaves
 ended_left : (d : Document) (path : List Container) (start : ℕ) (marker : Option Item) (l : TextLines) (t : Taken) (o : Option (ℕ × HeadingLevel))
-    → AreAt d.text l.left → MatchOption o (t ≡ plain_text d start marker l) (λ underline. t ≡ underlined_text d start marker underline.1 l) → AreAt d.text t.left
+    → AreAt d.text l.left → MatchOption o (t ≡ plain_text d start marker l) (λ underline. IsUnderlined d start marker l underline.1 t) → AreAt d.text t.left
 ended_left d path start marker l t None h e = subst (λ (z : Taken). AreAt d.text z.left) (sym e) h
-ended_left d path start marker l t (Some underline) h e = subst (λ (z : Taken). AreAt d.text z.left) (sym e) (first_left d.text l.left h)
+ended_left d path start marker l t (Some underline) h (index, named, e) = subst (λ (z : Taken). AreAt d.text z.left) (sym e) (first_left d.text l.left h)
 
 -- what stands for a text leaves
 text_left_by : (d : Document) (path : List Container) (p : Place) (marker : Option Item) (lines : List Place) (t : Taken) (o : Option (List Alignment))

@@ -1,12 +1,14 @@
 -- What is named stays named while more is named.
-use Rattle.std.proofs.Common.{◌≡◌, ℕ, zero, suc, ◌<◌, List, [], ◌∷◌, ◌++◌, length, slice_get, Option, Some, unwrap_or, refl, sym, ap, ◌∙◌, arith, append_assoc}
+use Rattle.std.proofs.Common.{◌≡◌, ℕ, zero, suc, ◌<◌, List, [], ◌∷◌, ◌++◌, length, slice_get, Option, Some, None, unwrap_or, refl, sym, ap, ◌∙◌, arith, append_assoc}
 use Rattle.std.proofs.lemmas.List.{append-nil}
 use Rattle.std.proofs.lemmas.Option.{slice_get_within}
 use Rattle.first_pass_items.specs.declared.cow_str.CowStr.{CowStr}
 use Rattle.first_pass_items.specs.declared.item.Alignment.{Alignment}
 use Rattle.first_pass_items.specs.declared.item.AlignmentIndex.{AlignmentIndex}
 use Rattle.first_pass_items.specs.declared.item.CowIndex.{CowIndex}
-use Rattle.first_pass_grammar.specs.Names.{Names, NamesAlignments, Extends, with_named, with_alignments, alignments_named}
+use Rattle.first_pass_items.specs.declared.item.HeadingIndex.{HeadingIndex}
+use Rattle.first_pass_attributes.specs.Attributes.{Attributes}
+use Rattle.first_pass_grammar.specs.Names.{Names, NamesAlignments, NamesAttributes, Extends, with_named, with_alignments, with_heading, alignments_named}
 
 -- no more is named
 pub extends_none : (names : Names) → Extends names names
@@ -15,6 +17,8 @@ extends_none names = record {
   texts = sym (append-nil names.texts);
   more_alignments = [];
   alignments = sym (append-nil names.alignments);
+  more_headings = [];
+  headings = sym (append-nil names.headings);
 }
 
 -- more, and then more
@@ -27,15 +31,19 @@ extends_both new mid old e f = record {
   texts = behind_both new.texts mid.texts old.texts e.more_texts f.more_texts e.texts f.texts;
   more_alignments = f.more_alignments ++ e.more_alignments;
   alignments = behind_both new.alignments mid.alignments old.alignments e.more_alignments f.more_alignments e.alignments f.alignments;
+  more_headings = f.more_headings ++ e.more_headings;
+  headings = behind_both new.headings mid.headings old.headings e.more_headings f.more_headings e.headings f.headings;
 }
 
--- one more text, and the alignments of one more table
+-- one more text, the alignments of one more table, and the attributes of one more heading
 pub extends_named : (old new : Names) (cow : CowStr) → new ≡ with_named old cow → Extends new old
 extends_named old new cow e = record {
   more_texts = cow ∷ [];
   texts = ap (λ (n : Names). n.texts) e;
   more_alignments = [];
   alignments = ap (λ (n : Names). n.alignments) e ∙ sym (append-nil old.alignments);
+  more_headings = [];
+  headings = ap (λ (n : Names). n.headings) e ∙ sym (append-nil old.headings);
 }
 
 pub extends_alignments : (old new : Names) (alignments : List Alignment) → new ≡ with_alignments old alignments → Extends new old
@@ -44,6 +52,18 @@ extends_alignments old new alignments e = record {
   texts = ap (λ (n : Names). n.texts) e ∙ sym (append-nil old.texts);
   more_alignments = alignments ∷ [];
   alignments = ap (λ (n : Names). n.alignments) e;
+  more_headings = [];
+  headings = ap (λ (n : Names). n.headings) e ∙ sym (append-nil old.headings);
+}
+
+pub extends_heading : (old new : Names) (attributes : Attributes) → new ≡ with_heading old attributes → Extends new old
+extends_heading old new attributes e = record {
+  more_texts = [];
+  texts = ap (λ (n : Names). n.texts) e ∙ sym (append-nil old.texts);
+  more_alignments = [];
+  alignments = ap (λ (n : Names). n.alignments) e ∙ sym (append-nil old.alignments);
+  more_headings = attributes ∷ [];
+  headings = ap (λ (n : Names). n.headings) e;
 }
 
 named_front : {A : Type 0} (xs more : List A) (i : ℕ) → i < length xs → slice_get (xs ++ more) i ≡ slice_get xs i
@@ -70,6 +90,13 @@ pub still_aligned : (new old : Names) (ix : AlignmentIndex) (alignments : List A
     → NamesAlignments new ix alignments
 still_aligned new old ix alignments e h = still_there new.alignments old.alignments e.more_alignments ix.0 alignments e.alignments h
 
+pub still_given : (new old : Names) (ix : Option HeadingIndex) (attributes : Option Attributes) → Extends new old → NamesAttributes old ix attributes
+    → NamesAttributes new ix attributes
+still_given new old None None e h = tt
+still_given new old None (Some attributes) e h = absurd h
+still_given new old (Some ix) None e h = absurd h
+still_given new old (Some ix) (Some attributes) e h = still_there new.headings old.headings e.more_headings ix.0 attributes e.headings h
+
 -- an index of alignments that names an entry names the same
 pub alignments_kept : (new old : Names) (ix : AlignmentIndex) → Extends new old → ix.0 < length old.alignments
     → alignments_named new ix ≡ alignments_named old ix
@@ -77,7 +104,7 @@ alignments_kept new old ix e h =
     ap (λ (o : Option (List Alignment)). unwrap_or o [])
     (ap (λ (xs : List (List Alignment)). slice_get xs ix.0) e.alignments ∙ named_front old.alignments e.more_alignments ix.0 h)
 
--- The index of a text, or of alignments, that were put behind those that are named names them, whatever more is named.
+-- The index of a text, of alignments, or of attributes, that were put behind those that are named names them, whatever more is named.
 pub text_last : (old new more : Names) (ix : CowIndex) (cow : CowStr) → ix.0 ≡ length old.texts → new ≡ with_named old cow
     → Extends more new → slice_get more.texts ix.0 ≡ Some cow
 text_last old new more ix cow at is e =
@@ -87,3 +114,8 @@ pub alignments_last : (old new more : Names) (ix : AlignmentIndex) (alignments :
     → new ≡ with_alignments old alignments → Extends more new → NamesAlignments more ix alignments
 alignments_last old new more ix alignments at is e =
     still_aligned more new ix alignments e (ap (λ (n : Names). slice_get n.alignments ix.0) is ∙ named_last old.alignments alignments ix.0 at)
+
+pub heading_last : (old new more : Names) (ix : HeadingIndex) (attributes : Attributes) → ix.0 ≡ length old.headings
+    → new ≡ with_heading old attributes → Extends more new → NamesAttributes more (Some ix) (Some attributes)
+heading_last old new more ix attributes at is e =
+    still_given more new (Some ix) (Some attributes) e (ap (λ (n : Names). slice_get n.headings ix.0) is ∙ named_last old.headings attributes ix.0 at)

@@ -7,7 +7,7 @@ use Rattle.first_pass_tree.specs.Forest.{modify, at_depth}
 use Rattle.first_pass_lines.specs.Places.{Place, offset, line_end}
 use Rattle.first_pass_tokens.specs.Chains.{text_token, touches, add_token, add_tokens}
 use Rattle.first_pass_tokens.specs.TreeTokens.{leaves}
-use Rattle.first_pass_grammar.specs.Names.{Names, Extends, Index, TextAt, AlignmentsAt, index_of, NamesEntry, AreNamed}
+use Rattle.first_pass_grammar.specs.Names.{Names, Extends, Index, TextAt, AlignmentsAt, AttributesAt, index_of, NamesEntry, AreNamed}
 use Rattle.first_pass_grammar.specs.Leaves.{Document, block_with}
 use Rattle.first_pass_grammar.specs.RawLines.{AreColumns, Ranges, range_text, range_html, ends_with_both, raw_items, IsRawLine, AreRawLines}
 use Rattle.first_pass_grammar.proofs.NoIndex.{HaveNoIndex}
@@ -21,6 +21,7 @@ entry_more : (new old : Names) (o : Option Index) → Extends new old → NamesE
 entry_more new old None e h = tt
 entry_more new old (Some (TextAt ix)) e h = (let size = ap length e.texts ∙ length-append old.texts e.more_texts in omega arith)
 entry_more new old (Some (AlignmentsAt ix)) e h = (let size = ap length e.alignments ∙ length-append old.alignments e.more_alignments in omega arith)
+entry_more new old (Some (AttributesAt ix)) e h = (let size = ap length e.headings ∙ length-append old.headings e.more_headings in omega arith)
 
 pub named_more : (new old : Names) (nodes : List (ℕ × Item)) → Extends new old → AreNamed old nodes → AreNamed new nodes
 unfolding AreNamed

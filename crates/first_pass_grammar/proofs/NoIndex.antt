@@ -17,7 +17,8 @@ use Rattle.first_pass_grammar.specs.declared.kind.Container.{Container}
 use Rattle.first_pass_grammar.specs.Names.{Names, index_of, read}
 use Rattle.first_pass_grammar.specs.Containers.{at_rest, front}
 use Rattle.first_pass_grammar.specs.Kinds.{unindented}
-use Rattle.first_pass_grammar.specs.Leaves.{Document, content_at, add_break, heading_chain, IsHeading, marker_items, TextLines, AreTextLines}
+use Rattle.first_pass_grammar.specs.Leaves.{Document, content_at, add_break, heading_content, heading_chain, IsHeading, marker_items, TextLines, AreTextLines}
+use Rattle.first_pass_items.specs.declared.item.HeadingIndex.{HeadingIndex}
 
 abbrev pub HasNoIndex : Item → Type 0
 HasNoIndex x = index_of x.body ≡ None
@@ -130,7 +131,7 @@ cut_item_free : (t : Bool) (e : ℕ) (x : Item) → HasNoIndex x → HasNoIndex 
 cut_item_free true e x h = h
 cut_item_free false e x h = h
 
-cut_free : (e : ℕ) (chain : List Item) → HaveNoIndex chain → HaveNoIndex (cut e chain)
+pub cut_free : (e : ℕ) (chain : List Item) → HaveNoIndex chain → HaveNoIndex (cut e chain)
 cut_free e [] h = tt
 cut_free e (x ∷ xs) h =
     unless_free (nat_lt x.start e) (cut_item e x ∷ cut e xs) (if is_escaped x.body && (x.start == e) then text_token (e - 1) e false ∷ [] else [])
@@ -142,11 +143,11 @@ unfolding heading_chain
 heading_chain_free kept start chain h = unless_free (kept == 0) [] (cut (start + kept) chain) tt (cut_free (start + kept) chain h)
 
 -- the chain of a heading has none
-pub heading_free : (d : Document) (start : ℕ) (chain : List Item) (e : ℕ) → IsHeading d start chain e → HaveNoIndex chain
-heading_free d start chain e h =
+pub heading_free : (d : Document) (start : ℕ) (index : Option HeadingIndex) (chain : List Item) (e : ℕ) → IsHeading d start index chain e → HaveNoIndex chain
+heading_free d start index chain e h =
     subst HaveNoIndex (sym h.chain_is)
-    (heading_chain_free _ start (close_break h.break (add_tokens [] h.tokens))
-    (closed_free h.break (add_tokens [] h.tokens) (tokens_free [] h.tokens tt (line_free (content_at d start) h.tokens (e, h.break) h.line))))
+    (heading_chain_free _ start (close_break h.answer.1 (add_tokens [] h.tokens))
+    (closed_free h.answer.1 (add_tokens [] h.tokens) (tokens_free [] h.tokens tt (line_free (heading_content d start) h.tokens h.answer h.line))))
 
 -- nor has a chain with the marker of a task list item before it
 pub marked_free : (marker : Option Item) (chain : List Item) → IfSome marker HasNoIndex → HaveNoIndex chain → HaveNoIndex (marker_items marker ++ chain)

@@ -4,7 +4,7 @@ use Rattle.std.proofs.lemmas.Bool.{true≢false}
 use Rattle.std.proofs.lemmas.Option.{none-some, same_Some}
 use Rattle.first_pass_items.specs.declared.item.Alignment.{Alignment}
 use Rattle.first_pass_items.specs.declared.item.Item.{Item}
-use Rattle.first_pass_items.specs.declared.item.ItemBody.TheVariants.{Table, TableHead, TableRow}
+use Rattle.first_pass_items.specs.declared.item.ItemBody.TheVariants.{Heading, Paragraph, Table, TableHead, TableRow}
 use Rattle.first_pass_tree.specs.Forest.{at_depth, block_of}
 use Rattle.first_pass_lines.specs.Places.{Place, offset, start_of}
 use Rattle.first_pass_tokens.proofs.LineLemmas.{one_cell}
@@ -14,11 +14,12 @@ use Rattle.first_pass_grammar.specs.Leaves.{Document, around, TextLines}
 use Rattle.first_pass_grammar.specs.TableHeads.{headed_table}
 use Rattle.first_pass_grammar.specs.Derivation.{node_of}
 use Rattle.first_pass_grammar.specs.Tables.{cell_start, cell_text, cell_block, AreCells, filled, row_block, is_row, Taken, taking, AreRows, most_filled, IsTable}
-use Rattle.first_pass_grammar.specs.Texts.{IsPlainText, IsText, plain_text, underlined_text, underline_first, IsEnded}
-use Rattle.first_pass_grammar.proofs.NoIndex.{HasNoIndex, lines_free}
-use Rattle.first_pass_grammar.proofs.Alike.{with_names, AlikeNodes, table_alike}
+use Rattle.first_pass_grammar.specs.Headings.{heading_attributes_of}
+use Rattle.first_pass_grammar.specs.Texts.{IsPlainText, IsText, IsUnderlined, text_children, heading_bytes, heading_children, plain_text, underlined_text, underline_first, IsEnded}
+use Rattle.first_pass_grammar.proofs.NoIndex.{HasNoIndex, HaveNoIndex, read_alone, lines_free}
+use Rattle.first_pass_grammar.proofs.Alike.{with_names, AlikeNodes, block_alike, heading_alike, table_alike}
 use Rattle.first_pass_grammar.proofs.TableItems.{AreFreeNodes, deeper_free, nodes_alone}
-use Rattle.first_pass_grammar.proofs.TextsNamed.{table_free, ended_free}
+use Rattle.first_pass_grammar.proofs.TextsNamed.{table_free, children_free, heading_children_free}
 use Rattle.first_pass_grammar.proofs.LinesAlike.{one_lines}
 use Rattle.first_pass_items.specs.declared.item.HeadingLevel.{HeadingLevel}
 
@@ -113,20 +114,37 @@ one_table d n path p alignments lines t u h k =
     )
 
 -- a heading or a paragraph reads alike
-one_ended : (d : Document) (n : Names) (path : List Container) (start : ℕ) (marker : Option Item) (l : TextLines) (t u : Taken) (o : Option (ℕ × HeadingLevel))
-    → MatchOption o (t ≡ plain_text d start marker l) (λ underline. t ≡ underlined_text d start marker underline.1 l)
-    → MatchOption o (u ≡ plain_text (with_names d n) start marker l) (λ underline. u ≡ underlined_text (with_names d n) start marker underline.1 l) → t ≡ u
-one_ended d n path start marker l t u None e f = e ∙ sym f
-one_ended d n path start marker l t u (Some underline) e f = e ∙ sym f
+taken_alike : (m n : Names) (t u t' u' : Taken) → t ≡ t' → u ≡ u' → AlikeTaken m n t' u' → AlikeTaken m n t u
+taken_alike m n t u t' u' e f h =
+    (ap (λ (z : Taken). read_nodes m z.items) e ∙ h.0 ∙ sym (ap (λ (z : Taken). read_nodes n z.items) f), ap (λ (z : Taken). z.left) e ∙ h.1 ∙ sym (ap (λ (z : Taken). z.left) f))
+
+one_ended : (d : Document) (n : Names) (start : ℕ) (marker : Option Item) (l : TextLines) (t u : Taken) (o : Option (ℕ × HeadingLevel))
+    → IfSome marker HasNoIndex → HaveNoIndex l.chain
+    → MatchOption o (t ≡ plain_text d start marker l) (λ underline. IsUnderlined d start marker l underline.1 t)
+    → MatchOption o (u ≡ plain_text (with_names d n) start marker l) (λ underline. IsUnderlined (with_names d n) start marker l underline.1 u) → AlikeTaken d.names n t u
+unfolding heading_children
+one_ended d n start marker l t u None free h e f =
+    taken_alike d.names n t u (plain_text d start marker l) (plain_text d start marker l) e f (
+      block_alike d.names n start (start_of (length d.text) l.left) Paragraph Paragraph (text_children marker l) (text_children marker l) refl
+          (read_alone d.names n (text_children marker l) (children_free marker l free h)),
+      refl,
+    )
+one_ended d n start marker l t u (Some underline) free h (i, named, e) (j, named', f) =
+    let kids : List Item = heading_children d start marker l in
+    let stop : ℕ = start_of (length d.text) (drop 1 l.left) in
+    taken_alike d.names n t u (underlined_text d start marker underline.1 i l) (underlined_text d start marker underline.1 j l) e f (
+      block_alike d.names n start stop (Heading underline.1 i) (Heading underline.1 j) kids kids
+          (heading_alike d.names n start stop underline.1 i j (heading_attributes_of d.options (heading_bytes d start marker l)) named named')
+          (read_alone d.names n kids (heading_children_free d start marker l free h)),
+      refl,
+    )
 
 one_plain : (d : Document) (n : Names) (path : List Container) (p : Place) (marker : Option Item) (lines : List Place) (t u : Taken) → IfSome marker HasNoIndex
     → IsPlainText d path (offset p) marker lines t → IsPlainText (with_names d n) path (offset p) marker lines u → AlikeTaken d.names n t u
 one_plain d n path p marker lines t u free (l, are, is) (l', are', is') =
     let same : l ≡ l' = one_lines d n path (offset p) [] lines l l' are are' in
-    let one : t ≡ u = one_ended d n path (offset p) marker l t u (underline_first path l.left) is
-    (subst (λ (z : TextLines). IsEnded (with_names d n) path (offset p) marker z u) (sym same) is') in
-    let alone = nodes_alone d.names n t.items (ended_free d (offset p) marker l t (underline_first path l.left) free (lines_free d path (offset p) [] lines l tt are) is) in
-    (alone ∙ ap (λ (z : Taken). read_nodes n z.items) one, ap (λ (z : Taken). z.left) one)
+    one_ended d n (offset p) marker l t u (underline_first path l.left) free (lines_free d path (offset p) [] lines l tt are) is
+    (subst (λ (z : TextLines). IsEnded (with_names d n) path (offset p) marker z u) (sym same) is')
 
 -- what stands for a text reads alike, and leaves the same lines
 text_by : (d : Document) (n : Names) (path : List Container) (p : Place) (marker : Option Item) (lines : List Place) (t u : Taken) (o : Option (List Alignment))

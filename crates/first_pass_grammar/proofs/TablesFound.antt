@@ -22,8 +22,9 @@ use Rattle.first_pass_grammar.specs.Containers.{context}
 use Rattle.first_pass_grammar.specs.Leaves.{document, Document, TextLines}
 use Rattle.first_pass_grammar.specs.TableHeads.{headed_table}
 use Rattle.first_pass_grammar.specs.Tables.{cell_start, cell_text, cell_block, AreCells, filled, row_block, row_text, is_row, Taken, taking, AreRows, most_filled, IsTable}
-use Rattle.first_pass_grammar.specs.Texts.{IsPlainText, IsText, plain_text, underlined_text, underline_first}
-use Rattle.first_pass_grammar.proofs.Found.{named_alignments}
+use Rattle.first_pass_grammar.specs.Headings.{heading_attributes_of}
+use Rattle.first_pass_grammar.specs.Texts.{IsPlainText, IsText, IsUnderlined, heading_bytes, heading_children, plain_text, underlined_text, underline_first}
+use Rattle.first_pass_grammar.proofs.Found.{named_alignments, named_attributes}
 use Rattle.first_pass_grammar.proofs.MoreNames.{extends_none}
 use Rattle.first_pass_grammar.proofs.LinesFound.{lines_found}
 use Rattle.first_pass_items.specs.declared.item.HeadingLevel.{HeadingLevel}
@@ -188,34 +189,34 @@ table_found names text options path p alignments lines =
     }
 
 -- a heading or a paragraph
-ended_by : Document → ℕ → Option Item → TextLines → Option (ℕ × HeadingLevel) → Taken
-ended_by d start marker l None = plain_text d start marker l
-ended_by d start marker l (Some underline) = underlined_text d start marker underline.1 l
-
-ended_is : (d : Document) (start : ℕ) (marker : Option Item) (l : TextLines) (o : Option (ℕ × HeadingLevel))
-    → MatchOption o (ended_by d start marker l o ≡ plain_text d start marker l) (λ underline. ended_by d start marker l o ≡ underlined_text d start marker underline.1 l)
-unfolding ended_by
-ended_is d start marker l None = refl
-ended_is d start marker l (Some underline) = refl
-
-ended_shorter : (d : Document) (start : ℕ) (marker : Option Item) (l : TextLines) (o : Option (ℕ × HeadingLevel))
-    → length (ended_by d start marker l o).left ≤ length l.left
-unfolding ended_by
-ended_shorter d start marker l None = omega arith
-ended_shorter d start marker l (Some underline) = let less = length-drop 1 l.left in omega arith
+ended_found : (names : Names) (text : List ℕ) (options : Options) (start : ℕ) (marker : Option Item) (l : TextLines) (lines : List Place) (o : Option (ℕ × HeadingLevel))
+    → length l.left ≤ length lines
+    → TakenFrom names lines (λ later t. MatchOption o (t ≡ plain_text (document text options later) start marker l) (λ underline. IsUnderlined (document text options later) start marker l underline.1 t))
+unfolding heading_children
+ended_found names text options start marker l lines None less =
+    record { value = plain_text (document text options names) start marker l; more = names; extends = extends_none names; holds = λ later e. refl; shorter = less }
+ended_found names text options start marker l lines (Some underline) less =
+    let d : Document = document text options names in
+    let index = named_attributes names (heading_attributes_of options (heading_bytes d start marker l)) in
+    record {
+      value = underlined_text d start marker underline.1 index.value l;
+      more = index.more;
+      extends = index.extends;
+      holds = λ later e. (index.value, index.holds later e, refl);
+      shorter = let behind = length-drop 1 l.left in omega arith;
+    }
 
 plain_found : (names : Names) (text : List ℕ) (options : Options) (path : List Container) (p : Place) (marker : Option Item) (lines : List Place)
     → TakenFrom names lines (λ later t. IsPlainText (document text options later) path (offset p) marker lines t)
-unfolding ended_by
 plain_found names text options path p marker lines =
     let found = lines_found text options path lines (offset p) [] in
-    let o = underline_first path found.given.left in
+    let ended = ended_found names text options (offset p) marker found.given lines (underline_first path found.given.left) found.shorter in
     record {
-      value = ended_by (document text options names) (offset p) marker found.given o;
-      more = names;
-      extends = extends_none names;
-      holds = λ later e. (found.given, found.are later, ended_is (document text options later) (offset p) marker found.given o);
-      shorter = let a = ended_shorter (document text options names) (offset p) marker found.given o in let b = found.shorter in omega arith;
+      value = ended.value;
+      more = ended.more;
+      extends = ended.extends;
+      holds = λ later e. (found.given, found.are later, ended.holds later e);
+      shorter = ended.shorter;
     }
 
 -- what stands for a text

@@ -1,22 +1,27 @@
--- The index of a table names its alignments, and no other item of a text has one.
-use Rattle.std.proofs.Common.{ℕ, ◌-◌, List, [], ◌++◌, length, drop, Option, Some, None, MatchOption, IfSome, refl, sym, subst, ◌≡◌}
+-- The index of a table names its alignments, that of a heading its attributes, and no other item of a text has one.
+use Rattle.std.proofs.Common.{ℕ, ◌+◌, ◌-◌, List, [], ◌++◌, length, drop, Option, Some, None, MatchOption, IfSome, refl, sym, subst, ◌≡◌}
+use Rattle.std.specs.Option.{option_map, option_map_or}
 use Rattle.std.proofs.lemmas.Option.{slice_get_within}
 use Rattle.first_pass_items.specs.declared.item.Alignment.{Alignment}
+use Rattle.first_pass_items.specs.declared.item.HeadingIndex.{HeadingIndex}
 use Rattle.first_pass_items.specs.declared.item.Item.{Item}
 use Rattle.first_pass_items.specs.declared.item.ItemBody.TheVariants.{TableHead, Heading as HeadingBody, Paragraph as ParagraphBody}
 use Rattle.first_pass_tree.specs.Forest.{at_depth}
 use Rattle.first_pass_lines.specs.Places.{Place, offset, start_of}
 use Rattle.first_pass_grammar.specs.declared.kind.Container.{Container}
-use Rattle.first_pass_grammar.specs.Names.{AreNamed, index_of}
-use Rattle.first_pass_grammar.specs.Leaves.{Document, around, TextLines, block_with}
+use Rattle.first_pass_attributes.specs.AttributeBlocks.{Braces}
+use Rattle.first_pass_attributes.specs.Attributes.{Attributes}
+use Rattle.first_pass_grammar.specs.Headings.{heading_braces, heading_attributes_of, kept_before}
+use Rattle.first_pass_grammar.specs.Names.{Names, NamesAttributes, NamesEntry, AttributesAt, AreNamed, index_of}
+use Rattle.first_pass_grammar.specs.Leaves.{Document, around, TextLines, block_with, marker_items}
 use Rattle.first_pass_grammar.specs.TableHeads.{headed_table}
 use Rattle.first_pass_grammar.specs.Tables.{filled, row_block, Taken, taking, most_filled, IsTable}
-use Rattle.first_pass_grammar.specs.Texts.{IsPlainText, IsText, text_children, plain_text, underlined_text, underline_first}
-use Rattle.first_pass_grammar.proofs.NoIndex.{HasNoIndex, HaveNoIndex, lines_free, marked_free, closed_free}
+use Rattle.first_pass_grammar.specs.Texts.{IsPlainText, IsText, IsUnderlined, text_children, by_backslash, heading_bytes, heading_children, plain_text, underline_first}
+use Rattle.first_pass_grammar.proofs.NoIndex.{HasNoIndex, HaveNoIndex, lines_free, marked_free, closed_free, cut_free}
 use Rattle.first_pass_grammar.proofs.TableItems.{AreFreeNodes, both_nodes_free, deeper_free, free_nodes_named, cells_free, row_free, rows_free, leaves_free}
 use Rattle.first_pass_items.specs.declared.item.HeadingLevel.{HeadingLevel}
 use Rattle.first_pass_items.specs.declared.item.ItemBody.{ItemBody}
-use Rattle.first_pass_tokens.specs.Chains.{close_break}
+use Rattle.first_pass_tokens.specs.Chains.{close_break, cut}
 use Rattle.first_pass_tokens.specs.TreeTokens.{leaves}
 
 -- what stands in a table has no index
@@ -38,27 +43,55 @@ table_named d path p alignments lines t h =
       free_nodes_named d.names (at_depth 1 kids) (deeper_free 1 kids (table_free d path p alignments lines t h)),
     )
 
--- what stands in a heading or a paragraph has no index
-block_free : (start stop : ℕ) (body : ItemBody) (marker : Option Item) (l : TextLines) → index_of body ≡ None → IfSome marker HasNoIndex → HaveNoIndex l.chain
-    → AreFreeNodes (block_with start stop body (text_children marker l))
-block_free start stop body marker l own free h =
-    (own, deeper_free 1 (leaves (text_children marker l)) (leaves_free (text_children marker l) (marked_free marker (close_break l.break l.chain) free (closed_free l.break l.chain h))))
+-- what stands in a paragraph has no index
+pub children_free : (marker : Option Item) (l : TextLines) → IfSome marker HasNoIndex → HaveNoIndex l.chain → HaveNoIndex (text_children marker l)
+children_free marker l free h = marked_free marker (close_break l.break l.chain) free (closed_free l.break l.chain h)
 
-pub ended_free : (d : Document) (start : ℕ) (marker : Option Item) (l : TextLines) (t : Taken) (o : Option (ℕ × HeadingLevel))
+-- nor has what stands in a heading
+cut_children_free : (d : Document) (start : ℕ) (marker : Option Item) (l : TextLines) (o : Option Braces) → HaveNoIndex (marker_items marker ++ l.chain)
+    → HaveNoIndex (text_children marker l)
+    → HaveNoIndex (option_map_or (λ (block : Braces). close_break l.break (cut (start + kept_before (by_backslash l.break) block.opening (heading_bytes d start marker l)) (marker_items marker ++ l.chain)))
+    o (text_children marker l))
+cut_children_free d start marker l None h k = k
+cut_children_free d start marker l (Some block) h k =
+    closed_free l.break _ (cut_free (start + kept_before (by_backslash l.break) block.opening (heading_bytes d start marker l)) (marker_items marker ++ l.chain) h)
+
+pub heading_children_free : (d : Document) (start : ℕ) (marker : Option Item) (l : TextLines) → IfSome marker HasNoIndex → HaveNoIndex l.chain
+    → HaveNoIndex (heading_children d start marker l)
+unfolding heading_children
+heading_children_free d start marker l free h =
+    cut_children_free d start marker l (heading_braces d.options (heading_bytes d start marker l)) (marked_free marker l.chain free h) (children_free marker l free h)
+
+-- the index of a heading, where it has one, names an entry
+pub given_entry : (names : Names) (ix : Option HeadingIndex) (attributes : Option Attributes) → NamesAttributes names ix attributes
+    → NamesEntry names (option_map AttributesAt ix)
+given_entry names None attributes h = tt
+given_entry names (Some ix) None h = absurd h
+given_entry names (Some ix) (Some attributes) h = slice_get_within names.headings ix.0 attributes h
+
+block_entry : (names : Names) (start stop : ℕ) (body : ItemBody) (chain : List Item) → NamesEntry names (index_of body) → HaveNoIndex chain
+    → AreNamed names (block_with start stop body chain)
+unfolding AreNamed
+block_entry names start stop body chain own h =
+    (own, free_nodes_named names (at_depth 1 (leaves chain)) (deeper_free 1 (leaves chain) (leaves_free chain h)))
+
+ended_named : (d : Document) (start : ℕ) (marker : Option Item) (l : TextLines) (t : Taken) (o : Option (ℕ × HeadingLevel))
     → IfSome marker HasNoIndex → HaveNoIndex l.chain
-    → MatchOption o (t ≡ plain_text d start marker l) (λ underline. t ≡ underlined_text d start marker underline.1 l) → AreFreeNodes t.items
-ended_free d start marker l t None free h e =
-    subst (λ (z : Taken). AreFreeNodes z.items) (sym e) (block_free start (start_of (length d.text) l.left) ParagraphBody marker l refl free h)
-ended_free d start marker l t (Some underline) free h e =
-    subst (λ (z : Taken). AreFreeNodes z.items) (sym e)
-    (block_free start (start_of (length d.text) (drop 1 l.left)) (HeadingBody underline.1 None) marker l refl free h)
+    → MatchOption o (t ≡ plain_text d start marker l) (λ underline. IsUnderlined d start marker l underline.1 t) → AreNamed d.names t.items
+ended_named d start marker l t None free h e =
+    subst (λ (z : Taken). AreNamed d.names z.items) (sym e)
+    (block_entry d.names start (start_of (length d.text) l.left) ParagraphBody (text_children marker l) tt (children_free marker l free h))
+ended_named d start marker l t (Some underline) free h (index, named, e) =
+    subst (λ (z : Taken). AreNamed d.names z.items) (sym e)
+    (block_entry d.names start (start_of (length d.text) (drop 1 l.left)) (HeadingBody underline.1 index) (heading_children d start marker l)
+    (given_entry d.names index (heading_attributes_of d.options (heading_bytes d start marker l)) named) (heading_children_free d start marker l free h))
 
 -- so does each in what stands for a text
 text_by : (d : Document) (path : List Container) (p : Place) (marker : Option Item) (lines : List Place) (t : Taken) (o : Option (List Alignment))
     → IfSome marker HasNoIndex
     → MatchOption o (IsPlainText d path (offset p) marker lines t) (λ alignments. IsTable d path p alignments lines t) → AreNamed d.names t.items
 text_by d path p marker lines t None free (l, are, is) =
-    free_nodes_named d.names t.items (ended_free d (offset p) marker l t (underline_first path l.left) free (lines_free d path (offset p) [] lines l tt are) is)
+    ended_named d (offset p) marker l t (underline_first path l.left) free (lines_free d path (offset p) [] lines l tt are) is
 text_by d path p marker lines t (Some alignments) free h = table_named d path p alignments lines t h
 
 pub text_named : (d : Document) (path : List Container) (p : Place) (marker : Option Item) (lines : List Place) (t : Taken) → IfSome marker HasNoIndex

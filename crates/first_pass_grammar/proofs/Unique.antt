@@ -16,7 +16,8 @@ use Rattle.first_pass_grammar.specs.declared.kind.Container.TheVariants.{BlockQu
 use Rattle.first_pass_grammar.specs.Names.{Names, Named, read_nodes}
 use Rattle.first_pass_grammar.specs.Containers.{Context, context, at_rest, after, front}
 use Rattle.first_pass_grammar.specs.Kinds.{Kind, Blank, IndentedCode, Metadata, HtmlToEnd, HtmlToBlank, ThematicBreak, AtxHeading, FencedCode, LinkDefinitions, Paragraph, unindented, is_blank_rest, quote_inside, item_at, first_kind, IsKindBy, IsKind, ends_tag}
-use Rattle.first_pass_grammar.specs.Leaves.{Document, document, around, heading_text_at, heading_block}
+use Rattle.first_pass_grammar.specs.Headings.{heading_attributes_of}
+use Rattle.first_pass_grammar.specs.Leaves.{Document, document, around, line_bytes, heading_text_at, heading_block}
 use Rattle.first_pass_grammar.specs.CodeBlocks.{code_lines, without_blanks, last_end, IsIndentedCode, metadata_lines, metadata_kind, IsMetadata, fenced_lines, info_string, IsFencedCode}
 use Rattle.first_pass_grammar.specs.HtmlBlocks.{until_end, until_blank, first_owing, IsHtml}
 use Rattle.first_pass_grammar.specs.Extents.{Extent}
@@ -28,7 +29,7 @@ use Rattle.first_pass_grammar.specs.Skeleton.{leaf_block, OpensBeyond, OpensRun,
 use Rattle.first_pass_grammar.specs.Derivation.{Tables, no_tables, told, node_of, Derives}
 use Rattle.first_pass_grammar.proofs.NoIndex.{HasNoIndex, read_alone, heading_free}
 use Rattle.first_pass_grammar.specs.RawLines.{range_text, range_html}
-use Rattle.first_pass_grammar.proofs.Alike.{with_names, AlikeNodes, HoldsNoIndex, AlikeOpening, Alike, text_free, html_free, raw_alike, block_alike, fence_alike}
+use Rattle.first_pass_grammar.proofs.Alike.{with_names, AlikeNodes, HoldsNoIndex, AlikeOpening, Alike, text_free, html_free, raw_alike, block_alike, fence_alike, heading_alike}
 use Rattle.first_pass_grammar.proofs.LinesAlike.{one_heading}
 use Rattle.first_pass_grammar.proofs.TablesAlike.{one_text}
 use Rattle.first_pass_grammar.proofs.RowsAlike.{forest_alike, definitions_alike}
@@ -155,13 +156,16 @@ opens_once d n path p lines HtmlToBlank o o' e f =
 opens_once d n path p lines (ThematicBreak size) o o' e f =
     let start : ℕ = offset (unindented p) in
     alike_by d.names n o o' _ _ e f ((refl, block_alike d.names n start (start + size) Rule Rule [] [] refl refl, refl, refl), refl, tt, refl)
-opens_once d n path p lines (AtxHeading level) o o' (c, e, h, f) (c', e', h', f') =
+opens_once d n path p lines (AtxHeading level) o o' (i, c, e, h, f) (i', c', e', h', f') =
     let text : ℕ = heading_text_at d.text (offset (unindented p)) (level_number level) in
-    let s = one_heading d n text c c' e e' h h' in
+    let s = one_heading d n text i i' c c' e e' h h' in
     let start : ℕ = offset (unindented p) in
-    let same : o' ≡ OpensLeaf (leaf_block (AtxHeading level) p (heading_block start e level c) false) Line lines =
-    f' ∙ ap (λ z. OpensLeaf (leaf_block (AtxHeading level) p (heading_block start e' level z) false) Line lines) (sym s.0) ∙ ap (λ z. OpensLeaf (leaf_block (AtxHeading level) p (heading_block start z level c) false) Line lines) (sym s.1) in
-    alike_by d.names n o o' _ _ f same ((refl, block_alike d.names n start e (HeadingBody level None) (HeadingBody level None) c c refl (read_alone d.names n c (heading_free d text c e h)), refl, refl), refl, tt, refl)
+    let same : o' ≡ OpensLeaf (leaf_block (AtxHeading level) p (heading_block start e level i' c) false) Line lines =
+    f' ∙ ap (λ z. OpensLeaf (leaf_block (AtxHeading level) p (heading_block start e' level i' z) false) Line lines) (sym s.0)
+    ∙ ap (λ z. OpensLeaf (leaf_block (AtxHeading level) p (heading_block start z level i' c) false) Line lines) (sym s.1) in
+    let own = heading_alike d.names n start e level i i' (heading_attributes_of d.options (line_bytes d text)) h.named h'.named in
+    let items = block_alike d.names n start e (HeadingBody level i) (HeadingBody level i') c c own (read_alone d.names n c (heading_free d text i c e h)) in
+    alike_by d.names n o o' _ _ f same ((refl, items, refl, refl), refl, tt, refl)
 opens_once d n path p lines (FencedCode count byte) o o' e f =
     let x : Extent = fenced_lines (length d.text) path (indent p.rest) byte count lines in
     one_extent d.names n (FencedCode count byte) p x (IsFencedCode d (offset (unindented p)) count x.places x.«end») (IsFencedCode (with_names d n) (offset (unindented p)) count x.places x.«end») o o'

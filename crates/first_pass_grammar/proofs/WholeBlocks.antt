@@ -24,10 +24,10 @@ use Rattle.first_pass_grammar.specs.LinkRuns.{kind_in, Beyond, Ended, FlowsOn}
 use Rattle.first_pass_grammar.specs.RawLines.{range_text, range_html}
 use Rattle.first_pass_grammar.specs.TableHeads.{headed_table}
 use Rattle.first_pass_grammar.specs.Tables.{filled, Taken, most_filled, IsTable}
-use Rattle.first_pass_grammar.specs.Texts.{IsPlainText, IsText, text_children, plain_text, underlined_text, underline_first}
+use Rattle.first_pass_grammar.specs.Texts.{IsPlainText, IsText, IsUnderlined, text_children, heading_children, plain_text, underline_first}
 use Rattle.first_pass_grammar.specs.Skeleton.{Leaf, BlankLine, Block, OpensBeyond, OpensRun, opened, From, Line, Blanks, At, May, Anything, ALeafAlone, TextOf, MarkAlone, behind_marker, Opening, OpensLeaf, OpensNode, OpensText, OpensAs, OpensBlockAt, next_is_blank, item_head, task_by, task_behind, behind_task, task_alone, item_opening, tag_behind, behind_tag, quote_opening, OpensQuote, OpensFrom, OpensIf, OpensAt, Skeleton, Nil, Then, Node, Begins, behind_first, IsFirst, IsSequence}
 use Rattle.first_pass_grammar.specs.WholeTables.{Mark, marks, table_marks, AreFull, AreWholeTables}
-use Rattle.first_pass_grammar.proofs.EachToken.{AreEach, heading_each, range_text_each, range_html_each, raw_lines_each, lines_each, children_each}
+use Rattle.first_pass_grammar.proofs.EachToken.{AreEach, heading_each, range_text_each, range_html_each, raw_lines_each, lines_each, children_each, heading_children_each}
 use Rattle.first_pass_grammar.proofs.PlacesKept.{IsAt, AreAt, at_unindented, at_front, at_taken, at_quote, at_item, extent_at, tag_left_at, code_at}
 use Rattle.first_pass_grammar.proofs.LinesLeft.{BeyondAt, run_at, text_left}
 use Rattle.first_pass_grammar.proofs.TableMarks.{ShowsNothing, tokens_show, block_shows, table_shows}
@@ -76,22 +76,21 @@ chain_whole names start stop body chain items is own h =
 module _ (d : Document) (full : HeadsAreFull d) where
   -- a heading or a paragraph
   ended_whole : (path : List Container) (start : ℕ) (marker : Option Item) (l : TextLines) (t : Taken) (o : Option (ℕ × HeadingLevel))
-      → AreEach ShowsNothing (text_children marker l)
-      → MatchOption o (t ≡ plain_text d start marker l) (λ underline. t ≡ underlined_text d start marker underline.1 l) → AreWholeTables d.names t.items
-  ended_whole path start marker l t None h e =
+      → ShownBy marker → AreEach ShowsNothing l.chain
+      → MatchOption o (t ≡ plain_text d start marker l) (λ underline. IsUnderlined d start marker l underline.1 t) → AreWholeTables d.names t.items
+  ended_whole path start marker l t None plain h e =
       chain_whole d.names start (start_of (length d.text) l.left) ParagraphBody (text_children marker l) t.items (ap (λ (z : Taken). z.items) e)
-      (λ names start end. refl) h
-  ended_whole path start marker l t (Some underline) h e =
-      chain_whole d.names start (start_of (length d.text) (drop 1 l.left)) (HeadingBody underline.1 None) (text_children marker l) t.items
-      (ap (λ (z : Taken). z.items) e) (λ names start end. refl) h
+      (λ names start end. refl) (children_each ShowsNothing tokens_show marker l plain h)
+  ended_whole path start marker l t (Some underline) plain h (index, named, e) =
+      chain_whole d.names start (start_of (length d.text) (drop 1 l.left)) (HeadingBody underline.1 index) (heading_children d start marker l) t.items
+      (ap (λ (z : Taken). z.items) e) (λ names start end. refl) (heading_children_each ShowsNothing tokens_show d start marker l plain h)
 
   -- what stands for a text
   text_by : (path : List Container) (p : Place) (marker : Option Item) (lines : List Place) (t : Taken) (o : Option (List Alignment))
       → headed_table (around d path) p.rest.left ≡ o → IsAt d.text p → ShownBy marker
       → MatchOption o (IsPlainText d path (offset p) marker lines t) (λ alignments. IsTable d path p alignments lines t) → AreWholeTables d.names t.items
   text_by path p marker lines t None e i plain (l, are, is) =
-      ended_whole path (offset p) marker l t (underline_first path l.left)
-      (children_each ShowsNothing tokens_show marker l plain (lines_each ShowsNothing tokens_show d path (offset p) [] lines l tt are)) is
+      ended_whole path (offset p) marker l t (underline_first path l.left) plain (lines_each ShowsNothing tokens_show d path (offset p) [] lines l tt are) is
   text_by path p marker lines t (Some alignments) e i plain h = table_shows d path p alignments lines t h (full path p alignments lines t i e h)
 
   text_whole : (path : List Container) (p : Place) (marker : Option Item) (lines : List Place) (t : Taken) → IsAt d.text p → ShownBy marker
@@ -154,10 +153,10 @@ module _ (d : Document) (full : HeadsAreFull d) where
       )
   opens_as path p lines (ThematicBreak size) o i h e =
       subst (WholeOpening d) (sym e) (chain_whole d.names _ _ Rule [] _ refl (λ names start end. refl) tt, tt, h)
-  opens_as path p lines (AtxHeading level) o i h (chain, stop, is, e) =
+  opens_as path p lines (AtxHeading level) o i h (index, chain, stop, is, e) =
       subst (WholeOpening d) (sym e) (
-        chain_whole d.names _ _ (HeadingBody level None) chain _ refl (λ names start end. refl)
-            (heading_each ShowsNothing tokens_show d (heading_text_at d.text (offset (unindented p)) (level_number level)) chain stop is),
+        chain_whole d.names _ _ (HeadingBody level index) chain _ refl (λ names start end. refl)
+            (heading_each ShowsNothing tokens_show d (heading_text_at d.text (offset (unindented p)) (level_number level)) index chain stop is),
         tt,
         h,
       )

@@ -6,6 +6,7 @@ use Rattle.first_pass_items.specs.declared.option_set.Options.{Options}
 use Rattle.first_pass_items.specs.declared.item.Item.{Item}
 use Rattle.first_pass_items.specs.declared.item.ItemBody.{ItemBody}
 use Rattle.first_pass_items.specs.declared.item.ItemBody.TheVariants.{Heading as HeadingBody, Paragraph as ParagraphBody, Rule}
+use Rattle.first_pass_items.specs.declared.item.HeadingIndex.{HeadingIndex}
 use Rattle.first_pass_items.specs.declared.item.HeadingLevel.{HeadingLevel}
 use Rattle.first_pass_tree.specs.Forest.{block_of}
 use Rattle.first_pass_lines.specs.Lines.{is_white, line_len}
@@ -15,7 +16,8 @@ use Rattle.first_pass_tokens.specs.LineTokens.{IsLine}
 use Rattle.first_pass_tokens.specs.TreeTokens.{leaves}
 use Rattle.first_pass_tokens.specs.Chains.{add_tokens, close_break, cut}
 use Rattle.first_pass_grammar.specs.declared.kind.Container.{Container}
-use Rattle.first_pass_grammar.specs.Names.{Names}
+use Rattle.first_pass_grammar.specs.Headings.{before_attributes, heading_attributes_of, text_before_attributes}
+use Rattle.first_pass_grammar.specs.Names.{Names, NamesAttributes}
 use Rattle.first_pass_grammar.specs.Containers.{Context, context, at_rest, front}
 use Rattle.first_pass_grammar.specs.Kinds.{unindented, ends_text}
 
@@ -87,20 +89,36 @@ heading_chain kept start chain = if kept == 0 then [] else cut (start + kept) ch
 abbrev pub heading_text_at : List ℕ → ℕ → ℕ → ℕ
 heading_text_at text start level = start + level + prefix_len is_white (drop (start + level) text)
 
--- The chain of a heading whose text begins at an offset and whose line ends before another: the tokens of that line without its closing sequence.
-pub record IsHeading (d : Document) (start : ℕ) (chain : List Item) (end_of_line : ℕ) : Type 0 where
+-- the bytes of the line that begins at an offset, or goes on there, its end too (CommonMark 2.1)
+abbrev pub line_bytes : Document → ℕ → List ℕ
+line_bytes d start = take (line_len (drop start d.text)) (drop start d.text)
+
+-- a heading's line, whose text begins at an offset: nothing counts from its attribute block on (CommonMark 4.2, and this project)
+abbrev pub heading_content : Document → ℕ → Source
+heading_content d start = record {
+  options = d.options;
+  text = text_before_attributes d.options d.text start (line_bytes d start);
+  start = start;
+  row = false;
+}
+
+-- An ATX heading whose text begins at an offset and whose line ends before another: the tokens of that line before its attribute block, without the closing
+-- sequence; and the index of the attributes that the block gives (CommonMark 4.2, and this project).
+pub record IsHeading (d : Document) (start : ℕ) (index : Option HeadingIndex) (chain : List Item) (end_of_line : ℕ) : Type 0 where
   pub tokens : List Item
-  pub break : Option Item
-  pub line : IsLine (content_at d start) tokens (end_of_line, break)
-  pub chain_is : chain ≡ heading_chain (kept_len (take (line_len (drop start d.text)) (drop start d.text))) start (close_break break (add_tokens [] tokens))
+  pub answer : ℕ × Option Item
+  pub line : IsLine (heading_content d start) tokens answer
+  pub chain_is : chain ≡ heading_chain (kept_len (before_attributes d.options (line_bytes d start))) start (close_break answer.1 (add_tokens [] tokens))
+  pub named : NamesAttributes d.names index (heading_attributes_of d.options (line_bytes d start))
+  pub end_is : end_of_line ≡ start + line_len (drop start d.text)
 
 -- the item of a thematic break of so many bytes, its line end too (CommonMark 4.1)
 abbrev pub rule_block : ℕ → ℕ → List (ℕ × Item)
 rule_block start size = block_with start (start + size) Rule []
 
--- the items of an ATX heading and of a paragraph
-abbrev pub heading_block : ℕ → ℕ → HeadingLevel → List Item → List (ℕ × Item)
-heading_block start «end» level chain = block_with start «end» (HeadingBody level None) chain
+-- the items of a heading, with the index of its attributes if it has some, and of a paragraph
+abbrev pub heading_block : ℕ → ℕ → HeadingLevel → Option HeadingIndex → List Item → List (ℕ × Item)
+heading_block start «end» level index chain = block_with start «end» (HeadingBody level index) chain
 
 abbrev pub paragraph_block : ℕ → ℕ → List Item → List (ℕ × Item)
 paragraph_block start «end» chain = block_with start «end» ParagraphBody chain

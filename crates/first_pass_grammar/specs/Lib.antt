@@ -5,6 +5,7 @@ pub mod Counting
 pub mod Definitions
 pub mod Derivation
 pub mod Extents
+pub mod Headings
 pub mod HtmlBlocks
 pub mod Kinds
 pub mod Leaves

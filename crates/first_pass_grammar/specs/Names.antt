@@ -6,14 +6,17 @@ use Rattle.first_pass_items.specs.CowText.{text_of}
 use Rattle.first_pass_items.specs.declared.item.CowIndex.{CowIndex}
 use Rattle.first_pass_items.specs.declared.item.Alignment.{Alignment}
 use Rattle.first_pass_items.specs.declared.item.AlignmentIndex.{AlignmentIndex}
+use Rattle.first_pass_items.specs.declared.item.HeadingIndex.{HeadingIndex}
 use Rattle.first_pass_items.specs.declared.item.Item.{Item}
 use Rattle.first_pass_items.specs.declared.item.ItemBody.{ItemBody}
-use Rattle.first_pass_items.specs.declared.item.ItemBody.TheVariants.{SynthesizeText, FencedCodeBlock, Table}
+use Rattle.first_pass_items.specs.declared.item.ItemBody.TheVariants.{Heading, SynthesizeText, FencedCodeBlock, Table}
+use Rattle.first_pass_attributes.specs.Attributes.{Attributes, no_attributes}
 
--- the texts, and the alignments of tables' columns, that items name by their indices (this project)
+-- the texts, the alignments of tables' columns, and the attributes of headings, that items name by their indices (this project)
 pub record Names : Type 0 where
   pub texts : List CowStr
   pub alignments : List (List Alignment)
+  pub headings : List Attributes
 
 -- an index names a text (this project)
 abbrev pub NamesText : Names → CowIndex → List ℕ → Type 0
@@ -23,36 +26,52 @@ NamesText names ix text = (named : CowStr) × (slice_get names.texts ix.0 ≡ So
 abbrev pub NamesAlignments : Names → AlignmentIndex → List Alignment → Type 0
 NamesAlignments names ix alignments = slice_get names.alignments ix.0 ≡ Some alignments
 
--- more texts and more alignments stand behind the old ones, so that each index names what it named (this project)
+-- a heading's index names its attributes; a heading without attributes has no index (this project)
+abbrev pub NamesAttributes : Names → Option HeadingIndex → Option Attributes → Type 0
+NamesAttributes names None None = Unit {0}
+NamesAttributes names None (Some attributes) = ⊥
+NamesAttributes names (Some ix) None = ⊥
+NamesAttributes names (Some ix) (Some attributes) = slice_get names.headings ix.0 ≡ Some attributes
+
+-- more texts, alignments and attributes stand behind the old ones, so that each index names what it named (this project)
 pub record Extends (new old : Names) : Type 0 where
   pub more_texts : List CowStr
   pub texts : new.texts ≡ old.texts ++ more_texts
   pub more_alignments : List (List Alignment)
   pub alignments : new.alignments ≡ old.alignments ++ more_alignments
+  pub more_headings : List Attributes
+  pub headings : new.headings ≡ old.headings ++ more_headings
 
 -- with one more text (this project)
 abbrev pub with_named : Names → CowStr → Names
-with_named names cow = record { texts = names.texts ++ cow ∷ []; alignments = names.alignments }
+with_named names cow = record { texts = names.texts ++ cow ∷ []; alignments = names.alignments; headings = names.headings }
 
 -- with the alignments of one more table (this project)
 abbrev pub with_alignments : Names → List Alignment → Names
-with_alignments names alignments = record { texts = names.texts; alignments = names.alignments ++ alignments ∷ [] }
+with_alignments names alignments = record { texts = names.texts; alignments = names.alignments ++ alignments ∷ []; headings = names.headings }
 
--- an index that an item has: of a text, or of the alignments of a table's columns (this project)
+-- with the attributes of one more heading (this project)
+abbrev pub with_heading : Names → Attributes → Names
+with_heading names attributes = record { texts = names.texts; alignments = names.alignments; headings = names.headings ++ attributes ∷ [] }
+
+-- an index that an item has: of a text, of the alignments of a table's columns, or of a heading's attributes (this project)
 pub data Index : Type 0 where
   TextAt : CowIndex → Index
   AlignmentsAt : AlignmentIndex → Index
+  AttributesAt : HeadingIndex → Index
 
--- what an index names: a text, or the alignments of a table's columns (this project)
+-- what an index names: a text, the alignments of a table's columns, or a heading's attributes (this project)
 pub data Named : Type 0 where
   AText : List ℕ → Named
   Alignments : List Alignment → Named
+  OfHeading : Attributes → Named
 
 -- the index that an item has, if it has one (this project)
 abbrev pub index_of : ItemBody → Option Index
 index_of (SynthesizeText ix) = Some (TextAt ix)
 index_of (FencedCodeBlock ix) = Some (TextAt ix)
 index_of (Table ix) = Some (AlignmentsAt ix)
+index_of (Heading level ix) = option_map AttributesAt ix
 index_of _ = None
 
 -- what an item is, whatever its index is (this project)
@@ -60,12 +79,14 @@ abbrev pub kind_alone : ItemBody → ItemBody
 kind_alone (SynthesizeText ix) = SynthesizeText (record { 0 = 0 })
 kind_alone (FencedCodeBlock ix) = FencedCodeBlock (record { 0 = 0 })
 kind_alone (Table ix) = Table (record { 0 = 0 })
+kind_alone (Heading level ix) = Heading level (option_map (λ at. record { 0 = 0 }) ix)
 kind_alone body = body
 
 -- what an index names, if it names something (this project)
 abbrev pub named : Names → Index → Option Named
 named names (TextAt ix) = option_map (λ cow. AText (text_of cow)) (slice_get names.texts ix.0)
 named names (AlignmentsAt ix) = option_map Alignments (slice_get names.alignments ix.0)
+named names (AttributesAt ix) = option_map OfHeading (slice_get names.headings ix.0)
 
 -- an item read through its index: its range and what it is, and what its index names, if it has one (this project)
 abbrev pub read : Names → Item → Item × Option Named
@@ -83,11 +104,16 @@ text_named names ix = unwrap_or (option_map text_of (slice_get names.texts ix.0)
 abbrev pub alignments_named : Names → AlignmentIndex → List Alignment
 alignments_named names ix = unwrap_or (slice_get names.alignments ix.0) []
 
+-- the attributes that an index names, or none where it names none (this project)
+abbrev pub attributes_named : Names → HeadingIndex → Attributes
+attributes_named names ix = unwrap_or (slice_get names.headings ix.0) no_attributes
+
 -- an index, where there is one, names an entry (this project)
 abbrev pub NamesEntry : Names → Option Index → Type 0
 NamesEntry names None = Unit {0}
 NamesEntry names (Some (TextAt ix)) = ix.0 < length names.texts
 NamesEntry names (Some (AlignmentsAt ix)) = ix.0 < length names.alignments
+NamesEntry names (Some (AttributesAt ix)) = ix.0 < length names.headings
 
 -- each index that nodes keep names an entry (this project)
 unfoldable pub AreNamed : Names → List (ℕ × Item) → Type 0

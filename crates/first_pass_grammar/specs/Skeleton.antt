@@ -2,6 +2,7 @@
 use Rattle.std.specs.Prelude.{◌≡◌, ℕ, Bool, true, false, Option, Some, None, List, [], ◌∷◌, length, drop, if◌then◌else◌}
 use Rattle.first_pass_items.specs.declared.item.Item.{Item}
 use Rattle.first_pass_items.specs.declared.item.BlockQuoteKind.{BlockQuoteKind}
+use Rattle.first_pass_items.specs.declared.item.HeadingIndex.{HeadingIndex}
 use Rattle.first_pass_items.specs.declared.item.ItemBody.TheVariants.{TaskListMarker}
 use Rattle.first_pass_items.specs.declared.option_set.Options.{Options}
 use Rattle.first_pass_items.specs.OptionWords.{has, tasklists, gfm}
@@ -135,8 +136,9 @@ OpensAs d path p lines HtmlToBlank opening =
     let e = until_blank (length d.text) path (unindented p) lines in OpensExtent HtmlToBlank p e (IsHtml d (offset (unindented p)) (indent p.rest) e.places e.«end») opening
 OpensAs d path p lines (ThematicBreak size) opening = opening ≡ OpensLeaf (leaf_block (ThematicBreak size) p (rule_block (offset (unindented p)) size) false) Line lines
 OpensAs d path p lines (AtxHeading level) opening =
-    (chain : List Item) × (end_of_line : ℕ) × IsHeading d (heading_text_at d.text (offset (unindented p)) (level_number level)) chain end_of_line
-    × (opening ≡ OpensLeaf (leaf_block (AtxHeading level) p (heading_block (offset (unindented p)) end_of_line level chain) false) Line lines)
+    (index : Option HeadingIndex) × (chain : List Item) × (end_of_line : ℕ)
+    × IsHeading d (heading_text_at d.text (offset (unindented p)) (level_number level)) index chain end_of_line
+    × (opening ≡ OpensLeaf (leaf_block (AtxHeading level) p (heading_block (offset (unindented p)) end_of_line level index chain) false) Line lines)
 OpensAs d path p lines (FencedCode count byte) opening =
     let e = fenced_lines (length d.text) path (indent p.rest) byte count lines in
     OpensExtent (FencedCode count byte) p e (IsFencedCode d (offset (unindented p)) count e.places e.«end») opening

@@ -1,12 +1,16 @@
 -- What stands for a text that begins where no other block does: a paragraph, a heading that is underlined, or a table (CommonMark 4.8, 4.3, GFM 4.10).
-use Rattle.std.specs.Prelude.{◌≡◌, ◌++◌, List, [], ◌∷◌, length, drop, ℕ, Option, None, MatchOption}
+use Rattle.std.specs.Prelude.{◌≡◌, ◌+◌, ◌++◌, List, [], ◌∷◌, length, drop, ℕ, Bool, false, Option, None, MatchOption}
+use Rattle.std.specs.Option.{option_map_or}
+use Rattle.first_pass_items.specs.declared.item.HeadingIndex.{HeadingIndex}
 use Rattle.first_pass_items.specs.declared.item.HeadingLevel.{HeadingLevel}
 use Rattle.first_pass_items.specs.declared.item.Item.{Item}
 use Rattle.first_pass_lines.specs.Places.{Place, offset, start_of}
-use Rattle.first_pass_tokens.specs.Chains.{close_break}
+use Rattle.first_pass_tokens.specs.Chains.{is_backslash_break, close_break, cut}
 use Rattle.first_pass_grammar.specs.declared.kind.Container.{Container}
+use Rattle.first_pass_grammar.specs.Headings.{heading_braces, heading_attributes_of, chain_bytes, kept_before}
 use Rattle.first_pass_grammar.specs.Kinds.{underline_of}
 use Rattle.first_pass_grammar.specs.Leaves.{Document, around, TextLines, AreTextLines, paragraph_block, heading_block, marker_items}
+use Rattle.first_pass_grammar.specs.Names.{NamesAttributes}
 use Rattle.first_pass_grammar.specs.TableHeads.{headed_table}
 use Rattle.first_pass_grammar.specs.Tables.{Taken, taking, IsTable}
 
@@ -23,16 +27,39 @@ text_children marker l = marker_items marker ++ close_break l.break l.chain
 abbrev pub plain_text : Document → ℕ → Option Item → TextLines → Taken
 plain_text d start marker l = taking (paragraph_block start (start_of (length d.text) l.left) (text_children marker l)) l.left
 
--- a heading of a level that begins at an offset and has these lines; it takes the first of those that they leave, its underline (CommonMark 4.3)
-abbrev pub underlined_text : Document → ℕ → Option Item → HeadingLevel → TextLines → Taken
-underlined_text d start marker level l =
-    taking (heading_block start (start_of (length d.text) (drop 1 l.left)) level (text_children marker l)) (drop 1 l.left)
+-- a backslash breaks the line (CommonMark 6.7)
+abbrev pub by_backslash : Option Item → Bool
+by_backslash break = option_map_or (λ x. is_backslash_break x.body) break false
+
+-- the bytes of a heading's text, from its start up to the end of its last token (this project)
+abbrev pub heading_bytes : Document → ℕ → Option Item → TextLines → List ℕ
+heading_bytes d start marker l = chain_bytes d.text start (marker_items marker ++ l.chain)
+
+-- the children of a heading that is underlined: its attribute block is cut off, and then a backslash at the end of the last line is text (CommonMark 4.3, 6.7,
+-- and this project)
+unfoldable pub heading_children : Document → ℕ → Option Item → TextLines → List Item
+heading_children d start marker l =
+    let bs = heading_bytes d start marker l in
+    option_map_or (λ block. close_break l.break (cut (start + kept_before (by_backslash l.break) block.opening bs) (marker_items marker ++ l.chain)))
+    (heading_braces d.options bs) (text_children marker l)
+
+-- a heading of a level that begins at an offset and has these lines, and the index of its attributes; it takes the first of those that they leave, its underline
+-- (CommonMark 4.3)
+abbrev pub underlined_text : Document → ℕ → Option Item → HeadingLevel → Option HeadingIndex → TextLines → Taken
+underlined_text d start marker level index l =
+    taking (heading_block start (start_of (length d.text) (drop 1 l.left)) level index (heading_children d start marker l)) (drop 1 l.left)
+
+-- the heading with the attributes that its text ends with (CommonMark 4.3, and this project)
+abbrev pub IsUnderlined : Document → ℕ → Option Item → TextLines → HeadingLevel → Taken → Type 0
+IsUnderlined d start marker l level t =
+    (index : Option HeadingIndex) × NamesAttributes d.names index (heading_attributes_of d.options (heading_bytes d start marker l))
+    × (t ≡ underlined_text d start marker level index l)
 
 -- A text that begins at an offset is a heading where an underline follows its lines, and else a paragraph; behind the marker of a task list item or none
 -- (CommonMark 4.3, 4.8, GFM 5.3).
 abbrev pub IsEnded : Document → List Container → ℕ → Option Item → TextLines → Taken → Type 0
 IsEnded d path start marker l t =
-    MatchOption (underline_first path l.left) (t ≡ plain_text d start marker l) (λ underline. t ≡ underlined_text d start marker underline.1 l)
+    MatchOption (underline_first path l.left) (t ≡ plain_text d start marker l) (λ underline. IsUnderlined d start marker l underline.1 t)
 
 abbrev pub IsPlainText : Document → List Container → ℕ → Option Item → List Place → Taken → Type 0
 IsPlainText d path start marker lines t = (l : TextLines) × AreTextLines d path start [] lines l × IsEnded d path start marker l t

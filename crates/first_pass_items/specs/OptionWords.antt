@@ -26,6 +26,10 @@ tasklists = 16
 abbrev pub smart_punctuation : ℕ
 smart_punctuation = 32
 
+-- the bits of `ENABLE_HEADING_ATTRIBUTES`
+abbrev pub heading_attributes : ℕ
+heading_attributes = 64
+
 -- the bits of `ENABLE_YAML_STYLE_METADATA_BLOCKS`
 abbrev pub yaml_style_metadata_blocks : ℕ
 yaml_style_metadata_blocks = 128

@@ -3,9 +3,10 @@ use Rattle.std.specs.Prelude.{List, [], map}
 use Rattle.std.specs.Option.{option_map}
 use Rattle.first_pass_items.specs.declared.cow_str.CowStr.{CowStr}
 use Rattle.first_pass_items.specs.CowText.{text_of}
-pub use Rattle.first_pass_grammar.specs.Names.{Names, with_named, with_alignments}
+pub use Rattle.first_pass_grammar.specs.Names.{Names, with_named, with_alignments, with_heading}
 use Rattle.first_pass_grammar.specs.LinkTables.{LinkEntry}
 use Rattle.first_pass_grammar.specs.Derivation.{Tables}
+use Rattle.first_pass_attributes.specs.Attributes.{attributes_in}
 use Rattle.first_pass_labels.specs.declared.label_table.LinkDef.{LinkDef}
 use Rattle.first_pass_labels.specs.declared.label_table.FootnoteDef.{FootnoteDef}
 use Rattle.first_pass_names.specs.declared.items.Allocations.{Allocations}
@@ -25,10 +26,14 @@ refdefs_of a = a.refdefs
 abbrev pub footdefs_of : Allocations → List (CowStr × FootnoteDef)
 footdefs_of a = a.footdefs
 
--- the texts, and the alignments of tables' columns, that nodes name by an index
+-- the texts, the alignments of tables' columns, and the attributes of headings, that nodes name by an index
 abbrev pub names_of : Allocations → Names
-names_of a = record { texts = a.texts.items; alignments = map (λ columns. columns.items) a.alignments.items }
+names_of a = record {
+  texts = a.texts.items;
+  alignments = map (λ columns. columns.items) a.alignments.items;
+  headings = map attributes_in a.headings.items;
+}
 
 -- none
 abbrev pub no_names : Names
-no_names = record { texts = []; alignments = [] }
+no_names = record { texts = []; alignments = []; headings = [] }

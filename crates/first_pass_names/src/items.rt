@@ -1,25 +1,30 @@
 //! What the nodes of a tree name by an index, and what a text defines.
 
+ghost use Rattle.std.specs.Option.{option_map};
+ghost use Rattle.first_pass_attributes.specs.Attributes.{attributes_in};
 ghost use Rattle.std.specs.Prelude.{◌≡◌, ◌<◌, ◌∷◌, ◌++◌, [], length, slice_get, Some, IfOk, OnOk, OnErr};
 ghost use Rattle.first_pass_grammar.specs.Names.{NamesText, Extends};
 ghost use Rattle.first_pass_items.specs.CowText.{text_of};
-ghost use Rattle.first_pass_names.specs.TableEntries.{tables, names_of, no_names, with_named, with_alignments, link_entry, refdefs_of, footdefs_of};
+ghost use Rattle.first_pass_names.specs.TableEntries.{tables, names_of, no_names, with_named, with_alignments, with_heading, link_entry, refdefs_of, footdefs_of};
 ghost use Rattle.first_pass_grammar.specs.Names.{text_named, alignments_named};
 ghost use Rattle.first_pass_grammar.specs.Derivation.{no_tables, told};
 
+use first_pass_attributes::attrs::HeadingAttributes;
 use first_pass_items::cow_str::CowStr;
-use first_pass_items::item::{Alignment, AlignmentIndex, CowIndex};
+use first_pass_items::item::{Alignment, AlignmentIndex, CowIndex, HeadingIndex};
 use first_pass_labels::label_key::LabelKey;
 use first_pass_labels::label_table::LabelTable;
 pub use first_pass_labels::label_table::{FootDefs, FootnoteDef, LinkDef, RefDefs};
 use std::alloc::{AllocError, Global};
 use std::ops::{DerefStr, Index};
 
-/// The tables beside a tree: what the text defines, and the texts and alignments that nodes name by an index.
+/// The tables beside a tree: what the text defines, and the texts, the alignments and the attributes of headings that
+/// nodes name by an index.
 #[derive(Drop)]
 pub struct Allocations<'a> {
     texts: Vec<CowStr<'a>>,
     alignments: Vec<Vec<Alignment>>,
+    headings: Vec<HeadingAttributes<'a>>,
     refdefs: RefDefs<'a>,
     footdefs: FootDefs<'a>,
 }
@@ -33,6 +38,7 @@ impl<'a> Allocations<'a> {
         Allocations {
             texts: Vec::new(alloc),
             alignments: Vec::new(alloc),
+            headings: Vec::new(alloc),
             refdefs: LabelTable::new(alloc),
             footdefs: LabelTable::new(alloc),
         }
@@ -81,6 +87,22 @@ impl<'a> Allocations<'a> {
         Ok(ix)
     }
 
+    /// Puts the attributes of a heading behind those that nodes name, and answers their index. The one error is that a
+    /// request for memory was refused; then nothing changes.
+    pub fn allocate_heading(
+        &mut self,
+        attrs: HeadingAttributes<'a>,
+    ) -> Result<HeadingIndex, AllocError>
+        ensures index { IfOk result (λ ix. ix.0 ≡ length (names_of self.old).headings) }
+        ensures names { OnOk result (names_of self.new ≡ with_heading (names_of self.old) (attributes_in attrs.entry)) }
+        ensures tables { tables self.new ≡ tables self.old }
+        ensures refused { OnErr result (names_of self.new ≡ names_of self.old) }
+    {
+        let ix = HeadingIndex(self.headings.len());
+        self.headings.push(attrs)?;
+        Ok(ix)
+    }
+
     /// Puts a link definition into the table of them, unless one of its label stands there: the first of several
     /// matching definitions stays (CommonMark 4.7). The one error is that a request for memory was refused; then
     /// nothing changes.
@@ -117,6 +139,13 @@ impl<'a> Allocations<'a> {
             None => &[],
         }
     }
+
+    /// The attributes of a heading that a node names by this index; `None` where the index names none.
+    pub fn attributes_at(&self, ix: HeadingIndex) -> Option<&HeadingAttributes<'a>>
+        ensures { option_map (λ h. attributes_in h.now) result ≡ slice_get (names_of self.now).headings ix.0 }
+    {
+        self.headings.get(ix.0)
+    }
 }
 
 impl<'a> Index<CowIndex> for Allocations<'a> {
@@ -142,5 +171,18 @@ impl<'a> Index<AlignmentIndex> for Allocations<'a> {
     /// The alignments of a table's columns that a node names by this index.
     fn index(&self, ix: AlignmentIndex) -> &Vec<Alignment> {
         &self.alignments[ix.0]
+    }
+}
+
+impl<'a> Index<HeadingIndex> for Allocations<'a> {
+    type Output = HeadingAttributes<'a>;
+
+    ghost can_index = { λ allocs ix. ix.0 < length (names_of allocs).headings };
+
+    ghost index_gives = { λ allocs ix named. slice_get (names_of allocs).headings ix.0 ≡ Some (attributes_in named) };
+
+    /// The attributes of a heading that a node names by this index.
+    fn index(&self, ix: HeadingIndex) -> &HeadingAttributes<'a> {
+        &self.headings[ix.0]
     }
 }

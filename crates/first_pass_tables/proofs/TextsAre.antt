@@ -65,23 +65,10 @@ there_ends text p start i at = ap (line_end_at text) (sym at) ∙ ap (λ bs. off
 headed_at : (context : Context) (text : List ℕ) (p : Place) (start : ℕ) (o : Option (List Alignment)) → IsPlaceOf text p → offset p ≡ start → headed_table context (drop start text) ≡ o → headed_table context p.rest.left ≡ o
 headed_at context text p start o i at h = ap (headed_table context) (i.left ∙ ap (λ n. drop n text) at) ∙ h
 
--- the chain of a text's lines names nothing
-named_lines : (text : List ℕ) (options : Options) (m n : Names) (path : List Container) (start : ℕ) (chain : List Item) (lines : List Place) (t : TextLines)
-    → AreTextLines (document text options m) path start chain lines t → AreTextLines (document text options n) path start chain lines t
-unfolding AreTextLines
-named_lines text options m n path start chain [] t h = h
-named_lines text options m n path start chain (line ∷ lines) t (k, a, i, inl x) = (k, a, i, inl x)
-named_lines text options m n path start chain (line ∷ lines) t (k, a, i, inr (h, more)) =
-    (k, a, i, inr (h, named_lines text options m n path (offset (unindented (at_rest line (front path line.rest)))) (add_break a.1 (add_tokens chain k)) lines t more))
-
-named_plain : (text : List ℕ) (options : Options) (m n : Names) (path : List Container) (start : ℕ) (marker : Option Item) (lines : List Place) (t : Taken)
-    → IsPlainText (document text options m) path start marker lines t → IsPlainText (document text options n) path start marker lines t
-named_plain text options m n path start marker lines t (l, are, ended) = (l, named_lines text options m n path start [] lines l are, ended)
-
 -- a paragraph, or a heading that is underlined, that was added
 pub plain_text_added : (text : List ℕ) (options : Options) (names : Names) (start : ℕ) (marker : Option Item) (old new : Forest Item) (next : ℕ)
     → headed_table (context_of options old) (drop start text) ≡ None
-    → AddsPlainText (document text options no_names) start marker old new next → AddsText text options names start marker old new next
+    → AddsPlainText text options names start marker old new next → AddsText text options names start marker old new next
 plain_text_added text options names start marker old new next none a =
     let t : Taken = taking a.items (lines_from text next) in
     record {
@@ -89,10 +76,9 @@ plain_text_added text options names start marker old new next none a =
       is_text = λ more e p i at.
           let d = document text options more in
           let path = path_of old in
-          let plain = named_plain text options no_names more path start marker (lines_from text (line_end_at text start)) t a.is in
           let here : IsPlainText d path (offset p) marker (lines_from text (line_end p)) t =
           subst (λ k. IsPlainText d path k marker (lines_from text (line_end p)) t) (sym at)
-          (subst (λ k. IsPlainText d path start marker (lines_from text k) t) (there_ends text p start i at) plain) in
+          (subst (λ k. IsPlainText d path start marker (lines_from text k) t) (there_ends text p start i at) (a.is more e)) in
           text_by d path p marker (lines_from text (line_end p)) t None (headed_at (context options path) text p start None i at none) here;
       tree_is = a.tree_is;
       later = a.later;

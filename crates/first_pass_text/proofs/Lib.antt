@@ -1,8 +1,11 @@
+pub mod AttributeEnds
 pub mod KindLemmas
 pub mod HeadingLemmas
 pub mod OrderHeading
 pub mod OrderParagraph
+pub mod OrderPlain
 pub mod ParagraphLemmas
 pub mod PlainKinds
 pub mod PlainTexts
 pub mod TableLemmas
+pub mod TextFronts

@@ -1,5 +1,5 @@
 -- Thematic breaks and ATX headings are in order.
-use Rattle.std.proofs.Common.{◌≡◌, ◌⊎◌, inl, inr, ℕ, zero, suc, ◌+◌, ◌-◌, ◌<◌, ◌≤◌, ◌==◌, ◌||◌, Bool, true, false, List, [], ◌∷◌, length, take, drop, get_or, slice_index, nat_lt, Some, None, IsUtf8, IsCharBoundary, refl, sym, ap, subst, ◌∙◌, arith, length-drop, length-take-le, get_or-drop, drop-drop, if◌then◌else◌}
+use Rattle.std.proofs.Common.{◌≡◌, ◌⊎◌, inl, inr, ℕ, zero, suc, ◌+◌, ◌-◌, ◌<◌, ◌≤◌, ◌==◌, ◌||◌, Bool, true, false, List, [], ◌∷◌, length, take, drop, get_or, slice_index, nat_lt, Option, Some, None, IsUtf8, IsCharBoundary, refl, sym, ap, subst, ◌∙◌, arith, length-drop, length-take-le, get_or-drop, drop-drop, if◌then◌else◌}
 use Rattle.std.specs.Char.{is_ascii_punctuation}
 use Rattle.std.specs.List.{prefix_len, suffix_len}
 use Rattle.std.proofs.lemmas.Bool.{cond_both, cases_Bool, cases_lt, eqb-true, eq-eqb, or_cases, ltb-true, false≢true}
@@ -19,9 +19,22 @@ use Rattle.first_pass_tokens.specs.Chains.{add_tokens, close_break, cut}
 use Rattle.first_pass_tokens.specs.Order.{AreInOrder}
 use Rattle.first_pass_tokens.proofs.BytesLemmas.{few_in_order, bytes_adds, bytes_closed, line_has_bytes, cut_few}
 use Rattle.first_pass_tokens.proofs.LineLemmas.{ends_line as line_ends}
-use Rattle.first_pass_tokens.proofs.OrderLemmas.{order_bound, order_from, order_to}
+use Rattle.first_pass_tokens.proofs.OrderLemmas.{order_bound, order_from, order_to, closed_line_in_order}
 use Rattle.first_pass_tokens.proofs.CutOrder.{cut_in_order, line_none_escaped}
-use Rattle.first_pass_grammar.specs.Leaves.{Document, is_put_aside, kept_len, heading_chain, heading_text_at, heading_block, rule_block, IsHeading, content_at}
+use Rattle.first_pass_grammar.specs.Headings.{heading_braces, before_attributes, text_before_attributes}
+use Rattle.first_pass_grammar.specs.Leaves.{Document, document, is_put_aside, kept_len, heading_chain, heading_text_at, heading_block, line_bytes, rule_block, IsHeading, content_at}
+use Rattle.first_pass_grammar.specs.Names.{Names}
+use Rattle.first_pass_grammar.proofs.MoreNames.{extends_none}
+use Rattle.first_pass_attributes.specs.AttributeBlocks.{Braces}
+use Rattle.first_pass_items.specs.Bytes.{left_brace}
+use Rattle.first_pass_items.specs.declared.item.HeadingIndex.{HeadingIndex}
+use Rattle.first_pass_items.specs.declared.option_set.Options.{Options}
+use Rattle.first_pass_tokens.specs.Pieces.{Source}
+use Rattle.first_pass_tokens.specs.LineTokens.{IsLine}
+use Rattle.first_pass_text.proofs.AttributeEnds.{before_none, braces_within, opens_with}
+use Rattle.first_pass_text.proofs.TextFronts.{front_len, front_utf8, place_in_front, order_in_text}
+use Rattle.std.specs.Option.{option_map_or}
+use Rattle.std.proofs.lemmas.Str.{IsCharBoundary-before_ascii}
 use Rattle.first_pass_grammar.specs.OpenOrder.{within_top}
 use Rattle.first_pass_grammar.proofs.Orders.{block_fits}
 use Rattle.first_pass_text.specs.Appends.{AddsHeading, line_end_at}
@@ -135,47 +148,69 @@ small_boundary text i within small = (within, λ l high. absurd (omega arith))
 small_plain : (b : ℕ) → b < 33 → is_ascii_punctuation b ≡ false
 small_plain b h = grind (arith, nat_tests, h)
 
--- where the bytes of a heading's text end that are kept: none is, or a space, a line end or the text's end is there
-kept_place : (text : List ℕ) (start n : ℕ) → start ≤ length text → KeptAt (take (line_len (drop start text)) (drop start text)) n
-    → (n ≡ 0) ⊎ ((n ≤ line_len (drop start text)) × (start + n ≤ length text) × (slice_index text (start + n) < 33))
+-- the bytes of an ATX heading's text before its attribute block, in the text that its line is read from
+record IsContent (text : List ℕ) (start : ℕ) (content : List ℕ) : Type 0 where
+  fits : start + length content ≤ length text
+  bytes : (i : ℕ) → i < length content → get_or content i 0 ≡ slice_index text (start + i)
+  ended : suffix_len is_put_aside content ≡ 0 → (length content ≡ 0) ⊎ (slice_index text (start + length content) < 33)
+
+-- where its bytes end that are kept: none is, or a space, a line end or the text's end is there
+kept_place : (text : List ℕ) (start n : ℕ) (content : List ℕ) → IsContent text start content → KeptAt content n
+    → (n ≡ 0) ⊎ ((start + n ≤ length text) × (slice_index text (start + n) < 33))
 unfolding KeptAt
-kept_place text start n within (inl none) = inl none
-kept_place text start n within (inr (inl aside)) =
-    let bs : List ℕ = drop start text in
-    let len = length-drop start text in
-    let fits = line_len-fits bs in
-    let size : length (take (line_len bs) bs) ≡ line_len bs = length-take-le (line_len bs) bs fits in
+kept_place text start n content is (inl none) = inl none
+kept_place text start n content is (inr (inl aside)) =
+    let fits = is.fits in
     let inside = aside.0 in
-    let same : get_or (take (line_len bs) bs) n 0 ≡ slice_index text (start + n) = get_or-take (line_len bs) bs n 0 (omega arith) ∙ get_or-drop start text n 0 in
-    inr (omega arith, omega arith, aside_small (slice_index text (start + n)) (ap is_put_aside (sym same) ∙ aside.1))
-kept_place text start n within (inr (inr whole)) =
-    let bs : List ℕ = drop start text in
-    let len = length-drop start text in
-    let fits = line_len-fits bs in
-    let size : length (take (line_len bs) bs) ≡ line_len bs = length-take-le (line_len bs) bs fits in
+    inr (omega arith, aside_small (slice_index text (start + n)) (ap is_put_aside (sym (is.bytes n inside)) ∙ aside.1))
+kept_place text start n content is (inr (inr whole)) =
+    let fits = is.fits in
     let all = whole.0 in
-    elim (cases_lt 0 (length bs)) [
-      | inl some ↦
-          let more = line_len-some bs some in
-          elim (last_of_line bs some) [
-            | inl line ↦
-                let last : get_or (take (line_len bs) bs) (length (take (line_len bs) bs) - 1) 0 ≡ slice_index bs (line_len bs - 1) =
-                ap (λ k. get_or (take (line_len bs) bs) (k - 1) 0) size ∙ get_or-take (line_len bs) bs (line_len bs - 1) 0 (omega arith) in
-                absurd (false≢true (sym (run_none is_put_aside (take (line_len bs) bs) (omega arith) whole.1) ∙ ap is_put_aside last ∙ line_aside (slice_index bs (line_len bs - 1)) line))
-            | inr ended ↦ (let past = get_or_past text (start + n) 0 (omega arith) in inr (omega arith, omega arith, omega arith))
-          ]
-      | inr none ↦ inl (omega arith)
+    elim (is.ended whole.1) [
+      | inl none ↦ inl (omega arith)
+      | inr small ↦ (let there : start + length content ≡ start + n = omega arith in inr (omega arith, subst (λ k. slice_index text k < 33) there small))
     ]
 
--- What is kept of a heading's text ends between characters, and in its line.
-pub kept_boundary : (text : List ℕ) (start : ℕ) → IsCharBoundary text start
-    → (let n : ℕ = kept_len (take (line_len (drop start text)) (drop start text)) in IsCharBoundary text (start + n) × (start + n ≤ line_end_at text start))
-kept_boundary text start b =
-    let n : ℕ = kept_len (take (line_len (drop start text)) (drop start text)) in
-    elim (kept_place text start n b.0 (kept_at (take (line_len (drop start text)) (drop start text)))) [
-      | inl none ↦ (let same : start ≡ start + n = omega arith in (subst (IsCharBoundary text) same b, omega arith))
-      | inr some ↦ (let within = some.0 in (small_boundary text (start + n) some.1 some.2, omega arith))
-    ]
+-- a whole line
+line_content : (text : List ℕ) (start : ℕ) → start ≤ length text → IsContent text start (take (line_len (drop start text)) (drop start text))
+line_content text start within =
+    let bs : List ℕ = drop start text in
+    let len = length-drop start text in
+    let fits = line_len-fits bs in
+    let size : length (take (line_len bs) bs) ≡ line_len bs = length-take-le (line_len bs) bs fits in
+    record {
+      fits = omega arith;
+      bytes = λ i less. get_or-take (line_len bs) bs i 0 (omega arith) ∙ get_or-drop start text i 0;
+      ended = λ none.
+          elim (cases_lt 0 (length bs)) [
+            | inl some ↦
+                let more = line_len-some bs some in
+                elim (last_of_line bs some) [
+                  | inl line ↦
+                      let last : get_or (take (line_len bs) bs) (length (take (line_len bs) bs) - 1) 0 ≡ slice_index bs (line_len bs - 1) =
+                      ap (λ k. get_or (take (line_len bs) bs) (k - 1) 0) size ∙ get_or-take (line_len bs) bs (line_len bs - 1) 0 (omega arith) in
+                      absurd (false≢true (sym (run_none is_put_aside (take (line_len bs) bs) (omega arith) none) ∙ ap is_put_aside last ∙ line_aside (slice_index bs (line_len bs - 1)) line))
+                  | inr ended ↦ (let past = get_or_past text (start + length (take (line_len bs) bs)) 0 (omega arith) in inr (omega arith))
+                ]
+            | inr none_there ↦ inl (omega arith)
+          ];
+    }
+
+-- what stands before an attribute block
+block_content : (text : List ℕ) (start size opening : ℕ) → size ≤ length (drop start text) → opening ≤ size → start ≤ length text → IsContent (take (start + opening) text) start (take opening (take size (drop start text)))
+block_content text start size opening fits less within =
+    let bs : List ℕ = drop start text in
+    let len = length-drop start text in
+    let inner = length-take-le size bs fits in
+    let long : length (take opening (take size bs)) ≡ opening = length-take-le opening (take size bs) (omega arith) in
+    let whole : length (take (start + opening) text) ≡ start + opening = length-take-le (start + opening) text (omega arith) in
+    record {
+      fits = omega arith;
+      bytes = λ i under.
+          get_or-take opening (take size bs) i 0 (omega arith) ∙ get_or-take size bs i 0 (omega arith) ∙ get_or-drop start text i 0
+          ∙ sym (get_or-take (start + opening) text (start + i) 0 (omega arith));
+      ended = λ none. (let past = get_or_past (take (start + opening) text) (start + length (take opening (take size bs))) 0 (omega arith) in inr (omega arith));
+    }
 
 chain_kept : (text : List ℕ) (start next kept : ℕ) (chain : List Item) → AreInOrder text start next chain
     → (kept ≡ 0) ⊎ ((start + kept ≤ next) × IsCharBoundary text (start + kept) × AreInOrder text start (start + kept) (cut (start + kept) chain))
@@ -188,36 +223,90 @@ chain_kept text start next kept chain h (inr some) =
     cond_both (kept == 0) [] (cut (start + kept) chain) (AreInOrder text start next)
     (λ b. order_bound text start next chain h) (λ b. order_to text start (start + kept) next (cut (start + kept) chain) some.2 some.0)
 
--- The chain of a heading is in order where that of its line is.
-pub heading_in_order : (d : Document) (start : ℕ) (chain : List Item) (end_of_line : ℕ) → start ≤ length d.text → (h : IsHeading d start chain end_of_line)
-    → AreInOrder d.text start end_of_line (close_break h.break (add_tokens [] h.tokens)) → AreInOrder d.text start end_of_line chain
-heading_in_order d start chain end_of_line within h order =
-    let n : ℕ = kept_len (take (line_len (drop start d.text)) (drop start d.text)) in
-    let whole : List Item = close_break h.break (add_tokens [] h.tokens) in
-    let place : end_of_line ≡ start + line_len (drop start d.text) = (line_ends within h.line).place in
-    subst (AreInOrder d.text start end_of_line) (sym h.chain_is)
-    (chain_kept d.text start end_of_line n whole order
-    (elim (kept_place d.text start n within (kept_at (take (line_len (drop start d.text)) (drop start d.text)))) [
-      | inl none ↦ inl none
-      | inr some ↦
-          let before = some.0 in
-          let at = small_boundary d.text (start + n) some.1 some.2 in
-          let free = line_none_escaped (content_at d start) h.tokens end_of_line h.break (start + n) h.line (small_plain (slice_index d.text (start + n)) some.2) in
-          inr (omega arith, at, cut_in_order d.text start end_of_line (start + n) whole order at (omega arith) free)
-    ]))
-
 kept_few : (kept start : ℕ) (chain : List Item) → length (heading_chain kept start chain) ≤ length chain
 unfolding heading_chain
 kept_few kept start chain = cond_both (kept == 0) [] (cut (start + kept) chain) (λ (ys : List Item). length ys ≤ length chain) (λ b. omega arith) (λ b. cut_few (start + kept) chain)
 
--- The chain of a heading has at most as many tokens as its line has bytes, where that of its line is in order.
-heading_few : (d : Document) (start : ℕ) (chain : List Item) (end_of_line : ℕ) → (h : IsHeading d start chain end_of_line) → AreInOrder d.text start end_of_line (close_break h.break (add_tokens [] h.tokens)) → length chain + start ≤ end_of_line
-heading_few d start chain end_of_line h order =
-    let whole : List Item = close_break h.break (add_tokens [] h.tokens) in
-    let few = few_in_order d.text start end_of_line whole order (bytes_closed h.break (add_tokens [] h.tokens) (bytes_adds [] h.tokens (line_has_bytes h.line) tt)) in
-    let kept = kept_few (kept_len (take (line_len (drop start d.text)) (drop start d.text))) start whole in
-    let same = ap (λ (ys : List Item). length ys) h.chain_is in
-    omega arith
+kept_less : (content : List ℕ) (n : ℕ) → KeptAt content n → n ≤ length content
+unfolding KeptAt
+kept_less content n (inl none) = omega arith
+kept_less content n (inr (inl aside)) = (let inside = aside.0 in omega arith)
+kept_less content n (inr (inr whole)) = (let all = whole.0 in omega arith)
+
+-- The chain of a heading's line without its closing sequence is in order up to an offset that is not before the line's end, and has at most as many tokens as
+-- there are bytes up to there.
+line_fits : (s : Source) (tokens : List Item) (answer : ℕ × Option Item) (content : List ℕ) (next : ℕ) → IsUtf8 s.text → IsCharBoundary s.text s.start → IsLine s tokens answer → IsContent s.text s.start content
+    → answer.0 ≤ next → s.start + length content ≤ next
+    → (let chain : List Item = heading_chain (kept_len content) s.start (close_break answer.1 (add_tokens [] tokens)) in
+    AreInOrder s.text s.start next chain × (length chain + s.start ≤ next))
+line_fits s tokens answer content next utf8 boundary line is ends reach =
+    let whole : List Item = close_break answer.1 (add_tokens [] tokens) in
+    let n : ℕ = kept_len content in
+    let order : AreInOrder s.text s.start next whole = order_to s.text s.start answer.0 next whole (closed_line_in_order utf8 boundary boundary.0 line) ends in
+    let few = few_in_order s.text s.start next whole order (bytes_closed answer.1 (add_tokens [] tokens) (bytes_adds [] tokens (line_has_bytes line) tt)) in
+    let less = kept_few n s.start whole in
+    let most = kept_less content n (kept_at content) in (
+      chain_kept s.text s.start next n whole order
+          (elim (kept_place s.text s.start n content is (kept_at content)) [
+            | inl none ↦ inl none
+            | inr some ↦
+                let at = small_boundary s.text (s.start + n) some.0 some.1 in
+                let free = line_none_escaped s tokens answer.0 answer.1 (s.start + n) line (small_plain (slice_index s.text (s.start + n)) some.1) in
+                inr (omega arith, at, cut_in_order s.text s.start next (s.start + n) whole order at (omega arith) free)
+          ]),
+      omega arith,
+    )
+
+-- The chain of a heading is in order in the text, up to where its line ends.
+heading_by : (d : Document) (start : ℕ) (index : Option HeadingIndex) (chain : List Item) (end_of_line : ℕ) (o : Option Braces) → heading_braces d.options (line_bytes d start) ≡ o
+    → IsUtf8 d.text → IsCharBoundary d.text start → IsHeading d start index chain end_of_line → AreInOrder d.text start end_of_line chain × (length chain + start ≤ end_of_line)
+heading_by d start index chain end_of_line None none utf8 boundary h =
+    let text_is : text_before_attributes d.options d.text start (line_bytes d start) ≡ d.text =
+    ap (λ (o : Option Braces). option_map_or (λ (block : Braces). take (start + block.opening) d.text) o d.text) none in
+    let line = subst (λ t. IsLine (record { options = d.options; text = t; start = start; row = false }) h.tokens h.answer) text_is h.line in
+    let ended = line_ends boundary.0 line in
+    let place : h.answer.0 ≡ start + line_len (drop start d.text) = ended.place in
+    let ends = h.end_is in
+    let size = length-take-le (line_len (drop start d.text)) (drop start d.text) (line_len-fits (drop start d.text)) in
+    let same : chain ≡ heading_chain (kept_len (line_bytes d start)) start (close_break h.answer.1 (add_tokens [] h.tokens)) =
+    h.chain_is ∙ ap (λ xs. heading_chain (kept_len xs) start (close_break h.answer.1 (add_tokens [] h.tokens))) (before_none d.options (line_bytes d start) none) in
+    let fits = line_fits (content_at d start) h.tokens h.answer (line_bytes d start) end_of_line utf8 boundary line (line_content d.text start boundary.0) (omega arith) (omega arith) in
+    (subst (AreInOrder d.text start end_of_line) (sym same) fits.0, subst (λ (xs : List Item). length xs + start ≤ end_of_line) (sym same) fits.1)
+heading_by d start index chain end_of_line (Some block) some utf8 boundary h =
+    let bs : List ℕ = line_bytes d start in
+    let front : List ℕ = take (start + block.opening) d.text in
+    let text_is : text_before_attributes d.options d.text start bs ≡ front =
+    ap (λ (o : Option Braces). option_map_or (λ (b : Braces). take (start + b.opening) d.text) o d.text) some in
+    let line = subst (λ t. IsLine (record { options = d.options; text = t; start = start; row = false }) h.tokens h.answer) text_is h.line in
+    let inside = braces_within d.options bs block some in
+    let fits = line_len-fits (drop start d.text) in
+    let size = length-take-le (line_len (drop start d.text)) (drop start d.text) fits in
+    let long = length-drop start d.text in
+    let within = boundary.0 in
+    let less : block.opening < line_len (drop start d.text) = omega (arith, inside.0, inside.1) in
+    let there : slice_index d.text (start + block.opening) ≡ left_brace =
+    sym (get_or-take (line_len (drop start d.text)) (drop start d.text) block.opening 0 less ∙ get_or-drop start d.text block.opening 0) ∙ opens_with d.options bs block some in
+    let stop = IsCharBoundary-before_ascii d.text (start + block.opening) (omega arith) (omega (arith, there)) in
+    let first = place_in_front d.text (start + block.opening) utf8 stop start (omega arith) boundary in
+    let ended = line_ends first.0 line in
+    let ends = h.end_is in
+    let whole = front_len d.text (start + block.opening) utf8 stop in
+    let inner : length (take block.opening bs) ≡ block.opening = length-take-le block.opening bs (omega arith) in
+    let content : before_attributes d.options bs ≡ take block.opening bs = ap (λ (o : Option Braces). option_map_or (λ (b : Braces). take b.opening bs) o bs) some in
+    let same : chain ≡ heading_chain (kept_len (take block.opening bs)) start (close_break h.answer.1 (add_tokens [] h.tokens)) =
+    h.chain_is ∙ ap (λ xs. heading_chain (kept_len xs) start (close_break h.answer.1 (add_tokens [] h.tokens))) content in
+    let last : h.answer.0 ≤ length front = ended.within in
+    let all = line_fits (record { options = d.options; text = front; start = start; row = false }) h.tokens h.answer (take block.opening bs) (start + block.opening) (front_utf8 d.text (start + block.opening) utf8 stop) first line
+    (block_content d.text start (line_len (drop start d.text)) block.opening fits (omega arith) within) (omega arith) (omega arith) in
+    let order = order_in_text d.text (start + block.opening) utf8 stop start (start + block.opening) _ all.0 in
+    let few = all.1 in (
+      subst (AreInOrder d.text start end_of_line) (sym same) (order_to d.text start (start + block.opening) end_of_line _ order (omega arith)),
+      subst (λ (xs : List Item). length xs + start ≤ end_of_line) (sym same) (omega arith),
+    )
+
+heading_in_order : (d : Document) (start : ℕ) (index : Option HeadingIndex) (chain : List Item) (end_of_line : ℕ) → IsUtf8 d.text → IsCharBoundary d.text start
+    → IsHeading d start index chain end_of_line → AreInOrder d.text start end_of_line chain × (length chain + start ≤ end_of_line)
+heading_in_order d start index chain end_of_line utf8 boundary h = heading_by d start index chain end_of_line (heading_braces d.options (line_bytes d start)) refl utf8 boundary h
 
 -- A thematic break fits in its line.
 pub rule_fits : (text : List ℕ) (from ix size : ℕ) (old new : Forest Item) → new ≡ added old (rule_block ix size) → from ≤ ix → IsCharBoundary text ix → IsCharBoundary text (ix + size) → AddsBetween text from (ix + size) old new
@@ -242,19 +331,19 @@ heading_text_boundary text start level u b h =
 pub line_stops : (text : List ℕ) (start : ℕ) → IsUtf8 text → IsCharBoundary text start → IsCharBoundary text (line_end_at text start)
 line_stops text start u b = subst (IsCharBoundary text) (line_start_end text start) (place_end text (line_place start (drop start text)) u (line_is_place text start b))
 
--- An ATX heading fits in its line, where the chain of its line is in order.
-pub heading_fits : (d : Document) (start : ℕ) (level : HeadingLevel) (old new : Forest Item) (next : ℕ) → IsUtf8 d.text → IsCharBoundary d.text start → (h : AddsHeading d start level old new next)
-    → AreInOrder d.text (heading_text_at d.text start (level_number level)) next (close_break h.line.break (add_tokens [] h.line.tokens)) → (from : ℕ) → from ≤ start → AddsBetween d.text from next old new
-heading_fits d start level old new next u b h order from behind =
-    let text_at : ℕ = heading_text_at d.text start (level_number level) in
-    let ends : IsCharBoundary d.text next = subst (IsCharBoundary d.text) (sym h.end_is) (line_stops d.text start u b) in
-    let span = order_bound d.text text_at next (close_break h.line.break (add_tokens [] h.line.tokens)) order in
-    let within = ends.0 in
+-- An ATX heading fits in its line.
+pub heading_fits : (text : List ℕ) (options : Options) (names : Names) (start : ℕ) (level : HeadingLevel) (old new : Forest Item) (next : ℕ) → IsUtf8 text → IsCharBoundary text start
+    → atx_level (drop start text) ≡ Some level → AddsHeading text options names start level old new next → (from : ℕ) → from ≤ start → AddsBetween text from next old new
+heading_fits text options names start level old new next u b is h from behind =
+    let text_at : ℕ = heading_text_at text start (level_number level) in
+    let ends : IsCharBoundary text next = subst (IsCharBoundary text) (sym h.end_is) (line_stops text start u b) in
+    let fits = heading_in_order (document text options names) text_at h.index h.chain next u (heading_text_boundary text start level u b is) (h.line names (extends_none names)) in
+    let span = order_bound text text_at next h.chain fits.0 in
+    let few = fits.1 in
     record {
-      items = heading_block start next level h.chain;
+      items = heading_block start next level h.index h.chain;
       tree_is = h.tree_is;
-      fits = block_fits d.text (within_top old) from next (record { start = start; «end» = next; body = HeadingBody level None }) h.chain
+      fits = block_fits text (within_top old) from next (record { start = start; «end» = next; body = HeadingBody level h.index }) h.chain
           (record { behind = behind; order = omega arith; before = omega arith; starts = b; ends = ends })
-          (order_from d.text start text_at next h.chain (heading_in_order d text_at h.chain next (omega arith) h.line order) (omega arith))
-          (let few = heading_few d text_at h.chain next h.line order in λ some. omega arith);
+          (order_from text start text_at next h.chain fits.0 (omega arith)) (λ some. omega arith);
     }

@@ -1,45 +1,29 @@
--- The tokens of a paragraph, or of a heading that is underlined, are in order, and so is its block.
-use Rattle.std.proofs.Common.{◌≡◌, inl, inr, ℕ, ◌+◌, ◌-◌, ◌*◌, ◌<◌, ◌≤◌, suc, ◌&&◌, Bool, true, false, if◌then◌else◌, List, [], ◌∷◌, ◌++◌, length, drop, Option, Some, None, IfSome, IsUtf8, IsCharBoundary, refl, sym, ap, subst, ◌∙◌, arith, MatchOption, length-drop}
-use Rattle.std.proofs.lemmas.List.{append-nil}
+-- The tokens of a paragraph, or of a heading that is underlined, are in order.
+use Rattle.std.proofs.Common.{◌≡◌, inl, inr, ℕ, ◌≤◌, true, false, List, [], ◌∷◌, length, drop, Option, Some, None, IfSome, IsUtf8, IsCharBoundary, refl, sym, ap, subst, ◌∙◌, arith, length-drop}
 use Rattle.std.proofs.lemmas.Bool.{cases_lt, false≢true}
 use Rattle.first_pass_items.specs.declared.item.Item.{Item}
-use Rattle.first_pass_tree.specs.Forest.{Forest, is_escaped}
+use Rattle.first_pass_tree.specs.Forest.{is_escaped}
 use Rattle.first_pass_lines.specs.Places.{Place, offset, line_rest, line_place, place_at, IsPlaceOf, start_of}
 use Rattle.first_pass_lines.proofs.LineFacts.{lines_at-line, lines_at-end, line_len-fits}
 use Rattle.first_pass_lines.proofs.PlaceFacts.{start_of-lines}
 use Rattle.first_pass_tokens.specs.LineTokens.{IsLine, IsBreak, is_break, EndsLine, text_end}
 use Rattle.first_pass_tokens.specs.Chains.{add_tokens, close_break, cut}
 use Rattle.first_pass_tokens.specs.Order.{AreInOrder, HaveBytes}
-use Rattle.first_pass_tokens.proofs.BytesLemmas.{few_in_order, bytes_adds, bytes_closed, bytes_append, line_has_bytes}
+use Rattle.first_pass_tokens.proofs.BytesLemmas.{bytes_adds, bytes_closed, bytes_append, line_has_bytes}
 use Rattle.first_pass_tokens.proofs.Escapes.{EscapesStand, escapes_adds, escapes_append, line_escapes, cut_escaped, cut_has_bytes}
 use Rattle.first_pass_tokens.proofs.LineLemmas.{ends_line}
-use Rattle.first_pass_tokens.proofs.OrderLemmas.{StandsBehind, LineInOrder, line_in_order, order_bound, order_to, order_from, order_append, order_adds, order_closed}
+use Rattle.first_pass_tokens.proofs.OrderLemmas.{StandsBehind, LineInOrder, line_in_order, order_to, order_from, order_append, order_adds, order_closed}
 use Rattle.first_pass_grammar.specs.declared.kind.Container.{Container}
 use Rattle.first_pass_grammar.specs.Containers.{at_rest, front}
 use Rattle.first_pass_grammar.specs.Kinds.{unindented}
-use Rattle.first_pass_grammar.specs.Leaves.{Document, content_at, add_break, marker_items, TextLines, text_lines, AreTextLines, block_with}
+use Rattle.first_pass_grammar.specs.Leaves.{Document, content_at, add_break, TextLines, text_lines, AreTextLines}
 use Rattle.first_pass_grammar.specs.Completion.{lines_from}
-use Rattle.first_pass_grammar.specs.Counting.{own_nodes}
-use Rattle.first_pass_grammar.proofs.OwnNodes.{own_at_most}
-use Rattle.first_pass_grammar.specs.Order.{Extent, Empty, Node, extent_of, extents, laid, Within, Elsewhere, InItem, InText, in_item, Fits, FitsBetween, IsBetween}
-use Rattle.first_pass_grammar.specs.OpenOrder.{is_in_item, within_top}
-use Rattle.first_pass_text.specs.Appends.{line_end_at, AddsPlainText}
-use Rattle.first_pass_grammar.proofs.Orders.{length-block, row_of, row_of-laid, row_of-fits}
-use Rattle.first_pass_text.specs.Between.{AddsBetween, IsInItem, StandsBefore}
-use Rattle.first_pass_open.specs.Path.{path_of}
+use Rattle.first_pass_grammar.specs.Headings.{chain_end}
+use Rattle.first_pass_text.specs.Appends.{line_end_at}
 use Rattle.first_pass_text.proofs.ParagraphLemmas.{line_end-text}
 use Rattle.first_pass_open.proofs.PlaceLemmas.{text_place}
 use Rattle.first_pass_items.specs.declared.item.ItemBody.{ItemBody}
-use Rattle.first_pass_items.specs.declared.item.ItemBody.TheVariants.{Text, Paragraph as ParagraphBody, Heading as HeadingBody}
-use Rattle.first_pass_items.specs.declared.item.HeadingLevel.{HeadingLevel}
-use Rattle.first_pass_grammar.specs.Texts.{underline_first, plain_text, underlined_text, text_children}
-use Rattle.first_pass_grammar.specs.Tables.{Taken, taking}
-
--- the offset at which a chain that begins at an offset ends (this project)
-abbrev pub chain_end : ℕ → List Item → ℕ
-chain_end start [] = start
-chain_end start (x ∷ []) = x.«end»
-chain_end start (x ∷ y ∷ ys) = chain_end start (y ∷ ys)
+use Rattle.first_pass_items.specs.declared.item.ItemBody.TheVariants.{Text}
 
 -- A chain in order ends within its bounds, between two characters.
 pub chain_end_place : (text : List ℕ) (from to : ℕ) (chain : List Item) → AreInOrder text from to chain → IsCharBoundary text from
@@ -104,10 +88,6 @@ one_line d from ix chain tokens answer utf8 boundary h line =
       break_fits = l.break_fits;
       broken = e.broken;
     }
-
--- the chain of a text's lines, once its last line is ended
-abbrev ended_chain : TextLines → List Item
-ended_chain t = close_break t.break t.chain
 
 -- The chain of a text's lines is in order up to an offset, behind which the break of the last line stands; the lines left begin behind that.
 pub record TextInOrder (d : Document) (start : ℕ) (t : TextLines) : Type 0 where
@@ -183,7 +163,7 @@ first_later text m within =
     ]
 
 -- the first of the lines left begins before the second does
-text_later : (text : List ℕ) (left : List Place) (m : ℕ) → left ≡ lines_from text m → m ≤ length text → start_of (length text) left ≤ start_of (length text) (drop 1 left)
+pub text_later : (text : List ℕ) (left : List Place) (m : ℕ) → left ≡ lines_from text m → m ≤ length text → start_of (length text) left ≤ start_of (length text) (drop 1 left)
 text_later text left m is within = subst (λ (ls : List Place). start_of (length text) ls ≤ start_of (length text) (drop 1 ls)) (sym is) (first_later text m within)
 
 -- The chain of the lines of a text is in order from where the text begins.
@@ -200,103 +180,3 @@ cut_text_in_order d start e t h low high boundary =
       order_closed d.text start h.stop (start_of (length d.text) t.left) t.break (cut e t.chain) order h.before h.break_fits,
       bytes_closed t.break (cut e t.chain) (cut_has_bytes d.text start e t.chain h.bytes h.escapes),
     )
-
-few_marked : (marker : Option Item) (chain : List Item) → length (marker_items marker ++ chain) ≤ suc (length chain)
-few_marked None chain = omega arith
-few_marked (Some x) chain = omega arith
-
--- the node of a paragraph or a heading
-abbrev text_node : ℕ → ℕ → ItemBody → Item
-text_node start next body = record { start = start; «end» = next; body = body }
-
--- such a block has at most four nodes for each byte: itself, a marker, and its tokens, all of them its own
-block_few : (from start next : ℕ) (body : ItemBody) (marker : Option Item) (chain : List Item) → from ≤ start → length chain + start ≤ next → from < next
-    → own_nodes (block_with start next body (marker_items marker ++ chain)) ≤ 4 * (next - from)
-block_few from start next body marker chain low few some =
-    let size = length-block (text_node start next body) (marker_items marker ++ chain) in
-    let marked = few_marked marker chain in
-    let most = own_at_most None (block_with start next body (marker_items marker ++ chain)) in
-    omega arith
-
--- a task list item marker stands in a list item
-abbrev StandsIn : Within → Option Item → Type 0
-StandsIn w None = Unit {0}
-StandsIn w (Some m) = in_item w ≡ true
-
--- what stands below a paragraph
-kids_fit : (text : List ℕ) (w : Within) (from start next : ℕ) (marker : Option Item) (chain : List Item) → AreInOrder text start next chain → StandsBefore text from start marker → StandsIn w marker
-    → (from ≤ start) × Fits text (if in_item w && true then InText from else Elsewhere) start next (row_of (marker_items marker ++ chain))
-unfolding Fits row_of
-kids_fit text w from start next None chain h stands inside = (stands, row_of-fits text (if in_item w && true then InText from else Elsewhere) start next chain h)
-kids_fit text w from start next (Some m) chain h stands inside =
-    let b : IsBetween text from start (extent_of m) = stands.1 in (
-      omega (arith, b.behind, b.order, b.before),
-      subst (λ t. Fits text (if t && true then InText from else Elsewhere) start next (row_of (m ∷ chain))) (sym inside) (inr (stands, b.order, row_of-fits text Elsewhere start next chain h)),
-    )
-
-block_laid : (start next : ℕ) (body : ItemBody) (chain : List Item) → extents (block_with start next body chain) ≡ laid 0 (Node (extent_of (text_node start next body)) (row_of chain) Empty)
-unfolding laid
-block_laid start next body chain =
-    ap (λ (row : List (ℕ × Extent)). (0, extent_of (text_node start next body)) ∷ row) (row_of-laid 1 chain ∙ sym (append-nil (laid 1 (row_of chain))))
-
--- what the extent of a paragraph or a heading is
-abbrev text_extent : ℕ → ℕ → Extent
-text_extent start next = record { start = start; «end» = next; text_block = true; marker = false; item = false }
-
-block_between : (text : List ℕ) (w : Within) (from start next : ℕ) (body : ItemBody) (marker : Option Item) (chain : List Item) → extent_of (text_node start next body) ≡ text_extent start next
-    → IsCharBoundary text start → IsCharBoundary text next → AreInOrder text start next chain → HaveBytes chain → StandsBefore text from start marker → StandsIn w marker
-    → FitsBetween text w from next (block_with start next body (marker_items marker ++ chain))
-unfolding Fits
-block_between text w from start next body marker chain extent starts ends h bytes stands inside =
-    let kids = kids_fit text w from start next marker chain h stands inside in
-    let order = order_bound text start next chain h in
-    let kids_row = row_of (marker_items marker ++ chain) in
-    let fits : Fits text w from next (Node (text_extent start next) kids_row Empty) = inl (record { behind = kids.0; order = order; before = omega arith; starts = starts; ends = ends }, kids.1, omega arith) in (
-      Node (extent_of (text_node start next body)) kids_row Empty,
-      block_laid start next body (marker_items marker ++ chain),
-      subst (λ x. Fits text w from next (Node x kids_row Empty)) (sym extent) fits,
-      block_few from start next body marker chain kids.0 (few_in_order text start next chain h bytes),
-    )
-
-inside_top : (t : Bool) → t ≡ true → in_item (if t then InItem else Elsewhere) ≡ true
-inside_top true h = refl
-inside_top false h = h
-
-top_stands : (old : Forest Item) (marker : Option Item) → IsInItem old marker → StandsIn (within_top old) marker
-top_stands old None h = h
-top_stands old (Some m) h = inside_top (is_in_item old) h
-
--- A paragraph, or a heading that is underlined, lies between an offset that its marker or its text stands behind, and the line behind it.
-ended_between : (d : Document) (w : Within) (path : List Container) (from start : ℕ) (marker : Option Item) (l : TextLines) (items : List (ℕ × Item)) (next : ℕ) (o : Option (ℕ × HeadingLevel))
-    → IsUtf8 d.text → IsCharBoundary d.text start → IsCharBoundary d.text next → StandsBefore d.text from start marker → StandsIn w marker
-    → AreInOrder d.text start (start_of (length d.text) l.left) (ended_chain l) → HaveBytes (ended_chain l) → start_of (length d.text) l.left ≤ start_of (length d.text) (drop 1 l.left)
-    → MatchOption o (taking items (lines_from d.text next) ≡ plain_text d start marker l) (λ underline. taking items (lines_from d.text next) ≡ underlined_text d start marker underline.1 l)
-    → FitsBetween d.text w from next items
-ended_between d w path from start marker l items next None utf8 boundary ends stands inside order bytes later e =
-    let left : lines_from d.text next ≡ l.left = ap (λ (z : Taken). z.left) e in
-    let stop : start_of (length d.text) l.left ≡ next = ap (start_of (length d.text)) (sym left) ∙ start_of-lines d.text next ends.0 in
-    let is : items ≡ block_with start next ParagraphBody (text_children marker l) = ap (λ (z : Taken). z.items) e ∙ ap (λ k. block_with start k ParagraphBody (text_children marker l)) stop in
-    subst (FitsBetween d.text w from next) (sym is)
-    (block_between d.text w from start next ParagraphBody marker (ended_chain l) refl boundary ends (subst (λ k. AreInOrder d.text start k (ended_chain l)) stop order) bytes stands inside)
-ended_between d w path from start marker l items next (Some underline) utf8 boundary ends stands inside order bytes later e =
-    let left : lines_from d.text next ≡ drop 1 l.left = ap (λ (z : Taken). z.left) e in
-    let stop : start_of (length d.text) (drop 1 l.left) ≡ next = ap (start_of (length d.text)) (sym left) ∙ start_of-lines d.text next ends.0 in
-    let body : ItemBody = HeadingBody underline.1 None in
-    let is : items ≡ block_with start next body (text_children marker l) = ap (λ (z : Taken). z.items) e ∙ ap (λ k. block_with start k body (text_children marker l)) stop in
-    subst (FitsBetween d.text w from next) (sym is)
-    (block_between d.text w from start next body marker (ended_chain l) refl boundary ends (order_to d.text start (start_of (length d.text) l.left) next (ended_chain l) order (omega arith)) bytes stands inside)
-
-pub plain_fits : (d : Document) (start : ℕ) (marker : Option Item) (old new : Forest Item) (next : ℕ) → AddsPlainText d start marker old new next → IsUtf8 d.text → IsCharBoundary d.text start
-    → IsInItem old marker → (from : ℕ) → StandsBefore d.text from start marker → AddsBetween d.text from next old new
-plain_fits d start marker old new next adds utf8 boundary inside from stands =
-    let (l, are, ended) = adds.is in
-    let h = text_is_in_order d (path_of old) start l utf8 boundary are in
-    let order = order_closed d.text start h.stop (start_of (length d.text) l.left) l.break l.chain h.order h.before h.break_fits in
-    let bytes = bytes_closed l.break l.chain h.bytes in
-    let later = text_later d.text l.left h.left_at h.left_is h.left_within in
-    record {
-      items = adds.items;
-      tree_is = adds.tree_is;
-      fits = ended_between d (within_top old) (path_of old) from start marker l adds.items next (underline_first (path_of old) l.left)
-          utf8 boundary adds.boundary stands (top_stands old marker inside) order bytes later ended;
-    }

@@ -1,16 +1,24 @@
 -- A paragraph, or a heading that is underlined, is added to the tree.
-use Rattle.std.proofs.Common.{◌≡◌, ◌≤◌, ℕ, ◌+◌, List, [], ◌∷◌, ◌++◌, length, drop, Option, Some, None, IfSome, MatchOption, IsUtf8, IsCharBoundary, refl, sym, ap, subst, ◌∙◌, arith, false, ◌<◌, IsSome, slice_get}
-use Rattle.std.specs.Option.{option_map}
+use Rattle.std.proofs.Common.{◌≡◌, inl, inr, Bool, ◌≤◌, ℕ, ◌+◌, List, [], ◌∷◌, ◌++◌, length, drop, Option, Some, None, IfSome, MatchOption, IsUtf8, IsCharBoundary, refl, sym, ap, subst, ◌∙◌, arith, false, ◌<◌, IsSome, slice_get}
 use Rattle.first_pass_items.specs.declared.item.Item.{Item}
 use Rattle.first_pass_items.specs.declared.item.HeadingLevel.{HeadingLevel}
 use Rattle.first_pass_tree.specs.Forest.{Forest, added, appended, pushed, is_text, IsForest, with_body_at}
-use Rattle.first_pass_lines.specs.Places.{Place, start_of}
+use Rattle.first_pass_lines.specs.Places.{Place, offset, start_of}
 use Rattle.first_pass_lines.proofs.LineFacts.{lines_at-line}
 use Rattle.first_pass_lines.proofs.PlaceFacts.{start_of-lines}
 use Rattle.first_pass_grammar.specs.declared.kind.Container.{Container}
-use Rattle.first_pass_grammar.specs.Leaves.{Document, TextLines, text_lines, AreTextLines, paragraph_block, heading_block, marker_items}
-use Rattle.first_pass_grammar.specs.Texts.{underline_first, text_children, plain_text, underlined_text}
-use Rattle.first_pass_grammar.specs.Tables.{taking}
+use Rattle.first_pass_grammar.specs.Leaves.{Document, document, TextLines, text_lines, AreTextLines, paragraph_block, heading_block, marker_items, add_break}
+use Rattle.first_pass_grammar.specs.Names.{Names, Extends, NamesAttributes}
+use Rattle.first_pass_grammar.specs.Headings.{heading_braces, heading_attributes_of, chain_bytes, kept_before}
+use Rattle.first_pass_grammar.specs.Containers.{at_rest, front}
+use Rattle.first_pass_grammar.specs.Kinds.{unindented}
+use Rattle.first_pass_attributes.specs.AttributeBlocks.{Braces}
+use Rattle.first_pass_names.specs.TableEntries.{no_names}
+use Rattle.first_pass_items.specs.declared.option_set.Options.{Options}
+use Rattle.first_pass_items.specs.declared.item.HeadingIndex.{HeadingIndex}
+use Rattle.std.specs.Option.{option_map, option_map_or}
+use Rattle.first_pass_grammar.specs.Texts.{underline_first, text_children, plain_text, underlined_text, by_backslash, heading_bytes, heading_children, IsUnderlined}
+use Rattle.first_pass_grammar.specs.Tables.{Taken, taking}
 use Rattle.first_pass_grammar.specs.Completion.{lines_from}
 use Rattle.first_pass_open.specs.Path.{path_of}
 use Rattle.first_pass_text.specs.Appends.{line_end_at, AddsPlainText, with_closed_break, AppendsLines}
@@ -18,14 +26,16 @@ use Rattle.first_pass_text.proofs.ParagraphLemmas.{underline_there, underline_wi
 use Rattle.std.proofs.lemmas.Option.{same_Some}
 use Rattle.first_pass_tree.specs.declared.tree_index.TreeIndex.{TreeIndex}
 use Rattle.first_pass_tokens.specs.TreeTokens.{chained, JoinsNone}
-use Rattle.first_pass_tokens.specs.Chains.{close_break}
-use Rattle.first_pass_tokens.proofs.ChainLemmas.{joins_none-fresh, joins_none-appended}
+use Rattle.first_pass_tokens.specs.Chains.{close_break, cut, add_tokens}
+use Rattle.first_pass_tokens.proofs.ChainLemmas.{joins_none-fresh, joins_none-appended, pushed-fresh}
 use Rattle.first_pass_open.specs.OpenBlock.{with_child, closed_by}
 use Rattle.first_pass_open.proofs.BlockLemmas.{marked_chain, opened_at, opened_is, still_open, block_closed, block_named, block_place}
 use Rattle.first_pass_items.specs.declared.item.ItemBody.TheVariants.{Paragraph, Heading}
 use Rattle.first_pass_open.proofs.PathLemmas.{open_are_in}
 use Rattle.first_pass_text.specs.declared.paragraph.TextEnd.{TextEnd}
 use Rattle.first_pass_text.proofs.OrderHeading.{line_stops}
+use Rattle.first_pass_text.specs.CutTexts.{cut_chain, CutsBlock}
+use Rattle.first_pass_text.proofs.AttributeEnds.{cut_none}
 
 no_underline : (o : Option (ℕ × HeadingLevel)) → None ≡ option_map (λ (found : ℕ × HeadingLevel). found.1) o → o ≡ None
 no_underline None h = refl
@@ -40,53 +50,92 @@ marked_apart : (p : Forest Item) (marker : Option Item) → p.current ≡ None �
 marked_apart p None fresh h = joins_none-fresh p fresh
 marked_apart p (Some y) fresh h = joins_none-appended p y h
 
--- a block that was opened, with a marker and the chain of its lines in it
-pub text_filled : (g p m r n : Forest Item) (x : Item) (ix : TreeIndex) (marker : Option Item) (chain : List Item) (line_break : Option Item)
-    → p ≡ pushed (appended g x) ix → m ≡ with_child p marker → IfSome marker (λ y. is_text y.body ≡ false) → r ≡ chained m chain → n ≡ with_closed_break r line_break
-    → n ≡ chained (pushed (appended g x) ix) (marker_items marker ++ close_break line_break chain)
-text_filled g p m r n x ix marker chain line_break p_is m_is plain r_is n_is =
-    let there : m ≡ with_child (pushed (appended g x) ix) marker = m_is ∙ ap (λ f. with_child f marker) p_is in
-    let apart = subst JoinsNone (sym there) (marked_apart (pushed (appended g x) ix) marker refl plain) in
-    marked_chain (pushed (appended g x) ix) m n marker (close_break line_break chain) there
-    (n_is ∙ ap (λ f. with_closed_break f line_break) r_is ∙ with_closed_break-chained m chain line_break apart)
+-- the chain of a text's lines names nothing
+pub renamed_lines : (text : List ℕ) (options : Options) (m n : Names) (path : List Container) (start : ℕ) (chain : List Item) (lines : List Place) (t : TextLines)
+    → AreTextLines (document text options m) path start chain lines t → AreTextLines (document text options n) path start chain lines t
+unfolding AreTextLines
+renamed_lines text options m n path start chain [] t h = h
+renamed_lines text options m n path start chain (line ∷ lines) t (k, a, i, inl x) = (k, a, i, inl x)
+renamed_lines text options m n path start chain (line ∷ lines) t (k, a, i, inr (h, more)) =
+    (k, a, i, inr (h, renamed_lines text options m n path (offset (unindented (at_rest line (front path line.rest)))) (add_break a.1 (add_tokens chain k)) lines t more))
 
-module _ (d : Document) (start n : ℕ) (marker : Option Item) (old new : Forest Item) (chain : List Item) (line_break : Option Item)
-    (are : AreTextLines d (path_of old) start [] (lines_from d.text (line_end_at d.text start)) (text_lines chain line_break (lines_from d.text n)))
-    (later : line_end_at d.text start ≤ n) (boundary : IsCharBoundary d.text n) where
-  abbrev given : TextLines
-  given = text_lines chain line_break (lines_from d.text n)
+-- nor do the children of a heading
+children_renamed : (text : List ℕ) (options : Options) (m n : Names) (start : ℕ) (marker : Option Item) (l : TextLines)
+    → heading_children (document text options m) start marker l ≡ heading_children (document text options n) start marker l
+unfolding heading_children
+children_renamed text options m n start marker l = refl
+
+-- the children of a heading, by its attribute block, or none
+pub children_by : (d : Document) (start : ℕ) (marker : Option Item) (l : TextLines) (o : Option Braces) → heading_braces d.options (heading_bytes d start marker l) ≡ o
+    → heading_children d start marker l
+    ≡ option_map_or (λ (block : Braces). close_break l.break (cut (start + kept_before (by_backslash l.break) block.opening (heading_bytes d start marker l)) (marker_items marker ++ l.chain)))
+    o (text_children marker l)
+unfolding heading_children
+children_by d start marker l o e =
+    ap (λ (found : Option Braces).
+    option_map_or (λ (block : Braces). close_break l.break (cut (start + kept_before (by_backslash l.break) block.opening (heading_bytes d start marker l)) (marker_items marker ++ l.chain)))
+    found (text_children marker l)) e
+
+-- what the lines of a text give, those from an offset on left
+abbrev given : List ℕ → ℕ → List Item → Option Item → TextLines
+given text next chain line_break = text_lines chain line_break (lines_from text next)
+
+module _ (text : List ℕ) (options : Options) (names : Names) (start n : ℕ) (marker : Option Item) (old new : Forest Item) (chain : List Item) (line_break : Option Item)
+    (are : AreTextLines (document text options no_names) (path_of old) start [] (lines_from text (line_end_at text start)) (given text n chain line_break))
+    (later : line_end_at text start ≤ n) (boundary : IsCharBoundary text n) where
+  abbrev lines : TextLines
+  lines = given text n chain line_break
+
+  these_lines : (more : Names) → AreTextLines (document text options more) (path_of old) start [] (lines_from text (line_end_at text start)) lines
+  these_lines more = renamed_lines text options no_names more (path_of old) start [] (lines_from text (line_end_at text start)) lines are
 
   -- where no underline follows
-  pub paragraph_added : None ≡ option_map (λ (found : ℕ × HeadingLevel). found.1) (underline_first (path_of old) (lines_from d.text n))
-      → new ≡ added old (paragraph_block start n (text_children marker given)) → AddsPlainText d start marker old new n
+  pub paragraph_added : None ≡ option_map (λ (found : ℕ × HeadingLevel). found.1) (underline_first (path_of old) (lines_from text n))
+      → new ≡ added old (paragraph_block start n (text_children marker lines)) → AddsPlainText text options names start marker old new n
   paragraph_added said tree_is =
-      let none = no_underline (underline_first (path_of old) (lines_from d.text n)) said in
-      let items : List (ℕ × Item) = paragraph_block start n (text_children marker given) in
-      let same : taking items (lines_from d.text n) ≡ plain_text d start marker given =
-      ap (λ k. taking (paragraph_block start k (text_children marker given)) (lines_from d.text n)) (sym (start_of-lines d.text n boundary.0)) in
+      let none = no_underline (underline_first (path_of old) (lines_from text n)) said in
+      let t : Taken = taking (paragraph_block start n (text_children marker lines)) (lines_from text n) in
       record {
-        items = items;
-        is = (given, are, subst (λ o. MatchOption o (taking items (lines_from d.text n) ≡ plain_text d start marker given) (λ underline. taking items (lines_from d.text n) ≡ underlined_text d start marker underline.1 given)) (sym none) same);
+        items = t.items;
+        is = λ more e.
+            let d = document text options more in
+            let same : t ≡ plain_text d start marker lines =
+            ap (λ k. taking (paragraph_block start k (text_children marker lines)) (lines_from text n)) (sym (start_of-lines text n boundary.0)) in (
+              lines,
+              these_lines more,
+              subst (λ o. MatchOption o (t ≡ plain_text d start marker lines) (λ underline. IsUnderlined d start marker lines underline.1 t)) (sym none) same,
+            );
         tree_is = tree_is;
         later = later;
         boundary = boundary;
       }
 
   -- where one follows
-  pub heading_added : (level : HeadingLevel) (next : ℕ) → Some level ≡ option_map (λ (found : ℕ × HeadingLevel). found.1) (underline_first (path_of old) (lines_from d.text n))
-      → next ≡ line_end_at d.text n → IsCharBoundary d.text next
-      → new ≡ added old (heading_block start next level (text_children marker given)) → AddsPlainText d start marker old new next
-  heading_added level next said next_is ends tree_is =
-      let (size, some) = some_underline level (underline_first (path_of old) (lines_from d.text n)) said in
-      let within = underline_within (path_of old) d.text n (size, level) (sym (underline_there (path_of old) d.text n) ∙ some) in
-      let behind : drop 1 (lines_from d.text n) ≡ lines_from d.text next = ap (λ (ls : List Place). drop 1 ls) (lines_at-line d.text n within) ∙ ap (lines_from d.text) (sym next_is) in
-      let items : List (ℕ × Item) = heading_block start next level (text_children marker given) in
-      let same : taking items (lines_from d.text next) ≡ underlined_text d start marker level given =
-      ap (λ k. taking (heading_block start k level (text_children marker given)) (lines_from d.text next)) (sym (start_of-lines d.text next ends.0))
-      ∙ ap (λ (ls : List Place). taking (heading_block start (start_of (length d.text) ls) level (text_children marker given)) ls) (sym behind) in
+  pub heading_added : (level : HeadingLevel) (index : Option HeadingIndex) (next : ℕ)
+      → Some level ≡ option_map (λ (found : ℕ × HeadingLevel). found.1) (underline_first (path_of old) (lines_from text n))
+      → next ≡ line_end_at text n → IsCharBoundary text next
+      → ((more : Names) → Extends more names → NamesAttributes more index (heading_attributes_of options (chain_bytes text start (marker_items marker ++ chain))))
+      → new ≡ added old (heading_block start next level index (heading_children (document text options no_names) start marker lines)) → AddsPlainText text options names start marker old new next
+  heading_added level index next said next_is ends named tree_is =
+      let (size, some) = some_underline level (underline_first (path_of old) (lines_from text n)) said in
+      let within = underline_within (path_of old) text n (size, level) (sym (underline_there (path_of old) text n) ∙ some) in
+      let behind : drop 1 (lines_from text n) ≡ lines_from text next = ap (λ (ls : List Place). drop 1 ls) (lines_at-line text n within) ∙ ap (lines_from text) (sym next_is) in
+      let kids : List Item = heading_children (document text options no_names) start marker lines in
+      let t : Taken = taking (heading_block start next level index kids) (lines_from text next) in
       record {
-        items = items;
-        is = (given, are, subst (λ o. MatchOption o (taking items (lines_from d.text next) ≡ plain_text d start marker given) (λ underline. taking items (lines_from d.text next) ≡ underlined_text d start marker underline.1 given)) (sym some) same);
+        items = t.items;
+        is = λ more e.
+            let d = document text options more in
+            let same : t ≡ underlined_text d start marker level index lines =
+            ap (λ k. taking (heading_block start k level index kids) (lines_from text next)) (sym (start_of-lines text next ends.0))
+            ∙ ap (λ (ls : List Place). taking (heading_block start (start_of (length text) ls) level index kids) ls) (sym behind)
+            ∙ ap (λ ks. taking (heading_block start (start_of (length text) (drop 1 lines.left)) level index ks) (drop 1 lines.left))
+            (children_renamed text options no_names more start marker lines) in (
+              lines,
+              these_lines more,
+              subst (λ o. MatchOption o (t ≡ plain_text d start marker lines) (λ underline. IsUnderlined d start marker lines underline.1 t)) (sym some)
+                  (index, named more e, same),
+            );
         tree_is = tree_is;
         later = let more = later in let e = next_is in omega arith;
         boundary = ends;
@@ -96,52 +145,111 @@ module _ (d : Document) (start n : ℕ) (marker : Option Item) (old new : Forest
 abbrev pub opened_item : ℕ → Item
 opened_item start = record { start = start; «end» = 0; body = Paragraph }
 
--- A paragraph stands open in the tree, with the marker of its task list item and the chain of its lines in it, the last of them ended.
-pub record StandsOpen (d : Document) (start : ℕ) (marker : Option Item) (g n : Forest Item) (ix : TreeIndex) (end : TextEnd) : Type 0 where
+-- A paragraph stands open in the tree, with the marker of its task list item and the chain of its lines in it, but for the break behind the last of them.
+pub record StandsOpen (text : List ℕ) (options : Options) (start : ℕ) (marker : Option Item) (g r : Forest Item) (ix : TreeIndex) (end : TextEnd) : Type 0 where
   pub chain : List Item
   pub at : ix.0 ≡ length g.nodes
-  pub filled : n ≡ chained (pushed (appended g (opened_item start)) ix) (marker_items marker ++ close_break end.line_break chain)
-  pub are : AreTextLines d (path_of g) start [] (lines_from d.text (line_end_at d.text start)) (text_lines chain end.line_break (lines_from d.text end.next))
-  pub said : end.underline ≡ option_map (λ (found : ℕ × HeadingLevel). found.1) (underline_first (path_of g) (lines_from d.text end.next))
-  pub later : line_end_at d.text start ≤ end.next
-  pub boundary : IsCharBoundary d.text end.next
+  pub before : Forest Item
+  pub marked : before ≡ with_child (pushed (appended g (opened_item start)) ix) marker
+  pub apart : JoinsNone before
+  pub tree_is : r ≡ chained before chain
+  pub are : AreTextLines (document text options no_names) (path_of g) start [] (lines_from text (line_end_at text start)) (given text end.next chain end.line_break)
+  pub said : end.underline ≡ option_map (λ (found : ℕ × HeadingLevel). found.1) (underline_first (path_of g) (lines_from text end.next))
+  pub later : line_end_at text start ≤ end.next
+  pub boundary : IsCharBoundary text end.next
 
-pub stands_open : (d : Document) (start : ℕ) (marker : Option Item) (g a p m r n : Forest Item) (ix : TreeIndex) (end : TextEnd) → IsForest g
+pub stands_open : (text : List ℕ) (options : Options) (start : ℕ) (marker : Option Item) (g a p m r : Forest Item) (ix : TreeIndex) (end : TextEnd) → IsForest g
     → a ≡ appended g (opened_item start) → a.current ≡ Some ix → p ≡ pushed a ix → m ≡ with_child p marker → IfSome marker (λ y. is_text y.body ≡ false)
-    → AppendsLines d start m r end → n ≡ with_closed_break r end.line_break → StandsOpen d start marker g n ix end
-stands_open d start marker g a p m r n ix end forest a_is current p_is m_is plain lines n_is =
+    → AppendsLines (document text options no_names) start m r end → StandsOpen text options start marker g r ix end
+stands_open text options start marker g a p m r ix end forest a_is current p_is m_is plain read =
     let x : Item = opened_item start in
     let at = opened_at g a x ix a_is current in
     let opened = opened_is g a p x ix a_is p_is in
+    let there : m ≡ with_child (pushed (appended g x) ix) marker = m_is ∙ ap (λ f. with_child f marker) opened in
     let same : path_of m ≡ path_of g = path_of-paragraph g p m x ix marker refl opened m_is at (open_are_in g.nodes g.spine forest.opened) in
     record {
-      chain = lines.chain;
+      chain = read.chain;
       at = at;
-      filled = text_filled g p m r n x ix marker lines.chain end.line_break opened m_is plain lines.tree_is n_is;
-      are = subst (λ path. AreTextLines d path start [] (lines_from d.text (line_end_at d.text start)) (text_lines lines.chain end.line_break (lines_from d.text end.next))) same lines.are;
-      said = lines.underline ∙ ap (λ path. option_map (λ (found : ℕ × HeadingLevel). found.1) (underline_first path (lines_from d.text end.next))) same;
-      later = lines.later;
-      boundary = lines.boundary;
+      before = m;
+      marked = there;
+      apart = subst JoinsNone (sym there) (marked_apart (pushed (appended g x) ix) marker refl plain);
+      tree_is = read.tree_is;
+      are = subst (λ path. AreTextLines (document text options no_names) path start [] (lines_from text (line_end_at text start)) (given text end.next read.chain end.line_break)) same read.are;
+      said = read.underline ∙ ap (λ path. option_map (λ (found : ℕ × HeadingLevel). found.1) (underline_first path (lines_from text end.next))) same;
+      later = read.later;
+      boundary = read.boundary;
     }
 
-module _ {d : Document} {start : ℕ} {marker : Option Item} {g n : Forest Item} {ix : TreeIndex} {end : TextEnd} (t : StandsOpen d start marker g n ix end) where
-  abbrev kids : List Item
-  kids = marker_items marker ++ close_break end.line_break t.chain
+module _ {text : List ℕ} {options : Options} {start : ℕ} {marker : Option Item} {g r : Forest Item} {ix : TreeIndex} {end : TextEnd} (t : StandsOpen text options start marker g r ix end) where
+  abbrev opened : Forest Item
+  opened = pushed (appended g (opened_item start)) ix
 
-  pub text_open : IsSome (slice_get n.spine 0)
-  text_open = still_open g n (opened_item start) kids ix t.at t.filled
+  abbrev read_lines : TextLines
+  read_lines = given text end.next t.chain end.line_break
 
-  pub text_place_in : (closed : Forest Item) (e : ℕ) → closed ≡ closed_by n e n.spine → ix.0 < length closed.nodes
-  text_place_in closed e is = block_place g n (opened_item start) kids ix t.at t.filled closed e is
+  abbrev whole_chain : List Item
+  whole_chain = marker_items marker ++ t.chain
 
-  pub closed_paragraph : (new : Forest Item) → None ≡ end.underline → new ≡ closed_by n end.next n.spine → AddsPlainText d start marker g new end.next
-  closed_paragraph new none is =
-      paragraph_added d start end.next marker g new t.chain end.line_break t.are t.later t.boundary (none ∙ t.said)
-      (block_closed g n (opened_item start) kids ix t.at t.filled new end.next is)
+  -- the marker and the chain, before its last line is ended and after
+  whole_is : r ≡ chained opened whole_chain
+  whole_is = marked_chain opened t.before r marker t.chain t.marked t.tree_is
 
-  pub closed_heading : (closed new : Forest Item) (level : HeadingLevel) (next : ℕ) → Some level ≡ end.underline → next ≡ line_end_at d.text end.next → IsUtf8 d.text
-      → closed ≡ closed_by n next n.spine → new ≡ with_body_at closed ix (Heading level None) → AddsPlainText d start marker g new next
-  closed_heading closed new level next some next_is utf8 closed_is is =
-      heading_added d start end.next marker g new t.chain end.line_break t.are t.later t.boundary level next (some ∙ t.said) next_is
-      (subst (IsCharBoundary d.text) (sym next_is) (line_stops d.text end.next utf8 t.boundary))
-      (block_named g n (opened_item start) kids ix t.at t.filled closed new next (Heading level None) closed_is is)
+  text_filled : (n : Forest Item) → n ≡ with_closed_break r end.line_break → n ≡ chained opened (text_children marker read_lines)
+  text_filled n is =
+      marked_chain opened t.before n marker (close_break end.line_break t.chain) t.marked
+      (is ∙ ap (λ f. with_closed_break f end.line_break) t.tree_is ∙ with_closed_break-chained t.before t.chain end.line_break t.apart)
+
+  -- the chain without its attribute block
+  cut_filled : (broken : Bool) (c n : Forest Item) (o : Option Braces) → heading_braces options (chain_bytes text start whole_chain) ≡ o → broken ≡ by_backslash end.line_break
+      → c ≡ chained opened (cut_chain text options start broken whole_chain) → n ≡ with_closed_break c end.line_break
+      → n ≡ chained opened (heading_children (document text options no_names) start marker read_lines)
+  cut_filled broken c n None none broken_is c_is n_is =
+      let same : c ≡ r = c_is ∙ ap (chained opened) (cut_none text options start broken whole_chain none) ∙ sym whole_is in
+      text_filled n (n_is ∙ ap (λ f. with_closed_break f end.line_break) same)
+      ∙ ap (chained opened) (sym (children_by (document text options no_names) start marker read_lines None none))
+  cut_filled broken c n (Some block) some broken_is c_is n_is =
+      let left : List Item = cut (start + kept_before (by_backslash end.line_break) block.opening (chain_bytes text start whole_chain)) whole_chain in
+      let cut_is : cut_chain text options start broken whole_chain ≡ left =
+      ap (λ b. cut_chain text options start b whole_chain) broken_is
+      ∙ ap (λ (o : Option Braces).
+      option_map_or (λ (b : Braces). cut (start + kept_before (by_backslash end.line_break) b.opening (chain_bytes text start whole_chain)) whole_chain) o whole_chain) some in
+      n_is ∙ ap (λ f. with_closed_break f end.line_break) (c_is ∙ ap (chained opened) cut_is) ∙ with_closed_break-chained opened left end.line_break (joins_none-fresh opened refl)
+      ∙ ap (chained opened) (sym (children_by (document text options no_names) start marker read_lines (Some block) some))
+
+  -- a paragraph, whose last line is ended
+  pub text_open : (n : Forest Item) → n ≡ with_closed_break r end.line_break → IsSome (slice_get n.spine 0)
+  text_open n is = still_open g n (opened_item start) (text_children marker read_lines) ix t.at (text_filled n is)
+
+  pub closed_paragraph : (n new : Forest Item) (names : Names) → n ≡ with_closed_break r end.line_break → None ≡ end.underline → new ≡ closed_by n end.next n.spine
+      → AddsPlainText text options names start marker g new end.next
+  closed_paragraph n new names n_is none is =
+      paragraph_added text options names start end.next marker g new t.chain end.line_break t.are t.later t.boundary (none ∙ t.said)
+      (block_closed g n (opened_item start) (text_children marker read_lines) ix t.at (text_filled n n_is) new end.next is)
+
+  -- a heading, whose attribute block is cut off, and whose last line is then ended
+  module _ (names : Names) (broken : Bool) (index : Option HeadingIndex) (c n : Forest Item) (broken_is : broken ≡ by_backslash end.line_break)
+      (cuts : CutsBlock text options names start broken r c index) (n_is : n ≡ with_closed_break c end.line_break) where
+    abbrev kids : List Item
+    kids = heading_children (document text options no_names) start marker read_lines
+
+    cut_off : (c ≡ chained opened (cut_chain text options start broken whole_chain))
+        × ((more : Names) → Extends more names → NamesAttributes more index (heading_attributes_of options (chain_bytes text start whole_chain)))
+    cut_off =
+        let fresh = pushed-fresh g (opened_item start) ix t.at in
+        cuts opened whole_chain (record { last = fresh.0; none = fresh.1 }) whole_is
+
+    heading_filled : n ≡ chained opened kids
+    heading_filled = cut_filled broken c n (heading_braces options (chain_bytes text start whole_chain)) refl broken_is cut_off.0 n_is
+
+    pub heading_open : IsSome (slice_get n.spine 0)
+    heading_open = still_open g n (opened_item start) kids ix t.at heading_filled
+
+    pub heading_place_in : (closed : Forest Item) (e : ℕ) → closed ≡ closed_by n e n.spine → ix.0 < length closed.nodes
+    heading_place_in closed e is = block_place g n (opened_item start) kids ix t.at heading_filled closed e is
+
+    pub closed_heading : (closed new : Forest Item) (level : HeadingLevel) (next : ℕ) → Some level ≡ end.underline → next ≡ line_end_at text end.next → IsUtf8 text
+        → closed ≡ closed_by n next n.spine → new ≡ with_body_at closed ix (Heading level index) → AddsPlainText text options names start marker g new next
+    closed_heading closed new level next some next_is utf8 closed_is is =
+        heading_added text options names start end.next marker g new t.chain end.line_break t.are t.later t.boundary level index next (some ∙ t.said) next_is
+        (subst (IsCharBoundary text) (sym next_is) (line_stops text end.next utf8 t.boundary)) cut_off.1
+        (block_named g n (opened_item start) kids ix t.at heading_filled closed new next (Heading level index) closed_is is)

@@ -1,12 +1,17 @@
 -- What the leaf parsers append to the tree.
 use Rattle.std.specs.Prelude.{◌≡◌, ◌≤◌, ℕ, ◌+◌, List, [], ◌++◌, take, drop, Option, Some, None, false, IsCharBoundary, if◌then◌else◌, ◌<◌, ◌^◌, IfSome}
 use Rattle.first_pass_items.specs.declared.item.Item.{Item}
+use Rattle.first_pass_items.specs.declared.item.HeadingIndex.{HeadingIndex}
 use Rattle.first_pass_items.specs.declared.item.HeadingLevel.{HeadingLevel}
+use Rattle.first_pass_items.specs.declared.option_set.Options.{Options}
 use Rattle.first_pass_tree.specs.Forest.{Forest, added, with_text}
 use Rattle.first_pass_lines.specs.Lines.{line_len, level_number}
-use Rattle.first_pass_tokens.specs.Chains.{is_backslash_break}
+use Rattle.first_pass_tokens.specs.Chains.{is_backslash_break, add_tokens, close_break}
+use Rattle.first_pass_tokens.specs.LineTokens.{IsLine}
+use Rattle.first_pass_tokens.specs.Pieces.{Source}
 use Rattle.first_pass_tokens.specs.TreeTokens.{chained}
-use Rattle.first_pass_grammar.specs.Leaves.{Document, IsHeading, heading_text_at, heading_block, text_lines, AreTextLines}
+use Rattle.first_pass_grammar.specs.Leaves.{Document, document, IsHeading, kept_len, heading_chain, heading_text_at, heading_block, text_lines, AreTextLines}
+use Rattle.first_pass_grammar.specs.Names.{Names, Extends}
 use Rattle.first_pass_grammar.specs.Completion.{lines_from}
 use Rattle.first_pass_open.specs.Path.{path_of}
 use Rattle.std.specs.Option.{option_map}
@@ -39,25 +44,27 @@ pub record AppendsLines (d : Document) (start : ℕ) (old new : Forest Item) (en
   pub boundary : IsCharBoundary d.text end.next
   pub short : IfSome end.line_break (λ x. x.start < 2 ^ 63)
 
--- The chain of the heading whose text begins at an offset stands in the innermost open node, and its line ends before another.
-pub record AppendsHeading (d : Document) (start : ℕ) (old new : Forest Item) (next : ℕ) : Type 0 where
-  pub chain : List Item
-  pub line : IsHeading d start chain next
-  pub tree_is : new ≡ chained old chain
-  pub end_is : next ≡ line_end_at d.text start
+-- The tokens of an ATX heading's line, which is read so and of which this is the text, stand in the innermost open node, without the closing sequence.
+pub record AppendsHeading (s : Source) (content : List ℕ) (old new : Forest Item) : Type 0 where
+  pub tokens : List Item
+  pub answer : ℕ × Option Item
+  pub line : IsLine s tokens answer
+  pub tree_is : new ≡ chained old (heading_chain (kept_len content) s.start (close_break answer.1 (add_tokens [] tokens)))
 
--- What stands for the text that begins at an offset and heads no table is a last child of the innermost open node, and leaves the lines from another on
--- (CommonMark 4.3, 4.8).
-pub record AddsPlainText (d : Document) (start : ℕ) (marker : Option Item) (old new : Forest Item) (next : ℕ) : Type 0 where
+-- What stands for the text that begins at an offset and heads no table, whatever more is named, is a last child of the innermost open node, and leaves the
+-- lines from another on (CommonMark 4.3, 4.8).
+pub record AddsPlainText (text : List ℕ) (options : Options) (names : Names) (start : ℕ) (marker : Option Item) (old new : Forest Item) (next : ℕ) : Type 0 where
   pub items : List (ℕ × Item)
-  pub is : IsPlainText d (path_of old) start marker (lines_from d.text (line_end_at d.text start)) (taking items (lines_from d.text next))
+  pub is : (more : Names) → Extends more names
+      → IsPlainText (document text options more) (path_of old) start marker (lines_from text (line_end_at text start)) (taking items (lines_from text next))
   pub tree_is : new ≡ added old items
-  pub later : line_end_at d.text start ≤ next
-  pub boundary : IsCharBoundary d.text next
+  pub later : line_end_at text start ≤ next
+  pub boundary : IsCharBoundary text next
 
--- The heading that begins at an offset is a last child of the innermost open node, and its line ends before another.
-pub record AddsHeading (d : Document) (start : ℕ) (level : HeadingLevel) (old new : Forest Item) (next : ℕ) : Type 0 where
+-- The ATX heading that begins at an offset, whatever more is named, is a last child of the innermost open node, and its line ends before another.
+pub record AddsHeading (text : List ℕ) (options : Options) (names : Names) (start : ℕ) (level : HeadingLevel) (old new : Forest Item) (next : ℕ) : Type 0 where
+  pub index : Option HeadingIndex
   pub chain : List Item
-  pub line : IsHeading d (heading_text_at d.text start (level_number level)) chain next
-  pub tree_is : new ≡ added old (heading_block start next level chain)
-  pub end_is : next ≡ line_end_at d.text start
+  pub line : (more : Names) → Extends more names → IsHeading (document text options more) (heading_text_at text start (level_number level)) index chain next
+  pub tree_is : new ≡ added old (heading_block start next level index chain)
+  pub end_is : next ≡ line_end_at text start

@@ -1,5 +1,6 @@
 pub mod Appends
 pub mod Between
+pub mod CutTexts
 pub mod Found
 pub mod Reading
 pub mod Rests

@@ -1,25 +1,29 @@
 //! The text of an ATX heading.
 
 ghost use Rattle.std.specs.List.{suffix_len};
-ghost use Rattle.std.specs.Prelude.{◌≡◌, ℕ, ◌==◌, take, drop, ◌≤◌, Some, length, IfOk, OnOk, IsCharBoundary};
+ghost use Rattle.std.specs.Prelude.{◌≡◌, ℕ, ◌==◌, ◌+◌, List, take, drop, ◌≤◌, Some, length, IfOk, OnOk, IsCharBoundary, false};
 ghost use Rattle.first_pass_walk.specs.Walk.{MarksSpecial};
 ghost use Rattle.first_pass_lines.specs.Lines.{atx_level as atx_level_of, level_number as number_of};
-ghost use Rattle.first_pass_names.specs.TableEntries.{no_names};
-ghost use Rattle.first_pass_grammar.specs.Leaves.{document, is_put_aside, kept_len, heading_text_at};
+ghost use Rattle.first_pass_names.specs.TableEntries.{tables, names_of};
+ghost use Rattle.first_pass_grammar.specs.Names.{Extends};
+ghost use Rattle.first_pass_grammar.specs.Leaves.{is_put_aside, kept_len as kept_len_of, heading_text_at};
 ghost use Rattle.first_pass_text.specs.Between.{AddsBetween};
 ghost use Rattle.first_pass_text.specs.Appends.{AppendsHeading, AddsHeading};
 ghost use Rattle.first_pass_open.specs.OpenBlock.{IsJustPushed};
 
+use crate::attributes::{extract_and_parse_heading_attribute_block, name_attributes};
 use crate::paragraph::append_last_backslash;
 use first_pass_items::item::{HeadingLevel, Item, ItemBody};
+use first_pass_items::option_set::Options;
 use first_pass_lines::lines::{level_number, scan_whitespace_no_nl};
-use first_pass_lines::places::rest_of;
+use first_pass_lines::places::{next_line, rest_of};
+use first_pass_names::items::Allocations;
 use first_pass_open::open_block::close_block;
 use first_pass_open::source::Source;
 use first_pass_tokens::line::append_line;
 use first_pass_tree::forest::Tree;
 use first_pass_tree::tree_index::TreeIndex;
-use std::alloc::AllocError;
+use std::alloc::{AllocError, Global};
 
 // How many spaces and line ends stand at the end.
 fn trailing_aside(text: &[u8]) -> usize
@@ -62,7 +66,7 @@ fn front_of(text: &[u8], count: usize) -> &[u8]
 // How many bytes of a heading's text are left without its closing sequence (CommonMark 4.2).
 #[tactic(auto, unfolding(first_pass_grammar::specs::Leaves::kept_len))]
 fn kept_len(text: &[u8]) -> usize
-    ensures value { result ≡ kept_len text.now }
+    ensures value { result ≡ kept_len_of text.now }
     ensures within { result ≤ length text.now }
 {
     let trimmed = text.len() - trailing_aside(text);
@@ -76,60 +80,87 @@ fn kept_len(text: &[u8]) -> usize
 }
 
 /// Appends the ATX heading of this level that begins at the offset `start` into the text to the innermost open node
-/// of the tree, and answers the offset at which its line ends (CommonMark 4.2). The table is that of the special
-/// bytes.
-pub fn parse_atx_heading(
-    source: Source<'_>,
+/// of the tree, without its attribute block, and answers the offset at which its line ends (CommonMark 4.2). The
+/// attributes are put among `allocs`; `lut` is the table of the special bytes. The error is want of memory.
+pub fn parse_atx_heading<'a>(
+    alloc: Global,
+    source: Source<'a>,
     lut: &[bool; 256],
     tree: &mut Tree<Item>,
+    allocs: &mut Allocations<'a>,
     start: usize,
     atx_level: HeadingLevel,
 ) -> Result<usize, AllocError>
     requires within { start ≤ length source.text.now }
     requires marks { MarksSpecial lut.now source.options }
     requires heading { atx_level_of (drop start source.text.now) ≡ Some atx_level }
+    ensures names { OnOk result (Extends (names_of allocs.new) (names_of allocs.old)) }
+    ensures tables { OnOk result (tables allocs.new ≡ tables allocs.old) }
     ensures block { IfOk result (λ next.
-        AddsHeading (document source.entry.text.now source.entry.options no_names) start atx_level tree.old tree.new
+        AddsHeading source.entry.text.now source.entry.options (names_of allocs.new) start atx_level tree.old tree.new
         next) }
     ensures fits { IfOk result (λ next. (from : ℕ) → from ≤ start → IsCharBoundary source.entry.text.now start
         → AddsBetween source.entry.text.now from next tree.old tree.new) }
 {
+    let bytes = source.text.as_bytes();
+    let header_start = heading_text_start(bytes, start, atx_level);
+    let end = next_line(bytes, header_start);
+    let (content_end, attributes) = extract_and_parse_heading_attribute_block(
+        alloc,
+        source,
+        header_start,
+        end,
+    )?;
+    let read_to = if attributes.is_some() {
+        content_end
+    } else {
+        bytes.len()
+    };
+    let index = name_attributes(allocs, attributes)?;
     tree.append(Item {
         start,
         end: 0,
-        body: ItemBody::Heading(atx_level, None),
+        body: ItemBody::Heading(atx_level, index),
     })?;
     let heading_ix = tree.push()?;
-    let header_start = heading_text_start(source.text.as_bytes(), start, atx_level);
-    let end = heading_text(source, lut, tree, header_start, heading_ix)?;
+    let kept = kept_len(&bytes[header_start..content_end]);
+    let text = front_of(bytes, read_to);
+    heading_text(
+        text,
+        source.options,
+        lut,
+        tree,
+        header_start,
+        kept,
+        heading_ix,
+    )?;
     close_block(tree, end);
     Ok(end)
 }
 
-// Appends the chain of the heading whose text begins at `start` to `node_ix`, the innermost open node, which was
-// just opened, and answers where its line ends.
+// Appends the chain of the heading whose text begins at `start`, of which so many bytes are kept, to `node_ix`, the
+// innermost open node, which was just opened.
 fn heading_text(
-    source: Source<'_>,
+    text: &[u8],
+    options: Options,
     lut: &[bool; 256],
     tree: &mut Tree<Item>,
     start: usize,
+    kept: usize,
     node_ix: TreeIndex,
-) -> Result<usize, AllocError>
-    requires within { start ≤ length source.text.now }
-    requires marks { MarksSpecial lut.now source.options }
+) -> Result<(), AllocError>
+    requires within { start + kept ≤ length text.now }
+    requires marks { MarksSpecial lut.now options }
     requires opened { IsJustPushed tree.old node_ix }
-    ensures line { IfOk result (λ next.
-        AppendsHeading (document source.entry.text.now source.entry.options no_names) start tree.old tree.new next) }
+    ensures line { OnOk result ((content : List ℕ) → kept ≡ kept_len_of content → AppendsHeading
+        (record { options = options; text = text.now; start = start; row = false }) content tree.old tree.new) }
 {
-    let bytes = source.text.as_bytes();
-    let (next, line_break) = append_line(bytes, start, source.options, lut, tree)?;
+    let (_, line_break) = append_line(text, start, options, lut, tree)?;
     append_last_backslash(tree, line_break)?;
-    let line = rest_of(bytes, start);
-    let kept = kept_len(front_of(line, next - start));
     if kept == 0 {
         tree.drop_children(node_ix);
-        return Ok(next);
+        return Ok(());
     }
     tree.truncate_siblings(start + kept);
-    Ok(next)
+    Ok(())
 }

@@ -2,6 +2,7 @@
 //! tokens, and the kind of a place.
 #![tactic(auto)]
 
+pub mod attributes;
 pub mod heading;
 pub mod interrupt;
 pub mod kinds;

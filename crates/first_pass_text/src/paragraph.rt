@@ -3,16 +3,20 @@
 ghost use Rattle.std.specs.Prelude.{◌≡◌, ◌<◌, ◌^◌, ℕ, false, IfOk, IfSome, OnOk, IsUtf8, IsCharBoundary};
 ghost use Rattle.first_pass_walk.specs.Walk.{MarksSpecial};
 ghost use Rattle.first_pass_tokens.specs.TreeTokens.{JoinsNone};
-ghost use Rattle.first_pass_names.specs.TableEntries.{no_names};
+ghost use Rattle.first_pass_names.specs.TableEntries.{tables, names_of, no_names};
+ghost use Rattle.first_pass_grammar.specs.Names.{Extends};
+ghost use Rattle.first_pass_grammar.specs.Texts.{by_backslash};
 ghost use Rattle.first_pass_grammar.specs.Leaves.{document};
 ghost use Rattle.first_pass_tree.specs.Forest.{is_text};
 ghost use Rattle.first_pass_text.specs.Appends.{AppendsLines, AddsPlainText, with_closed_break};
 ghost use Rattle.first_pass_open.specs.OpenBlock.{with_child};
 ghost use Rattle.first_pass_text.specs.Between.{AddsBetween, IsInItem, StandsBefore};
 
+use crate::attributes::cut_attributes;
 use crate::interrupt::{NextLine, scan_next_line};
 use first_pass_items::item::{HeadingLevel, Item, ItemBody};
 use first_pass_lines::places::next_line;
+use first_pass_names::items::Allocations;
 use first_pass_open::open_block::close_block;
 use first_pass_open::source::Source;
 use first_pass_tokens::line::append_line;
@@ -29,6 +33,16 @@ pub fn append_item(tree: &mut Tree<Item>, item: Option<Item>) -> Result<(), Allo
             Ok(())
         }
         None => Ok(()),
+    }
+}
+
+// Whether a backslash makes the break.
+fn is_by_backslash(line_break: Option<Item>) -> bool
+    ensures { result ≡ by_backslash line_break }
+{
+    match line_break {
+        Some(line_break) => matches!(line_break.body, ItemBody::HardBreak(true)),
+        None => false,
     }
 }
 
@@ -67,20 +81,23 @@ struct TextEnd {
 /// Appends the paragraph, or the heading that is underlined, whose first line's text begins at the offset `start_ix`
 /// into the text to the innermost open node of the tree, with the marker of its task list item, if it has one, as its
 /// first child. Answers the offset at which the line begins that is behind it, or the text's length (CommonMark 4.3,
-/// 4.8). The table is that of the special bytes.
-pub fn parse_paragraph(
+/// 4.8). The attributes of a heading are put among `allocs`; `lut` is the table of the special bytes.
+pub fn parse_paragraph<'a>(
     alloc: Global,
-    source: Source<'_>,
+    source: Source<'a>,
     lut: &[bool; 256],
     tree: &mut Tree<Item>,
+    allocs: &mut Allocations<'a>,
     start_ix: usize,
     tasklist_marker: Option<Item>,
 ) -> Result<usize, AllocError>
     requires boundary { IsCharBoundary source.text.now start_ix }
     requires marks { MarksSpecial lut.now source.options }
     requires marker { IfSome tasklist_marker (λ x. is_text x.body ≡ false) }
+    ensures names { OnOk result (Extends (names_of allocs.new) (names_of allocs.old)) }
+    ensures tables { OnOk result (tables allocs.new ≡ tables allocs.old) }
     ensures block { IfOk result (λ next.
-        AddsPlainText (document source.entry.text.now source.entry.options no_names) start_ix tasklist_marker tree.old
+        AddsPlainText source.entry.text.now source.entry.options (names_of allocs.new) start_ix tasklist_marker tree.old
         tree.new next) }
     ensures fits { IfOk result (λ next. IsInItem tree.old tasklist_marker → (from : ℕ)
         → StandsBefore source.entry.text.now from start_ix tasklist_marker
@@ -95,14 +112,17 @@ pub fn parse_paragraph(
     let node_ix = tree.push()?;
     append_item(tree, tasklist_marker)?;
     let end = append_text_lines(alloc, source, lut, tree, start_ix)?;
-    append_last_backslash(tree, end.line_break)?;
     let Some(level) = end.underline else {
+        append_last_backslash(tree, end.line_break)?;
         close_block(tree, end.next);
         return Ok(end.next);
     };
+    let broken = is_by_backslash(end.line_break);
+    let index = cut_attributes(alloc, source, tree, allocs, start_ix, broken)?;
+    append_last_backslash(tree, end.line_break)?;
     let behind = next_line(source.text.as_bytes(), end.next);
     close_block(tree, behind);
-    tree.set_body(node_ix, ItemBody::Heading(level, None));
+    tree.set_body(node_ix, ItemBody::Heading(level, index));
     Ok(behind)
 }
 

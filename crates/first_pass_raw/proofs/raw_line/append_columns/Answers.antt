@@ -1,6 +1,6 @@
 use Rattle.first_pass_items.specs.declared.cow_str.CowStr.TheVariants.{Borrowed}
 use Rattle.first_pass_names.specs.TableEntries.{names_of}
-use Rattle.first_pass_names.proofs.NameLemmas.{extends_none}
+use Rattle.first_pass_names.proofs.NameLemmas.{extends_none, extends_named}
 use Rattle.first_pass_raw.proofs.RawLineLemmas.{columns_appended}
 use Rattle.first_pass_raw.proofs.raw_line.append_columns.Goals as goal
 
@@ -11,3 +11,7 @@ returns-clause-items c =
 
 pub returns-then-columns-eq0-clause-names : goal.returns-then-columns-eq0-clause-names
 returns-then-columns-eq0-clause-names c = extends_none (names_of c.args.allocs.now)
+
+pub returns-clause-names : goal.returns-clause-names
+returns-clause-names c =
+    extends_named (names_of c.args.allocs.now) (names_of c.allocate_cow.new.self) (Borrowed c.range.result) c.in_ok-ix.ensures.names

@@ -1,54 +1,78 @@
-use Rattle.std.proofs.Common.{None, ◌≡◌, IsUtf8, ap, subst, ◌∙◌}
+use Rattle.std.proofs.Common.{◌≡◌, ◌+◌, ℕ, List, [], Option, length, take, drop, is_some, IsUtf8, false, sym, ap, subst, ◌∙◌, if◌then◌else◌}
+use Rattle.std.specs.List.{slice_range}
+use Rattle.std.specs.Option.{option_map}
 use Rattle.first_pass_items.specs.declared.item.Item.{Item}
-use Rattle.first_pass_lines.specs.Lines.{level_number}
-use Rattle.first_pass_tokens.specs.TreeTokens.{chained}
-use Rattle.first_pass_names.specs.TableEntries.{no_names}
-use Rattle.first_pass_grammar.specs.Leaves.{Document, document, heading_text_at, IsHeading}
-use Rattle.first_pass_text.specs.Appends.{line_end_at}
-use Rattle.first_pass_tokens.proofs.OrderLemmas.{closed_line_in_order}
 use Rattle.first_pass_items.specs.declared.item.ItemBody.TheVariants.{Heading}
-use Rattle.first_pass_text.proofs.OrderHeading.{heading_text_boundary, heading_fits}
-use Rattle.first_pass_text.proofs.HeadingLemmas.{heading_line_end}
+use Rattle.first_pass_lines.specs.Lines.{line_len, level_number}
+use Rattle.first_pass_tokens.specs.Chains.{add_tokens, close_break}
+use Rattle.first_pass_tokens.specs.TreeTokens.{chained}
+use Rattle.first_pass_tree.specs.Forest.{Forest}
+use Rattle.first_pass_attributes.specs.Attributes.{attributes_in}
+use Rattle.first_pass_grammar.specs.Headings.{before_attributes, heading_attributes_of}
+use Rattle.first_pass_grammar.specs.Leaves.{document, kept_len, heading_chain, heading_text_at, IsHeading}
+use Rattle.first_pass_names.specs.TableEntries.{names_of}
+use Rattle.first_pass_text.specs.Appends.{line_end_at}
+use Rattle.first_pass_text.proofs.OrderHeading.{heading_fits}
+use Rattle.first_pass_text.proofs.HeadingLemmas.{heading_read, heading_line_end, line_between}
 use Rattle.first_pass_open.proofs.BlockLemmas.{opened_at, opened_is, just_pushed, still_open, block_closed}
+use Rattle.first_pass_text.proofs.heading.parse_atx_heading.Goals.{then-is_some, else-is_some}
 use Rattle.first_pass_text.proofs.heading.parse_atx_heading.Goals as goal
 
 pub heading_text-requires-clause-opened : goal.heading_text-requires-clause-opened
 heading_text-requires-clause-opened c =
-    just_pushed c.args.tree.now c.append.new.self c.push.new.self (record { start = c.args.start; «end» = 0; body = Heading c.args.atx_level None }) c.in_ok-heading_ix.heading_ix c.in_ok-append.ensures.ok c.in_ok-heading_ix.ensures.index c.in_ok-heading_ix.ensures.ok
+    let x : Item = record { start = c.args.start; «end» = 0; body = Heading c.args.atx_level c.in_ok-index.index } in
+    just_pushed c.args.tree.now c.append.new.self c.push.new.self x c.in_ok-heading_ix.heading_ix c.in_ok-append.ensures.ok c.in_ok-heading_ix.ensures.index c.in_ok-heading_ix.ensures.ok
 
 pub close_block-requires : goal.close_block-requires
 close_block-requires c =
     let g = c.args.tree.now in
-    let x : Item = record { start = c.args.start; «end» = 0; body = Heading c.args.atx_level None } in
+    let x : Item = record { start = c.args.start; «end» = 0; body = Heading c.args.atx_level c.in_ok-index.index } in
     let ix = c.in_ok-heading_ix.heading_ix in
     let at = opened_at g c.append.new.self x ix c.in_ok-append.ensures.ok c.in_ok-heading_ix.ensures.index in
     let opened = opened_is g c.append.new.self c.push.new.self x ix c.in_ok-append.ensures.ok c.in_ok-heading_ix.ensures.ok in
-    let line = c.in_ok-end.ensures.line in
-    still_open g c.heading_text.new.tree x line.chain ix at (line.tree_is ∙ ap (λ f. chained f line.chain) opened)
+    let start : ℕ = c.heading_text_start-header_start.result in
+    let content : List ℕ = slice_range c.as_bytes-bytes.result.now start c.in_ok-content_end.content_end in
+    let a = c.in_ok-heading_text.ensures.line content c.kept_len-kept.ensures.value in
+    let chain : List Item = heading_chain (kept_len content) start (close_break a.answer.1 (add_tokens [] a.tokens)) in
+    still_open g c.heading_text.new.tree x chain ix at (a.tree_is ∙ ap (λ f. chained f chain) opened)
 
 pub returns-clause-block : goal.returns-clause-block
 returns-clause-block c =
     let g = c.args.tree.now in
-    let x : Item = record { start = c.args.start; «end» = 0; body = Heading c.args.atx_level None } in
+    let x : Item = record { start = c.args.start; «end» = 0; body = Heading c.args.atx_level c.in_ok-index.index } in
     let ix = c.in_ok-heading_ix.heading_ix in
     let at = opened_at g c.append.new.self x ix c.in_ok-append.ensures.ok c.in_ok-heading_ix.ensures.index in
     let opened = opened_is g c.append.new.self c.push.new.self x ix c.in_ok-append.ensures.ok c.in_ok-heading_ix.ensures.ok in
-    let line = c.in_ok-end.ensures.line in
-    let text = c.args.source.text.now in
-    let d : Document = document text c.args.source.options no_names in
-    let begins : c.heading_text_start-header_start.result ≡ heading_text_at text c.args.start (level_number c.args.atx_level) =
-    c.heading_text_start-header_start.ensures.value ∙ ap (λ t. heading_text_at t c.args.start (level_number c.args.atx_level)) c.as_bytes.ensures.value in
+    let text : List ℕ = c.args.source.text.now in
+    let options = c.args.source.options in
+    let start : ℕ = c.heading_text_start-header_start.result in
+    let bytes = c.as_bytes-bytes.ensures.value in
+    let ends : c.next_line-end.result ≡ start + line_len (drop start text) = c.next_line-end.ensures.value ∙ ap (λ t. start + line_len (drop start t)) bytes in
+    let between = line_between text start c.next_line-end.result ends in
+    let read : c.if-is_some.read_to ≡ (if is_some c.in_ok-content_end.attributes then c.in_ok-content_end.content_end else length text) =
+    elim c.if-is_some.branch [
+      | then-is_some w ↦ w.read_to-is ∙ ap (λ t. if t then c.in_ok-content_end.content_end else length text) (sym w.if-is_some.true ∙ c.is_some.ensures)
+      | else-is_some w ↦ w.read_to-is ∙ ap length bytes ∙ ap (λ t. if t then c.in_ok-content_end.content_end else length text) (sym w.if-is_some.false ∙ c.is_some.ensures)
+    ] in
+    let (chain, tree_is, heads) = heading_read text options (names_of c.name_attributes.new.allocs) start c.in_ok-content_end.content_end c.if-is_some.read_to c.in_ok-content_end.attributes c.in_ok-index.index
+    c.kept_len-kept.result c.front_of-text.result.now c.push.new.self c.heading_text.new.tree
+    (c.in_ok-content_end.ensures.content ∙ ap (λ xs. start + length (before_attributes options xs)) between)
+    (c.in_ok-content_end.ensures.attributes ∙ ap (heading_attributes_of options) between)
+    read (c.front_of-text.ensures ∙ ap (take c.if-is_some.read_to) bytes)
+    (c.kept_len-kept.ensures.value ∙ ap (λ xs. kept_len (slice_range xs start c.in_ok-content_end.content_end)) bytes)
+    c.in_ok-heading_text.ensures.line c.in_ok-index.ensures.named in
+    let begins : start ≡ heading_text_at text c.args.start (level_number c.args.atx_level) =
+    c.heading_text_start-header_start.ensures.value ∙ ap (λ t. heading_text_at t c.args.start (level_number c.args.atx_level)) bytes in
     record {
-      chain = line.chain;
-      line = subst (λ k. IsHeading d k line.chain c.in_ok-end.end) begins line.line;
-      tree_is = block_closed g c.heading_text.new.tree x line.chain ix at (line.tree_is ∙ ap (λ f. chained f line.chain) opened) c.close_block.new.tree c.in_ok-end.end c.close_block.ensures;
-      end_is = line.end_is ∙ ap (line_end_at text) begins ∙ heading_line_end text c.args.start c.args.atx_level c.requires.within c.requires.heading;
+      index = c.in_ok-index.index;
+      chain = chain;
+      line = λ more e. subst (λ k. IsHeading (document text options more) k c.in_ok-index.index chain c.next_line-end.result) begins (heads more e c.next_line-end.result ends);
+      tree_is = block_closed g c.heading_text.new.tree x chain ix at (tree_is ∙ ap (λ f. chained f chain) opened) c.close_block.new.tree c.next_line-end.result c.close_block.ensures;
+      end_is = ends ∙ ap (line_end_at text) begins ∙ heading_line_end text c.args.start c.args.atx_level c.requires.within c.requires.heading;
     }
 
 pub returns-clause-fits : goal.returns-clause-fits
 returns-clause-fits c from behind starts =
-    let text = c.args.source.text.now in
-    let u = subst IsUtf8 c.as_bytes.ensures.value c.as_bytes.ensures.utf8 in
-    let h = returns-clause-block c in
-    let at = heading_text_boundary text c.args.start c.args.atx_level u starts c.requires.heading in
-    heading_fits (document text c.args.source.options no_names) c.args.start c.args.atx_level c.args.tree.now c.close_block.new.tree c.in_ok-end.end u starts h (closed_line_in_order u at at.0 h.line.line) from behind
+    let u = subst IsUtf8 c.as_bytes-bytes.ensures.value c.as_bytes-bytes.ensures.utf8 in
+    heading_fits c.args.source.text.now c.args.source.options (names_of c.name_attributes.new.allocs) c.args.start c.args.atx_level c.args.tree.now c.close_block.new.tree c.next_line-end.result u starts
+    c.requires.heading (returns-clause-block c) from behind

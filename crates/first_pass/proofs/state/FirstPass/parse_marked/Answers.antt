@@ -10,7 +10,8 @@ use Rattle.first_pass_grammar.specs.Extents.{Extent}
 use Rattle.first_pass_grammar.specs.HtmlBlocks.{IsHtml}
 use Rattle.first_pass_open.specs.Path.{path_of}
 use Rattle.first_pass_raw.specs.RawBlocks.{AddsRaw, html_to_end}
-use Rattle.first_pass_names.specs.TableEntries.{names_of}
+use Rattle.first_pass_names.specs.TableEntries.{names_of, tables}
+use Rattle.first_pass_names.proofs.NameLemmas.{extends_equal}
 use Rattle.first_pass_text.specs.Between.{AddsBetween}
 use Rattle.first_pass_text.specs.Found.{HasEnd, marked_kind}
 use Rattle.first_pass_open.proofs.PlaceLemmas.{all_keep, place_end}
@@ -110,7 +111,8 @@ returns-in_ok-next-in-ThematicBreak c =
     let i = all_keep text p.line p.rest c.requires.utf8 c.requires.place in
     let ends = rule_end p c.args.at size (found_says _ _ _ _ _ _ c.in-ThematicBreak.is f) f.at_is in
     let last = subst (IsCharBoundary text) (sym ends) (place_end text p c.requires.utf8 c.requires.place) in
-    text_added self new p c.args.at next c.requires.utf8 c.requires.place f.at_is (ThematicBreak size) (marked_kind c.args.leaf) (ap marked_kind c.in-ThematicBreak.is) c.requires.not_blank e.source e.allocs e.reading (e.behind ∙ ends)
+    text_added self new p c.args.at next c.requires.utf8 c.requires.place f.at_is (ThematicBreak size) (marked_kind c.args.leaf) (ap marked_kind c.in-ThematicBreak.is) c.requires.not_blank e.source
+    (extends_equal (names_of new.allocs) (names_of self.allocs) (ap names_of e.allocs)) (ap tables e.allocs) e.reading (e.behind ∙ ends)
     (λ from low. subst (λ n. AddsBetween text from n self.reading.tree new.reading.tree) (sym e.behind) (e.fits from low (found_boundary text p c.args.at c.requires.utf8 c.requires.place f.at_is) last))
     (rule_added text self.source.options (names_of new.allocs) p self.reading.tree new.reading.tree c.args.at next f.at_is i size (e.behind ∙ ends) e.block)
 
@@ -125,7 +127,7 @@ returns-in_ok-next-in-AtxHeading c =
     let f = c.requires.found in
     let i = all_keep text p.line p.rest c.requires.utf8 c.requires.place in
     let ends = e.block.end_is ∙ ends_here text self.source.options (names_of new.allocs) p self.reading.tree new.reading.tree c.args.at next f.at_is i in
-    text_added self new p c.args.at next c.requires.utf8 c.requires.place f.at_is (AtxHeading c.in-AtxHeading.level) (marked_kind c.args.leaf) (ap marked_kind c.in-AtxHeading.is) c.requires.not_blank e.source e.allocs e.reading ends
+    text_added self new p c.args.at next c.requires.utf8 c.requires.place f.at_is (AtxHeading c.in-AtxHeading.level) (marked_kind c.args.leaf) (ap marked_kind c.in-AtxHeading.is) c.requires.not_blank e.source e.names e.tables e.reading ends
     (λ from low. e.fits from low (found_boundary text p c.args.at c.requires.utf8 c.requires.place f.at_is))
     (heading_added text self.source.options (names_of new.allocs) p self.reading.tree new.reading.tree c.args.at next f.at_is i c.in-AtxHeading.level e.block)
 

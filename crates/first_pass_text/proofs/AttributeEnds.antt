@@ -1,0 +1,288 @@
+-- The attribute block that the text of a heading ends with.
+use Rattle.std.proofs.Common.{◌≡◌, inl, inr, ℕ, ◌+◌, ◌-◌, ◌≤◌, ◌<◌, Bool, true, false, List, [], ◌∷◌, ◌++◌, length, take, drop, get_or, slice_index, Option, Some, None, is_some, IsSomeAnd, IfSome, min, IsUtf8, IsCharBoundary, refl, sym, ap, subst, ◌∙◌, arith, length-append, length-drop, length-take, length-take-le, get_or-drop, if◌then◌else◌}
+use Rattle.std.specs.List.{slice_range, suffix_len}
+use Rattle.std.specs.Option.{option_map, option_map_or}
+use Rattle.std.proofs.lemmas.Bool.{cond_both, cases_lt}
+use Rattle.std.proofs.lemmas.List.{drop-take, take-take, take_all, take_min, get_or-take, drop-drop}
+use Rattle.std.proofs.lemmas.List.Sums.{suffix_len-le-length}
+use Rattle.std.proofs.lemmas.Option.{none-some, same_Some}
+use Rattle.std.proofs.lemmas.Str.{IsCharBoundary-after_ascii}
+use Rattle.first_pass_items.specs.OptionWords.{has, heading_attributes}
+use Rattle.first_pass_items.specs.Bytes.{left_brace, right_brace}
+use Rattle.first_pass_items.specs.declared.option_set.Options.{Options}
+use Rattle.first_pass_attributes.specs.AttributeBlocks.{Braces, IsAttributeBlock, attribute_block, length_before_block, enclosed, inside_block}
+use Rattle.first_pass_attributes.specs.Attributes.{Attributes, attributes_of, attributes_in}
+use Rattle.first_pass_attributes.specs.declared.attrs.HeadingAttributes.{HeadingAttributes}
+use Rattle.first_pass_attributes.proofs.BlockFacts.{block-found}
+use Rattle.first_pass_grammar.specs.Headings.{heading_braces, heading_attributes_of, before_attributes, text_before_attributes, chain_end, chain_bytes, kept_before}
+use Rattle.first_pass_items.specs.declared.item.Item.{Item}
+use Rattle.first_pass_lines.specs.Lines.{is_white}
+use Rattle.first_pass_open.proofs.PathLemmas.{get_last}
+use Rattle.first_pass_text.specs.CutTexts.{cut_chain}
+use Rattle.first_pass_tokens.specs.Chains.{cut}
+use Rattle.first_pass_tokens.specs.TreeTokens.{chained}
+use Rattle.first_pass_tree.specs.Forest.{Forest, appended, item_at}
+use Rattle.first_pass_tree.specs.declared.tree_index.TreeIndex.{TreeIndex}
+
+-- a text whose end is not behind its start is empty
+pub none_between : (text : List ℕ) (start to : ℕ) → to ≤ start → slice_range text start to ≡ []
+none_between text start to past = let none : to - start ≡ 0 = omega arith in ap (λ n. take n (drop start text)) none
+
+pub length_between : (text : List ℕ) (start to : ℕ) → to ≤ length text → length (slice_range text start to) ≡ to - start
+length_between text start to within = let long = length-drop start text in length-take-le (to - start) (drop start text) (omega arith)
+
+-- what stands between two offsets of what stands between two others
+pub between_both : (text : List ℕ) (start to a b : ℕ) → b ≤ to - start → slice_range (slice_range text start to) a b ≡ slice_range text (start + a) (start + b)
+between_both text start to a b within =
+    elim (cases_lt a b) [
+      | inl less ↦
+          let rest : to - start ≡ a + (to - start - a) = omega arith in
+          let size : b - a ≡ start + b - (start + a) = omega arith in
+          ap (λ n. take (b - a) (drop a (take n (drop start text)))) rest
+          ∙ ap (take (b - a)) (drop-take a (to - start - a) (drop start text))
+          ∙ take-take (b - a) (to - start - a) (drop a (drop start text)) (omega arith)
+          ∙ ap (take (b - a)) (drop-drop a start text)
+          ∙ ap (λ n. take n (drop (start + a) text)) size
+      | inr past ↦ none_between (slice_range text start to) a b past ∙ sym (none_between text (start + a) (start + b) (omega arith))
+    ]
+
+-- where headings have no attributes, or a text is empty, there is no block
+pub no_braces : (options : Options) (bs : List ℕ) → has options heading_attributes ≡ false → heading_braces options bs ≡ None
+unfolding heading_braces
+no_braces options bs h = rw h refl
+
+pub empty_braces : (options : Options) → heading_braces options [] ≡ None
+unfolding heading_braces attribute_block
+empty_braces options = cond_both (has options heading_attributes) (attribute_block []) None (λ (o : Option Braces). o ≡ None) (λ b. refl) (λ b. refl)
+
+pub these_braces : (options : Options) (bs : List ℕ) → has options heading_attributes ≡ true → heading_braces options bs ≡ attribute_block bs
+unfolding heading_braces
+these_braces options bs h = rw h refl
+
+-- what a text gives that has no block
+pub before_none : (options : Options) (bs : List ℕ) → heading_braces options bs ≡ None → before_attributes options bs ≡ bs
+before_none options bs h = ap (λ (o : Option Braces). option_map_or (λ block. take block.opening bs) o bs) h
+
+pub given_none : (options : Options) (bs : List ℕ) → heading_braces options bs ≡ None → heading_attributes_of options bs ≡ None
+given_none options bs h = ap (option_map (λ (block : Braces). attributes_of (slice_range bs (block.opening + 1) block.closing))) h
+
+-- a block stands within its text
+some_if : (t : Bool) (o : Option Braces) (block : Braces) → (if t then o else None) ≡ Some block → o ≡ Some block
+some_if true o block e = e
+some_if false o block e = absurd cc
+
+pub block_within : (bs : List ℕ) (block : Braces) → attribute_block bs ≡ Some block → (block.opening + 1 ≤ block.closing) × (block.closing < length bs)
+block_within bs block e =
+    let is = block-found bs block e in
+    let a = length-append is.front (left_brace ∷ (is.inside ++ right_brace ∷ is.behind)) in
+    let b = length-append is.inside (right_brace ∷ is.behind) in
+    let whole : length bs ≡ length (is.front ++ left_brace ∷ (is.inside ++ right_brace ∷ is.behind)) = ap length is.parts in
+    (omega (arith, is.opens, is.closes), omega (arith, is.opens, is.closes))
+
+pub braces_within : (options : Options) (bs : List ℕ) (block : Braces) → heading_braces options bs ≡ Some block → (block.opening + 1 ≤ block.closing) × (block.closing < length bs)
+unfolding heading_braces
+braces_within options bs block e = block_within bs block (some_if (has options heading_attributes) (attribute_block bs) block e)
+
+-- how much stands before a block
+length_by : (bs : List ℕ) (o : Option Braces) → attribute_block bs ≡ o
+    → option_map_or (λ (block : Braces). block.opening) o (length bs) ≡ length (option_map_or (λ (block : Braces). take block.opening bs) o bs)
+length_by bs None e = refl
+length_by bs (Some block) e = let in_text = block_within bs block e in sym (length-take-le block.opening bs (omega (arith, in_text.0, in_text.1)))
+
+pub length_before : (options : Options) (bs : List ℕ) → has options heading_attributes ≡ true → length_before_block bs ≡ length (before_attributes options bs)
+length_before options bs h =
+    length_by bs (attribute_block bs) refl ∙ sym (ap (λ (o : Option Braces). length (option_map_or (λ (block : Braces). take block.opening bs) o bs)) (these_braces options bs h))
+
+-- what was found between the braces
+none_inside : (o : Option Braces) → None ≡ option_map enclosed o → o ≡ None
+none_inside None e = refl
+none_inside (Some block) e = cc
+
+some_inside : (r : ℕ × ℕ) (o : Option Braces) → Some r ≡ option_map enclosed o → (block : Braces) × (o ≡ Some block) × (block.opening + 1 ≡ r.0) × (block.closing ≡ r.1)
+some_inside r None e = absurd cc
+some_inside r (Some block) e = let same : r ≡ enclosed block = cc in (block, refl, sym (ap (λ (p : ℕ × ℕ). p.0) same), sym (ap (λ (p : ℕ × ℕ). p.1) same))
+
+pub given_not : (options : Options) (bs : List ℕ) → has options heading_attributes ≡ true → None ≡ inside_block bs → heading_attributes_of options bs ≡ None
+given_not options bs h e = given_none options bs (these_braces options bs h ∙ none_inside (attribute_block bs) e)
+
+is_given : (o : Option HeadingAttributes) (given : Attributes) → IsSomeAnd o (λ (h : HeadingAttributes). attributes_in h ≡ given) → option_map attributes_in o ≡ Some given
+is_given None given h = absurd h
+is_given (Some a) given h = ap Some h
+
+pub given_some : (options : Options) (text : List ℕ) (start to : ℕ) (bs block : List ℕ) (r : ℕ × ℕ) (found : Option HeadingAttributes) → has options heading_attributes ≡ true
+    → bs ≡ slice_range text start to → to ≤ length text → Some r ≡ inside_block bs → block ≡ slice_range text (start + r.0) (start + r.1)
+    → IsSomeAnd found (λ (h : HeadingAttributes). attributes_in h ≡ attributes_of block)
+    → option_map attributes_in found ≡ heading_attributes_of options bs
+given_some options text start to bs block r found h bs_is within e block_is is =
+    let (braces, found_is, opens, closes) = some_inside r (attribute_block bs) e in
+    let inside = block_within bs braces found_is in
+    let long : length bs ≡ to - start = ap length bs_is ∙ length_between text start to within in
+    let same : slice_range bs (braces.opening + 1) braces.closing ≡ block =
+    ap (λ n. slice_range bs n braces.closing) opens ∙ ap (slice_range bs r.0) closes ∙ ap (λ xs. slice_range xs r.0 r.1) bs_is
+    ∙ between_both text start to r.0 r.1 (omega (arith, inside.0, inside.1)) ∙ sym block_is in
+    is_given found (attributes_of block) is
+    ∙ sym (ap (option_map (λ (b : Braces). attributes_of (slice_range bs (b.opening + 1) b.closing))) (these_braces options bs h ∙ found_is) ∙ ap (λ xs. Some (attributes_of xs)) same)
+
+-- behind the opening brace is a place between two characters
+pub brace_boundary : (text bs : List ℕ) (start to opening at : ℕ) → IsUtf8 text → bs ≡ slice_range text start to → to ≤ length text → opening + 1 < length bs → slice_index bs opening ≡ left_brace
+    → at ≡ opening + 1 → IsCharBoundary text (start + at)
+brace_boundary text bs start to opening at utf8 bs_is within less opens at_is =
+    let long : length bs ≡ to - start = ap length bs_is ∙ length_between text start to within in
+    let there : slice_index bs opening ≡ slice_index text (start + opening) =
+    ap (λ xs. get_or xs opening 0) bs_is ∙ get_or-take (to - start) (drop start text) opening 0 (omega arith) ∙ get_or-drop start text opening 0 in
+    let same : start + opening + 1 ≡ start + at = omega arith in
+    subst (IsCharBoundary text) same (IsCharBoundary-after_ascii text (start + opening) utf8 (omega arith) (omega (arith, opens)))
+
+-- a text has a block where attributes were found, and none where none were
+given_by : (options : Options) (bs : List ℕ) (found : Option HeadingAttributes) (o : Option Braces) → heading_braces options bs ≡ o
+    → option_map attributes_in found ≡ option_map (λ (block : Braces). attributes_of (slice_range bs (block.opening + 1) block.closing)) o
+    → is_some found ≡ true → (block : Braces) × (heading_braces options bs ≡ Some block)
+given_by options bs found (Some block) is e some = (block, is)
+given_by options bs (Some a) None is e some = absurd cc
+given_by options bs None None is e some = absurd cc
+
+none_by : (options : Options) (bs : List ℕ) (found : Option HeadingAttributes) (o : Option Braces) → heading_braces options bs ≡ o
+    → option_map attributes_in found ≡ option_map (λ (block : Braces). attributes_of (slice_range bs (block.opening + 1) block.closing)) o
+    → is_some found ≡ false → heading_braces options bs ≡ None
+none_by options bs found None is e none = is
+none_by options bs None (Some block) is e none = absurd cc
+none_by options bs (Some a) (Some block) is e none = absurd cc
+
+pub block_given : (options : Options) (bs : List ℕ) (found : Option HeadingAttributes) → option_map attributes_in found ≡ heading_attributes_of options bs
+    → is_some found ≡ true → (block : Braces) × (heading_braces options bs ≡ Some block)
+block_given options bs found e some = given_by options bs found (heading_braces options bs) refl e some
+
+pub none_given : (options : Options) (bs : List ℕ) (found : Option HeadingAttributes) → option_map attributes_in found ≡ heading_attributes_of options bs
+    → is_some found ≡ false → heading_braces options bs ≡ None
+none_given options bs found e none = none_by options bs found (heading_braces options bs) refl e none
+
+-- where the content ends before a block
+pub length_some : (options : Options) (bs : List ℕ) (block : Braces) → heading_braces options bs ≡ Some block → length (before_attributes options bs) ≡ block.opening
+length_some options bs block h =
+    let inside = braces_within options bs block h in
+    ap (λ (o : Option Braces). length (option_map_or (λ (b : Braces). take b.opening bs) o bs)) h ∙ length-take-le block.opening bs (omega (arith, inside.0, inside.1))
+
+before_by : (options : Options) (bs : List ℕ) (o : Option Braces) → heading_braces options bs ≡ o → length (before_attributes options bs) ≤ length bs
+before_by options bs None h = let same = ap length (before_none options bs h) in omega arith
+before_by options bs (Some block) h =
+    let same = length_some options bs block h in
+    let inside = braces_within options bs block h in
+    omega (arith, inside.0, inside.1)
+
+pub before_less : (options : Options) (bs : List ℕ) → length (before_attributes options bs) ≤ length bs
+before_less options bs = before_by options bs (heading_braces options bs) refl
+
+-- an end past the text's is no other than that
+pub clipped : (text : List ℕ) (start to : ℕ) → slice_range text start (min to (length text)) ≡ slice_range text start to
+clipped text start to =
+    elim (cases_lt to (length text)) [
+      | inl less ↦ (let same : min to (length text) ≡ to = omega arith in ap (slice_range text start) same)
+      | inr past ↦
+          let long = length-drop start text in
+          let same : min to (length text) - start ≡ min (to - start) (length (drop start text)) = omega arith in
+          ap (λ n. take n (drop start text)) same ∙ take_min (to - start) (drop start text)
+    ]
+
+-- what is cut off with a block
+cut_place : (broken : Bool) (start opening content_end white : ℕ) (bs content : List ℕ) → content_end ≡ start + opening → content ≡ take opening bs
+    → white ≡ (if broken then 0 else suffix_len is_white content) → start + kept_before broken opening bs ≡ content_end - white
+cut_place true start opening content_end white bs content e f g = omega arith
+cut_place false start opening content_end white bs content e f g =
+    let same : white ≡ suffix_len is_white (take opening bs) = g ∙ ap (suffix_len is_white) f in
+    let few = suffix_len-le-length is_white (take opening bs) in
+    let short = length-take opening bs in
+    omega arith
+
+pub cut_by : (text : List ℕ) (options : Options) (start : ℕ) (broken : Bool) (chain : List Item) (block : Braces) (content_end white : ℕ) (content : List ℕ)
+    → heading_braces options (chain_bytes text start chain) ≡ Some block → content_end ≡ start + length (before_attributes options (chain_bytes text start chain))
+    → content ≡ slice_range text start content_end → white ≡ (if broken then 0 else suffix_len is_white content)
+    → cut_chain text options start broken chain ≡ cut (content_end - white) chain
+cut_by text options start broken chain block content_end white content h e f g =
+    let bs : List ℕ = chain_bytes text start chain in
+    let ends : content_end ≡ start + block.opening = e ∙ ap (λ n. start + n) (length_some options bs block h) in
+    let inside = braces_within options bs block h in
+    let most = length-take (chain_end start chain - start) (drop start text) in
+    let size : content_end - start ≡ block.opening = omega arith in
+    let content_is : content ≡ take block.opening bs =
+    f ∙ ap (λ n. take n (drop start text)) size ∙ sym (take-take block.opening (chain_end start chain - start) (drop start text) (omega (arith, inside.0, inside.1))) in
+    ap (λ (o : Option Braces). option_map_or (λ (b : Braces). cut (start + kept_before broken b.opening bs) chain) o chain) h
+    ∙ ap (λ n. cut n chain) (cut_place broken start block.opening content_end white bs content ends content_is g)
+
+pub cut_none : (text : List ℕ) (options : Options) (start : ℕ) (broken : Bool) (chain : List Item) → heading_braces options (chain_bytes text start chain) ≡ None
+    → cut_chain text options start broken chain ≡ chain
+cut_none text options start broken chain h =
+    ap (λ (o : Option Braces). option_map_or (λ (b : Braces). cut (start + kept_before broken b.opening (chain_bytes text start chain)) chain) o chain) h
+
+-- the current node is the last of a chain
+IsCurrent : Forest Item → Item → Type 0
+IsCurrent f x = (ix : TreeIndex) × (f.current ≡ Some ix) × (item_at f ix ≡ Some x)
+
+current_end : (f : Forest Item) (y : Item) (xs : List Item) (start : ℕ) → IsCurrent f y → (z : Item) × IsCurrent (chained f xs) z × (z.«end» ≡ chain_end start (y ∷ xs))
+unfolding IsCurrent
+current_end f y [] start h = (y, h, refl)
+current_end f y (x ∷ xs) start h =
+    current_end (appended f x) x xs start (record { 0 = length f.nodes }, refl, ap (option_map (λ (n : ℕ × Item). n.1)) (get_last f.nodes (length f.spine + 1, x) (length f.nodes) refl))
+
+pub end_none : (f t : Forest Item) (chain : List Item) (start : ℕ) → f.current ≡ None → t ≡ chained f chain → t.current ≡ None → start ≡ chain_end start chain
+unfolding IsCurrent
+end_none f t [] start bare is none = refl
+end_none f t (x ∷ xs) start bare is none =
+    let (z, (ix, at, item), e) = current_end (appended f x) x xs start (record { 0 = length f.nodes }, refl, ap (option_map (λ (n : ℕ × Item). n.1)) (get_last f.nodes (length f.spine + 1, x) (length f.nodes) refl)) in
+    absurd (none-some ix (sym none ∙ ap (λ (g : Forest Item). g.current) is ∙ at))
+
+pub end_some : (f t : Forest Item) (chain : List Item) (start : ℕ) (ix : TreeIndex) (x : Item) → f.current ≡ None → t ≡ chained f chain → t.current ≡ Some ix → item_at t ix ≡ Some x
+    → x.«end» ≡ chain_end start chain
+unfolding IsCurrent
+end_some f t [] start ix x bare is some item = absurd (none-some ix (sym bare ∙ sym (ap (λ (g : Forest Item). g.current) is) ∙ some))
+end_some f t (y ∷ ys) start ix x bare is some item =
+    let (z, (at, current, last), e) = current_end (appended f y) y ys start (record { 0 = length f.nodes }, refl, ap (option_map (λ (n : ℕ × Item). n.1)) (get_last f.nodes (length f.spine + 1, y) (length f.nodes) refl)) in
+    let place : ix ≡ at = same_Some ix at (sym some ∙ ap (λ (g : Forest Item). g.current) is ∙ current) in
+    let same : x ≡ z = same_Some x z (sym item ∙ ap (item_at t) place ∙ ap (λ (g : Forest Item). item_at g at) is ∙ last) in
+    ap (λ (w : Item). w.«end») same ∙ e
+
+-- a block begins with its brace
+behind_front : (front : List ℕ) (b : ℕ) (more : List ℕ) → get_or (front ++ b ∷ more) (length front) 0 ≡ b
+behind_front [] b more = refl
+behind_front (x ∷ front) b more = behind_front front b more
+
+pub opens_with : (options : Options) (bs : List ℕ) (block : Braces) → heading_braces options bs ≡ Some block → get_or bs block.opening 0 ≡ left_brace
+unfolding heading_braces
+opens_with options bs block e =
+    let is = block-found bs block (some_if (has options heading_attributes) (attribute_block bs) block e) in
+    ap (λ n. get_or bs n 0) is.opens ∙ ap (λ xs. get_or xs (length is.front) 0) is.parts ∙ behind_front is.front left_brace (is.inside ++ right_brace ∷ is.behind)
+
+-- the text that a heading's line is read from, and the bytes before its block
+read_by : (options : Options) (text bs : List ℕ) (start content_end read_to : ℕ) (found : Option HeadingAttributes) (t : Bool) → is_some found ≡ t
+    → option_map attributes_in found ≡ heading_attributes_of options bs → content_end ≡ start + length (before_attributes options bs)
+    → read_to ≡ (if t then content_end else length text) → take read_to text ≡ text_before_attributes options text start bs
+read_by options text bs start content_end read_to found true some given ends read =
+    let (block, at) = block_given options bs found given some in
+    let place : read_to ≡ start + block.opening = read ∙ ends ∙ ap (λ n. start + n) (length_some options bs block at) in
+    ap (λ n. take n text) place ∙ sym (ap (λ (o : Option Braces). option_map_or (λ (b : Braces). take (start + b.opening) text) o text) at)
+read_by options text bs start content_end read_to found false none given ends read =
+    take_all read_to text (omega arith)
+    ∙ sym (ap (λ (o : Option Braces). option_map_or (λ (b : Braces). take (start + b.opening) text) o text) (none_given options bs found given none))
+
+pub text_read : (options : Options) (text bs : List ℕ) (start content_end read_to : ℕ) (found : Option HeadingAttributes)
+    → option_map attributes_in found ≡ heading_attributes_of options bs → content_end ≡ start + length (before_attributes options bs)
+    → read_to ≡ (if is_some found then content_end else length text) → take read_to text ≡ text_before_attributes options text start bs
+text_read options text bs start content_end read_to found given ends read = read_by options text bs start content_end read_to found (is_some found) refl given ends read
+
+content_by : (options : Options) (line : List ℕ) (size : ℕ) (o : Option Braces) → heading_braces options (take size line) ≡ o → size ≤ length line
+    → take (length (before_attributes options (take size line))) line ≡ before_attributes options (take size line)
+content_by options line size None h fits =
+    let same = before_none options (take size line) h in
+    let long = length-take-le size line fits in
+    ap (λ xs. take (length xs) line) same ∙ ap (λ n. take n line) long ∙ sym same
+content_by options line size (Some block) h fits =
+    let long = length-take-le size line fits in
+    let inside = braces_within options (take size line) block h in
+    ap (λ n. take n line) (length_some options (take size line) block h) ∙ sym (take-take block.opening size line (omega (arith, inside.0, inside.1)))
+    ∙ sym (ap (λ (o : Option Braces). option_map_or (λ (b : Braces). take b.opening (take size line)) o (take size line)) h)
+
+pub content_read : (options : Options) (text : List ℕ) (start size content_end : ℕ) → size ≤ length (drop start text)
+    → content_end ≡ start + length (before_attributes options (take size (drop start text)))
+    → slice_range text start content_end ≡ before_attributes options (take size (drop start text))
+content_read options text start size content_end fits ends =
+    let n : content_end - start ≡ length (before_attributes options (take size (drop start text))) = omega arith in
+    ap (λ k. take k (drop start text)) n ∙ content_by options (drop start text) size (heading_braces options (take size (drop start text))) refl fits

@@ -1,0 +1,329 @@
+-- The block of a paragraph, or of a heading that is underlined, lies between two offsets in order.
+use Rattle.std.proofs.Common.{◌≡◌, inl, inr, ℕ, ◌+◌, ◌-◌, ◌*◌, ◌<◌, ◌≤◌, suc, ◌&&◌, Bool, true, false, if◌then◌else◌, List, [], ◌∷◌, ◌++◌, length, drop, Option, Some, None, IsUtf8, IsCharBoundary, refl, sym, ap, subst, ◌∙◌, arith, MatchOption, get_or, slice_index, take, ◌==◌, length-take-le, get_or-drop}
+use Rattle.std.proofs.lemmas.List.{append-nil, get_or-take, get_or-reverse}
+use Rattle.std.proofs.lemmas.Bool.{cases_lt, false≢true, cond-true, cond-false, cond_both, lt-ltb, le-ltb, and_left, and_right}
+use Rattle.first_pass_items.specs.declared.item.Item.{Item}
+use Rattle.first_pass_tree.specs.Forest.{Forest, is_text, is_escaped}
+use Rattle.first_pass_lines.specs.Places.{start_of}
+use Rattle.first_pass_lines.proofs.PlaceFacts.{start_of-lines}
+use Rattle.first_pass_tokens.specs.Chains.{text_token, add_token, add_text, is_backslash_break, close_break, cut}
+use Rattle.first_pass_tokens.proofs.ChainLemmas.{add_text-some}
+use Rattle.first_pass_tokens.specs.Order.{AreInOrder, HaveBytes}
+use Rattle.first_pass_tokens.proofs.BytesLemmas.{few_in_order, bytes_closed}
+use Rattle.first_pass_tokens.proofs.OrderLemmas.{order_bound, order_to, order_closed}
+use Rattle.first_pass_grammar.specs.Leaves.{Document, document, marker_items, TextLines, block_with}
+use Rattle.first_pass_grammar.specs.Completion.{lines_from}
+use Rattle.first_pass_grammar.specs.Counting.{own_nodes}
+use Rattle.first_pass_grammar.proofs.OwnNodes.{own_at_most}
+use Rattle.first_pass_grammar.specs.Order.{is_task_marker, Extent, Empty, Node, extent_of, extents, laid, Within, Elsewhere, InItem, InText, in_item, Fits, FitsBetween, IsBetween}
+use Rattle.first_pass_grammar.specs.OpenOrder.{is_in_item, within_top}
+use Rattle.first_pass_text.specs.Appends.{AddsPlainText}
+use Rattle.first_pass_grammar.proofs.Orders.{length-block, row_of, row_of-laid, row_of-fits}
+use Rattle.first_pass_text.specs.Between.{AddsBetween, IsInItem, StandsBefore}
+use Rattle.first_pass_open.specs.Path.{path_of}
+use Rattle.first_pass_items.specs.declared.item.ItemBody.{ItemBody}
+use Rattle.first_pass_items.specs.declared.item.ItemBody.TheVariants.{TaskListMarker, Paragraph as ParagraphBody, Heading as HeadingBody}
+use Rattle.first_pass_items.specs.declared.item.HeadingLevel.{HeadingLevel}
+use Rattle.first_pass_grammar.specs.Texts.{underline_first, plain_text, text_children, by_backslash, heading_bytes, heading_children, IsUnderlined}
+use Rattle.first_pass_grammar.specs.Tables.{Taken, taking}
+use Rattle.std.proofs.Math.Seq.{get_or-append_seam}
+use Rattle.std.proofs.lemmas.List.Sums.{suffix_len-le-length, prefix_len_passes}
+use Rattle.std.proofs.lemmas.Bool.Decides.{nat_tests}
+use Rattle.std.proofs.lemmas.Option.{none-some}
+use Rattle.std.proofs.lemmas.Str.{IsCharBoundary-before_ascii}
+use Rattle.std.specs.List.{slice_range, suffix_len}
+use mathlib.Core.List.{reverse}
+use Rattle.first_pass_items.specs.Bytes.{left_brace, right_brace}
+use Rattle.first_pass_items.specs.OptionWords.{has, heading_attributes}
+use Rattle.first_pass_items.specs.declared.option_set.Options.{Options}
+use Rattle.first_pass_lines.specs.Lines.{is_white}
+use Rattle.first_pass_attributes.specs.AttributeBlocks.{Braces, attribute_block}
+use Rattle.first_pass_attributes.proofs.BlockFacts.{block-found}
+use Rattle.first_pass_grammar.specs.Headings.{heading_braces, chain_end, kept_before}
+use Rattle.first_pass_grammar.specs.Names.{Names}
+use Rattle.first_pass_grammar.proofs.MoreNames.{extends_none}
+use Rattle.first_pass_text.proofs.AttributeEnds.{length_between, braces_within}
+use Rattle.first_pass_text.proofs.OrderParagraph.{TextInOrder, text_is_in_order, cut_text_in_order, chain_end_place, text_later}
+use Rattle.first_pass_text.proofs.PlainTexts.{children_by}
+
+few_marked : (marker : Option Item) (chain : List Item) → length (marker_items marker ++ chain) ≤ suc (length chain)
+few_marked None chain = omega arith
+few_marked (Some x) chain = omega arith
+
+-- the node of a paragraph or a heading
+abbrev text_node : ℕ → ℕ → ItemBody → Item
+text_node start next body = record { start = start; «end» = next; body = body }
+
+-- such a block has at most four nodes for each byte: itself, a marker, and its tokens, all of them its own
+block_few : (from start next : ℕ) (body : ItemBody) (marker : Option Item) (chain : List Item) → from ≤ start → length chain + start ≤ next → from < next
+    → own_nodes (block_with start next body (marker_items marker ++ chain)) ≤ 4 * (next - from)
+block_few from start next body marker chain low few some =
+    let size = length-block (text_node start next body) (marker_items marker ++ chain) in
+    let marked = few_marked marker chain in
+    let most = own_at_most None (block_with start next body (marker_items marker ++ chain)) in
+    omega arith
+
+-- a task list item marker stands in a list item
+abbrev StandsIn : Within → Option Item → Type 0
+StandsIn w None = Unit {0}
+StandsIn w (Some m) = in_item w ≡ true
+
+-- what stands below a paragraph
+kids_fit : (text : List ℕ) (w : Within) (from start next : ℕ) (marker : Option Item) (chain : List Item) → AreInOrder text start next chain → StandsBefore text from start marker → StandsIn w marker
+    → (from ≤ start) × Fits text (if in_item w && true then InText from else Elsewhere) start next (row_of (marker_items marker ++ chain))
+unfolding Fits row_of
+kids_fit text w from start next None chain h stands inside = (stands, row_of-fits text (if in_item w && true then InText from else Elsewhere) start next chain h)
+kids_fit text w from start next (Some m) chain h stands inside =
+    let b : IsBetween text from start (extent_of m) = stands.1 in (
+      omega (arith, b.behind, b.order, b.before),
+      subst (λ t. Fits text (if t && true then InText from else Elsewhere) start next (row_of (m ∷ chain))) (sym inside) (inr (stands, b.order, row_of-fits text Elsewhere start next chain h)),
+    )
+
+block_laid : (start next : ℕ) (body : ItemBody) (chain : List Item) → extents (block_with start next body chain) ≡ laid 0 (Node (extent_of (text_node start next body)) (row_of chain) Empty)
+unfolding laid
+block_laid start next body chain =
+    ap (λ (row : List (ℕ × Extent)). (0, extent_of (text_node start next body)) ∷ row) (row_of-laid 1 chain ∙ sym (append-nil (laid 1 (row_of chain))))
+
+-- what the extent of a paragraph or a heading is
+abbrev text_extent : ℕ → ℕ → Extent
+text_extent start next = record { start = start; «end» = next; text_block = true; marker = false; item = false }
+
+block_between : (text : List ℕ) (w : Within) (from start next : ℕ) (body : ItemBody) (marker : Option Item) (chain : List Item) → extent_of (text_node start next body) ≡ text_extent start next
+    → IsCharBoundary text start → IsCharBoundary text next → AreInOrder text start next chain → HaveBytes chain → StandsBefore text from start marker → StandsIn w marker
+    → FitsBetween text w from next (block_with start next body (marker_items marker ++ chain))
+unfolding Fits
+block_between text w from start next body marker chain extent starts ends h bytes stands inside =
+    let kids = kids_fit text w from start next marker chain h stands inside in
+    let order = order_bound text start next chain h in
+    let kids_row = row_of (marker_items marker ++ chain) in
+    let fits : Fits text w from next (Node (text_extent start next) kids_row Empty) =
+    inl (record { behind = kids.0; order = order; before = omega arith; starts = starts; ends = ends }, kids.1, omega arith) in (
+      Node (extent_of (text_node start next body)) kids_row Empty,
+      block_laid start next body (marker_items marker ++ chain),
+      subst (λ x. Fits text w from next (Node x kids_row Empty)) (sym extent) fits,
+      block_few from start next body marker chain kids.0 (few_in_order text start next chain h bytes),
+    )
+
+inside_top : (t : Bool) → t ≡ true → in_item (if t then InItem else Elsewhere) ≡ true
+inside_top true h = refl
+inside_top false h = h
+
+top_stands : (old : Forest Item) (marker : Option Item) → IsInItem old marker → StandsIn (within_top old) marker
+top_stands old None h = h
+top_stands old (Some m) h = inside_top (is_in_item old) h
+
+-- a task list item marker is no text
+marker_plain : (body : ItemBody) → is_task_marker body ≡ true → (is_text body ≡ false) × (is_escaped body ≡ false)
+marker_plain (TaskListMarker checked) h = (refl, refl)
+marker_plain _ h = absurd (false≢true h)
+
+-- what is no text stays first, whatever comes behind it
+token_behind : (m y : Item) (chain : List Item) → is_text m.body ≡ false → add_token (m ∷ chain) y ≡ m ∷ add_token chain y
+token_behind m y [] plain = cond-false _ _ _ (and_right (is_text y.body) (is_text m.body && (m.«end» == y.start)) (and_left (is_text m.body) (m.«end» == y.start) plain))
+token_behind m y (z ∷ zs) plain = refl
+
+closed_if : (t : Bool) (m : Item) (s : ℕ) (chain : List Item) → is_text m.body ≡ false
+    → (if t then add_text s (s + 1) false (m ∷ chain) else m ∷ chain) ≡ m ∷ (if t then add_text s (s + 1) false chain else chain)
+closed_if true m s chain plain =
+    add_text-some s (s + 1) false (m ∷ chain) (omega arith) ∙ token_behind m (text_token s (s + 1) false) chain plain
+    ∙ ap (λ (c : List Item). m ∷ c) (sym (add_text-some s (s + 1) false chain (omega arith)))
+closed_if false m s chain plain = refl
+
+closed_behind : (m : Item) (break : Option Item) (chain : List Item) → is_text m.body ≡ false → close_break break (m ∷ chain) ≡ m ∷ close_break break chain
+closed_behind m None chain plain = refl
+closed_behind m (Some x) chain plain = closed_if (is_backslash_break x.body) m x.start chain plain
+
+-- The children of a paragraph or a heading: a marker before its start, or none, and a chain in order behind that.
+record ChildrenStand (text : List ℕ) (w : Within) (from start to : ℕ) (kids : List Item) : Type 0 where
+  lead : Option Item
+  chain : List Item
+  is : kids ≡ marker_items lead ++ chain
+  order : AreInOrder text start to chain
+  bytes : HaveBytes chain
+  stands : StandsBefore text from start lead
+  inside : StandsIn w lead
+
+children_between : (text : List ℕ) (w : Within) (from start to next : ℕ) (body : ItemBody) (kids : List Item) → extent_of (text_node start next body) ≡ text_extent start next
+    → IsCharBoundary text start → IsCharBoundary text next → to ≤ next → ChildrenStand text w from start to kids
+    → FitsBetween text w from next (block_with start next body kids)
+children_between text w from start to next body kids extent starts ends less c =
+    subst (λ ks. FitsBetween text w from next (block_with start next body ks)) (sym c.is)
+    (block_between text w from start next body c.lead c.chain extent starts ends (order_to text start to next c.chain c.order less) c.bytes c.stands c.inside)
+
+-- the first of the white space that bytes end with
+white_first : (bs : List ℕ) → 0 < suffix_len is_white bs → get_or bs (length bs - suffix_len is_white bs) 0 < 128
+white_first bs some =
+    let few = suffix_len-le-length is_white bs in
+    let j : ℕ = suffix_len is_white bs - 1 in
+    let at : length bs - 1 - j ≡ length bs - suffix_len is_white bs = omega arith in
+    let white : is_white (get_or bs (length bs - suffix_len is_white bs) 0) ≡ true =
+    ap (λ k. is_white (get_or bs k 0)) (sym at) ∙ ap is_white (sym (get_or-reverse bs j 0 (omega arith))) ∙ prefix_len_passes is_white (reverse bs) j 0 (omega arith) in
+    grind (arith, nat_tests, white)
+
+-- at the opening of an attribute block stands a brace
+brace_first : (options : Options) (bs : List ℕ) (block : Braces) → heading_braces options bs ≡ Some block → slice_index bs block.opening ≡ left_brace
+unfolding heading_braces
+brace_first options bs block =
+    cond_both (has options heading_attributes) (attribute_block bs) None (λ (o : Option Braces). o ≡ Some block → slice_index bs block.opening ≡ left_brace)
+    (λ b e.
+    let is = block-found bs block e in
+    ap (λ (xs : List ℕ). get_or xs block.opening 0) is.parts
+    ∙ ap (λ (k : ℕ). get_or (is.front ++ left_brace ∷ (is.inside ++ right_brace ∷ is.behind)) k 0) is.opens
+    ∙ get_or-append_seam is.front left_brace (is.inside ++ right_brace ∷ is.behind) 0)
+    (λ b e. absurd (none-some block e))
+
+-- what is cut off begins with that brace, or with white space
+kept_byte : (broken : Bool) (bs : List ℕ) (opening : ℕ) → opening < length bs → slice_index bs opening ≡ left_brace
+    → (kept_before broken opening bs ≤ opening) × (slice_index bs (kept_before broken opening bs) < 128)
+kept_byte true bs opening within is = (omega arith, omega (arith, is))
+kept_byte false bs opening within is =
+    let front : List ℕ = take opening bs in
+    let white : ℕ = suffix_len is_white front in
+    let size : length front ≡ opening = length-take-le opening bs (omega arith) in
+    elim (cases_lt 0 white) [
+      | inl some ↦
+          let few = suffix_len-le-length is_white front in
+          let at : get_or front (length front - white) 0 ≡ get_or bs (opening - white) 0 =
+          get_or-take opening bs (length front - white) 0 (omega arith) ∙ ap (λ (k : ℕ). get_or bs (k - white) 0) size in
+          let small = white_first front some in
+          (omega arith, omega arith)
+      | inr none ↦
+          let same : opening - white ≡ opening = omega arith in
+          let at : get_or bs (opening - white) 0 ≡ left_brace = ap (slice_index bs) same ∙ is in
+          (omega arith, omega arith)
+    ]
+
+-- A heading's content ends between two characters before its attribute block.
+kept_place : (text : List ℕ) (options : Options) (start last : ℕ) (broken : Bool) (block : Braces) → last ≤ length text → heading_braces options (slice_range text start last) ≡ Some block
+    → let e : ℕ = start + kept_before broken block.opening (slice_range text start last) in (start ≤ e) × (e < last) × IsCharBoundary text e
+kept_place text options start last broken block within e =
+    let bs : List ℕ = slice_range text start last in
+    let k : ℕ = kept_before broken block.opening bs in
+    let inside = braces_within options bs block e in
+    let size : length bs ≡ last - start = length_between text start last within in
+    let kept = kept_byte broken bs block.opening (omega (arith, inside.0, inside.1)) (brace_first options bs block e) in
+    let before : k < last - start = omega (arith, inside.0, inside.1, kept.0) in
+    let at : slice_index bs k ≡ slice_index text (start + k) = get_or-take (last - start) (drop start text) k 0 before ∙ get_or-drop start text k 0 in
+    (omega arith, omega arith, IsCharBoundary-before_ascii text (start + k) (omega arith) (omega (arith, kept.1)))
+
+-- where a chain with a marker before it ends
+marked_end : (text : List ℕ) (from start stop : ℕ) (marker : Option Item) (chain : List Item) → StandsBefore text from start marker → start ≤ stop → chain_end start chain ≤ stop
+    → chain_end start (marker_items marker ++ chain) ≤ stop
+marked_end text from start stop None chain stands low e = e
+marked_end text from start stop (Some m) [] stands low e = let b : IsBetween text from start (extent_of m) = stands.1 in omega (arith, b.before)
+marked_end text from start stop (Some m) (x ∷ xs) stands low e = e
+
+-- what is left of a marker before the cut, or of one that is empty there
+cut_marker : (e : ℕ) (m : Item) (chain : List Item) → m.start < e → m.«end» ≤ e → cut e (m ∷ chain) ≡ m ∷ cut e chain
+cut_marker e m chain before whole =
+    cond-true _ _ _ (lt-ltb m.start e before) ∙ ap (λ (x : Item). x ∷ cut e chain) (cond-false _ _ _ (le-ltb e m.«end» whole))
+
+cut_empty : (e : ℕ) (m : Item) (chain : List Item) → e ≤ m.start → is_escaped m.body ≡ false → cut e (m ∷ chain) ≡ []
+cut_empty e m chain behind plain = cond-false _ _ _ (le-ltb m.start e behind) ∙ cond-false _ _ _ (and_left (is_escaped m.body) (m.start == e) plain)
+
+module _ (d : Document) (w : Within) (from start : ℕ) (l : TextLines) (h : TextInOrder d start l) (low : from ≤ start) where
+  abbrev next_start : ℕ
+  next_start = start_of (length d.text) l.left
+
+  -- the children of a paragraph
+  text_stand : (marker : Option Item) → StandsBefore d.text from start marker → StandsIn w marker → ChildrenStand d.text w from start next_start (text_children marker l)
+  text_stand marker stands inside = record {
+    lead = marker;
+    chain = close_break l.break l.chain;
+    is = refl;
+    order = order_closed d.text start h.stop next_start l.break l.chain h.order h.before h.break_fits;
+    bytes = bytes_closed l.break l.chain h.bytes;
+    stands = stands;
+    inside = inside;
+  }
+
+  -- the children of a heading that is cut
+  cut_stand : (e : ℕ) (marker : Option Item) → StandsBefore d.text from start marker → StandsIn w marker → start ≤ e → e ≤ h.stop → IsCharBoundary d.text e
+      → ChildrenStand d.text w from start next_start (close_break l.break (cut e (marker_items marker ++ l.chain)))
+  cut_stand e None stands inside above upto at =
+      let c = cut_text_in_order d start e l h above upto at in
+      record { lead = None; chain = close_break l.break (cut e l.chain); is = refl; order = c.0; bytes = c.1; stands = stands; inside = inside }
+  cut_stand e (Some m) stands inside above upto at =
+      let b : IsBetween d.text from start (extent_of m) = stands.1 in
+      let plain = marker_plain m.body stands.0 in
+      elim (cases_lt m.start e) [
+        | inl before ↦
+            let c = cut_text_in_order d start e l h above upto at in
+            record {
+              lead = Some m;
+              chain = close_break l.break (cut e l.chain);
+              is = ap (close_break l.break) (cut_marker e m l.chain before (omega (arith, b.before))) ∙ closed_behind m l.break (cut e l.chain) plain.0;
+              order = c.0;
+              bytes = c.1;
+              stands = stands;
+              inside = inside;
+            }
+        | inr behind ↦ record {
+          lead = None;
+          chain = close_break l.break [];
+          is = ap (close_break l.break) (cut_empty e m l.chain behind plain.1);
+          order = order_closed d.text start h.stop next_start l.break [] (omega arith) h.before h.break_fits;
+          bytes = bytes_closed l.break [] tt;
+          stands = low;
+          inside = tt;
+        }
+      ]
+
+  -- the children of a heading, by its attribute block, or none
+  heading_stand : (marker : Option Item) (o : Option Braces) → heading_braces d.options (heading_bytes d start marker l) ≡ o → IsCharBoundary d.text start
+      → StandsBefore d.text from start marker → StandsIn w marker → ChildrenStand d.text w from start next_start (heading_children d start marker l)
+  heading_stand marker None none starts stands inside =
+      subst (ChildrenStand d.text w from start next_start) (sym (children_by d start marker l None none)) (text_stand marker stands inside)
+  heading_stand marker (Some block) some starts stands inside =
+      let last : ℕ = chain_end start (marker_items marker ++ l.chain) in
+      let bound = order_bound d.text start h.stop l.chain h.order in
+      let high : last ≤ h.stop = marked_end d.text from start h.stop marker l.chain stands bound (chain_end_place d.text start h.stop l.chain h.order starts).1 in
+      let left : next_start ≡ h.left_at = ap (start_of (length d.text)) h.left_is ∙ start_of-lines d.text h.left_at h.left_within in
+      let within : last ≤ length d.text = omega (arith, h.before, h.left_within) in
+      let p = kept_place d.text d.options start last (by_backslash l.break) block within some in
+      subst (ChildrenStand d.text w from start next_start) (sym (children_by d start marker l (Some block) some))
+      (cut_stand (start + kept_before (by_backslash l.break) block.opening (heading_bytes d start marker l)) marker stands inside p.0 (omega (arith, p.1)) p.2)
+
+-- A paragraph, or a heading that is underlined, lies between an offset that its marker or its text stands behind, and the line behind it.
+ended_between : (d : Document) (w : Within) (from start : ℕ) (marker : Option Item) (l : TextLines) (items : List (ℕ × Item)) (next : ℕ) (o : Option (ℕ × HeadingLevel))
+    → IsCharBoundary d.text start → IsCharBoundary d.text next → start_of (length d.text) l.left ≤ start_of (length d.text) (drop 1 l.left)
+    → ChildrenStand d.text w from start (start_of (length d.text) l.left) (text_children marker l)
+    → ChildrenStand d.text w from start (start_of (length d.text) l.left) (heading_children d start marker l)
+    → MatchOption o (taking items (lines_from d.text next) ≡ plain_text d start marker l) (λ underline. IsUnderlined d start marker l underline.1 (taking items (lines_from d.text next)))
+    → FitsBetween d.text w from next items
+ended_between d w from start marker l items next None starts ends later paragraph heading e =
+    let left : lines_from d.text next ≡ l.left = ap (λ (z : Taken). z.left) e in
+    let stop : start_of (length d.text) l.left ≡ next = ap (start_of (length d.text)) (sym left) ∙ start_of-lines d.text next ends.0 in
+    let is : items ≡ block_with start next ParagraphBody (text_children marker l) = ap (λ (z : Taken). z.items) e ∙ ap (λ k. block_with start k ParagraphBody (text_children marker l)) stop in
+    subst (FitsBetween d.text w from next) (sym is)
+    (children_between d.text w from start (start_of (length d.text) l.left) next ParagraphBody (text_children marker l) refl starts ends (omega arith) paragraph)
+ended_between d w from start marker l items next (Some underline) starts ends later paragraph heading (index, named, e) =
+    let left : lines_from d.text next ≡ drop 1 l.left = ap (λ (z : Taken). z.left) e in
+    let stop : start_of (length d.text) (drop 1 l.left) ≡ next = ap (start_of (length d.text)) (sym left) ∙ start_of-lines d.text next ends.0 in
+    let body : ItemBody = HeadingBody underline.1 index in
+    let is : items ≡ block_with start next body (heading_children d start marker l) = ap (λ (z : Taken). z.items) e ∙ ap (λ k. block_with start k body (heading_children d start marker l)) stop in
+    subst (FitsBetween d.text w from next) (sym is)
+    (children_between d.text w from start (start_of (length d.text) l.left) next body (heading_children d start marker l) refl starts ends (omega arith) heading)
+
+-- the text stands behind the offset that its marker stands behind
+low_start : (text : List ℕ) (from start : ℕ) (marker : Option Item) → StandsBefore text from start marker → from ≤ start
+low_start text from start None stands = stands
+low_start text from start (Some m) stands = let b : IsBetween text from start (extent_of m) = stands.1 in omega (arith, b.behind, b.order, b.before)
+
+pub plain_fits : (text : List ℕ) (options : Options) (names : Names) (start : ℕ) (marker : Option Item) (old new : Forest Item) (next : ℕ) → AddsPlainText text options names start marker old new next
+    → IsUtf8 text → IsCharBoundary text start → IsInItem old marker → (from : ℕ) → StandsBefore text from start marker → AddsBetween text from next old new
+plain_fits text options names start marker old new next adds utf8 boundary inside from stands =
+    let d : Document = document text options names in
+    let (l, are, ended) = adds.is names (extends_none names) in
+    let h = text_is_in_order d (path_of old) start l utf8 boundary are in
+    let w : Within = within_top old in
+    let within = top_stands old marker inside in
+    let low = low_start text from start marker stands in
+    record {
+      items = adds.items;
+      tree_is = adds.tree_is;
+      fits = ended_between d w from start marker l adds.items next (underline_first (path_of old) l.left) boundary adds.boundary (text_later text l.left h.left_at h.left_is h.left_within)
+          (text_stand d w from start l h low marker stands within)
+          (heading_stand d w from start l h low marker (heading_braces options (heading_bytes d start marker l)) refl boundary stands within)
+          ended;
+    }

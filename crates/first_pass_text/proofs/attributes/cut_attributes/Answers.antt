@@ -1,0 +1,40 @@
+use Rattle.std.proofs.Common.{◌≡◌, ◌+◌, ◌-◌, ℕ, List, length, Option, is_some, true, min, refl, sym, ap, subst, ◌∙◌, arith, length-drop}
+use Rattle.std.specs.List.{slice_range}
+use Rattle.std.specs.Option.{option_map}
+use Rattle.first_pass_items.specs.declared.item.Item.{Item}
+use Rattle.first_pass_tree.specs.Forest.{Forest, cut_siblings}
+use Rattle.first_pass_tokens.specs.TreeTokens.{chained}
+use Rattle.first_pass_tokens.proofs.ChainLemmas.{cut_siblings-chained}
+use Rattle.first_pass_attributes.specs.Attributes.{attributes_in}
+use Rattle.first_pass_grammar.specs.Headings.{before_attributes, heading_attributes_of, chain_end, chain_bytes}
+use Rattle.first_pass_grammar.specs.Names.{Names, Extends, NamesAttributes}
+use Rattle.first_pass_names.specs.TableEntries.{names_of}
+use Rattle.first_pass_text.proofs.AttributeEnds.{clipped, block_given, none_given, cut_by, cut_none}
+use Rattle.first_pass_text.proofs.attributes.cut_attributes.Goals.{then-is_some, else-is_some}
+use Rattle.first_pass_text.proofs.attributes.cut_attributes.Goals as goal
+
+pub returns-clause-cut : goal.returns-clause-cut
+returns-clause-cut c f chain bare is =
+    let text : List ℕ = c.args.source.text.now in
+    let options = c.args.source.options in
+    let start : ℕ = c.args.start in
+    let bs : List ℕ = chain_bytes text start chain in
+    let ends : c.min-end.result ≡ min (chain_end start chain) (length text) = c.min-end.ensures ∙ ap (λ n. min n (length text)) (c.chain_end.ensures f chain bare is) in
+    let same : slice_range text start c.min-end.result ≡ bs = ap (slice_range text start) ends ∙ clipped text start (chain_end start chain) in
+    let content = c.in_ok-content_end.ensures.content ∙ ap (λ xs. start + length (before_attributes options xs)) same in
+    let given : option_map attributes_in c.in_ok-content_end.attributes ≡ heading_attributes_of options bs = c.in_ok-content_end.ensures.attributes ∙ ap (heading_attributes_of options) same in
+    let named : (more : Names) → Extends more (names_of c.name_attributes.new.allocs) → NamesAttributes more c.in_ok-index.index (heading_attributes_of options bs) = λ more e. subst (NamesAttributes more c.in_ok-index.index) given (c.in_ok-index.ensures.named more e) in
+    elim c.if-is_some.branch [
+      | then-is_some w ↦
+          let some : is_some c.in_ok-content_end.attributes ≡ true = sym c.is_some.ensures ∙ w.if-is_some.true in
+          let (block, at) = block_given options bs c.in_ok-content_end.attributes given some in
+          let cut = cut_by text options start c.args.broken chain block c.in_ok-content_end.content_end w.white_at_cut.result _ at content
+          (ap (λ xs. slice_range xs start c.in_ok-content_end.content_end) w.as_bytes.ensures.value) w.white_at_cut.ensures.value in (
+            w.tree-is ∙ w.truncate_siblings.ensures ∙ ap (λ (g : Forest Item). cut_siblings g (c.in_ok-content_end.content_end - w.white_at_cut.result)) is
+                ∙ cut_siblings-chained f chain (c.in_ok-content_end.content_end - w.white_at_cut.result) bare.last bare.none ∙ ap (chained f) (sym cut),
+            named,
+          )
+      | else-is_some w ↦
+          let none = none_given options bs c.in_ok-content_end.attributes given (sym c.is_some.ensures ∙ w.if-is_some.false) in
+          (w.tree-is ∙ is ∙ ap (chained f) (sym (cut_none text options start c.args.broken chain none)), named)
+    ]

@@ -1,0 +1,82 @@
+use Rattle.std.proofs.Common.{◌≡◌, ◌+◌, ◌<◌, ℕ, List, [], length, Option, Some, None, IfSome, IsUtf8, slice_index, true, ◌≤◌, refl, sym, ap, subst, ◌∙◌, arith}
+use Rattle.std.specs.List.{slice_range}
+use Rattle.std.specs.Option.{option_map}
+use Rattle.std.specs.declared.ops.Range.{Range}
+use Rattle.first_pass_items.specs.Bytes.{left_brace}
+use Rattle.first_pass_items.specs.OptionWords.{has, heading_attributes}
+use Rattle.first_pass_attributes.specs.AttributeBlocks.{length_before_block, inside_block}
+use Rattle.first_pass_grammar.specs.Headings.{heading_attributes_of}
+use Rattle.first_pass_text.proofs.AttributeEnds.{none_between, length_between, no_braces, empty_braces, before_none, given_none, length_before, given_not, given_some, brace_boundary}
+use Rattle.first_pass_text.proofs.attributes.extract_and_parse_heading_attribute_block.Goals as goal
+
+pub returns-then-header_end-header_start-clause-attributes :
+    goal.returns-then-header_end-header_start-clause-attributes
+returns-then-header_end-header_start-clause-attributes c =
+    let options = c.args.source.options in
+    sym (ap (heading_attributes_of options) (none_between c.args.source.text.now c.args.header_start c.args.header_end c.if-header_end-header_start.true) ∙ given_none options [] (empty_braces options))
+
+pub returns-then-not-contains-clause-content : goal.returns-then-not-contains-clause-content
+returns-then-not-contains-clause-content c =
+    let options = c.args.source.options in
+    let bs : List ℕ = slice_range c.args.source.text.now c.args.header_start c.args.header_end in
+    let none = no_braces options bs (sym (c.contains.ensures tt) ∙ c.if-not-contains.true) in
+    let long = ap length (before_none options bs none) ∙ length_between c.args.source.text.now c.args.header_start c.args.header_end c.requires.to in
+    let less = c.if-header_end-header_start.false in
+    omega arith
+
+pub returns-then-not-contains-clause-attributes : goal.returns-then-not-contains-clause-attributes
+returns-then-not-contains-clause-attributes c =
+    let options = c.args.source.options in
+    let bs : List ℕ = slice_range c.args.source.text.now c.args.header_start c.args.header_end in
+    sym (given_none options bs (no_braces options bs (sym (c.contains.ensures tt) ∙ c.if-not-contains.true)))
+
+-- the block was found
+pub range-block-requires-clause-start_boundary : goal.range-block-requires-clause-start_boundary
+range-block-requires-clause-start_boundary c some =
+    let e = c.extract_attribute_block_content_from_header_text-length in
+    let text : List ℕ = c.args.source.text.now in
+    let bs : List ℕ = slice_range c.as_bytes.result.now c.args.header_start c.args.header_end in
+    let is : bs ≡ slice_range text c.args.header_start c.args.header_end = ap (λ (xs : List ℕ). slice_range xs c.args.header_start c.args.header_end) c.as_bytes.ensures.value in
+    let places = subst (λ (o : Option (Range ℕ)). IfSome o (λ r. (r.start ≡ e.result.0 + 1) × (r.start ≤ r.«end») × (r.«end» < length bs))) c.in-Some.is e.ensures.places in
+    let opens = subst (λ (o : Option (Range ℕ)). IfSome o (λ r. slice_index bs e.result.0 ≡ left_brace)) c.in-Some.is e.ensures.opens in
+    brace_boundary text bs c.args.header_start c.args.header_end e.result.0 c.in-Some.inside.start (subst IsUtf8 c.as_bytes.ensures.value c.as_bytes.ensures.utf8) is c.requires.to
+    (omega (arith, places.0, places.1, places.2)) opens places.0
+
+pub returns-in-None-clause-content : goal.returns-in-None-clause-content
+returns-in-None-clause-content c =
+    let options = c.args.source.options in
+    let e = c.extract_attribute_block_content_from_header_text-length in
+    let on : has options heading_attributes ≡ true = sym (c.contains.ensures tt) ∙ c.if-not-contains.false in
+    ap (λ n. c.args.header_start + n) (e.ensures.before
+    ∙ ap (λ (xs : List ℕ). length_before_block (slice_range xs c.args.header_start c.args.header_end)) c.as_bytes.ensures.value
+    ∙ length_before options (slice_range c.args.source.text.now c.args.header_start c.args.header_end) on)
+
+pub returns-in-None-clause-attributes : goal.returns-in-None-clause-attributes
+returns-in-None-clause-attributes c =
+    let options = c.args.source.options in
+    let e = c.extract_attribute_block_content_from_header_text-length in
+    let on : has options heading_attributes ≡ true = sym (c.contains.ensures tt) ∙ c.if-not-contains.false in
+    let none = subst (λ (o : Option (Range ℕ)). option_map (λ (r : Range ℕ). (r.start, r.«end»)) o ≡ inside_block (slice_range c.as_bytes.result.now c.args.header_start c.args.header_end)) c.in-None.is e.ensures.inside in
+    sym (given_not options (slice_range c.args.source.text.now c.args.header_start c.args.header_end) on
+    (none ∙ ap (λ (xs : List ℕ). inside_block (slice_range xs c.args.header_start c.args.header_end)) c.as_bytes.ensures.value))
+
+pub returns-in_ok-attributes-in-Some-clause-content : goal.returns-in_ok-attributes-in-Some-clause-content
+returns-in_ok-attributes-in-Some-clause-content c =
+    let options = c.args.source.options in
+    let e = c.extract_attribute_block_content_from_header_text-length in
+    let on : has options heading_attributes ≡ true = sym (c.contains.ensures tt) ∙ c.if-not-contains.false in
+    ap (λ n. c.args.header_start + n) (e.ensures.before
+    ∙ ap (λ (xs : List ℕ). length_before_block (slice_range xs c.args.header_start c.args.header_end)) c.as_bytes.ensures.value
+    ∙ length_before options (slice_range c.args.source.text.now c.args.header_start c.args.header_end) on)
+
+pub returns-in_ok-attributes-in-Some-clause-attributes : goal.returns-in_ok-attributes-in-Some-clause-attributes
+returns-in_ok-attributes-in-Some-clause-attributes c =
+    let options = c.args.source.options in
+    let e = c.extract_attribute_block_content_from_header_text-length in
+    let on : has options heading_attributes ≡ true = sym (c.contains.ensures tt) ∙ c.if-not-contains.false in
+    let text : List ℕ = c.args.source.text.now in
+    let found = subst (λ (o : Option (Range ℕ)). option_map (λ (r : Range ℕ). (r.start, r.«end»)) o ≡ inside_block (slice_range c.as_bytes.result.now c.args.header_start c.args.header_end)) c.in-Some.is e.ensures.inside in
+    given_some options text c.args.header_start c.args.header_end (slice_range text c.args.header_start c.args.header_end) c.range-block.result.now
+    (c.in-Some.inside.start, c.in-Some.inside.«end») c.in_ok-attributes-in-Some.attributes on refl c.requires.to
+    (found ∙ ap (λ (xs : List ℕ). inside_block (slice_range xs c.args.header_start c.args.header_end)) c.as_bytes.ensures.value)
+    c.range-block.ensures.value c.in_ok-attributes-in-Some.ensures

@@ -1,0 +1,29 @@
+-- The chain of a heading's text without its attribute block (private functions alone cite this).
+use Rattle.std.specs.Prelude.{◌≡◌, ℕ, ◌+◌, Bool, List, length, Option, None}
+use Rattle.std.specs.Option.{option_map_or}
+use Rattle.first_pass_items.specs.declared.item.HeadingIndex.{HeadingIndex}
+use Rattle.first_pass_items.specs.declared.item.Item.{Item}
+use Rattle.first_pass_items.specs.declared.option_set.Options.{Options}
+use Rattle.first_pass_tree.specs.Forest.{Forest, open_place}
+use Rattle.first_pass_tokens.specs.Chains.{cut}
+use Rattle.first_pass_tokens.specs.TreeTokens.{chained}
+use Rattle.first_pass_grammar.specs.Headings.{heading_braces, heading_attributes_of, chain_bytes, kept_before}
+use Rattle.first_pass_grammar.specs.Names.{Names, NamesAttributes, Extends}
+
+-- the innermost open node is the last one, and nothing stands in it
+pub record IsBare (f : Forest Item) : Type 0 where
+  pub last : open_place f.spine + 1 ≡ length f.nodes
+  pub none : f.current ≡ None
+
+-- a chain that begins at an offset, without the attribute block at its end; a backslash breaks its last line, or doesn't
+abbrev pub cut_chain : List ℕ → Options → ℕ → Bool → List Item → List Item
+cut_chain text options start broken chain =
+    option_map_or (λ block. cut (start + kept_before broken block.opening (chain_bytes text start chain)) chain) (heading_braces options (chain_bytes text start chain)) chain
+
+-- The attribute block of the heading's text that begins at an offset is cut off its chain, which stands alone in the innermost open node, and the index of its
+-- attributes names them, whatever more is named.
+abbrev pub CutsBlock : List ℕ → Options → Names → ℕ → Bool → Forest Item → Forest Item → Option HeadingIndex → Type 0
+CutsBlock text options names start broken old new index =
+    (f : Forest Item) → (chain : List Item) → IsBare f → old ≡ chained f chain
+    → (new ≡ chained f (cut_chain text options start broken chain))
+    × ((more : Names) → Extends more names → NamesAttributes more index (heading_attributes_of options (chain_bytes text start chain)))

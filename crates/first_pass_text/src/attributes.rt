@@ -1,0 +1,142 @@
+//! The attributes that the text of a heading ends with (this project).
+
+ghost use Rattle.std.specs.Prelude.{◌≡◌, ◌≤◌, ◌<◌, ◌+◌, ◌-◌, ℕ, List, length, IfOk, OnOk, Some, None, if◌then◌else◌};
+ghost use Rattle.std.specs.List.{slice_range, suffix_len};
+ghost use Rattle.first_pass_lines.specs.Lines.{is_white};
+ghost use Rattle.std.specs.Option.{option_map};
+ghost use Rattle.first_pass_items.specs.declared.item.Item.{Item};
+ghost use Rattle.first_pass_tree.specs.Forest.{Forest};
+ghost use Rattle.first_pass_tokens.specs.TreeTokens.{chained};
+ghost use Rattle.first_pass_attributes.specs.Attributes.{attributes_in};
+ghost use Rattle.first_pass_grammar.specs.Headings.{before_attributes, heading_attributes_of, chain_end as chain_end_of};
+ghost use Rattle.first_pass_grammar.specs.Names.{Names, Extends, NamesAttributes};
+ghost use Rattle.first_pass_names.specs.TableEntries.{tables, names_of};
+ghost use Rattle.first_pass_text.specs.CutTexts.{IsBare, CutsBlock};
+
+use bitflags::Flags;
+use first_pass_attributes::attrs::{
+    HeadingAttributes, extract_attribute_block_content_from_header_text,
+    parse_inside_attribute_block,
+};
+use first_pass_items::item::{HeadingIndex, Item};
+use first_pass_items::option_set::Options;
+use first_pass_lines::lines::is_white;
+use first_pass_names::items::Allocations;
+use first_pass_open::source::Source;
+use first_pass_tree::forest::Tree;
+use std::alloc::{AllocError, Global};
+
+/// Where the content of a heading ends whose text goes from the offset `header_start` into the text up to
+/// `header_end`, and its attributes: before its attribute block, white space directly before that too, and what the
+/// block gives. Without such a block, or where headings have none, the text's end and `None`; a text whose end lies
+/// before its start is empty. The error is want of memory (this project).
+pub fn extract_and_parse_heading_attribute_block<'a>(
+    alloc: Global,
+    source: Source<'a>,
+    header_start: usize,
+    header_end: usize,
+) -> Result<(usize, Option<HeadingAttributes<'a>>), AllocError>
+    requires from { header_start ≤ length source.text.now }
+    requires to { header_end ≤ length source.text.now }
+    ensures content { IfOk result (λ answer. answer.0 ≡ header_start + length
+        (before_attributes source.entry.options (slice_range source.entry.text.now header_start header_end))) }
+    ensures attributes { IfOk result (λ answer. option_map attributes_in answer.1
+        ≡ heading_attributes_of source.entry.options (slice_range source.entry.text.now header_start header_end)) }
+{
+    if header_end <= header_start {
+        return Ok((header_start, None));
+    }
+    if !source.options.contains(Options::ENABLE_HEADING_ATTRIBUTES) {
+        return Ok((header_end, None));
+    }
+    let heading = &source.text.as_bytes()[header_start..header_end];
+    let (length, inside) = extract_attribute_block_content_from_header_text(heading);
+    match inside {
+        None => Ok((header_start + length, None)),
+        Some(inside) => {
+            let block = &source.text[header_start + inside.start..header_start + inside.end];
+            let attributes = parse_inside_attribute_block(alloc, block)?;
+            Ok((header_start + length, attributes))
+        }
+    }
+}
+
+/// Puts the attributes of a heading, if it has some, behind those that nodes name, and answers their index. The error
+/// is want of memory (this project).
+pub fn name_attributes<'a>(
+    allocs: &mut Allocations<'a>,
+    attributes: Option<HeadingAttributes<'a>>,
+) -> Result<Option<HeadingIndex>, AllocError>
+    ensures names { OnOk result (Extends (names_of allocs.new) (names_of allocs.old)) }
+    ensures tables { OnOk result (tables allocs.new ≡ tables allocs.old) }
+    ensures named { IfOk result (λ index. (more : Names) → Extends more (names_of allocs.new)
+        → NamesAttributes more index (option_map attributes_in attributes.entry)) }
+{
+    match attributes {
+        None => Ok(None),
+        Some(attributes) => {
+            let index = allocs.allocate_heading(attributes)?;
+            Ok(Some(index))
+        }
+    }
+}
+
+// Where the chain of the innermost open node ends, of a text that begins at an offset: there where it has no token.
+fn chain_end(tree: &Tree<Item>, start: usize) -> usize
+    ensures { (f : Forest Item) → (chain : List Item) → IsBare f → tree.now ≡ chained f chain
+        → result ≡ chain_end_of start chain }
+{
+    tree.is_forest();
+    match tree.cur() {
+        None => start,
+        Some(last) => tree[last].end,
+    }
+}
+
+// How many bytes of white space stand last.
+fn trailing_white(bytes: &[u8]) -> usize
+    ensures value { result ≡ suffix_len is_white bytes.now }
+    ensures within { result ≤ length bytes.now }
+{
+    bytes.iter().rev().take_while(|b| is_white(**b)).count()
+}
+
+// How many bytes of white space stand last in the content of an underlined heading and are cut off with its attribute
+// block: none where a backslash breaks its last line.
+fn white_at_cut(content: &[u8], broken: bool) -> usize
+    ensures value { result ≡ (if broken then 0 else suffix_len is_white content.now) }
+    ensures within { result ≤ length content.now }
+{
+    if broken { 0 } else { trailing_white(content) }
+}
+
+/// Cuts the attribute block of an underlined heading off its chain, which stands in the innermost open node: that of
+/// the text that begins at the offset `start`, whose last line a backslash breaks (`broken`) or doesn't. The
+/// attributes are put among `allocs`, and the answer is their index; `None` where the text ends with no such block.
+/// The error is want of memory (CommonMark 4.3, and this project).
+pub fn cut_attributes<'a>(
+    alloc: Global,
+    source: Source<'a>,
+    tree: &mut Tree<Item>,
+    allocs: &mut Allocations<'a>,
+    start: usize,
+    broken: bool,
+) -> Result<Option<HeadingIndex>, AllocError>
+    requires within { start ≤ length source.text.now }
+    ensures names { OnOk result (Extends (names_of allocs.new) (names_of allocs.old)) }
+    ensures tables { OnOk result (tables allocs.new ≡ tables allocs.old) }
+    ensures cut { IfOk result (λ index. CutsBlock source.entry.text.now source.entry.options (names_of allocs.new) start
+        broken tree.old tree.new index) }
+{
+    // A marker before the text ends before it; no token ends behind the whole text.
+    let end = chain_end(tree, start).min(source.text.len());
+    let (content_end, attributes) = extract_and_parse_heading_attribute_block(
+        alloc, source, start, end,
+    )?;
+    if attributes.is_some() {
+        let content = &source.text.as_bytes()[start..content_end];
+        tree.truncate_siblings(content_end - white_at_cut(content, broken));
+    }
+    let index = name_attributes(allocs, attributes)?;
+    Ok(index)
+}
