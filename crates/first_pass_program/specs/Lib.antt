@@ -1,3 +1,5 @@
 pub mod Bench
+pub mod HeadingValues
 pub mod Printed
 pub mod Runs
+pub mod Visible

@@ -1,7 +1,6 @@
 -- How the nodes of a tree and the link definitions of a text are printed (this project).
-use Rattle.std.specs.Prelude.{ℕ, zero, suc, ◌==◌, Bool, true, false, Option, None, Some, List, [], ◌∷◌, ◌++◌, codes, decimal, encode_utf8, bit_and, if◌then◌else◌}
+use Rattle.std.specs.Prelude.{ℕ, zero, suc, ◌==◌, slice_get, Bool, true, false, Option, None, Some, List, [], ◌∷◌, ◌++◌, codes, decimal, encode_utf8, bit_and, if◌then◌else◌}
 use Rattle.std.specs.List.{flat_map}
-use Rattle.first_pass_items.specs.Bytes.{line_feed, carriage_return, backslash, small_n, small_r}
 use Rattle.first_pass_items.specs.declared.item.Item.{Item}
 use Rattle.first_pass_grammar.specs.Names.{Names, text_named, alignments_named}
 use Rattle.first_pass_grammar.specs.LinkTables.{LinkEntry}
@@ -15,7 +14,9 @@ use Rattle.first_pass_items.specs.declared.item.MetadataBlockKind.{MetadataBlock
 use Rattle.first_pass_items.specs.declared.item.MetadataBlockKind.TheVariants.{YamlStyle, PlusesStyle}
 use Rattle.first_pass_items.specs.declared.item.ItemBody.{ItemBody}
 use Rattle.first_pass_items.specs.declared.item.ItemBody.TheVariants.{Root, Paragraph, TightParagraph, Rule, Heading, FencedCodeBlock, IndentCodeBlock, HtmlBlock, BlockQuote, FootnoteDefinition, MetadataBlock, DefinitionList, MaybeDefinitionListTitle, DefinitionListTitle, DefinitionListDefinition, Table, TableHead, TableRow, TableCell, Text, SoftBreak, HardBreak, MaybeEmphasis, MaybeMath, MaybeSmartQuote, MaybeCode, MaybeHtml, MaybeLinkOpen, MaybeLinkClose, MaybeImage, Html, SynthesizeText, SynthesizeChar, TaskListMarker, ListItem, List as ListBody}
-use Rattle.first_pass_lines.specs.Lines.{level_number}
+pub use Rattle.first_pass_program.specs.Visible.{enclosed, visible_byte, visible}
+use Rattle.first_pass_program.specs.HeadingValues.{heading_values}
+use Rattle.std.specs.Option.{option_and_then}
 
 -- the name of what a node is
 abbrev pub name_of : ItemBody → List ℕ
@@ -78,13 +79,8 @@ abbrev pub metadata_name : MetadataBlockKind → List ℕ
 metadata_name YamlStyle = codes "YamlStyle"
 metadata_name PlusesStyle = codes "PlusesStyle"
 
--- a text in parentheses
-abbrev pub enclosed : List ℕ → List ℕ
-enclosed text = codes "(" ++ text ++ codes ")"
-
--- the values of a block, in parentheses where it has any
+-- the values of a block other than a heading, in parentheses where it has any
 abbrev pub block_values : ItemBody → List ℕ
-block_values (Heading level attributes) = enclosed (decimal (level_number level))
 block_values (BlockQuote (Some kind)) = enclosed (quote_name kind)
 block_values (ListBody flags byte number) = enclosed (list_name flags ++ codes "," ++ (byte ∷ []) ++ codes "," ++ decimal number)
 block_values (ListItem indent) = enclosed (decimal indent)
@@ -111,17 +107,6 @@ unfoldable pub indentation : ℕ → List ℕ
 indentation zero = []
 indentation (suc depth) = indentation depth ++ codes "  "
 
--- a byte of a text, where a backslash, a newline and a carriage return stand as a backslash and another byte
-abbrev pub visible_byte : ℕ → List ℕ
-visible_byte b =
-    if b == backslash then backslash ∷ backslash ∷ []
-    else (if b == line_feed then backslash ∷ small_n ∷ []
-    else (if b == carriage_return then backslash ∷ small_r ∷ [] else b ∷ []))
-
--- a text so
-unfoldable pub visible : List ℕ → List ℕ
-visible text = flat_map visible_byte text
-
 -- the sign of a column's alignment (GFM 4.10)
 abbrev pub alignment_sign : Alignment → List ℕ
 alignment_sign Unaligned = codes "-"
@@ -138,11 +123,12 @@ abbrev pub alignment_signs : List Alignment → List ℕ
 alignment_signs [] = []
 alignment_signs (first ∷ others) = alignment_sign first ++ signs_behind others
 
--- what an item names by its index, in parentheses where it has one: a text, or the signs of a table's columns
+-- what an item names by its index, in parentheses where it has one: a text, the signs of a table's columns, or the attributes of a heading, behind its level
 abbrev pub named_values : Names → ItemBody → List ℕ
 named_values names (FencedCodeBlock ix) = enclosed (visible (text_named names ix))
 named_values names (SynthesizeText ix) = enclosed (visible (text_named names ix))
 named_values names (Table ix) = enclosed (alignment_signs (alignments_named names ix))
+named_values names (Heading level ix) = heading_values level (option_and_then (λ at. slice_get names.headings at.0) ix)
 named_values names _ = []
 
 -- what a node is: its name, its values and what it names

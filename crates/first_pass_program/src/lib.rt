@@ -3,6 +3,7 @@
 
 pub mod bench;
 pub mod printed;
+pub mod printed_heading;
 pub mod printed_links;
 pub mod printed_table;
 pub mod run;

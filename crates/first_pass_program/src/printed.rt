@@ -1,14 +1,19 @@
 //! How a node of a tree is printed.
 
-ghost use Rattle.std.specs.Prelude.{◌≡◌, ◌++◌, ◌∷◌, [], OnOk, codes, decimal, encode_utf8};
+ghost use Rattle.std.specs.Option.{option_map, option_and_then};
+ghost use Rattle.std.specs.Prelude.{◌≡◌, ◌++◌, ◌∷◌, [], OnOk, codes, decimal, encode_utf8, slice_get};
+ghost use Rattle.first_pass_attributes.specs.Attributes.{attributes_in};
 ghost use Rattle.first_pass_items.specs.declared.item.ItemBody.TheVariants.{MaybeEmphasis, MaybeMath, MaybeSmartQuote, MaybeCode, List as ListBody};
 ghost use Rattle.first_pass_names.specs.TableEntries.{names_of};
 ghost use Rattle.first_pass_program.specs.Printed.{node_line, named_values, visible, visible_byte, name_of, block_values, token_values, body_text, enclosed, flag_name, list_name, quote_name, metadata_name, indentation, range_text};
 
+use crate::printed_heading::append_heading;
 use crate::printed_table::append_alignments;
 use bitflags::Flags;
-use first_pass_items::item::{BlockQuoteKind, Item, ItemBody, ListFlags, MetadataBlockKind};
-use first_pass_lines::lines::level_number;
+use first_pass_attributes::attrs::HeadingAttributes;
+use first_pass_items::item::{
+    BlockQuoteKind, HeadingIndex, Item, ItemBody, ListFlags, MetadataBlockKind,
+};
 use first_pass_names::items::Allocations;
 use itoa::{Buffer, Integer};
 use std::alloc::AllocError;
@@ -51,7 +56,7 @@ fn append_indentation(line: &mut Vec<u8>, depth: usize) -> Result<(), AllocError
 }
 
 /// Appends a number in decimal digits.
-fn append_number<I: Integer>(line: &mut Vec<u8>, number: I) -> Result<(), AllocError>
+pub fn append_number<I: Integer>(line: &mut Vec<u8>, number: I) -> Result<(), AllocError>
     ensures { OnOk result (line.new.items ≡ line.old.items ++ I.text number) }
 {
     let mut digits = Buffer::new();
@@ -84,7 +89,22 @@ fn append_named(
         ItemBody::FencedCodeBlock(ix) => append_text(line, allocs.text_at(ix)),
         ItemBody::SynthesizeText(ix) => append_text(line, allocs.text_at(ix)),
         ItemBody::Table(ix) => append_alignments(line, allocs.alignments_at(ix)),
+        ItemBody::Heading(level, ix) => append_heading(line, level, attributes_at(allocs, ix)),
         _ => Ok(()),
+    }
+}
+
+/// The attributes of a heading that it names by this index, if it has one.
+fn attributes_at<'a, 'b>(
+    allocs: &'b Allocations<'a>,
+    ix: Option<HeadingIndex>,
+) -> Option<&'b HeadingAttributes<'a>>
+    ensures { option_map (λ h. attributes_in h.now) result
+        ≡ option_and_then (λ at. slice_get (names_of allocs.now).headings at.0) ix }
+{
+    match ix {
+        None => None,
+        Some(ix) => allocs.attributes_at(ix),
     }
 }
 
@@ -99,7 +119,7 @@ fn append_text(line: &mut Vec<u8>, text: &str) -> Result<(), AllocError>
 }
 
 /// Appends bytes, a backslash, a newline and a carriage return among them as `\\`, `\n` and `\r`.
-#[tactic(auto, unfolding(crate::specs::Printed::visible))]
+#[tactic(auto, unfolding(crate::specs::Visible::visible))]
 pub fn append_visible(line: &mut Vec<u8>, bytes: &[u8]) -> Result<(), AllocError>
     ensures { OnOk result (line.new.items ≡ line.old.items ++ visible bytes.now) }
 {
@@ -121,12 +141,11 @@ fn append_byte(line: &mut Vec<u8>, byte: u8) -> Result<(), AllocError>
     }
 }
 
-/// Appends the values of a block in parentheses, if it has any.
+/// Appends the values of a block other than a heading in parentheses, if it has any.
 fn append_block_values(line: &mut Vec<u8>, body: ItemBody) -> Result<(), AllocError>
     ensures { OnOk result (line.new.items ≡ line.old.items ++ block_values body) }
 {
     match body {
-        ItemBody::Heading(level, _) => append_one(line, level_number(level)),
         ItemBody::BlockQuote(Some(kind)) => append_word(line, quote_name(kind)),
         ItemBody::List(flags, byte, number) => append_list(line, flags, byte, number),
         ItemBody::ListItem(indent) => append_one(line, indent),

@@ -1,0 +1,19 @@
+-- How a text is printed on one line, and in parentheses (this project).
+use Rattle.std.specs.Prelude.{ℕ, ◌==◌, List, [], ◌∷◌, ◌++◌, codes, if◌then◌else◌}
+use Rattle.std.specs.List.{flat_map}
+use Rattle.first_pass_items.specs.Bytes.{line_feed, carriage_return, backslash, small_n, small_r}
+
+-- a text in parentheses
+abbrev pub enclosed : List ℕ → List ℕ
+enclosed text = codes "(" ++ text ++ codes ")"
+
+-- a byte of a text, where a backslash, a newline and a carriage return stand as a backslash and another byte
+abbrev pub visible_byte : ℕ → List ℕ
+visible_byte b =
+    if b == backslash then backslash ∷ backslash ∷ []
+    else (if b == line_feed then backslash ∷ small_n ∷ []
+    else (if b == carriage_return then backslash ∷ small_r ∷ [] else b ∷ []))
+
+-- a text so
+unfoldable pub visible : List ℕ → List ℕ
+visible text = flat_map visible_byte text
