@@ -24,8 +24,8 @@ impl<'a> FirstPass<'a> {
     ) -> Result<(usize, Option<HeadingAttributes<'a>>), AllocError>
         requires from { header_start ≤ length (source_text self.now) }
         requires to { header_end ≤ length (source_text self.now) }
-        ensures content { IfOk result (λ answer. answer.0 ≡ header_start + length
-            (before_attributes (source_options self.now) (slice_range (source_text self.now) header_start header_end))) }
+        ensures content { IfOk result (λ answer. answer.0 ≡ header_start + length (before_attributes
+            (source_options self.now) (slice_range (source_text self.now) header_start header_end))) }
         ensures attributes { IfOk result (λ answer. option_map attributes_in answer.1 ≡ heading_attributes_of
             (source_options self.now) (slice_range (source_text self.now) header_start header_end)) }
     {

@@ -21,8 +21,9 @@ use std::alloc::AllocError;
 
 impl<'a> FirstPass<'a> {
     /// Appends what stands for the text that begins at the offset `start_ix` into the text: the table that its first
-    /// line heads, with tables; else a paragraph, with the marker of its task list item, if it has one, as its first
-    /// child. Answers the offset at which the line begins that ends it, or the text's length (CommonMark 4.8, GFM 4.10).
+    /// line heads, with tables; else a heading that is underlined, without its attribute block, or a paragraph, with
+    /// the marker of its task list item, if it has one, as its first child. Answers the offset at which the line begins
+    /// that is behind it, or the text's length (CommonMark 4.3, 4.8, GFM 4.10).
     pub fn parse_paragraph(
         &mut self,
         start_ix: usize,

@@ -58,8 +58,8 @@ fn append_table(
 
 /// Appends what stands for the text that begins at the offset `start_ix` into the text to the innermost open node: the
 /// table that its first line heads, with tables; else a heading that is underlined or a paragraph, with the marker of
-/// its task list item, if it has one, as its first child. Answers the offset at which the line begins that is behind it,
-/// or the text's length. The alignments of a table's columns, or the attributes of a heading, are put among `allocs`;
+/// its task list item, if it has one, as its first child. Answers the offset at which the line begins that is behind
+/// it, or the text's length. The alignments of a table's columns, or the attributes of a heading, are put among `allocs`;
 /// `lut` is the table of the special bytes. The error is want of memory (CommonMark 4.3, 4.8, GFM 4.10).
 pub fn parse_paragraph<'a>(
     alloc: Global,

@@ -93,6 +93,12 @@ pub length_before : (options : Options) (bs : List ℕ) → has options heading_
 length_before options bs h =
     length_by bs (attribute_block bs) refl ∙ sym (ap (λ (o : Option Braces). length (option_map_or (λ (block : Braces). take block.opening bs) o bs)) (these_braces options bs h))
 
+-- where the content of a heading's text ends, of a text that is held by another name
+pub content_before : (options : Options) (text bytes : List ℕ) (start to n : ℕ) → has options heading_attributes ≡ true → bytes ≡ text
+    → n ≡ length_before_block (slice_range bytes start to) → start + n ≡ start + length (before_attributes options (slice_range text start to))
+content_before options text bytes start to n on same is =
+    ap (λ k. start + k) (is ∙ ap (λ (xs : List ℕ). length_before_block (slice_range xs start to)) same ∙ length_before options (slice_range text start to) on)
+
 -- what was found between the braces
 none_inside : (o : Option Braces) → None ≡ option_map enclosed o → o ≡ None
 none_inside None e = refl

@@ -69,8 +69,8 @@ pub fn append_last_backslash(
     }
 }
 
-// Where the lines of a text end: at the offset at which the next line begins, or the text's length; the break behind the
-// last of them; and the level of the heading that they are, where the next line is an underline.
+// Where the lines of a text end: at the offset at which the next line begins, or the text's length; the break behind
+// the last of them; and the level of the heading that they are, where the next line is an underline.
 #[derive(Clone, Copy, Drop)]
 struct TextEnd {
     next: usize,
@@ -126,8 +126,8 @@ pub fn parse_paragraph<'a>(
     Ok(behind)
 }
 
-// Appends the chain of the lines of the text that begins at `start` to the innermost open node, but for the break behind
-// the last of them.
+// Appends the chain of the lines of the text that begins at `start` to the innermost open node, but for the break
+// behind the last of them.
 fn append_text_lines(
     alloc: Global,
     source: Source<'_>,

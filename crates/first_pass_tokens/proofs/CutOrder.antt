@@ -25,7 +25,7 @@ cut_behind : (text : List ℕ) (from to e : ℕ) (chain : List Item) → e ≤ f
 cut_behind text from to e [] past h none = refl
 cut_behind text from to e (x ∷ xs) past h none = let first = h.0 in cut_stops e x xs (omega arith) none
 
-cut_first : (e : ℕ) (x : Item) (xs : List Item) → x.start < e → cut e (x ∷ xs) ≡ cut_item e x ∷ cut e xs
+pub cut_first : (e : ℕ) (x : Item) (xs : List Item) → x.start < e → cut e (x ∷ xs) ≡ cut_item e x ∷ cut e xs
 cut_first e x xs before = cond-true _ _ _ (lt-ltb x.start e before)
 
 -- A chain in order that is cut at an offset where no escaped text begins is in order up to there.

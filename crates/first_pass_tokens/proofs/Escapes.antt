@@ -11,6 +11,7 @@ use Rattle.first_pass_tokens.specs.Pieces.{Source, size}
 use Rattle.first_pass_tokens.specs.Chains.{text_token, token, touches, add_token, add_tokens, add_text, cut}
 use Rattle.first_pass_tokens.specs.LineTokens.{ArePieces, IsLine, add_piece, add_pieces, text_end}
 use Rattle.first_pass_tokens.specs.Order.{AreInOrder, HaveBytes}
+use Rattle.first_pass_tokens.proofs.CutOrder.{cut_first}
 use Rattle.first_pass_tokens.proofs.PieceFacts.{IsPieceAt, markup_unescaped}
 use Rattle.first_pass_tokens.proofs.LineLemmas.{piece_of}
 use Rattle.first_pass_tokens.proofs.OrderLemmas.{order_add}
@@ -120,9 +121,6 @@ left_behind e x = if is_escaped x.body && (x.start == e) then text_token (e - 1)
 cut_at_first : (e : ℕ) (x : Item) (xs : List Item) → e ≤ x.start → cut e (x ∷ xs) ≡ left_behind e x
 cut_at_first e x xs behind = cond-false _ _ _ (le-ltb x.start e behind)
 
-cut_within : (e : ℕ) (x : Item) (xs : List Item) → x.start < e → cut e (x ∷ xs) ≡ cut_item e x ∷ cut e xs
-cut_within e x xs before = cond-true _ _ _ (lt-ltb x.start e before)
-
 backslash_in_order : (text : List ℕ) (from e : ℕ) (x : Item) → EscapeBehind text from x → IsCharBoundary text e → from ≤ e → AreInOrder text from e (left_behind e x)
 backslash_in_order text from e x stands at order =
     cond_both (is_escaped x.body && (x.start == e)) (text_token (e - 1) e false ∷ []) [] (AreInOrder text from e)
@@ -141,7 +139,7 @@ pub cut_escaped : (text : List ℕ) (from to e : ℕ) (chain : List Item) → Ar
 cut_escaped text from to e [] h k at order = order
 cut_escaped text from to e (x ∷ xs) h k at order =
     elim (cases_lt x.start e) [
-      | inl before ↦ subst (AreInOrder text from e) (sym (cut_within e x xs before))
+      | inl before ↦ subst (AreInOrder text from e) (sym (cut_first e x xs before))
           (elim (cases_lt e x.«end») [
             | inl over ↦
                 let ended : cut_item e x ≡ record x { «end» = e } = cond-true _ _ _ (lt-ltb e x.«end» over) in

@@ -4,9 +4,9 @@ use Rattle.std.specs.Option.{option_map}
 use Rattle.std.specs.declared.ops.Range.{Range}
 use Rattle.first_pass_items.specs.Bytes.{left_brace}
 use Rattle.first_pass_items.specs.OptionWords.{has, heading_attributes}
-use Rattle.first_pass_attributes.specs.AttributeBlocks.{length_before_block, inside_block}
+use Rattle.first_pass_attributes.specs.AttributeBlocks.{inside_block}
 use Rattle.first_pass_grammar.specs.Headings.{heading_attributes_of}
-use Rattle.first_pass_text.proofs.AttributeEnds.{none_between, length_between, no_braces, empty_braces, before_none, given_none, length_before, given_not, given_some, brace_boundary}
+use Rattle.first_pass_text.proofs.AttributeEnds.{none_between, length_between, no_braces, empty_braces, before_none, given_none, content_before, given_not, given_some, brace_boundary}
 use Rattle.first_pass_text.proofs.attributes.extract_and_parse_heading_attribute_block.Goals as goal
 
 pub returns-then-header_end-header_start-clause-attributes :
@@ -47,9 +47,7 @@ returns-in-None-clause-content c =
     let options = c.args.source.options in
     let e = c.extract_attribute_block_content_from_header_text-length in
     let on : has options heading_attributes ≡ true = sym (c.contains.ensures tt) ∙ c.if-not-contains.false in
-    ap (λ n. c.args.header_start + n) (e.ensures.before
-    ∙ ap (λ (xs : List ℕ). length_before_block (slice_range xs c.args.header_start c.args.header_end)) c.as_bytes.ensures.value
-    ∙ length_before options (slice_range c.args.source.text.now c.args.header_start c.args.header_end) on)
+    content_before options c.args.source.text.now c.as_bytes.result.now c.args.header_start c.args.header_end e.result.0 on c.as_bytes.ensures.value e.ensures.before
 
 pub returns-in-None-clause-attributes : goal.returns-in-None-clause-attributes
 returns-in-None-clause-attributes c =
@@ -65,9 +63,7 @@ returns-in_ok-attributes-in-Some-clause-content c =
     let options = c.args.source.options in
     let e = c.extract_attribute_block_content_from_header_text-length in
     let on : has options heading_attributes ≡ true = sym (c.contains.ensures tt) ∙ c.if-not-contains.false in
-    ap (λ n. c.args.header_start + n) (e.ensures.before
-    ∙ ap (λ (xs : List ℕ). length_before_block (slice_range xs c.args.header_start c.args.header_end)) c.as_bytes.ensures.value
-    ∙ length_before options (slice_range c.args.source.text.now c.args.header_start c.args.header_end) on)
+    content_before options c.args.source.text.now c.as_bytes.result.now c.args.header_start c.args.header_end e.result.0 on c.as_bytes.ensures.value e.ensures.before
 
 pub returns-in_ok-attributes-in-Some-clause-attributes : goal.returns-in_ok-attributes-in-Some-clause-attributes
 returns-in_ok-attributes-in-Some-clause-attributes c =
