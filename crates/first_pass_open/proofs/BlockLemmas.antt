@@ -1,12 +1,14 @@
 -- A block opened, filled with a chain and closed.
-use Rattle.std.proofs.Common.{◌≡◌, ℕ, ◌+◌, ◌<◌, List, [], ◌∷◌, ◌++◌, length, slice_get, Option, Some, None, IsSome, refl, sym, ap, subst, ◌∙◌, arith, length-append}
+use Rattle.std.proofs.Common.{◌≡◌, ℕ, zero, suc, ◌+◌, ◌<◌, List, [], ◌∷◌, ◌++◌, length, slice_get, Option, Some, None, IsSome, refl, sym, ap, subst, ◌∙◌, arith, append_assoc, length-append}
 use Rattle.std.proofs.lemmas.List.{length-map}
+use Rattle.std.specs.Option.{option_map}
 use Rattle.first_pass_items.specs.declared.item.Item.{Item}
 use Rattle.first_pass_items.specs.declared.item.ItemBody.{ItemBody}
 use Rattle.first_pass_tree.specs.declared.tree_index.TreeIndex.{TreeIndex}
-use Rattle.first_pass_tree.specs.Forest.{Forest, IsForest, IsOpenPath, depths, appended, pushed, popped, added, block_of, at_depth, modified, with_body_at}
+use Rattle.first_pass_tree.specs.Forest.{Forest, IsForest, IsOpenPath, depths, item_at, modify, appended, pushed, popped, added, block_of, at_depth, modified, with_body_at}
+use Rattle.first_pass_tree.proofs.Blocks.{modify-at, forest-eq}
 use Rattle.first_pass_tokens.specs.TreeTokens.{chained, leaves}
-use Rattle.first_pass_tokens.proofs.ChainLemmas.{chained-spine, chained-append, closed-chained, modified-modified}
+use Rattle.first_pass_tokens.proofs.ChainLemmas.{chained-spine, chained-nodes, chained-current, chained-append, closed-chained}
 use Rattle.first_pass_grammar.specs.Leaves.{marker_items}
 use Rattle.first_pass_open.specs.OpenBlock.{with_child, closed_by, IsJustPushed}
 
@@ -37,6 +39,28 @@ pub marked_chain : (p m n : Forest Item) (marker : Option Item) (chain : List It
 marked_chain p m n None chain e f = f ∙ ap (λ v. chained v chain) e
 marked_chain p m n (Some x) chain e f = f ∙ ap (λ v. chained v chain) e ∙ chained-append p (x ∷ []) chain
 
+-- the nodes of a tree in which a block stands open
+opened_nodes : (g : Forest Item) (x : Item) (chain : List Item) (ix : TreeIndex)
+    → (chained (pushed (appended g x) ix) chain).nodes ≡ g.nodes ++ (length g.spine + 1, x) ∷ at_depth (length g.spine + 2) (leaves chain)
+opened_nodes g x chain ix =
+    let deeper : suc (length g.spine) + 1 ≡ length g.spine + 2 = omega arith in
+    chained-nodes (pushed (appended g x) ix) chain ∙ append_assoc g.nodes ((length g.spine + 1, x) ∷ []) (at_depth (suc (length g.spine) + 1) (leaves chain))
+    ∙ ap (λ (d : ℕ). g.nodes ++ (length g.spine + 1, x) ∷ at_depth d (leaves chain)) deeper
+
+get_behind : (ns more : List (ℕ × Item)) (n : ℕ × Item) (i : ℕ) → i ≡ length ns → slice_get (ns ++ n ∷ more) i ≡ Some n
+get_behind [] more n zero at = refl
+get_behind [] more n (suc i) at = absurd (omega arith)
+get_behind (m ∷ ns) more n zero at = absurd (omega arith)
+get_behind (m ∷ ns) more n (suc i) at = get_behind ns more n i (omega arith)
+
+same_current : (g : Forest Item) (x y : Item) (chain : List Item) (ix : TreeIndex) → (chained (pushed (appended g x) ix) chain).current ≡ (chained (pushed (appended g y) ix) chain).current
+same_current g x y [] ix = refl
+same_current g x y (z ∷ zs) ix =
+    let a = length-append g.nodes ((length g.spine + 1, x) ∷ []) in
+    let b = length-append g.nodes ((length g.spine + 1, y) ∷ []) in
+    let same : length (appended g x).nodes + length zs ≡ length (appended g y).nodes + length zs = omega arith in
+    chained-current (pushed (appended g x) ix) z zs ∙ ap (λ (m : ℕ). Some (record { 0 = m })) same ∙ sym (chained-current (pushed (appended g y) ix) z zs)
+
 module _ (g n : Forest Item) (x : Item) (chain : List Item) (ix : TreeIndex) (at : ix.0 ≡ length g.nodes) (filled : n ≡ chained (pushed (appended g x) ix) chain) where
   spine_is : n.spine ≡ ix ∷ g.spine
   spine_is = ap (λ (v : Forest Item). v.spine) filled ∙ chained-spine (pushed (appended g x) ix) chain
@@ -51,19 +75,25 @@ module _ (g n : Forest Item) (x : Item) (chain : List Item) (ix : TreeIndex) (at
   pub block_closed : (new : Forest Item) (e : ℕ) → new ≡ closed_by n e n.spine → new ≡ added g (block_of (record x { «end» = e }) (leaves chain))
   block_closed new e new_is = new_is ∙ closed_at e ∙ closed-chained g x (λ y. record y { «end» = e }) chain ix at
 
-  pub block_place : (new : Forest Item) (e : ℕ) → new ≡ closed_by n e n.spine → ix.0 < length new.nodes
-  block_place new e new_is =
-      let y : Item = record x { «end» = e } in
-      let b = block_closed new e new_is in
-      let l : length new.nodes ≡ length g.nodes + length (at_depth (length g.spine + 1) (block_of y (leaves chain))) = ap (λ (v : Forest Item). length v.nodes) b ∙ length-append g.nodes (at_depth (length g.spine + 1) (block_of y (leaves chain))) in
-      omega arith
+  pub open_place_of : slice_get n.spine 0 ≡ Some ix
+  open_place_of = ap (λ (spine : List TreeIndex). slice_get spine 0) spine_is
 
-  -- closed at its end, and then what it is
-  pub block_named : (closed new : Forest Item) (e : ℕ) (body : ItemBody) → closed ≡ closed_by n e n.spine → new ≡ with_body_at closed ix body → new ≡ added g (block_of (record { start = x.start; «end» = e; body = body }) (leaves chain))
-  block_named closed new e body closed_is new_is =
-      let f : Forest Item = popped (chained (pushed (appended g x) ix) chain) ix g.spine in
-      new_is ∙ ap (λ v. with_body_at v ix body) (closed_is ∙ closed_at e) ∙ modified-modified f ix (λ y. record y { «end» = e }) (λ y. record y { body = body })
-      ∙ closed-chained g x (λ y. record { start = y.start; «end» = e; body = body }) chain ix at
+  -- its item
+  pub open_item_of : item_at n ix ≡ Some x
+  open_item_of =
+      ap (λ (v : Forest Item). item_at v ix) filled ∙ ap (λ (ns : List (ℕ × Item)). option_map (λ (z : ℕ × Item). z.1) (slice_get ns ix.0)) (opened_nodes g x chain ix)
+      ∙ ap (option_map (λ (z : ℕ × Item). z.1)) (get_behind g.nodes (at_depth (length g.spine + 2) (leaves chain)) (length g.spine + 1, x) ix.0 at)
+
+  -- another kind of block, while it is open
+  pub open_named : (body : ItemBody) → with_body_at n ix body ≡ chained (pushed (appended g (record x { body = body })) ix) chain
+  open_named body =
+      let y : Item = record x { body = body } in
+      let kids : List (ℕ × Item) = at_depth (length g.spine + 2) (leaves chain) in
+      ap (λ (v : Forest Item). with_body_at v ix body) filled
+      ∙ forest-eq (with_body_at (chained (pushed (appended g x) ix) chain) ix body) (chained (pushed (appended g y) ix) chain)
+      (ap (λ (ns : List (ℕ × Item)). modify ns ix.0 (λ (z : Item). record z { body = body })) (opened_nodes g x chain ix)
+      ∙ modify-at g.nodes kids (length g.spine + 1, x) ix.0 (λ (z : Item). record z { body = body }) at ∙ sym (opened_nodes g y chain ix))
+      (chained-spine (pushed (appended g x) ix) chain ∙ sym (chained-spine (pushed (appended g y) ix) chain)) (same_current g x y chain ix)
 
 -- the innermost open node is a node
 pub open_place_in : (f : Forest Item) (ix : TreeIndex) (rest : List TreeIndex) → IsForest f → f.spine ≡ ix ∷ rest → ix.0 < length f.nodes
@@ -72,3 +102,10 @@ open_place_in f ix rest forest e =
     let w : ix.0 < length (depths f.nodes) = p.0.within in
     let l : length (depths f.nodes) ≡ length f.nodes = length-map f.nodes (λ (n : ℕ × Item). n.0) in
     omega arith
+
+first_open : (f : Forest Item) (ix : TreeIndex) (spine : List TreeIndex) → IsForest f → f.spine ≡ spine → slice_get spine 0 ≡ Some ix → ix.0 < length f.nodes
+first_open f ix [] forest is e = absurd cc
+first_open f ix (first ∷ rest) forest is e = let same : first ≡ ix = cc in open_place_in f ix rest forest (is ∙ ap (λ (i : TreeIndex). i ∷ rest) same)
+
+pub open_node_in : (f : Forest Item) (ix : TreeIndex) → IsForest f → slice_get f.spine 0 ≡ Some ix → ix.0 < length f.nodes
+open_node_in f ix forest e = first_open f ix f.spine forest refl e

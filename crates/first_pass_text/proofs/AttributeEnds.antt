@@ -1,5 +1,5 @@
 -- The attribute block that the text of a heading ends with.
-use Rattle.std.proofs.Common.{◌≡◌, inl, inr, ℕ, ◌+◌, ◌-◌, ◌≤◌, ◌<◌, Bool, true, false, List, [], ◌∷◌, ◌++◌, length, take, drop, get_or, slice_index, Option, Some, None, is_some, IsSomeAnd, IfSome, min, IsUtf8, IsCharBoundary, refl, sym, ap, subst, ◌∙◌, arith, length-append, length-drop, length-take, length-take-le, get_or-drop, if◌then◌else◌}
+use Rattle.std.proofs.Common.{◌≡◌, inl, inr, ℕ, ◌+◌, ◌-◌, ◌≤◌, ◌<◌, Bool, true, false, List, [], ◌∷◌, ◌++◌, length, take, drop, get_or, slice_index, Option, Some, None, is_some, IsSomeAnd, min, IsUtf8, IsCharBoundary, refl, sym, ap, subst, ◌∙◌, arith, length-append, length-drop, length-take, length-take-le, get_or-drop, if◌then◌else◌}
 use Rattle.std.specs.List.{slice_range, suffix_len}
 use Rattle.std.specs.Option.{option_map, option_map_or}
 use Rattle.std.proofs.lemmas.Bool.{cond_both, cases_lt}
@@ -10,7 +10,7 @@ use Rattle.std.proofs.lemmas.Str.{IsCharBoundary-after_ascii}
 use Rattle.first_pass_items.specs.OptionWords.{has, heading_attributes}
 use Rattle.first_pass_items.specs.Bytes.{left_brace, right_brace}
 use Rattle.first_pass_items.specs.declared.option_set.Options.{Options}
-use Rattle.first_pass_attributes.specs.AttributeBlocks.{Braces, IsAttributeBlock, attribute_block, length_before_block, enclosed, inside_block}
+use Rattle.first_pass_attributes.specs.AttributeBlocks.{Braces, attribute_block, length_before_block, enclosed, inside_block}
 use Rattle.first_pass_attributes.specs.Attributes.{Attributes, attributes_of, attributes_in}
 use Rattle.first_pass_attributes.specs.declared.attrs.HeadingAttributes.{HeadingAttributes}
 use Rattle.first_pass_attributes.proofs.BlockFacts.{block-found}

@@ -17,7 +17,7 @@ use Rattle.first_pass_tokens.specs.TreeTokens.{chained, AppendsLine}
 use Rattle.first_pass_tokens.proofs.ChainLemmas.{with_tokens-chained, joins_none-fresh, chained-spine, childless-chained, cut_siblings-chained}
 use Rattle.first_pass_grammar.specs.Headings.{before_attributes, heading_attributes_of, text_before_attributes}
 use Rattle.first_pass_grammar.specs.Names.{Names, NamesAttributes, Extends}
-use Rattle.first_pass_grammar.specs.Leaves.{Document, document, kept_len, heading_chain, heading_text_at, IsHeading}
+use Rattle.first_pass_grammar.specs.Leaves.{document, kept_len, heading_chain, heading_text_at, IsHeading}
 use Rattle.first_pass_attributes.specs.Attributes.{attributes_in}
 use Rattle.first_pass_attributes.specs.declared.attrs.HeadingAttributes.{HeadingAttributes}
 use Rattle.first_pass_items.specs.declared.item.HeadingIndex.{HeadingIndex}

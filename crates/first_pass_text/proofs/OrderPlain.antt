@@ -1,13 +1,12 @@
 -- The block of a paragraph, or of a heading that is underlined, lies between two offsets in order.
 use Rattle.std.proofs.Common.{◌≡◌, inl, inr, ℕ, ◌+◌, ◌-◌, ◌*◌, ◌<◌, ◌≤◌, suc, ◌&&◌, Bool, true, false, if◌then◌else◌, List, [], ◌∷◌, ◌++◌, length, drop, Option, Some, None, IsUtf8, IsCharBoundary, refl, sym, ap, subst, ◌∙◌, arith, MatchOption, get_or, slice_index, take, ◌==◌, length-take-le, get_or-drop}
 use Rattle.std.proofs.lemmas.List.{append-nil, get_or-take, get_or-reverse}
-use Rattle.std.proofs.lemmas.Bool.{cases_lt, false≢true, cond-true, cond-false, cond_both, lt-ltb, le-ltb, and_left, and_right}
+use Rattle.std.proofs.lemmas.Bool.{cases_lt, false≢true, cond-true, cond-false, cond_both, lt-ltb, le-ltb, and_left}
 use Rattle.first_pass_items.specs.declared.item.Item.{Item}
 use Rattle.first_pass_tree.specs.Forest.{Forest, is_text, is_escaped}
 use Rattle.first_pass_lines.specs.Places.{start_of}
 use Rattle.first_pass_lines.proofs.PlaceFacts.{start_of-lines}
-use Rattle.first_pass_tokens.specs.Chains.{text_token, add_token, add_text, is_backslash_break, close_break, cut}
-use Rattle.first_pass_tokens.proofs.ChainLemmas.{add_text-some}
+use Rattle.first_pass_tokens.specs.Chains.{close_break, cut}
 use Rattle.first_pass_tokens.specs.Order.{AreInOrder, HaveBytes}
 use Rattle.first_pass_tokens.proofs.BytesLemmas.{few_in_order, bytes_closed}
 use Rattle.first_pass_tokens.proofs.OrderLemmas.{order_bound, order_to, order_closed}
@@ -44,6 +43,7 @@ use Rattle.first_pass_grammar.specs.Names.{Names}
 use Rattle.first_pass_grammar.proofs.MoreNames.{extends_none}
 use Rattle.first_pass_text.proofs.AttributeEnds.{length_between, braces_within}
 use Rattle.first_pass_text.proofs.OrderParagraph.{TextInOrder, text_is_in_order, cut_text_in_order, chain_end_place, text_later}
+use Rattle.first_pass_text.proofs.ParagraphLemmas.{closed_behind}
 use Rattle.first_pass_text.proofs.PlainTexts.{children_by}
 
 few_marked : (marker : Option Item) (chain : List Item) → length (marker_items marker ++ chain) ≤ suc (length chain)
@@ -116,22 +116,6 @@ top_stands old (Some m) h = inside_top (is_in_item old) h
 marker_plain : (body : ItemBody) → is_task_marker body ≡ true → (is_text body ≡ false) × (is_escaped body ≡ false)
 marker_plain (TaskListMarker checked) h = (refl, refl)
 marker_plain _ h = absurd (false≢true h)
-
--- what is no text stays first, whatever comes behind it
-token_behind : (m y : Item) (chain : List Item) → is_text m.body ≡ false → add_token (m ∷ chain) y ≡ m ∷ add_token chain y
-token_behind m y [] plain = cond-false _ _ _ (and_right (is_text y.body) (is_text m.body && (m.«end» == y.start)) (and_left (is_text m.body) (m.«end» == y.start) plain))
-token_behind m y (z ∷ zs) plain = refl
-
-closed_if : (t : Bool) (m : Item) (s : ℕ) (chain : List Item) → is_text m.body ≡ false
-    → (if t then add_text s (s + 1) false (m ∷ chain) else m ∷ chain) ≡ m ∷ (if t then add_text s (s + 1) false chain else chain)
-closed_if true m s chain plain =
-    add_text-some s (s + 1) false (m ∷ chain) (omega arith) ∙ token_behind m (text_token s (s + 1) false) chain plain
-    ∙ ap (λ (c : List Item). m ∷ c) (sym (add_text-some s (s + 1) false chain (omega arith)))
-closed_if false m s chain plain = refl
-
-closed_behind : (m : Item) (break : Option Item) (chain : List Item) → is_text m.body ≡ false → close_break break (m ∷ chain) ≡ m ∷ close_break break chain
-closed_behind m None chain plain = refl
-closed_behind m (Some x) chain plain = closed_if (is_backslash_break x.body) m x.start chain plain
 
 -- The children of a paragraph or a heading: a marker before its start, or none, and a chain in order behind that.
 record ChildrenStand (text : List ℕ) (w : Within) (from start to : ℕ) (kids : List Item) : Type 0 where

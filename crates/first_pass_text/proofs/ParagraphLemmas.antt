@@ -1,10 +1,10 @@
 -- The lines of a text, one after the other.
-use Rattle.std.proofs.Common.{◌≡◌, ◌⊎◌, inl, inr, ℕ, zero, suc, ◌+◌, ◌<◌, ◌≤◌, Bool, true, false, List, [], ◌∷◌, ◌++◌, length, drop, ◌^◌, if◌then◌else◌, Option, Some, None, is_some, IfSome, IsUtf8, IsCharBoundary, refl, sym, ap, subst, ◌∙◌, arith, ◌||◌}
-use Rattle.std.proofs.lemmas.Bool.{cases_lt, false≢true, cond_both}
+use Rattle.std.proofs.Common.{◌≡◌, ◌⊎◌, inl, inr, ℕ, zero, suc, ◌+◌, ◌<◌, ◌≤◌, ◌==◌, ◌&&◌, Bool, true, false, List, [], ◌∷◌, ◌++◌, length, drop, ◌^◌, if◌then◌else◌, Option, Some, None, is_some, IfSome, IsUtf8, IsCharBoundary, refl, sym, ap, subst, ◌∙◌, arith, ◌||◌}
+use Rattle.std.proofs.lemmas.Bool.{cases_lt, false≢true, cond-false, cond_both, and_left, and_right}
 use Rattle.std.proofs.lemmas.Str.{IsCharBoundary-end}
 use Rattle.first_pass_items.specs.declared.item.Item.{Item}
 use Rattle.first_pass_items.specs.declared.option_set.Options.{Options}
-use Rattle.first_pass_tree.specs.Forest.{Forest, appended, pushed}
+use Rattle.first_pass_tree.specs.Forest.{Forest, appended, pushed, is_text}
 use Rattle.first_pass_tree.specs.declared.tree_index.TreeIndex.{TreeIndex}
 use Rattle.first_pass_lines.specs.Lines.{line_len}
 use Rattle.first_pass_lines.specs.Places.{Place, offset, line_rest, line_place, place_at, IsPlaceOf}
@@ -14,9 +14,9 @@ use Rattle.first_pass_names.specs.TableEntries.{no_names}
 use Rattle.first_pass_grammar.specs.declared.kind.Container.{Container}
 use Rattle.first_pass_tokens.specs.Pieces.{Source}
 use Rattle.first_pass_tokens.specs.LineTokens.{IsLine, EndsLine, IsBreak}
-use Rattle.first_pass_tokens.specs.Chains.{add_tokens, close_break, is_backslash_break}
+use Rattle.first_pass_tokens.specs.Chains.{text_token, add_text, add_token, add_tokens, close_break, is_backslash_break}
 use Rattle.first_pass_tokens.specs.TreeTokens.{chained, with_tokens, JoinsNone, AppendsLine}
-use Rattle.first_pass_tokens.proofs.ChainLemmas.{with_tokens-chained, with_text-chained, appended-chained}
+use Rattle.first_pass_tokens.proofs.ChainLemmas.{add_text-some, with_tokens-chained, with_text-chained, appended-chained}
 use Rattle.first_pass_grammar.specs.Containers.{Context, context, after, front}
 use Rattle.first_pass_grammar.specs.Kinds.{unindented, interrupts, ends_paragraph, ends_text, underline_left, underline_of}
 use Rattle.first_pass_grammar.specs.Leaves.{Document, document, around, content_at, add_break, TextLines, text_lines, AreTextLines}
@@ -144,6 +144,22 @@ closed_by false f chain x h apart = rw h refl
 pub with_closed_break-chained : (f : Forest Item) (chain : List Item) (line_break : Option Item) → JoinsNone f → with_closed_break (chained f chain) line_break ≡ chained f (close_break line_break chain)
 with_closed_break-chained f chain None apart = refl
 with_closed_break-chained f chain (Some x) apart = closed_by (is_backslash_break x.body) f chain x refl apart
+
+-- what is no text stays first, whatever comes behind it
+token_behind : (m y : Item) (chain : List Item) → is_text m.body ≡ false → add_token (m ∷ chain) y ≡ m ∷ add_token chain y
+token_behind m y [] plain = cond-false _ _ _ (and_right (is_text y.body) (is_text m.body && (m.«end» == y.start)) (and_left (is_text m.body) (m.«end» == y.start) plain))
+token_behind m y (z ∷ zs) plain = refl
+
+closed_if : (t : Bool) (m : Item) (s : ℕ) (chain : List Item) → is_text m.body ≡ false
+    → (if t then add_text s (s + 1) false (m ∷ chain) else m ∷ chain) ≡ m ∷ (if t then add_text s (s + 1) false chain else chain)
+closed_if true m s chain plain =
+    add_text-some s (s + 1) false (m ∷ chain) (omega arith) ∙ token_behind m (text_token s (s + 1) false) chain plain
+    ∙ ap (λ (c : List Item). m ∷ c) (sym (add_text-some s (s + 1) false chain (omega arith)))
+closed_if false m s chain plain = refl
+
+pub closed_behind : (m : Item) (break : Option Item) (chain : List Item) → is_text m.body ≡ false → close_break break (m ∷ chain) ≡ m ∷ close_break break chain
+closed_behind m None chain plain = refl
+closed_behind m (Some x) chain plain = closed_if (is_backslash_break x.body) m x.start chain plain
 
 -- before the first line
 pub so_far_start : (d : Document) (start : ℕ) (old : Forest Item) → IsCharBoundary d.text start → LinesSoFar d start old old start

@@ -1,8 +1,8 @@
 -- A paragraph, or a heading that is underlined, is added to the tree.
-use Rattle.std.proofs.Common.{◌≡◌, inl, inr, Bool, ◌≤◌, ℕ, ◌+◌, List, [], ◌∷◌, ◌++◌, length, drop, Option, Some, None, IfSome, MatchOption, IsUtf8, IsCharBoundary, refl, sym, ap, subst, ◌∙◌, arith, false, ◌<◌, IsSome, slice_get}
+use Rattle.std.proofs.Common.{◌≡◌, inl, inr, Bool, ◌≤◌, ℕ, ◌+◌, List, [], ◌∷◌, ◌++◌, length, drop, Option, Some, None, IfSome, MatchOption, IsUtf8, IsCharBoundary, refl, sym, ap, subst, ◌∙◌, arith, false, IsSome, slice_get}
 use Rattle.first_pass_items.specs.declared.item.Item.{Item}
 use Rattle.first_pass_items.specs.declared.item.HeadingLevel.{HeadingLevel}
-use Rattle.first_pass_tree.specs.Forest.{Forest, added, appended, pushed, is_text, IsForest, with_body_at}
+use Rattle.first_pass_tree.specs.Forest.{Forest, added, appended, pushed, is_text, item_at, IsForest}
 use Rattle.first_pass_lines.specs.Places.{Place, offset, start_of}
 use Rattle.first_pass_lines.proofs.LineFacts.{lines_at-line}
 use Rattle.first_pass_lines.proofs.PlaceFacts.{start_of-lines}
@@ -22,19 +22,19 @@ use Rattle.first_pass_grammar.specs.Tables.{Taken, taking}
 use Rattle.first_pass_grammar.specs.Completion.{lines_from}
 use Rattle.first_pass_open.specs.Path.{path_of}
 use Rattle.first_pass_text.specs.Appends.{line_end_at, AddsPlainText, with_closed_break, AppendsLines}
-use Rattle.first_pass_text.proofs.ParagraphLemmas.{underline_there, underline_within, with_closed_break-chained, path_of-paragraph}
+use Rattle.first_pass_text.proofs.ParagraphLemmas.{underline_there, underline_within, with_closed_break-chained, closed_behind, path_of-paragraph}
 use Rattle.std.proofs.lemmas.Option.{same_Some}
 use Rattle.first_pass_tree.specs.declared.tree_index.TreeIndex.{TreeIndex}
-use Rattle.first_pass_tokens.specs.TreeTokens.{chained, JoinsNone}
+use Rattle.first_pass_tokens.specs.TreeTokens.{chained}
 use Rattle.first_pass_tokens.specs.Chains.{close_break, cut, add_tokens}
-use Rattle.first_pass_tokens.proofs.ChainLemmas.{joins_none-fresh, joins_none-appended, pushed-fresh}
+use Rattle.first_pass_tokens.proofs.ChainLemmas.{joins_none-fresh, pushed-fresh}
 use Rattle.first_pass_open.specs.OpenBlock.{with_child, closed_by}
-use Rattle.first_pass_open.proofs.BlockLemmas.{marked_chain, opened_at, opened_is, still_open, block_closed, block_named, block_place}
+use Rattle.first_pass_open.proofs.BlockLemmas.{marked_chain, opened_at, opened_is, still_open, block_closed, open_place_of, open_item_of, open_named}
 use Rattle.first_pass_items.specs.declared.item.ItemBody.TheVariants.{Paragraph, Heading}
 use Rattle.first_pass_open.proofs.PathLemmas.{open_are_in}
 use Rattle.first_pass_text.specs.declared.paragraph.TextEnd.{TextEnd}
 use Rattle.first_pass_text.proofs.OrderHeading.{line_stops}
-use Rattle.first_pass_text.specs.CutTexts.{cut_chain, CutsBlock}
+use Rattle.first_pass_text.specs.CutTexts.{cut_chain, CutsBlock, BecomesHeading}
 use Rattle.first_pass_text.proofs.AttributeEnds.{cut_none}
 
 no_underline : (o : Option (ℕ × HeadingLevel)) → None ≡ option_map (λ (found : ℕ × HeadingLevel). found.1) o → o ≡ None
@@ -45,10 +45,11 @@ some_underline : (level : HeadingLevel) (o : Option (ℕ × HeadingLevel)) → S
 some_underline level None h = cc
 some_underline level (Some underline) h = (underline.0, ap (λ z. Some (underline.0, z)) (sym (same_Some level underline.1 h)))
 
--- no text is joined to what was just opened, or to the marker in it
-marked_apart : (p : Forest Item) (marker : Option Item) → p.current ≡ None → IfSome marker (λ y. is_text y.body ≡ false) → JoinsNone (with_child p marker)
-marked_apart p None fresh h = joins_none-fresh p fresh
-marked_apart p (Some y) fresh h = joins_none-appended p y h
+-- the break behind a chain is closed behind a marker before it too
+closed_marked : (marker line_break : Option Item) (chain : List Item) → IfSome marker (λ y. is_text y.body ≡ false)
+    → close_break line_break (marker_items marker ++ chain) ≡ marker_items marker ++ close_break line_break chain
+closed_marked None line_break chain plain = refl
+closed_marked (Some m) line_break chain plain = closed_behind m line_break chain plain
 
 -- the chain of a text's lines names nothing
 pub renamed_lines : (text : List ℕ) (options : Options) (m n : Names) (path : List Container) (start : ℕ) (chain : List Item) (lines : List Place) (t : TextLines)
@@ -149,10 +150,8 @@ opened_item start = record { start = start; «end» = 0; body = Paragraph }
 pub record StandsOpen (text : List ℕ) (options : Options) (start : ℕ) (marker : Option Item) (g r : Forest Item) (ix : TreeIndex) (end : TextEnd) : Type 0 where
   pub chain : List Item
   pub at : ix.0 ≡ length g.nodes
-  pub before : Forest Item
-  pub marked : before ≡ with_child (pushed (appended g (opened_item start)) ix) marker
-  pub apart : JoinsNone before
-  pub tree_is : r ≡ chained before chain
+  pub tree_is : r ≡ chained (pushed (appended g (opened_item start)) ix) (marker_items marker ++ chain)
+  pub plain : IfSome marker (λ y. is_text y.body ≡ false)
   pub are : AreTextLines (document text options no_names) (path_of g) start [] (lines_from text (line_end_at text start)) (given text end.next chain end.line_break)
   pub said : end.underline ≡ option_map (λ (found : ℕ × HeadingLevel). found.1) (underline_first (path_of g) (lines_from text end.next))
   pub later : line_end_at text start ≤ end.next
@@ -170,10 +169,8 @@ stands_open text options start marker g a p m r ix end forest a_is current p_is 
     record {
       chain = read.chain;
       at = at;
-      before = m;
-      marked = there;
-      apart = subst JoinsNone (sym there) (marked_apart (pushed (appended g x) ix) marker refl plain);
-      tree_is = read.tree_is;
+      tree_is = marked_chain (pushed (appended g x) ix) m r marker read.chain there read.tree_is;
+      plain = plain;
       are = subst (λ path. AreTextLines (document text options no_names) path start [] (lines_from text (line_end_at text start)) (given text end.next read.chain end.line_break)) same read.are;
       said = read.underline ∙ ap (λ path. option_map (λ (found : ℕ × HeadingLevel). found.1) (underline_first path (lines_from text end.next))) same;
       later = read.later;
@@ -181,42 +178,31 @@ stands_open text options start marker g a p m r ix end forest a_is current p_is 
     }
 
 module _ {text : List ℕ} {options : Options} {start : ℕ} {marker : Option Item} {g r : Forest Item} {ix : TreeIndex} {end : TextEnd} (t : StandsOpen text options start marker g r ix end) where
-  abbrev opened : Forest Item
-  opened = pushed (appended g (opened_item start)) ix
-
   abbrev read_lines : TextLines
   read_lines = given text end.next t.chain end.line_break
 
   abbrev whole_chain : List Item
   whole_chain = marker_items marker ++ t.chain
 
-  -- the marker and the chain, before its last line is ended and after
-  whole_is : r ≡ chained opened whole_chain
-  whole_is = marked_chain opened t.before r marker t.chain t.marked t.tree_is
+  pub innermost : slice_get r.spine 0 ≡ Some ix
+  innermost = open_place_of g r (opened_item start) whole_chain ix t.at t.tree_is
 
-  text_filled : (n : Forest Item) → n ≡ with_closed_break r end.line_break → n ≡ chained opened (text_children marker read_lines)
-  text_filled n is =
-      marked_chain opened t.before n marker (close_break end.line_break t.chain) t.marked
-      (is ∙ ap (λ f. with_closed_break f end.line_break) t.tree_is ∙ with_closed_break-chained t.before t.chain end.line_break t.apart)
+  pub its_item : item_at r ix ≡ Some (opened_item start)
+  its_item = open_item_of g r (opened_item start) whole_chain ix t.at t.tree_is
 
-  -- the chain without its attribute block
-  cut_filled : (broken : Bool) (c n : Forest Item) (o : Option Braces) → heading_braces options (chain_bytes text start whole_chain) ≡ o → broken ≡ by_backslash end.line_break
-      → c ≡ chained opened (cut_chain text options start broken whole_chain) → n ≡ with_closed_break c end.line_break
-      → n ≡ chained opened (heading_children (document text options no_names) start marker read_lines)
-  cut_filled broken c n None none broken_is c_is n_is =
-      let same : c ≡ r = c_is ∙ ap (chained opened) (cut_none text options start broken whole_chain none) ∙ sym whole_is in
-      text_filled n (n_is ∙ ap (λ f. with_closed_break f end.line_break) same)
-      ∙ ap (chained opened) (sym (children_by (document text options no_names) start marker read_lines None none))
-  cut_filled broken c n (Some block) some broken_is c_is n_is =
-      let left : List Item = cut (start + kept_before (by_backslash end.line_break) block.opening (chain_bytes text start whole_chain)) whole_chain in
-      let cut_is : cut_chain text options start broken whole_chain ≡ left =
-      ap (λ b. cut_chain text options start b whole_chain) broken_is
-      ∙ ap (λ (o : Option Braces).
-      option_map_or (λ (b : Braces). cut (start + kept_before (by_backslash end.line_break) b.opening (chain_bytes text start whole_chain)) whole_chain) o whole_chain) some in
-      n_is ∙ ap (λ f. with_closed_break f end.line_break) (c_is ∙ ap (chained opened) cut_is) ∙ with_closed_break-chained opened left end.line_break (joins_none-fresh opened refl)
-      ∙ ap (chained opened) (sym (children_by (document text options no_names) start marker read_lines (Some block) some))
+  -- the break of the last line is closed, in a block of any kind
+  ended : (x : Item) (chain : List Item) (c n : Forest Item) → c ≡ chained (pushed (appended g x) ix) chain → n ≡ with_closed_break c end.line_break
+      → n ≡ chained (pushed (appended g x) ix) (close_break end.line_break chain)
+  ended x chain c n c_is n_is =
+      n_is ∙ ap (λ f. with_closed_break f end.line_break) c_is
+      ∙ with_closed_break-chained (pushed (appended g x) ix) chain end.line_break (joins_none-fresh (pushed (appended g x) ix) refl)
 
   -- a paragraph, whose last line is ended
+  text_filled : (n : Forest Item) → n ≡ with_closed_break r end.line_break → n ≡ chained (pushed (appended g (opened_item start)) ix) (text_children marker read_lines)
+  text_filled n is =
+      ended (opened_item start) whole_chain r n t.tree_is is
+      ∙ ap (chained (pushed (appended g (opened_item start)) ix)) (closed_marked marker end.line_break t.chain t.plain)
+
   pub text_open : (n : Forest Item) → n ≡ with_closed_break r end.line_break → IsSome (slice_get n.spine 0)
   text_open n is = still_open g n (opened_item start) (text_children marker read_lines) ix t.at (text_filled n is)
 
@@ -226,30 +212,46 @@ module _ {text : List ℕ} {options : Options} {start : ℕ} {marker : Option It
       paragraph_added text options names start end.next marker g new t.chain end.line_break t.are t.later t.boundary (none ∙ t.said)
       (block_closed g n (opened_item start) (text_children marker read_lines) ix t.at (text_filled n n_is) new end.next is)
 
+  -- what is left of the chain of a heading, its last line ended, are its children
+  cut_is : (o : Option Braces) → heading_braces options (chain_bytes text start whole_chain) ≡ o
+      → close_break end.line_break (cut_chain text options start (by_backslash end.line_break) whole_chain) ≡ heading_children (document text options no_names) start marker read_lines
+  cut_is None none =
+      ap (close_break end.line_break) (cut_none text options start (by_backslash end.line_break) whole_chain none) ∙ closed_marked marker end.line_break t.chain t.plain
+      ∙ sym (children_by (document text options no_names) start marker read_lines None none)
+  cut_is (Some block) some =
+      ap (λ (o : Option Braces). close_break end.line_break
+      (option_map_or (λ (b : Braces). cut (start + kept_before (by_backslash end.line_break) b.opening (chain_bytes text start whole_chain)) whole_chain) o whole_chain)) some
+      ∙ sym (children_by (document text options no_names) start marker read_lines (Some block) some)
+
   -- a heading, whose attribute block is cut off, and whose last line is then ended
-  module _ (names : Names) (broken : Bool) (index : Option HeadingIndex) (c n : Forest Item) (broken_is : broken ≡ by_backslash end.line_break)
-      (cuts : CutsBlock text options names start broken r c index) (n_is : n ≡ with_closed_break c end.line_break) where
+  module _ (names : Names) (level : HeadingLevel) (broken : Bool) (h n : Forest Item) (broken_is : broken ≡ by_backslash end.line_break)
+      (heads : BecomesHeading (document text options names) level broken ix r h) (n_is : n ≡ with_closed_break h end.line_break) where
     abbrev kids : List Item
     kids = heading_children (document text options no_names) start marker read_lines
 
-    cut_off : (c ≡ chained opened (cut_chain text options start broken whole_chain))
-        × ((more : Names) → Extends more names → NamesAttributes more index (heading_attributes_of options (chain_bytes text start whole_chain)))
+    abbrev heading_item : Item
+    heading_item = record { start = start; «end» = 0; body = Heading level heads.index }
+
+    cut_off : (heads.cut ≡ chained (pushed (appended g (opened_item start)) ix) (cut_chain text options start broken whole_chain))
+        × ((more : Names) → Extends more names → NamesAttributes more heads.index (heading_attributes_of options (chain_bytes text start whole_chain)))
     cut_off =
         let fresh = pushed-fresh g (opened_item start) ix t.at in
-        cuts opened whole_chain (record { last = fresh.0; none = fresh.1 }) whole_is
+        let cuts = subst (λ (o : Option Item). IfSome o (λ x. CutsBlock (document text options names) x.start broken r heads.cut heads.index)) its_item heads.cuts in
+        cuts (pushed (appended g (opened_item start)) ix) whole_chain (record { last = fresh.0; none = fresh.1 }) t.tree_is
 
-    heading_filled : n ≡ chained opened kids
-    heading_filled = cut_filled broken c n (heading_braces options (chain_bytes text start whole_chain)) refl broken_is cut_off.0 n_is
+    heading_filled : n ≡ chained (pushed (appended g heading_item) ix) kids
+    heading_filled =
+        ended heading_item (cut_chain text options start broken whole_chain) h n
+        (heads.tree_is ∙ open_named g heads.cut (opened_item start) (cut_chain text options start broken whole_chain) ix t.at cut_off.0 (Heading level heads.index)) n_is
+        ∙ ap (chained (pushed (appended g heading_item) ix))
+        (ap (λ (b : Bool). close_break end.line_break (cut_chain text options start b whole_chain)) broken_is ∙ cut_is (heading_braces options (chain_bytes text start whole_chain)) refl)
 
     pub heading_open : IsSome (slice_get n.spine 0)
-    heading_open = still_open g n (opened_item start) kids ix t.at heading_filled
+    heading_open = still_open g n heading_item kids ix t.at heading_filled
 
-    pub heading_place_in : (closed : Forest Item) (e : ℕ) → closed ≡ closed_by n e n.spine → ix.0 < length closed.nodes
-    heading_place_in closed e is = block_place g n (opened_item start) kids ix t.at heading_filled closed e is
-
-    pub closed_heading : (closed new : Forest Item) (level : HeadingLevel) (next : ℕ) → Some level ≡ end.underline → next ≡ line_end_at text end.next → IsUtf8 text
-        → closed ≡ closed_by n next n.spine → new ≡ with_body_at closed ix (Heading level index) → AddsPlainText text options names start marker g new next
-    closed_heading closed new level next some next_is utf8 closed_is is =
-        heading_added text options names start end.next marker g new t.chain end.line_break t.are t.later t.boundary level index next (some ∙ t.said) next_is
+    pub closed_heading : (new : Forest Item) (next : ℕ) → Some level ≡ end.underline → next ≡ line_end_at text end.next → IsUtf8 text → new ≡ closed_by n next n.spine
+        → AddsPlainText text options names start marker g new next
+    closed_heading new next some next_is utf8 is =
+        heading_added text options names start end.next marker g new t.chain end.line_break t.are t.later t.boundary level heads.index next (some ∙ t.said) next_is
         (subst (IsCharBoundary text) (sym next_is) (line_stops text end.next utf8 t.boundary)) cut_off.1
-        (block_named g n (opened_item start) kids ix t.at heading_filled closed new next (Heading level index) closed_is is)
+        (block_closed g n heading_item kids ix t.at heading_filled new next is)

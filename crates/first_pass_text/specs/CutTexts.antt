@@ -1,13 +1,17 @@
--- The chain of a heading's text without its attribute block (private functions alone cite this).
-use Rattle.std.specs.Prelude.{◌≡◌, ℕ, ◌+◌, Bool, List, length, Option, None}
+-- The chain of a heading's text without its attribute block.
+use Rattle.std.specs.Prelude.{◌≡◌, ℕ, ◌+◌, Bool, List, length, Option, None, IfSome}
 use Rattle.std.specs.Option.{option_map_or}
 use Rattle.first_pass_items.specs.declared.item.HeadingIndex.{HeadingIndex}
+use Rattle.first_pass_items.specs.declared.item.HeadingLevel.{HeadingLevel}
 use Rattle.first_pass_items.specs.declared.item.Item.{Item}
+use Rattle.first_pass_items.specs.declared.item.ItemBody.TheVariants.{Heading}
 use Rattle.first_pass_items.specs.declared.option_set.Options.{Options}
-use Rattle.first_pass_tree.specs.Forest.{Forest, open_place}
+use Rattle.first_pass_tree.specs.declared.tree_index.TreeIndex.{TreeIndex}
+use Rattle.first_pass_tree.specs.Forest.{Forest, open_place, item_at, with_body_at}
 use Rattle.first_pass_tokens.specs.Chains.{cut}
 use Rattle.first_pass_tokens.specs.TreeTokens.{chained}
 use Rattle.first_pass_grammar.specs.Headings.{heading_braces, heading_attributes_of, chain_bytes, kept_before}
+use Rattle.first_pass_grammar.specs.Leaves.{Document}
 use Rattle.first_pass_grammar.specs.Names.{Names, NamesAttributes, Extends}
 
 -- the innermost open node is the last one, and nothing stands in it
@@ -22,8 +26,16 @@ cut_chain text options start broken chain =
 
 -- The attribute block of the heading's text that begins at an offset is cut off its chain, which stands alone in the innermost open node, and the index of its
 -- attributes names them, whatever more is named.
-abbrev pub CutsBlock : List ℕ → Options → Names → ℕ → Bool → Forest Item → Forest Item → Option HeadingIndex → Type 0
-CutsBlock text options names start broken old new index =
+abbrev pub CutsBlock : Document → ℕ → Bool → Forest Item → Forest Item → Option HeadingIndex → Type 0
+CutsBlock d start broken old new index =
     (f : Forest Item) → (chain : List Item) → IsBare f → old ≡ chained f chain
-    → (new ≡ chained f (cut_chain text options start broken chain))
-    × ((more : Names) → Extends more names → NamesAttributes more index (heading_attributes_of options (chain_bytes text start chain)))
+    → (new ≡ chained f (cut_chain d.text d.options start broken chain))
+    × ((more : Names) → Extends more d.names → NamesAttributes more index (heading_attributes_of d.options (chain_bytes d.text start chain)))
+
+-- An open block is a heading of this level now, whose attribute block is cut off the chain that stands in it; a backslash breaks its text's last line, or
+-- doesn't (CommonMark 4.3, and this project).
+pub record BecomesHeading (d : Document) (level : HeadingLevel) (broken : Bool) (block : TreeIndex) (old new : Forest Item) : Type 0 where
+  pub index : Option HeadingIndex
+  pub cut : Forest Item
+  pub cuts : IfSome (item_at old block) (λ x. CutsBlock d x.start broken old cut index)
+  pub tree_is : new ≡ with_body_at cut block (Heading level index)

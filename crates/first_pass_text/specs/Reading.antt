@@ -2,7 +2,7 @@
 use Rattle.std.specs.Prelude.{◌≡◌, ◌⊎◌, ◌≤◌, ℕ, List, [], IsCharBoundary, Bool, true, false, Option, Some, None}
 use Rattle.first_pass_items.specs.declared.item.Item.{Item}
 use Rattle.first_pass_tree.specs.Forest.{Forest}
-use Rattle.first_pass_lines.specs.Places.{Place, offset, place_at}
+use Rattle.first_pass_lines.specs.Places.{offset, place_at}
 use Rattle.first_pass_tokens.specs.TreeTokens.{chained}
 use Rattle.first_pass_grammar.specs.Leaves.{Document, TextLines, AreTextLines}
 use Rattle.first_pass_grammar.specs.Completion.{lines_from}

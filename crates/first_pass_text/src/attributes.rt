@@ -1,29 +1,31 @@
 //! The attributes that the text of a heading ends with (this project).
 
-ghost use Rattle.std.specs.Prelude.{◌≡◌, ◌≤◌, ◌<◌, ◌+◌, ◌-◌, ℕ, List, length, IfOk, OnOk, Some, None, if◌then◌else◌};
+ghost use Rattle.std.specs.Prelude.{◌≡◌, ◌≤◌, ◌<◌, ◌+◌, ◌-◌, ℕ, List, length, slice_get, IfOk, IfSome, OnOk, Some, None, if◌then◌else◌};
 ghost use Rattle.std.specs.List.{slice_range, suffix_len};
 ghost use Rattle.first_pass_lines.specs.Lines.{is_white};
 ghost use Rattle.std.specs.Option.{option_map};
 ghost use Rattle.first_pass_items.specs.declared.item.Item.{Item};
-ghost use Rattle.first_pass_tree.specs.Forest.{Forest};
+ghost use Rattle.first_pass_tree.specs.Forest.{Forest, item_at};
 ghost use Rattle.first_pass_tokens.specs.TreeTokens.{chained};
 ghost use Rattle.first_pass_attributes.specs.Attributes.{attributes_in};
 ghost use Rattle.first_pass_grammar.specs.Headings.{before_attributes, heading_attributes_of, chain_end as chain_end_of};
+ghost use Rattle.first_pass_grammar.specs.Leaves.{document};
 ghost use Rattle.first_pass_grammar.specs.Names.{Names, Extends, NamesAttributes};
 ghost use Rattle.first_pass_names.specs.TableEntries.{tables, names_of};
-ghost use Rattle.first_pass_text.specs.CutTexts.{IsBare, CutsBlock};
+ghost use Rattle.first_pass_text.specs.CutTexts.{IsBare, CutsBlock, BecomesHeading};
 
 use bitflags::Flags;
 use first_pass_attributes::attrs::{
     HeadingAttributes, extract_attribute_block_content_from_header_text,
     parse_inside_attribute_block,
 };
-use first_pass_items::item::{HeadingIndex, Item};
+use first_pass_items::item::{HeadingIndex, HeadingLevel, Item, ItemBody};
 use first_pass_items::option_set::Options;
 use first_pass_lines::lines::is_white;
 use first_pass_names::items::Allocations;
 use first_pass_open::source::Source;
 use first_pass_tree::forest::Tree;
+use first_pass_tree::tree_index::TreeIndex;
 use std::alloc::{AllocError, Global};
 
 /// Where the content of a heading ends whose text goes from the offset `header_start` into the text up to
@@ -125,8 +127,10 @@ pub fn cut_attributes<'a>(
     requires within { start ≤ length source.text.now }
     ensures names { OnOk result (Extends (names_of allocs.new) (names_of allocs.old)) }
     ensures tables { OnOk result (tables allocs.new ≡ tables allocs.old) }
-    ensures cut { IfOk result (λ index. CutsBlock source.entry.text.now source.entry.options (names_of allocs.new) start
-        broken tree.old tree.new index) }
+    ensures cut { IfOk result (λ index.
+        CutsBlock (document source.entry.text.now source.entry.options (names_of allocs.new)) start broken tree.old
+        tree.new index) }
+    ensures open { OnOk result (tree.new.spine ≡ tree.old.spine) }
 {
     // A marker before the text ends before it; no token ends behind the whole text.
     let end = chain_end(tree, start).min(source.text.len());
@@ -139,4 +143,32 @@ pub fn cut_attributes<'a>(
     }
     let index = name_attributes(allocs, attributes)?;
     Ok(index)
+}
+
+/// Makes the block `node_ix`, the innermost open node, in which the chain of its text stands, a heading of this level:
+/// the attribute block is cut off the chain, and the attributes are put among `allocs`. A backslash breaks the text's
+/// last line (`broken`) or doesn't. The error is want of memory (CommonMark 4.3, and this project).
+pub fn make_heading<'a>(
+    alloc: Global,
+    source: Source<'a>,
+    tree: &mut Tree<Item>,
+    allocs: &mut Allocations<'a>,
+    node_ix: TreeIndex,
+    level: HeadingLevel,
+    broken: bool,
+) -> Result<(), AllocError>
+    requires open { slice_get tree.old.spine 0 ≡ Some node_ix }
+    requires start { IfSome (item_at tree.old node_ix) (λ x. x.start ≤ length source.text.now) }
+    ensures names { OnOk result (Extends (names_of allocs.new) (names_of allocs.old)) }
+    ensures tables { OnOk result (tables allocs.new ≡ tables allocs.old) }
+    ensures heading { OnOk result (
+        BecomesHeading (document source.entry.text.now source.entry.options (names_of allocs.new)) level broken node_ix
+        tree.old tree.new) }
+{
+    tree.is_forest();
+    let start = tree[node_ix].start;
+    let index = cut_attributes(alloc, source, tree, allocs, start, broken)?;
+    tree.is_forest();
+    tree.set_body(node_ix, ItemBody::Heading(level, index));
+    Ok(())
 }

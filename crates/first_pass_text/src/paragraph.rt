@@ -12,7 +12,7 @@ ghost use Rattle.first_pass_text.specs.Appends.{AppendsLines, AddsPlainText, wit
 ghost use Rattle.first_pass_open.specs.OpenBlock.{with_child};
 ghost use Rattle.first_pass_text.specs.Between.{AddsBetween, IsInItem, StandsBefore};
 
-use crate::attributes::cut_attributes;
+use crate::attributes::make_heading;
 use crate::interrupt::{NextLine, scan_next_line};
 use first_pass_items::item::{HeadingLevel, Item, ItemBody};
 use first_pass_lines::places::next_line;
@@ -118,11 +118,10 @@ pub fn parse_paragraph<'a>(
         return Ok(end.next);
     };
     let broken = is_by_backslash(end.line_break);
-    let index = cut_attributes(alloc, source, tree, allocs, start_ix, broken)?;
+    make_heading(alloc, source, tree, allocs, node_ix, level, broken)?;
     append_last_backslash(tree, end.line_break)?;
     let behind = next_line(source.text.as_bytes(), end.next);
     close_block(tree, behind);
-    tree.set_body(node_ix, ItemBody::Heading(level, index));
     Ok(behind)
 }
 

@@ -1,13 +1,10 @@
-use Rattle.std.proofs.Common.{◌≡◌, ◌+◌, ℕ, List, [], Option, length, take, drop, is_some, IsUtf8, false, sym, ap, subst, ◌∙◌, if◌then◌else◌}
+use Rattle.std.proofs.Common.{◌≡◌, ◌+◌, ℕ, List, [], length, take, drop, is_some, IsUtf8, sym, ap, subst, ◌∙◌, if◌then◌else◌}
 use Rattle.std.specs.List.{slice_range}
-use Rattle.std.specs.Option.{option_map}
 use Rattle.first_pass_items.specs.declared.item.Item.{Item}
 use Rattle.first_pass_items.specs.declared.item.ItemBody.TheVariants.{Heading}
 use Rattle.first_pass_lines.specs.Lines.{line_len, level_number}
 use Rattle.first_pass_tokens.specs.Chains.{add_tokens, close_break}
 use Rattle.first_pass_tokens.specs.TreeTokens.{chained}
-use Rattle.first_pass_tree.specs.Forest.{Forest}
-use Rattle.first_pass_attributes.specs.Attributes.{attributes_in}
 use Rattle.first_pass_grammar.specs.Headings.{before_attributes, heading_attributes_of}
 use Rattle.first_pass_grammar.specs.Leaves.{document, kept_len, heading_chain, heading_text_at, IsHeading}
 use Rattle.first_pass_names.specs.TableEntries.{names_of}

@@ -1,5 +1,4 @@
-use Rattle.std.proofs.Common.{sym, ap, ◌∙◌}
-use Rattle.first_pass_lines.specs.Plain.{begins_plain}
+use Rattle.std.proofs.Common.{sym, ◌∙◌}
 use Rattle.first_pass_text.proofs.PlainKinds.{plain_interrupts}
 use Rattle.first_pass_text.proofs.interrupt.interrupts_without_table.Goals as goal
 

@@ -1,4 +1,4 @@
-use Rattle.std.proofs.Common.{◌<◌, ◌≤◌, ◌≡◌, ◌^◌, length, IsUtf8, IsCharBoundary, true, None, Some, drop, refl, sym, subst, arith}
+use Rattle.std.proofs.Common.{◌<◌, ◌≤◌, length, IsUtf8, IsCharBoundary, refl, sym, subst, arith}
 use Rattle.first_pass_names.specs.TableEntries.{no_names}
 use Rattle.first_pass_grammar.specs.Leaves.{document}
 use Rattle.first_pass_open.proofs.PathLemmas.{open_are_in}

@@ -1,0 +1,23 @@
+use Rattle.std.proofs.Common.{sym, ap, ◌∙◌, slice_get, subst, Option, IfSome}
+use Rattle.first_pass_items.specs.declared.item.Item.{Item}
+use Rattle.first_pass_open.proofs.BlockLemmas.{open_node_in}
+use Rattle.first_pass_names.specs.TableEntries.{names_of}
+use Rattle.first_pass_grammar.specs.Leaves.{document}
+use Rattle.first_pass_text.specs.CutTexts.{CutsBlock}
+use Rattle.first_pass_text.proofs.attributes.make_heading.Goals as goal
+
+pub index-requires : goal.index-requires
+index-requires c = open_node_in c.args.tree.now c.args.node_ix c.is_forest.ensures c.requires.open
+
+pub set_body-requires : goal.set_body-requires
+set_body-requires c = open_node_in c.cut_attributes.new.tree c.args.node_ix c.is_forest-2.ensures (ap (λ s. slice_get s 0) c.in_ok-index.ensures.open ∙ c.requires.open)
+
+pub returns-clause-heading : goal.returns-clause-heading
+returns-clause-heading c =
+    let d = document c.args.source.text.now c.args.source.options (names_of c.cut_attributes.new.allocs) in
+    record {
+      index = c.in_ok-index.index;
+      cut = c.cut_attributes.new.tree;
+      cuts = subst (λ (o : Option Item). IfSome o (λ x. CutsBlock d x.start c.args.broken c.args.tree.now c.cut_attributes.new.tree c.in_ok-index.index)) (sym c.index.ensures) c.in_ok-index.ensures.cut;
+      tree_is = c.set_body.ensures;
+    }
