@@ -25,3 +25,4 @@ pub mod RunLemmas
 pub mod StateLemmas
 pub mod TagLemmas
 pub mod TextLemmas
+pub mod UnderlinedOrder

@@ -1,15 +1,28 @@
-//! The attributes of a heading, as a call of the pass (this project).
+//! Headings that are underlined, and the attributes of a heading, as calls of the pass.
 
-ghost use Rattle.std.specs.Prelude.{◌≡◌, ◌+◌, ◌≤◌, length, IfOk};
+ghost use Rattle.std.specs.Prelude.{◌≡◌, ◌+◌, ◌≤◌, drop, length, slice_get, Some, IfOk, IfSome, OnOk, MatchOption};
 ghost use Rattle.std.specs.List.{slice_range};
 ghost use Rattle.std.specs.Option.{option_map};
+ghost use Rattle.first_pass_tree.specs.Forest.{item_at};
+ghost use Rattle.first_pass_lines.specs.Places.{start_of};
+ghost use Rattle.first_pass_scan.specs.LeafLines.{setext_underline};
 ghost use Rattle.first_pass_attributes.specs.Attributes.{attributes_in};
 ghost use Rattle.first_pass_grammar.specs.Headings.{before_attributes, heading_attributes_of};
-ghost use Rattle.first_pass.specs.Views.{source_options, source_text};
+ghost use Rattle.first_pass_grammar.specs.Leaves.{document, TextLines};
+ghost use Rattle.first_pass_grammar.specs.Names.{Extends};
+ghost use Rattle.first_pass_grammar.specs.OpenOrder.{IsOrderedTo};
+ghost use Rattle.first_pass_grammar.specs.Texts.{by_backslash};
+ghost use Rattle.first_pass_names.specs.TableEntries.{tables, names_of, no_names};
+ghost use Rattle.first_pass_text.specs.CutTexts.{BecomesHeading};
+ghost use Rattle.first_pass.specs.Ordered.{HoldsText};
+ghost use Rattle.first_pass.specs.Views.{allocs_of, reading_of, source_of, source_options, source_text, tree_of, with_tree};
 
 use crate::state::FirstPass;
 use first_pass_attributes::attrs::HeadingAttributes;
+use first_pass_lines::places::rest_of;
+use first_pass_scan::leaf_scan::scan_setext_heading;
 use first_pass_text::attributes;
+use first_pass_tree::tree_index::TreeIndex;
 use std::alloc::AllocError;
 
 impl<'a> FirstPass<'a> {
@@ -36,5 +49,53 @@ impl<'a> FirstPass<'a> {
             header_end,
         )?;
         Ok(answer)
+    }
+
+    /// Makes the paragraph `node_ix`, the innermost open node, in which the chain of its lines stands, a heading of the
+    /// level of the underline that begins at the offset `ix` into the text: the attribute block is cut off the chain,
+    /// up to the white space before it, or only up to its brace where a backslash breaks the last line
+    /// (`has_trailing_content`). The heading stays open, and the break behind its last line is not closed. Answers the
+    /// offset behind the underline's line; `None`, and nothing changes, where no underline begins at `ix`
+    /// (CommonMark 4.3, and this project).
+    ///
+    /// No node is added. The error is want of memory.
+    pub fn parse_setext_heading(
+        &mut self,
+        ix: usize,
+        node_ix: TreeIndex,
+        has_trailing_content: bool,
+    ) -> Result<Option<usize>, AllocError>
+        requires place { ix ≤ length (source_text self.old) }
+        requires open { slice_get (tree_of self.old).spine 0 ≡ Some node_ix }
+        requires start { IfSome (item_at (tree_of self.old) node_ix) (λ x. x.start ≤ length (source_text self.old)) }
+        ensures source { OnOk result (source_of self.new ≡ source_of self.old) }
+        ensures names { OnOk result (Extends (names_of (allocs_of self.new)) (names_of (allocs_of self.old))) }
+        ensures tables { OnOk result (tables (allocs_of self.new) ≡ tables (allocs_of self.old)) }
+        ensures reading { OnOk result (reading_of self.new ≡ with_tree (reading_of self.old) (tree_of self.new)) }
+        ensures value { IfOk result (λ next. next
+            ≡ option_map (λ underline. ix + underline.0) (setext_underline (drop ix (source_text self.old)))) }
+        ensures heading { OnOk result (MatchOption (setext_underline (drop ix (source_text self.old)))
+            (tree_of self.new ≡ tree_of self.old)
+            (λ underline. BecomesHeading
+            (document (source_text self.old) (source_options self.old) (names_of (allocs_of self.new))) underline.1
+            has_trailing_content node_ix (tree_of self.old) (tree_of self.new))) }
+        ensures order { OnOk result ((l : TextLines) → has_trailing_content ≡ by_backslash l.break
+            → HoldsText (document (source_text self.old) (source_options self.old) no_names) (tree_of self.old) node_ix l
+            → IsOrderedTo (source_text self.old) (tree_of self.new) (start_of (length (source_text self.old)) l.left)) }
+    {
+        let bytes = rest_of(self.source.text.as_bytes(), ix);
+        let Some((length, level)) = scan_setext_heading(bytes) else {
+            return Ok(None);
+        };
+        attributes::make_heading(
+            self.alloc,
+            self.source,
+            &mut self.reading.tree,
+            &mut self.allocs,
+            node_ix,
+            level,
+            has_trailing_content,
+        )?;
+        Ok(Some(ix + length))
     }
 }

@@ -178,7 +178,7 @@ kept_byte false bs opening within is =
     ]
 
 -- A heading's content ends between two characters before its attribute block.
-kept_place : (text : List ℕ) (options : Options) (start last : ℕ) (broken : Bool) (block : Braces) → last ≤ length text → heading_braces options (slice_range text start last) ≡ Some block
+pub kept_place : (text : List ℕ) (options : Options) (start last : ℕ) (broken : Bool) (block : Braces) → last ≤ length text → heading_braces options (slice_range text start last) ≡ Some block
     → let e : ℕ = start + kept_before broken block.opening (slice_range text start last) in (start ≤ e) × (e < last) × IsCharBoundary text e
 kept_place text options start last broken block within e =
     let bs : List ℕ = slice_range text start last in
@@ -191,14 +191,14 @@ kept_place text options start last broken block within e =
     (omega arith, omega arith, IsCharBoundary-before_ascii text (start + k) (omega arith) (omega (arith, kept.1)))
 
 -- where a chain with a marker before it ends
-marked_end : (text : List ℕ) (from start stop : ℕ) (marker : Option Item) (chain : List Item) → StandsBefore text from start marker → start ≤ stop → chain_end start chain ≤ stop
+pub marked_end : (text : List ℕ) (from start stop : ℕ) (marker : Option Item) (chain : List Item) → StandsBefore text from start marker → start ≤ stop → chain_end start chain ≤ stop
     → chain_end start (marker_items marker ++ chain) ≤ stop
 marked_end text from start stop None chain stands low e = e
 marked_end text from start stop (Some m) [] stands low e = let b : IsBetween text from start (extent_of m) = stands.1 in omega (arith, b.before)
 marked_end text from start stop (Some m) (x ∷ xs) stands low e = e
 
 -- what is left of a marker before the cut, or of one that is empty there
-cut_marker : (e : ℕ) (m : Item) (chain : List Item) → m.start < e → m.«end» ≤ e → cut e (m ∷ chain) ≡ m ∷ cut e chain
+pub cut_marker : (e : ℕ) (m : Item) (chain : List Item) → m.start < e → m.«end» ≤ e → cut e (m ∷ chain) ≡ m ∷ cut e chain
 cut_marker e m chain before whole =
     cond-true _ _ _ (lt-ltb m.start e before) ∙ ap (λ (x : Item). x ∷ cut e chain) (cond-false _ _ _ (le-ltb e m.«end» whole))
 
