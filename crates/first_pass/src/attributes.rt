@@ -27,7 +27,7 @@ use std::alloc::AllocError;
 
 impl<'a> FirstPass<'a> {
     /// Where the content of a heading ends whose text goes from the offset `header_start` into the text up to
-    /// `header_end`, and its attributes: before its attribute block, white space directly before that too, and what the
+    /// `header_end`, and its attributes: before its attribute block, behind the white space there, and what the
     /// block gives. Without such a block, or where headings have none, the text's end and `None`; a text whose end lies
     /// before its start is empty. The pass stays as it is. The error is want of memory (this project).
     pub fn extract_and_parse_heading_attribute_block(

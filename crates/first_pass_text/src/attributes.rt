@@ -29,7 +29,7 @@ use first_pass_tree::tree_index::TreeIndex;
 use std::alloc::{AllocError, Global};
 
 /// Where the content of a heading ends whose text goes from the offset `header_start` into the text up to
-/// `header_end`, and its attributes: before its attribute block, white space directly before that too, and what the
+/// `header_end`, and its attributes: before its attribute block, behind the white space there, and what the
 /// block gives. Without such a block, or where headings have none, the text's end and `None`; a text whose end lies
 /// before its start is empty. The error is want of memory (this project).
 pub fn extract_and_parse_heading_attribute_block<'a>(

@@ -132,6 +132,24 @@ fn rule_end(alloc: Global) -> Result<usize, AllocError> {
     pass.parse_hrule(4, 0)
 }
 
+// Where the content of a heading's text ends, and whether an id is given behind it.
+fn content_end(alloc: Global, options: Options) -> Result<(usize, bool), AllocError> {
+    let pass = FirstPass::new(alloc, "a {#x}\n", options)?;
+    let (end, given) = pass.extract_and_parse_heading_attribute_block(0, 6)?;
+    Ok((
+        end,
+        given.is_some_and(|attributes| attributes.id == Some("x")),
+    ))
+}
+
+#[test]
+fn content_of_a_heading(rt: HostRuntime) -> Result<(), Fail> {
+    let with_attributes = Options::ENABLE_HEADING_ATTRIBUTES;
+    assert!(rt; content_end(rt.alloc(), with_attributes)? == (2, true));
+    assert!(rt; content_end(rt.alloc(), Options::empty())? == (6, false));
+    Ok(())
+}
+
 #[test]
 fn parts_of_a_text(rt: HostRuntime) -> Result<(), Fail> {
     assert_eq!(rt; heading_end(rt.alloc())?, Some(4));
