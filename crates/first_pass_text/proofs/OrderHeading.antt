@@ -1,11 +1,10 @@
 -- Thematic breaks and ATX headings are in order.
-use Rattle.std.proofs.Common.{◌≡◌, ◌⊎◌, inl, inr, ℕ, zero, suc, ◌+◌, ◌-◌, ◌<◌, ◌≤◌, ◌==◌, ◌||◌, Bool, true, false, List, [], ◌∷◌, length, take, drop, get_or, slice_index, nat_lt, Option, Some, None, IsUtf8, IsCharBoundary, refl, sym, ap, subst, ◌∙◌, arith, length-drop, length-take-le, get_or-drop, drop-drop, if◌then◌else◌}
-use Rattle.std.specs.Char.{is_ascii_punctuation}
+use Rattle.std.proofs.Common.{◌≡◌, ◌⊎◌, inl, inr, ℕ, suc, ◌+◌, ◌-◌, ◌<◌, ◌≤◌, ◌==◌, ◌||◌, Bool, true, false, List, [], ◌∷◌, length, take, drop, get_or, slice_index, nat_lt, Option, Some, None, IsUtf8, IsCharBoundary, refl, sym, ap, subst, ◌∙◌, arith, length-drop, length-take-le, get_or-drop, drop-drop, if◌then◌else◌}
 use Rattle.std.specs.List.{prefix_len, suffix_len}
 use Rattle.std.proofs.lemmas.Bool.{cond_both, cases_Bool, cases_lt, eqb-true, eq-eqb, or_cases, ltb-true, false≢true}
 use Rattle.std.proofs.lemmas.Bool.Decides.{nat_tests}
 use Rattle.std.proofs.lemmas.List.{take_all, get_or-take, get_or_past}
-use Rattle.std.proofs.lemmas.List.Sums.{suffix_len-le-length, suffix_len-take_yes, suffix_len-take_no}
+use Rattle.std.proofs.lemmas.List.Sums.{suffix_len-le-length, suffix_len-take_yes}
 use Rattle.first_pass_items.specs.declared.item.Item.{Item}
 use Rattle.first_pass_items.specs.declared.item.HeadingLevel.{HeadingLevel}
 use Rattle.first_pass_items.specs.declared.item.ItemBody.TheVariants.{Heading as HeadingBody, Rule}
@@ -19,8 +18,8 @@ use Rattle.first_pass_tokens.specs.Chains.{add_tokens, close_break, cut}
 use Rattle.first_pass_tokens.specs.Order.{AreInOrder}
 use Rattle.first_pass_tokens.proofs.BytesLemmas.{few_in_order, bytes_adds, bytes_closed, line_has_bytes, cut_few}
 use Rattle.first_pass_tokens.proofs.LineLemmas.{ends_line as line_ends}
-use Rattle.first_pass_tokens.proofs.OrderLemmas.{order_bound, order_from, order_to, closed_line_in_order}
-use Rattle.first_pass_tokens.proofs.CutOrder.{cut_in_order, line_none_escaped}
+use Rattle.first_pass_tokens.proofs.OrderLemmas.{order_bound, order_from, order_to, order_adds, line_in_order, closed_line_in_order, suffix_first}
+use Rattle.first_pass_tokens.proofs.Escapes.{EscapesStand, cut_escaped, escapes_adds, escapes_closed, line_escapes}
 use Rattle.first_pass_grammar.specs.Headings.{heading_braces, before_attributes, text_before_attributes}
 use Rattle.first_pass_grammar.specs.Leaves.{Document, document, is_put_aside, kept_len, heading_chain, heading_text_at, heading_block, line_bytes, rule_block, IsHeading, content_at}
 use Rattle.first_pass_grammar.specs.Names.{Names}
@@ -30,7 +29,7 @@ use Rattle.first_pass_items.specs.Bytes.{left_brace}
 use Rattle.first_pass_items.specs.declared.item.HeadingIndex.{HeadingIndex}
 use Rattle.first_pass_items.specs.declared.option_set.Options.{Options}
 use Rattle.first_pass_tokens.specs.Pieces.{Source}
-use Rattle.first_pass_tokens.specs.LineTokens.{IsLine}
+use Rattle.first_pass_tokens.specs.LineTokens.{IsLine, text_end}
 use Rattle.first_pass_text.proofs.AttributeEnds.{before_none, braces_within, opens_with}
 use Rattle.first_pass_text.proofs.TextFronts.{front_len, front_utf8, place_in_front, order_in_text}
 use Rattle.std.specs.Option.{option_map_or}
@@ -43,23 +42,7 @@ use Rattle.first_pass_open.proofs.PlaceLemmas.{place_end, line_start_end}
 
 -- the run of bytes that pass at the end of a front of a list: it is empty, or its first byte passes
 run_first : (p : ℕ → Bool) (xs : List ℕ) (n : ℕ) → n ≤ length xs → (suffix_len p (take n xs) ≡ 0) ⊎ (p (get_or xs (n - suffix_len p (take n xs)) 0) ≡ true)
-run_first p xs zero within = inl refl
-run_first p xs (suc n) within =
-    let back : suc n - 1 ≡ n = omega arith in
-    elim (cases_Bool (p (get_or xs (suc n - 1) 0))) [
-      | inl passes ↦
-          let one = suffix_len-take_yes p xs (suc n) 0 (omega arith) within passes in
-          let same : suffix_len p (take (suc n - 1) xs) ≡ suffix_len p (take n xs) = ap (λ (x : ℕ). suffix_len p (take x xs)) back in
-          elim (run_first p xs n (omega arith)) [
-            | inl none ↦
-                let at : suc n - suffix_len p (take (suc n) xs) ≡ suc n - 1 = omega arith in
-                inr (ap (λ k. p (get_or xs k 0)) at ∙ passes)
-            | inr first ↦
-                let at : suc n - suffix_len p (take (suc n) xs) ≡ n - suffix_len p (take n xs) = omega arith in
-                inr (ap (λ k. p (get_or xs k 0)) at ∙ first)
-          ]
-      | inr fails ↦ inl (suffix_len-take_no p xs (suc n) 0 (omega arith) within fails)
-    ]
+run_first p xs n within = elim (cases_lt 0 (suffix_len p (take n xs))) [ inl some ↦ inr (suffix_first p xs n within some).1 | inr none ↦ inl (omega arith) ]
 
 -- the last byte does not pass where none passes at the end
 run_none : (p : ℕ → Bool) (xs : List ℕ) → 0 < length xs → suffix_len p xs ≡ 0 → p (get_or xs (length xs - 1) 0) ≡ false
@@ -144,9 +127,6 @@ aside_small b h = grind (arith, nat_tests, h)
 -- before a byte that is no more than a space, or at the text's end
 small_boundary : (text : List ℕ) (i : ℕ) → i ≤ length text → slice_index text i < 33 → IsCharBoundary text i
 small_boundary text i within small = (within, λ l high. absurd (omega arith))
-
-small_plain : (b : ℕ) → b < 33 → is_ascii_punctuation b ≡ false
-small_plain b h = grind (arith, nat_tests, h)
 
 -- the bytes of an ATX heading's text before its attribute block, in the text that its line is read from
 record IsContent (text : List ℕ) (start : ℕ) (content : List ℕ) : Type 0 where
@@ -233,6 +213,15 @@ kept_less content n (inl none) = omega arith
 kept_less content n (inr (inl aside)) = (let inside = aside.0 in omega arith)
 kept_less content n (inr (inr whole)) = (let all = whole.0 in omega arith)
 
+-- the escaped texts of a whole line, its last backslash among them
+line_stands : (s : Source) (tokens : List Item) (answer : ℕ × Option Item) → IsUtf8 s.text → IsCharBoundary s.text s.start → IsLine s tokens answer
+    → EscapesStand s.text s.start (close_break answer.1 (add_tokens [] tokens))
+line_stands s tokens answer utf8 boundary line =
+    let stop : ℕ = text_end s line.content_end in
+    let order = (line_in_order utf8 boundary boundary.0 line).tokens_fit in
+    escapes_closed s.text s.start stop answer.1 (add_tokens [] tokens) (order_adds s.text s.start s.start stop [] tokens (omega arith) order)
+    (escapes_adds s.text s.start s.start stop [] tokens (omega arith) tt order (line_escapes line))
+
 -- The chain of a heading's line without its closing sequence is in order up to an offset that is not before the line's end, and has at most as many tokens as
 -- there are bytes up to there.
 line_fits : (s : Source) (tokens : List Item) (answer : ℕ × Option Item) (content : List ℕ) (next : ℕ) → IsUtf8 s.text → IsCharBoundary s.text s.start → IsLine s tokens answer → IsContent s.text s.start content
@@ -251,8 +240,7 @@ line_fits s tokens answer content next utf8 boundary line is ends reach =
             | inl none ↦ inl none
             | inr some ↦
                 let at = small_boundary s.text (s.start + n) some.0 some.1 in
-                let free = line_none_escaped s tokens answer.0 answer.1 (s.start + n) line (small_plain (slice_index s.text (s.start + n)) some.1) in
-                inr (omega arith, at, cut_in_order s.text s.start next (s.start + n) whole order at (omega arith) free)
+                inr (omega arith, at, cut_escaped s.text s.start next (s.start + n) whole order (line_stands s tokens answer utf8 boundary line) at (omega arith))
           ]),
       omega arith,
     )

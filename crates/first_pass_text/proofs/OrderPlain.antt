@@ -1,6 +1,6 @@
 -- The block of a paragraph, or of a heading that is underlined, lies between two offsets in order.
 use Rattle.std.proofs.Common.{◌≡◌, inl, inr, ℕ, ◌+◌, ◌-◌, ◌*◌, ◌<◌, ◌≤◌, suc, ◌&&◌, Bool, true, false, if◌then◌else◌, List, [], ◌∷◌, ◌++◌, length, drop, Option, Some, None, IsUtf8, IsCharBoundary, refl, sym, ap, subst, ◌∙◌, arith, MatchOption, get_or, slice_index, take, ◌==◌, length-take-le, get_or-drop}
-use Rattle.std.proofs.lemmas.List.{append-nil, get_or-take, get_or-reverse}
+use Rattle.std.proofs.lemmas.List.{append-nil, get_or-take, take_all}
 use Rattle.std.proofs.lemmas.Bool.{cases_lt, false≢true, cond-true, cond-false, cond_both, lt-ltb, le-ltb, and_left}
 use Rattle.first_pass_items.specs.declared.item.Item.{Item}
 use Rattle.first_pass_tree.specs.Forest.{Forest, is_text, is_escaped}
@@ -9,7 +9,7 @@ use Rattle.first_pass_lines.proofs.PlaceFacts.{start_of-lines}
 use Rattle.first_pass_tokens.specs.Chains.{close_break, cut}
 use Rattle.first_pass_tokens.specs.Order.{AreInOrder, HaveBytes}
 use Rattle.first_pass_tokens.proofs.BytesLemmas.{few_in_order, bytes_closed}
-use Rattle.first_pass_tokens.proofs.OrderLemmas.{order_bound, order_to, order_closed}
+use Rattle.first_pass_tokens.proofs.OrderLemmas.{order_bound, order_to, order_closed, suffix_first}
 use Rattle.first_pass_grammar.specs.Leaves.{Document, document, marker_items, TextLines, block_with}
 use Rattle.first_pass_grammar.specs.Completion.{lines_from}
 use Rattle.first_pass_grammar.specs.Counting.{own_nodes}
@@ -26,12 +26,11 @@ use Rattle.first_pass_items.specs.declared.item.HeadingLevel.{HeadingLevel}
 use Rattle.first_pass_grammar.specs.Texts.{underline_first, plain_text, text_children, by_backslash, heading_bytes, heading_children, IsUnderlined}
 use Rattle.first_pass_grammar.specs.Tables.{Taken, taking}
 use Rattle.std.proofs.Math.Seq.{get_or-append_seam}
-use Rattle.std.proofs.lemmas.List.Sums.{suffix_len-le-length, prefix_len_passes}
+use Rattle.std.proofs.lemmas.List.Sums.{suffix_len-le-length}
 use Rattle.std.proofs.lemmas.Bool.Decides.{nat_tests}
 use Rattle.std.proofs.lemmas.Option.{none-some}
 use Rattle.std.proofs.lemmas.Str.{IsCharBoundary-before_ascii}
 use Rattle.std.specs.List.{slice_range, suffix_len}
-use mathlib.Core.List.{reverse}
 use Rattle.first_pass_items.specs.Bytes.{left_brace, right_brace}
 use Rattle.first_pass_items.specs.OptionWords.{has, heading_attributes}
 use Rattle.first_pass_items.specs.declared.option_set.Options.{Options}
@@ -137,11 +136,10 @@ children_between text w from start to next body kids extent starts ends less c =
 -- the first of the white space that bytes end with
 white_first : (bs : List ℕ) → 0 < suffix_len is_white bs → get_or bs (length bs - suffix_len is_white bs) 0 < 128
 white_first bs some =
-    let few = suffix_len-le-length is_white bs in
-    let j : ℕ = suffix_len is_white bs - 1 in
-    let at : length bs - 1 - j ≡ length bs - suffix_len is_white bs = omega arith in
+    let all : take (length bs) bs ≡ bs = take_all (length bs) bs (omega arith) in
     let white : is_white (get_or bs (length bs - suffix_len is_white bs) 0) ≡ true =
-    ap (λ k. is_white (get_or bs k 0)) (sym at) ∙ ap is_white (sym (get_or-reverse bs j 0 (omega arith))) ∙ prefix_len_passes is_white (reverse bs) j 0 (omega arith) in
+    ap (λ (xs : List ℕ). is_white (get_or bs (length bs - suffix_len is_white xs) 0)) (sym all)
+    ∙ (suffix_first is_white bs (length bs) (omega arith) (subst (λ (xs : List ℕ). 0 < suffix_len is_white xs) (sym all) some)).1 in
     grind (arith, nat_tests, white)
 
 -- at the opening of an attribute block stands a brace

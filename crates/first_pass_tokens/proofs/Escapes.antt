@@ -1,5 +1,5 @@
 -- Each escaped text of a chain stands behind a backslash that no token has, so a chain may be cut at any offset between two characters.
-use Rattle.std.proofs.Common.{◌≡◌, ℕ, ◌+◌, ◌-◌, ◌≤◌, ◌<◌, ◌==◌, ◌&&◌, Bool, true, false, List, [], ◌∷◌, ◌++◌, slice_index, Option, IsCharBoundary, nat_lt, min, if◌then◌else◌, inl, inr, refl, sym, ap, subst, ◌∙◌, arith}
+use Rattle.std.proofs.Common.{◌≡◌, ℕ, ◌+◌, ◌-◌, ◌≤◌, ◌<◌, ◌==◌, ◌&&◌, Bool, true, false, List, [], ◌∷◌, ◌++◌, slice_index, Option, Some, None, IsCharBoundary, nat_lt, min, if◌then◌else◌, inl, inr, refl, sym, ap, subst, ◌∙◌, arith}
 use Rattle.std.proofs.lemmas.Bool.{cond-true, cond-false, cond_both, cases_lt, and_parts, and_right, lt-ltb, le-ltb, ltb-true, eqb-true, ne_eqb, false≢true}
 use Rattle.std.proofs.lemmas.Str.{IsCharBoundary-before_ascii}
 use Rattle.first_pass_items.specs.Bytes.{backslash}
@@ -8,10 +8,9 @@ use Rattle.first_pass_tree.specs.Forest.{is_escaped, cut_item}
 use Rattle.first_pass_tokens.specs.declared.pieces.Piece.{Piece}
 use Rattle.first_pass_tokens.specs.declared.pieces.Piece.TheVariants.{Left, Begins, Token}
 use Rattle.first_pass_tokens.specs.Pieces.{Source, size}
-use Rattle.first_pass_tokens.specs.Chains.{text_token, token, touches, add_token, add_tokens, add_text, cut}
+use Rattle.first_pass_tokens.specs.Chains.{text_token, token, touches, add_token, add_tokens, add_text, is_backslash_break, close_break, cut}
 use Rattle.first_pass_tokens.specs.LineTokens.{ArePieces, IsLine, add_piece, add_pieces, text_end}
 use Rattle.first_pass_tokens.specs.Order.{AreInOrder, HaveBytes}
-use Rattle.first_pass_tokens.proofs.CutOrder.{cut_first}
 use Rattle.first_pass_tokens.proofs.PieceFacts.{IsPieceAt, markup_unescaped}
 use Rattle.first_pass_tokens.proofs.LineLemmas.{piece_of}
 use Rattle.first_pass_tokens.proofs.OrderLemmas.{order_add}
@@ -79,6 +78,14 @@ escapes_adds text from mid to chain (x ∷ xs) h k order stand =
     escapes_adds text from x.«end» to (add_token chain x) xs (order_add text from mid chain x h order.0 order.1 order.2 order.3)
     (escapes_add text from mid chain x (ends_in_order text from mid chain h) k stand.0) order.4 stand.1
 
+-- the backslash that ends a block's last line
+pub escapes_closed : (text : List ℕ) (from to : ℕ) (break : Option Item) (chain : List Item) → AreInOrder text from to chain → EscapesStand text from chain
+    → EscapesStand text from (close_break break chain)
+escapes_closed text from to None chain h k = k
+escapes_closed text from to (Some x) chain h k =
+    cond_both (is_backslash_break x.body) (add_text x.start (x.start + 1) false chain) chain (EscapesStand text from)
+    (λ b. escapes_text text from to x.start (x.start + 1) false chain (ends_in_order text from to chain h) k (λ e. absurd (false≢true e))) (λ b. k)
+
 -- an item behind that is no escaped text
 pub escapes_append : (text : List ℕ) (from : ℕ) (chain : List Item) (y : Item) → EscapesStand text from chain → is_escaped y.body ≡ false → EscapesStand text from (chain ++ y ∷ [])
 escapes_append text from [] y k plain = (λ e. absurd (false≢true (sym plain ∙ e)), tt)
@@ -106,6 +113,9 @@ pub line_escapes : {s : Source} {tokens : List Item} {answer : ℕ × Option Ite
 line_escapes {s} {tokens} {answer} line =
     subst (EscapesStand s.text s.start) (sym line.tokens_are)
     (escapes_pieces s s.start (text_end s line.content_end) s.start line.pieces line.content_end [] line.division.divided (omega arith) tt)
+
+cut_first : (e : ℕ) (x : Item) (xs : List Item) → x.start < e → cut e (x ∷ xs) ≡ cut_item e x ∷ cut e xs
+cut_first e x xs before = cond-true _ _ _ (lt-ltb x.start e before)
 
 -- a chain that begins behind the cut leaves nothing
 cut_beyond : (text : List ℕ) (from to e : ℕ) (chain : List Item) → e < from → AreInOrder text from to chain → cut e chain ≡ []

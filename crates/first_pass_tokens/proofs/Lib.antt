@@ -2,7 +2,6 @@ pub mod PieceFacts
 pub mod BytesLemmas
 pub mod CellPipes
 pub mod ChainLemmas
-pub mod CutOrder
 pub mod Escapes
 pub mod LineLemmas
 pub mod MarkupLemmas

@@ -114,7 +114,7 @@ module _ (s : Source) (utf8 : IsUtf8 s.text) (stop end from : ℕ) (stops : IsCh
       (order_text s.text from begin begin at escaped chain h (omega arith) upto starts here) (omega arith) (omega arith) first last)))
 
 -- the first and the last of the bytes that pass at the end of a front of a list
-suffix_first : (p : ℕ → Bool) (xs : List ℕ) (n : ℕ) → n ≤ length xs → 0 < suffix_len p (take n xs) → (suffix_len p (take n xs) ≤ n) × (p (get_or xs (n - suffix_len p (take n xs)) 0) ≡ true)
+pub suffix_first : (p : ℕ → Bool) (xs : List ℕ) (n : ℕ) → n ≤ length xs → 0 < suffix_len p (take n xs) → (suffix_len p (take n xs) ≤ n) × (p (get_or xs (n - suffix_len p (take n xs)) 0) ≡ true)
 suffix_first p xs zero within some = absurd (omega (arith, suffix_len-le-length p (take 0 xs)))
 suffix_first p xs (suc n) within some =
     let back : suc n - 1 ≡ n = omega arith in
