@@ -37,7 +37,7 @@ use Rattle.first_pass.proofs.LeafLemmas.{told_none, kind_in_other, line_end_of, 
 
 -- indented code
 pub code_added : (text : List ℕ) (options : Options) (names : Names) (p : Place) (old new : Forest Item) (next : ℕ) (blank : Bool) → IsPlaceOf text (moved_columns 4 p) → AddsIndented text options names (moved_columns 4 p) old new next blank
-    → AddsKind text options names p IndentedCode blank old new next
+    → AddsKind (document text options names) p IndentedCode blank old new next
 unfolding OpensAs
 code_added text options names p old new next blank place a =
     let q : Place = moved_columns 4 p in
@@ -64,7 +64,7 @@ module _ (text : List ℕ) (options : Options) (names : Names) (p : Place) (old 
   is_here = record { offset_is = sym at_is; left_is = place.left ∙ ap (λ n. drop n text) (sym at_is) }
 
   -- metadata
-  pub metadata_added : (byte : ℕ) → (let e : Extent = metadata_behind text (path_of old) byte at in AddsRaw text options names (λ d. IsMetadata d at byte e.places e.«end») e.left old new next) → AddsKind text options names p (Metadata byte) false old new next
+  pub metadata_added : (byte : ℕ) → (let e : Extent = metadata_behind text (path_of old) byte at in AddsRaw text options names (λ d. IsMetadata d at byte e.places e.«end») e.left old new next) → AddsKind (document text options names) p (Metadata byte) false old new next
   unfolding OpensAs
   metadata_added byte a =
       let path : List Container = path_of old in
@@ -83,7 +83,7 @@ module _ (text : List ℕ) (options : Options) (names : Names) (p : Place) (old 
 
   -- a fenced code block
   pub fenced_added : (count byte columns : ℕ) → columns ≡ indent p.rest → (let e : Extent = fenced_behind text (path_of old) columns byte count at in AddsRaw text options names (λ d. IsFencedCode d at count e.places e.«end») e.left old new next)
-      → AddsKind text options names p (FencedCode count byte) false old new next
+      → AddsKind (document text options names) p (FencedCode count byte) false old new next
   unfolding OpensAs
   fenced_added count byte columns width a =
       let path : List Container = path_of old in
@@ -102,7 +102,7 @@ module _ (text : List ℕ) (options : Options) (names : Names) (p : Place) (old 
 
   -- HTML up to a text
   pub html_end_added : (tag : List ℕ) (columns : ℕ) → html_end (drop 1 (all_taken p.rest).left) ≡ Some tag → columns ≡ indent p.rest
-      → (let e : Extent = html_to_end text (path_of old) tag (unindented p) in AddsRaw text options names (λ d. IsHtml d at columns e.places e.«end») e.left old new next) → AddsKind text options names p HtmlToEnd false old new next
+      → (let e : Extent = html_to_end text (path_of old) tag (unindented p) in AddsRaw text options names (λ d. IsHtml d at columns e.places e.«end») e.left old new next) → AddsKind (document text options names) p HtmlToEnd false old new next
   unfolding OpensAs
   html_end_added tag columns tag_is width a =
       let path : List Container = path_of old in
@@ -126,7 +126,7 @@ module _ (text : List ℕ) (options : Options) (names : Names) (p : Place) (old 
 
   -- HTML up to a blank line
   pub html_blank_added : (columns : ℕ) → columns ≡ indent p.rest
-      → (let e : Extent = html_to_blank text (path_of old) (unindented p) in AddsRaw text options names (λ d. IsHtml d at columns e.places e.«end») e.left old new next) → AddsKind text options names p HtmlToBlank false old new next
+      → (let e : Extent = html_to_blank text (path_of old) (unindented p) in AddsRaw text options names (λ d. IsHtml d at columns e.places e.«end») e.left old new next) → AddsKind (document text options names) p HtmlToBlank false old new next
   unfolding OpensAs
   html_blank_added columns width a =
       let path : List Container = path_of old in
@@ -145,7 +145,7 @@ module _ (text : List ℕ) (options : Options) (names : Names) (p : Place) (old 
       }
 
   -- a thematic break
-  pub rule_added : (size : ℕ) → next ≡ line_end p → new ≡ added old (rule_block at size) → AddsKind text options names p (ThematicBreak size) false old new next
+  pub rule_added : (size : ℕ) → next ≡ line_end p → new ≡ added old (rule_block at size) → AddsKind (document text options names) p (ThematicBreak size) false old new next
   rule_added size next_is new_is = record {
     items = rule_block at size;
     tree_is = new_is;
@@ -153,7 +153,7 @@ module _ (text : List ℕ) (options : Options) (names : Names) (p : Place) (old 
   }
 
   -- an ATX heading
-  pub heading_added : (level : HeadingLevel) → AddsHeading text options names at level old new next → AddsKind text options names p (AtxHeading level) false old new next
+  pub heading_added : (level : HeadingLevel) → AddsHeading (document text options names) at level old new next → AddsKind (document text options names) p (AtxHeading level) false old new next
   heading_added level h = record {
     items = heading_block at next level h.index h.chain;
     tree_is = h.tree_is;
@@ -162,7 +162,7 @@ module _ (text : List ℕ) (options : Options) (names : Names) (p : Place) (old 
 
 -- behind a leaf block of a kind
 pub ready_kind : (text : List ℕ) (options : Options) (defined : Tables) (own names : Names) (r : Reading) (new : Forest Item) (p : Place) (kind : Kind) (gap : Bool) (next : ℕ) → IsForest r.tree → IsKind options p.rest kind → is_paragraph kind ≡ false → Extends names own
-    → AddsKind text options own p kind gap (list_finished p.line r).tree new next → r.empty_item ≡ None → ReadyLeaf (document text options names) defined r p (lines_from text (line_end p))
+    → AddsKind (document text options own) p kind gap (list_finished p.line r).tree new next → r.empty_item ≡ None → ReadyLeaf (document text options names) defined r p (lines_from text (line_end p))
     → (empty : Option ℕ) (blank : Bool) → empty ≡ None → blank ≡ gap → Ready (document text options names) defined (remembered new empty blank) (lines_from text next)
 ready_kind text options defined own names r new p kind gap next forest is other extends a none ready empty blank e b =
     let d : Document = document text options names in
@@ -175,18 +175,18 @@ ready_kind text options defined own names r new p kind gap next forest is other 
     (subst (λ k. OpensAs d (path_of r.tree) p lines k o) (sym (kind_in_other (context_of options r.tree) p kind other)) opens) a.tree_is none ready empty blank e b)
 
 -- the same of a kind that is this one, and blank lines or none at its end
-pub adds_so : (text : List ℕ) (options : Options) (names : Names) (p : Place) (k kind : Kind) (gap blank : Bool) (old new : Forest Item) (next : ℕ) → kind ≡ k → blank ≡ gap → AddsKind text options names p k gap old new next → AddsKind text options names p kind blank old new next
+pub adds_so : (text : List ℕ) (options : Options) (names : Names) (p : Place) (k kind : Kind) (gap blank : Bool) (old new : Forest Item) (next : ℕ) → kind ≡ k → blank ≡ gap → AddsKind (document text options names) p k gap old new next → AddsKind (document text options names) p kind blank old new next
 adds_so text options names p k kind gap blank old new next is same a =
-    subst (λ z. AddsKind text options names p z blank old new next) (sym is) (subst (λ g. AddsKind text options names p k g old new next) (sym same) a)
+    subst (λ z. AddsKind (document text options names) p z blank old new next) (sym is) (subst (λ g. AddsKind (document text options names) p k g old new next) (sym same) a)
 
 -- columns under four that were counted
 pub columns_are : (n m : ℕ) → n ≡ min 4 m → nat_lt m 4 ≡ true → (n ≡ m) × (n ≤ 3)
 columns_are n m is few = let low : m < 4 = grind (arith, nat_tests, few) in (omega arith, omega arith)
 
 -- what was said of a text, options and a tree that are these
-pub adds_moved : (t text : List ℕ) (o options : Options) (names : Names) (p : Place) (kind : Kind) (gap : Bool) (f old new : Forest Item) (next : ℕ) → t ≡ text → o ≡ options → f ≡ old → AddsKind t o names p kind gap f new next → AddsKind text options names p kind gap old new next
+pub adds_moved : (t text : List ℕ) (o options : Options) (names : Names) (p : Place) (kind : Kind) (gap : Bool) (f old new : Forest Item) (next : ℕ) → t ≡ text → o ≡ options → f ≡ old → AddsKind (document t o names) p kind gap f new next → AddsKind (document text options names) p kind gap old new next
 adds_moved t text o options names p kind gap f old new next a b e h =
-    subst (λ z. AddsKind text options names p kind gap z new next) e (subst (λ z. AddsKind text z names p kind gap f new next) b (subst (λ z. AddsKind z o names p kind gap f new next) a h))
+    subst (λ z. AddsKind (document text options names) p kind gap z new next) e (subst (λ z. AddsKind (document text z names) p kind gap f new next) b (subst (λ z. AddsKind (document z o names) p kind gap f new next) a h))
 
 -- an HTML block up to a blank line, at a place
 abbrev pub AddsHtml : List ℕ → Options → Names → ℕ → ℕ → Place → Forest Item → Forest Item → ℕ → Type 0

@@ -2,6 +2,7 @@
 use Rattle.std.proofs.Common.{◌≡◌, ℕ, ◌≤◌, false, List, IsUtf8, IsCharBoundary, sym, ap, subst, ◌∙◌, arith}
 use Rattle.first_pass_items.specs.declared.option_set.Options.{Options}
 use Rattle.first_pass_lines.specs.Places.{Place, offset, line_end, IsPlaceOf}
+use Rattle.first_pass_grammar.specs.Leaves.{document}
 use Rattle.first_pass_grammar.specs.Names.{Extends}
 use Rattle.first_pass_grammar.specs.Kinds.{Kind, unindented}
 use Rattle.first_pass_names.specs.TableEntries.{tables, names_of}
@@ -40,7 +41,7 @@ module _ (old new : FirstPass) (p : Place) (at next : ℕ) (u : IsUtf8 (source_t
   pub leaf_added : (k kind : Kind) → kind ≡ k → (reading_of old).blank ≡ false → source_of new ≡ source_of old → Extends (names_of (allocs_of new)) (names_of (allocs_of old)) → tables (allocs_of new) ≡ tables (allocs_of old)
       → reading_of new ≡ with_block (reading_of old) (tree_of new) → (behind_line_at (source_text old) at ≤ next) × IsCharBoundary (source_text old) next
       → ((from : ℕ) → from ≤ at → AddsBetween (source_text old) from next (tree_of old) (tree_of new))
-      → AddsKind (source_text old) (source_options old) (names_of (allocs_of new)) p k false (tree_of old) (tree_of new) next → AddsLeaf old new p kind next
+      → AddsKind (document (source_text old) (source_options old) (names_of (allocs_of new))) p k false (tree_of old) (tree_of new) next → AddsLeaf old new p kind next
   leaf_added k kind is blank source names tables reading behind fits block =
       let later = behind.0 in
       let same = here in
@@ -60,5 +61,5 @@ module _ (old new : FirstPass) (p : Place) (at next : ℕ) (u : IsUtf8 (source_t
   pub text_added : (k kind : Kind) → kind ≡ k → (reading_of old).blank ≡ false → source_of new ≡ source_of old → Extends (names_of (allocs_of new)) (names_of (allocs_of old))
       → tables (allocs_of new) ≡ tables (allocs_of old) → reading_of new ≡ with_block (reading_of old) (tree_of new) → next ≡ line_end p
       → ((from : ℕ) → from ≤ at → AddsBetween (source_text old) from next (tree_of old) (tree_of new))
-      → AddsKind (source_text old) (source_options old) (names_of (allocs_of new)) p k false (tree_of old) (tree_of new) next → AddsLeaf old new p kind next
+      → AddsKind (document (source_text old) (source_options old) (names_of (allocs_of new))) p k false (tree_of old) (tree_of new) next → AddsLeaf old new p kind next
   text_added k kind is blank source names tables reading ends fits block = leaf_added k kind is blank source names tables reading (line_read ends) fits block

@@ -155,7 +155,7 @@ ready_blank_leaf d defined r p lines kind none (inr lazy) =
 
 -- a heading that was added is what opens at its place
 pub opens_heading : (text : List ℕ) (options : Options) (names more : Names) (path : List Container) (old new : Forest Item) (p : Place) (at next : ℕ) (level : HeadingLevel) → at ≡ offset (unindented p)
-    → IsPlaceOf text (unindented p) → (h : AddsHeading text options names at level old new next) → Extends more names
+    → IsPlaceOf text (unindented p) → (h : AddsHeading (document text options names) at level old new next) → Extends more names
     → OpensAs (document text options more) path p (lines_from text (line_end p)) (AtxHeading level)
     (OpensLeaf (leaf_block (AtxHeading level) p (heading_block at next level h.index h.chain) false) Line (lines_from text next))
 unfolding OpensAs

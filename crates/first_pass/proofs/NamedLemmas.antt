@@ -173,7 +173,7 @@ module _ (names : Names) where
       subst (λ (g : Forest Item). AreNamed names g.nodes) (sym is) (named_both names f.nodes (at_depth (length f.spine + 1) items) (named_more names old f.nodes more h) (named_deeper names (length f.spine + 1) items own))
 
 -- a leaf block of a kind that was added
-pub kind_named : (text : List ℕ) (options : Options) (names : Names) (p : Place) (kind : Kind) (gap : Bool) (old new : Forest Item) (next : ℕ) → (a : AddsKind text options names p kind gap old new next) → AreNamed names a.items
+pub kind_named : (text : List ℕ) (options : Options) (names : Names) (p : Place) (kind : Kind) (gap : Bool) (old new : Forest Item) (next : ℕ) → (a : AddsKind (document text options names) p kind gap old new next) → AreNamed names a.items
 kind_named text options names p kind gap old new next a =
     opens_named (document text options names) (path_of old) p (lines_from text (line_end p)) kind a.items gap (lines_from text next) (a.opens names (extends_none names))
 

@@ -147,7 +147,7 @@ pub run_text : (old mid new : FirstPass) (p : Place) (nested : Bool) (at next : 
     → nested ≡ in_table (tree_of old).nodes (tree_of old).spine → source_of mid ≡ source_of old → names_of (allocs_of mid) ≡ names_of (allocs_of old)
     → ReadsRun (source_text old) (context_in old) nested (unindented p) (tables (allocs_of old)) (tables (allocs_of mid)) (TextBehind at)
     → source_of new ≡ source_of mid → Extends (names_of (allocs_of new)) (names_of (allocs_of mid)) → tables (allocs_of new) ≡ tables (allocs_of mid) → reading_of new ≡ with_block (list_finished at (reading_of old)) (tree_of new)
-    → AddsText (source_text old) (source_options old) (names_of (allocs_of new)) at None (list_finished at (reading_of old)).tree (tree_of new) next
+    → AddsText (document (source_text old) (source_options old) (names_of (allocs_of new))) at None (list_finished at (reading_of old)).tree (tree_of new) next
     → ((from : ℕ) → from ≤ at → AddsBetween (source_text old) from next (list_finished at (reading_of old)).tree (tree_of new)) → IsLeafRead old new p next
 run_text old mid new p nested at next u i empty forest kind nest source names w source' grown same_tables reading block fits =
     let text = source_text old in

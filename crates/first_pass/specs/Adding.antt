@@ -1,12 +1,11 @@
 -- What is said of a leaf block that is added at a place (private functions alone cite this).
 use Rattle.std.specs.Prelude.{◌≡◌, ℕ, ◌≤◌, Bool, List, None, IsCharBoundary}
-use Rattle.first_pass_items.specs.declared.option_set.Options.{Options}
 use Rattle.first_pass_items.specs.declared.item.Item.{Item}
 use Rattle.first_pass_tree.specs.Forest.{Forest, added}
 use Rattle.first_pass_lines.specs.Places.{Place, offset, line_end}
 use Rattle.first_pass_grammar.specs.Kinds.{Kind}
 use Rattle.first_pass_grammar.specs.Names.{Names, Extends}
-use Rattle.first_pass_grammar.specs.Leaves.{document}
+use Rattle.first_pass_grammar.specs.Leaves.{Document, document}
 use Rattle.first_pass_grammar.specs.Skeleton.{leaf_block, Line, OpensLeaf, OpensAs}
 use Rattle.first_pass_grammar.specs.Completion.{lines_from}
 use Rattle.first_pass_open.specs.Path.{path_of}
@@ -17,10 +16,11 @@ use Rattle.first_pass.specs.Views.{allocs_of, reading_of, source_of, source_opti
 
 -- A leaf block of a kind, which begins at a place, is a last child of the innermost open node, whatever more is named: with this end of a list before it,
 -- with or without blank lines at its end, and the lines from an offset on left.
-pub record AddsKind (text : List ℕ) (options : Options) (names : Names) (p : Place) (kind : Kind) (gap : Bool) (old new : Forest Item) (next : ℕ) : Type 0 where
+pub record AddsKind (d : Document) (p : Place) (kind : Kind) (gap : Bool) (old new : Forest Item) (next : ℕ) : Type 0 where
   pub items : List (ℕ × Item)
   pub tree_is : new ≡ added old items
-  pub opens : (more : Names) → Extends more names → OpensAs (document text options more) (path_of old) p (lines_from text (line_end p)) kind (OpensLeaf (leaf_block kind p items gap) Line (lines_from text next))
+  pub opens : (more : Names) → Extends more d.names
+      → OpensAs (document d.text d.options more) (path_of old) p (lines_from d.text (line_end p)) kind (OpensLeaf (leaf_block kind p items gap) Line (lines_from d.text next))
 
 -- A pass added such a block: it reads the same text, what was named keeps its name, no table changed, and no item is empty. The nodes of the block lie behind
 -- any offset before the place, and reading goes on at an offset behind the line of the place, between characters.
@@ -29,7 +29,7 @@ pub record AddsLeaf (old new : FirstPass) (p : Place) (kind : Kind) (next : ℕ)
   pub names : Extends (names_of (allocs_of new)) (names_of (allocs_of old))
   pub tables : tables (allocs_of new) ≡ tables (allocs_of old)
   pub empty_item : (reading_of new).empty_item ≡ None
-  pub block : AddsKind (source_text old) (source_options old) (names_of (allocs_of new)) p kind (reading_of new).blank (tree_of old) (tree_of new) next
+  pub block : AddsKind (document (source_text old) (source_options old) (names_of (allocs_of new))) p kind (reading_of new).blank (tree_of old) (tree_of new) next
   pub later : line_end p ≤ next
   pub boundary : IsCharBoundary (source_text old) next
   pub fits : (from : ℕ) → from ≤ offset p → AddsBetween (source_text old) from next (tree_of old) (tree_of new)

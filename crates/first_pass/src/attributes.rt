@@ -80,7 +80,8 @@ impl<'a> FirstPass<'a> {
             (document (source_text self.old) (source_options self.old) (names_of (allocs_of self.new))) underline.1
             has_trailing_content node_ix (tree_of self.old) (tree_of self.new))) }
         ensures order { OnOk result ((l : TextLines) → has_trailing_content ≡ by_backslash l.break
-            → HoldsText (document (source_text self.old) (source_options self.old) no_names) (tree_of self.old) node_ix l
+            → HoldsText (document (source_text self.old) (source_options self.old) no_names) (tree_of self.old)
+            node_ix l
             → IsOrderedTo (source_text self.old) (tree_of self.new) (start_of (length (source_text self.old)) l.left)) }
     {
         let bytes = rest_of(self.source.text.as_bytes(), ix);

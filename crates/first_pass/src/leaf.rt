@@ -5,7 +5,7 @@ ghost use Rattle.first_pass_lines.specs.Lines.{atx_level as atx_level_of};
 ghost use Rattle.first_pass_tree.specs.Forest.{added, is_text};
 ghost use Rattle.first_pass_names.specs.TableEntries.{tables, names_of};
 ghost use Rattle.first_pass_grammar.specs.Names.{Extends};
-ghost use Rattle.first_pass_grammar.specs.Leaves.{rule_block};
+ghost use Rattle.first_pass_grammar.specs.Leaves.{document, rule_block};
 ghost use Rattle.first_pass_lists.specs.Closing.{with_block};
 ghost use Rattle.first_pass_text.specs.Appends.{AddsHeading};
 ghost use Rattle.first_pass_tables.specs.TextsAdded.{AddsText};
@@ -36,8 +36,8 @@ impl<'a> FirstPass<'a> {
         ensures tables { OnOk result (tables (allocs_of self.new) ≡ tables (allocs_of self.old)) }
         ensures reading { OnOk result (reading_of self.new ≡ with_block (reading_of self.old) (tree_of self.new)) }
         ensures block { IfOk result (λ next.
-            AddsText (source_text self.old) (source_options self.old) (names_of (allocs_of self.new)) start_ix
-            tasklist_marker (tree_of self.old) (tree_of self.new) next) }
+            AddsText (document (source_text self.old) (source_options self.old) (names_of (allocs_of self.new)))
+            start_ix tasklist_marker (tree_of self.old) (tree_of self.new) next) }
         ensures fits { IfOk result (λ next. IsInItem (tree_of self.old) tasklist_marker → (from : ℕ)
             → StandsBefore (source_text self.old) from start_ix tasklist_marker
             → AddsBetween (source_text self.old) from next (tree_of self.old) (tree_of self.new)) }
@@ -73,8 +73,8 @@ impl<'a> FirstPass<'a> {
         ensures tables { OnOk result (tables (allocs_of self.new) ≡ tables (allocs_of self.old)) }
         ensures reading { OnOk result (reading_of self.new ≡ with_block (reading_of self.old) (tree_of self.new)) }
         ensures block { IfOk result (λ next.
-            AddsHeading (source_text self.old) (source_options self.old) (names_of (allocs_of self.new)) start atx_level
-            (tree_of self.old) (tree_of self.new) next) }
+            AddsHeading (document (source_text self.old) (source_options self.old) (names_of (allocs_of self.new)))
+            start atx_level (tree_of self.old) (tree_of self.new) next) }
         ensures fits { IfOk result (λ next. (from : ℕ) → from ≤ start → IsCharBoundary (source_text self.old) start
             → AddsBetween (source_text self.old) from next (tree_of self.old) (tree_of self.new)) }
         ensures order { IfOk result (λ next. (at : ℕ) → at ≤ start → IsCharBoundary (source_text self.old) start

@@ -68,7 +68,7 @@ headed_at context text p start o i at h = ap (headed_table context) (i.left ∙ 
 -- a paragraph, or a heading that is underlined, that was added
 pub plain_text_added : (text : List ℕ) (options : Options) (names : Names) (start : ℕ) (marker : Option Item) (old new : Forest Item) (next : ℕ)
     → headed_table (context_of options old) (drop start text) ≡ None
-    → AddsPlainText text options names start marker old new next → AddsText text options names start marker old new next
+    → AddsPlainText (document text options names) start marker old new next → AddsText (document text options names) start marker old new next
 plain_text_added text options names start marker old new next none a =
     let t : Taken = taking a.items (lines_from text next) in
     record {
@@ -152,7 +152,7 @@ module _ (text : List ℕ) (options : Options) (names : Names) (start body next 
       }
 
   pub table_text : AreIn (length old.nodes) old.spine → ((more : Names) → Extends more names → NamesAlignments more ix alignments) → body ≡ line_end_at text (line_end_at text start)
-      → headed_table (context_of options old) (drop start text) ≡ Some alignments → (marker : Option Item) → AddsText text options names start marker old new next
+      → headed_table (context_of options old) (drop start text) ≡ Some alignments → (marker : Option Item) → AddsText (document text options names) start marker old new next
   table_text there named body_is headed marker = record {
     items = table_items;
     is_text = λ more e p i at.

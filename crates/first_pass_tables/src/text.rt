@@ -6,6 +6,7 @@ ghost use Rattle.first_pass_walk.specs.Walk.{MarksSpecial};
 ghost use Rattle.first_pass_items.specs.declared.item.Item.{Item};
 ghost use Rattle.first_pass_tree.specs.Forest.{is_text};
 ghost use Rattle.first_pass_names.specs.TableEntries.{tables, names_of};
+ghost use Rattle.first_pass_grammar.specs.Leaves.{document};
 ghost use Rattle.first_pass_grammar.specs.Names.{Extends};
 ghost use Rattle.first_pass_grammar.specs.TableHeads.{headed_table};
 ghost use Rattle.first_pass_open.specs.Path.{context_of};
@@ -41,8 +42,8 @@ fn append_table(
     ensures names { OnOk result (Extends (names_of allocs.new) (names_of allocs.old)) }
     ensures tables { OnOk result (tables allocs.new ≡ tables allocs.old) }
     ensures block { IfOk result (λ next. (marker : Option Item)
-        → AddsText source.entry.text.now source.entry.options (names_of allocs.new) start marker tree.old tree.new
-        next) }
+        → AddsText (document source.entry.text.now source.entry.options (names_of allocs.new)) start marker tree.old
+        tree.new next) }
     ensures fits { IfOk result (λ next. (from : ℕ) → from ≤ start
         → AddsBetween source.entry.text.now from next tree.old tree.new) }
 {
@@ -59,8 +60,8 @@ fn append_table(
 /// Appends what stands for the text that begins at the offset `start_ix` into the text to the innermost open node: the
 /// table that its first line heads, with tables; else a heading that is underlined or a paragraph, with the marker of
 /// its task list item, if it has one, as its first child. Answers the offset at which the line begins that is behind
-/// it, or the text's length. The alignments of a table's columns, or the attributes of a heading, are put among `allocs`;
-/// `lut` is the table of the special bytes. The error is want of memory (CommonMark 4.3, 4.8, GFM 4.10).
+/// it, or the text's length. The alignments of a table's columns, or the attributes of a heading, are put among
+/// `allocs`; `lut` is the table of the special bytes. The error is want of memory (CommonMark 4.3, 4.8, GFM 4.10).
 pub fn parse_paragraph<'a>(
     alloc: Global,
     source: Source<'a>,
@@ -76,8 +77,8 @@ pub fn parse_paragraph<'a>(
     ensures names { OnOk result (Extends (names_of allocs.new) (names_of allocs.old)) }
     ensures tables { OnOk result (tables allocs.new ≡ tables allocs.old) }
     ensures block { IfOk result (λ next.
-        AddsText source.entry.text.now source.entry.options (names_of allocs.new) start_ix tasklist_marker tree.old
-        tree.new next) }
+        AddsText (document source.entry.text.now source.entry.options (names_of allocs.new)) start_ix tasklist_marker
+        tree.old tree.new next) }
     ensures fits { IfOk result (λ next. IsInItem tree.old tasklist_marker → (from : ℕ)
         → StandsBefore source.entry.text.now from start_ix tasklist_marker
         → AddsBetween source.entry.text.now from next tree.old tree.new) }

@@ -321,7 +321,7 @@ line_stops text start u b = subst (IsCharBoundary text) (line_start_end text sta
 
 -- An ATX heading fits in its line.
 pub heading_fits : (text : List ℕ) (options : Options) (names : Names) (start : ℕ) (level : HeadingLevel) (old new : Forest Item) (next : ℕ) → IsUtf8 text → IsCharBoundary text start
-    → atx_level (drop start text) ≡ Some level → AddsHeading text options names start level old new next → (from : ℕ) → from ≤ start → AddsBetween text from next old new
+    → atx_level (drop start text) ≡ Some level → AddsHeading (document text options names) start level old new next → (from : ℕ) → from ≤ start → AddsBetween text from next old new
 heading_fits text options names start level old new next u b is h from behind =
     let text_at : ℕ = heading_text_at text start (level_number level) in
     let ends : IsCharBoundary text next = subst (IsCharBoundary text) (sym h.end_is) (line_stops text start u b) in

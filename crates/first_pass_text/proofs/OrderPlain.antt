@@ -292,7 +292,7 @@ low_start : (text : List ℕ) (from start : ℕ) (marker : Option Item) → Stan
 low_start text from start None stands = stands
 low_start text from start (Some m) stands = let b : IsBetween text from start (extent_of m) = stands.1 in omega (arith, b.behind, b.order, b.before)
 
-pub plain_fits : (text : List ℕ) (options : Options) (names : Names) (start : ℕ) (marker : Option Item) (old new : Forest Item) (next : ℕ) → AddsPlainText text options names start marker old new next
+pub plain_fits : (text : List ℕ) (options : Options) (names : Names) (start : ℕ) (marker : Option Item) (old new : Forest Item) (next : ℕ) → AddsPlainText (document text options names) start marker old new next
     → IsUtf8 text → IsCharBoundary text start → IsInItem old marker → (from : ℕ) → StandsBefore text from start marker → AddsBetween text from next old new
 plain_fits text options names start marker old new next adds utf8 boundary inside from stands =
     let d : Document = document text options names in

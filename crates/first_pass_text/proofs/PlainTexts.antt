@@ -92,7 +92,7 @@ module _ (text : List ℕ) (options : Options) (names : Names) (start n : ℕ) (
 
   -- where no underline follows
   pub paragraph_added : None ≡ option_map (λ (found : ℕ × HeadingLevel). found.1) (underline_first (path_of old) (lines_from text n))
-      → new ≡ added old (paragraph_block start n (text_children marker lines)) → AddsPlainText text options names start marker old new n
+      → new ≡ added old (paragraph_block start n (text_children marker lines)) → AddsPlainText (document text options names) start marker old new n
   paragraph_added said tree_is =
       let none = no_underline (underline_first (path_of old) (lines_from text n)) said in
       let t : Taken = taking (paragraph_block start n (text_children marker lines)) (lines_from text n) in
@@ -116,7 +116,7 @@ module _ (text : List ℕ) (options : Options) (names : Names) (start n : ℕ) (
       → Some level ≡ option_map (λ (found : ℕ × HeadingLevel). found.1) (underline_first (path_of old) (lines_from text n))
       → next ≡ line_end_at text n → IsCharBoundary text next
       → ((more : Names) → Extends more names → NamesAttributes more index (heading_attributes_of options (chain_bytes text start (marker_items marker ++ chain))))
-      → new ≡ added old (heading_block start next level index (heading_children (document text options no_names) start marker lines)) → AddsPlainText text options names start marker old new next
+      → new ≡ added old (heading_block start next level index (heading_children (document text options no_names) start marker lines)) → AddsPlainText (document text options names) start marker old new next
   heading_added level index next said next_is ends named tree_is =
       let (size, some) = some_underline level (underline_first (path_of old) (lines_from text n)) said in
       let within = underline_within (path_of old) text n (size, level) (sym (underline_there (path_of old) text n) ∙ some) in
@@ -207,7 +207,7 @@ module _ {text : List ℕ} {options : Options} {start : ℕ} {marker : Option It
   text_open n is = still_open g n (opened_item start) (text_children marker read_lines) ix t.at (text_filled n is)
 
   pub closed_paragraph : (n new : Forest Item) (names : Names) → n ≡ with_closed_break r end.line_break → None ≡ end.underline → new ≡ closed_by n end.next n.spine
-      → AddsPlainText text options names start marker g new end.next
+      → AddsPlainText (document text options names) start marker g new end.next
   closed_paragraph n new names n_is none is =
       paragraph_added text options names start end.next marker g new t.chain end.line_break t.are t.later t.boundary (none ∙ t.said)
       (block_closed g n (opened_item start) (text_children marker read_lines) ix t.at (text_filled n n_is) new end.next is)
@@ -250,7 +250,7 @@ module _ {text : List ℕ} {options : Options} {start : ℕ} {marker : Option It
     heading_open = still_open g n heading_item kids ix t.at heading_filled
 
     pub closed_heading : (new : Forest Item) (next : ℕ) → Some level ≡ end.underline → next ≡ line_end_at text end.next → IsUtf8 text → new ≡ closed_by n next n.spine
-        → AddsPlainText text options names start marker g new next
+        → AddsPlainText (document text options names) start marker g new next
     closed_heading new next some next_is utf8 is =
         heading_added text options names start end.next marker g new t.chain end.line_break t.are t.later t.boundary level heads.index next (some ∙ t.said) next_is
         (subst (IsCharBoundary text) (sym next_is) (line_stops text end.next utf8 t.boundary)) cut_off.1

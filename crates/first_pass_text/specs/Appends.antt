@@ -3,7 +3,6 @@ use Rattle.std.specs.Prelude.{◌≡◌, ◌≤◌, ℕ, ◌+◌, List, [], take
 use Rattle.first_pass_items.specs.declared.item.Item.{Item}
 use Rattle.first_pass_items.specs.declared.item.HeadingIndex.{HeadingIndex}
 use Rattle.first_pass_items.specs.declared.item.HeadingLevel.{HeadingLevel}
-use Rattle.first_pass_items.specs.declared.option_set.Options.{Options}
 use Rattle.first_pass_tree.specs.Forest.{Forest, added, with_text}
 use Rattle.first_pass_lines.specs.Lines.{line_len, level_number}
 use Rattle.first_pass_tokens.specs.Chains.{is_backslash_break, add_tokens, close_break}
@@ -53,18 +52,18 @@ pub record AppendsHeading (s : Source) (content : List ℕ) (old new : Forest It
 
 -- What stands for the text that begins at an offset and heads no table, whatever more is named, is a last child of the innermost open node, and leaves the
 -- lines from another on (CommonMark 4.3, 4.8).
-pub record AddsPlainText (text : List ℕ) (options : Options) (names : Names) (start : ℕ) (marker : Option Item) (old new : Forest Item) (next : ℕ) : Type 0 where
+pub record AddsPlainText (d : Document) (start : ℕ) (marker : Option Item) (old new : Forest Item) (next : ℕ) : Type 0 where
   pub items : List (ℕ × Item)
-  pub is : (more : Names) → Extends more names
-      → IsPlainText (document text options more) (path_of old) start marker (lines_from text (line_end_at text start)) (taking items (lines_from text next))
+  pub is : (more : Names) → Extends more d.names
+      → IsPlainText (document d.text d.options more) (path_of old) start marker (lines_from d.text (line_end_at d.text start)) (taking items (lines_from d.text next))
   pub tree_is : new ≡ added old items
-  pub later : line_end_at text start ≤ next
-  pub boundary : IsCharBoundary text next
+  pub later : line_end_at d.text start ≤ next
+  pub boundary : IsCharBoundary d.text next
 
 -- The ATX heading that begins at an offset, whatever more is named, is a last child of the innermost open node, and its line ends before another.
-pub record AddsHeading (text : List ℕ) (options : Options) (names : Names) (start : ℕ) (level : HeadingLevel) (old new : Forest Item) (next : ℕ) : Type 0 where
+pub record AddsHeading (d : Document) (start : ℕ) (level : HeadingLevel) (old new : Forest Item) (next : ℕ) : Type 0 where
   pub index : Option HeadingIndex
   pub chain : List Item
-  pub line : (more : Names) → Extends more names → IsHeading (document text options more) (heading_text_at text start (level_number level)) index chain next
+  pub line : (more : Names) → Extends more d.names → IsHeading (document d.text d.options more) (heading_text_at d.text start (level_number level)) index chain next
   pub tree_is : new ≡ added old (heading_block start next level index chain)
-  pub end_is : next ≡ line_end_at text start
+  pub end_is : next ≡ line_end_at d.text start

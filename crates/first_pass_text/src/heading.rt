@@ -6,7 +6,7 @@ ghost use Rattle.first_pass_walk.specs.Walk.{MarksSpecial};
 ghost use Rattle.first_pass_lines.specs.Lines.{atx_level as atx_level_of, level_number as number_of};
 ghost use Rattle.first_pass_names.specs.TableEntries.{tables, names_of};
 ghost use Rattle.first_pass_grammar.specs.Names.{Extends};
-ghost use Rattle.first_pass_grammar.specs.Leaves.{is_put_aside, kept_len as kept_len_of, heading_text_at};
+ghost use Rattle.first_pass_grammar.specs.Leaves.{document, is_put_aside, kept_len as kept_len_of, heading_text_at};
 ghost use Rattle.first_pass_text.specs.Between.{AddsBetween};
 ghost use Rattle.first_pass_text.specs.Appends.{AppendsHeading, AddsHeading};
 ghost use Rattle.first_pass_open.specs.OpenBlock.{IsJustPushed};
@@ -97,8 +97,8 @@ pub fn parse_atx_heading<'a>(
     ensures names { OnOk result (Extends (names_of allocs.new) (names_of allocs.old)) }
     ensures tables { OnOk result (tables allocs.new ≡ tables allocs.old) }
     ensures block { IfOk result (λ next.
-        AddsHeading source.entry.text.now source.entry.options (names_of allocs.new) start atx_level tree.old tree.new
-        next) }
+        AddsHeading (document source.entry.text.now source.entry.options (names_of allocs.new)) start atx_level
+        tree.old tree.new next) }
     ensures fits { IfOk result (λ next. (from : ℕ) → from ≤ start → IsCharBoundary source.entry.text.now start
         → AddsBetween source.entry.text.now from next tree.old tree.new) }
 {

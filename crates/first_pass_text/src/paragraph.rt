@@ -97,8 +97,8 @@ pub fn parse_paragraph<'a>(
     ensures names { OnOk result (Extends (names_of allocs.new) (names_of allocs.old)) }
     ensures tables { OnOk result (tables allocs.new ≡ tables allocs.old) }
     ensures block { IfOk result (λ next.
-        AddsPlainText source.entry.text.now source.entry.options (names_of allocs.new) start_ix tasklist_marker tree.old
-        tree.new next) }
+        AddsPlainText (document source.entry.text.now source.entry.options (names_of allocs.new)) start_ix
+        tasklist_marker tree.old tree.new next) }
     ensures fits { IfOk result (λ next. IsInItem tree.old tasklist_marker → (from : ℕ)
         → StandsBefore source.entry.text.now from start_ix tasklist_marker
         → AddsBetween source.entry.text.now from next tree.old tree.new) }

@@ -1,5 +1,6 @@
 use Rattle.std.proofs.Common.{◌≡◌, ◌≤◌, ℕ, None, IsCharBoundary, refl, sym, ap, subst, ◌∙◌}
 use Rattle.first_pass_lines.specs.Places.{Place}
+use Rattle.first_pass_grammar.specs.Leaves.{document}
 use Rattle.first_pass_grammar.specs.Kinds.{unindented}
 use Rattle.first_pass_names.specs.TableEntries.{tables, names_of}
 use Rattle.first_pass_lists.specs.Closing.{list_finished, with_block}
@@ -62,9 +63,9 @@ returns c =
     let run = subst (ReadsRun text (context_in self) nested (unindented p) (tables self.allocs) (tables mid.allocs)) c.in-Paragraph.is
     (e.run (unindented p) (ap (λ (q : Place). q.line) (sym c.place.view_is)) (sym c.requires.at) i) in
     let done : c.finish_list-in-Paragraph.new.self ≡ list_finished at r = c.finish_list-in-Paragraph.ensures ∙ ap (list_finished at) e.reading in
-    let block : AddsText text options (names_of new.allocs) at None (list_finished at r).tree new.reading.tree next =
-    subst (λ (z : Reading). AddsText text options (names_of new.allocs) at None z.tree new.reading.tree next) done
-    (subst (λ (z : Source). AddsText z.text.now z.options (names_of new.allocs) at None c.finish_list-in-Paragraph.new.self.tree new.reading.tree next) e.source f.block) in
+    let block : AddsText (document text options (names_of new.allocs)) at None (list_finished at r).tree new.reading.tree next =
+    subst (λ (z : Reading). AddsText (document text options (names_of new.allocs)) at None z.tree new.reading.tree next) done
+    (subst (λ (z : Source). AddsText (document z.text.now z.options (names_of new.allocs)) at None c.finish_list-in-Paragraph.new.self.tree new.reading.tree next) e.source f.block) in
     let fits : (from : ℕ) → from ≤ at → AddsBetween text from next (list_finished at r).tree new.reading.tree =
     λ from before. subst (λ (z : Reading). AddsBetween text from next z.tree new.reading.tree) done
     (subst (λ (z : Source). AddsBetween z.text.now from next c.finish_list-in-Paragraph.new.self.tree new.reading.tree) e.source (f.fits tt from before)) in
