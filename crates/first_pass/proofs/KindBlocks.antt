@@ -36,7 +36,7 @@ use Rattle.first_pass.proofs.FinishLemmas.{path_finished}
 use Rattle.first_pass.proofs.LeafLemmas.{told_none, kind_in_other, line_end_of, opens_heading, opens_rule, ready_added}
 
 -- indented code
-pub code_added : (text : List ℕ) (options : Options) (names : Names) (p : Place) (old new : Forest Item) (next : ℕ) (blank : Bool) → IsPlaceOf text (moved_columns 4 p) → AddsIndented text options names (moved_columns 4 p) old new next blank
+pub code_added : (text : List ℕ) (options : Options) (names : Names) (p : Place) (old new : Forest Item) (next : ℕ) (blank : Bool) → IsPlaceOf text (moved_columns 4 p) → AddsIndented (document text options names) (moved_columns 4 p) old new next blank
     → AddsKind (document text options names) p IndentedCode blank old new next
 unfolding OpensAs
 code_added text options names p old new next blank place a =
@@ -64,7 +64,7 @@ module _ (text : List ℕ) (options : Options) (names : Names) (p : Place) (old 
   is_here = record { offset_is = sym at_is; left_is = place.left ∙ ap (λ n. drop n text) (sym at_is) }
 
   -- metadata
-  pub metadata_added : (byte : ℕ) → (let e : Extent = metadata_behind text (path_of old) byte at in AddsRaw text options names (λ d. IsMetadata d at byte e.places e.«end») e.left old new next) → AddsKind (document text options names) p (Metadata byte) false old new next
+  pub metadata_added : (byte : ℕ) → (let e : Extent = metadata_behind text (path_of old) byte at in AddsRaw (document text options names) (λ d. IsMetadata d at byte e.places e.«end») e.left old new next) → AddsKind (document text options names) p (Metadata byte) false old new next
   unfolding OpensAs
   metadata_added byte a =
       let path : List Container = path_of old in
@@ -82,7 +82,7 @@ module _ (text : List ℕ) (options : Options) (names : Names) (p : Place) (old 
       }
 
   -- a fenced code block
-  pub fenced_added : (count byte columns : ℕ) → columns ≡ indent p.rest → (let e : Extent = fenced_behind text (path_of old) columns byte count at in AddsRaw text options names (λ d. IsFencedCode d at count e.places e.«end») e.left old new next)
+  pub fenced_added : (count byte columns : ℕ) → columns ≡ indent p.rest → (let e : Extent = fenced_behind text (path_of old) columns byte count at in AddsRaw (document text options names) (λ d. IsFencedCode d at count e.places e.«end») e.left old new next)
       → AddsKind (document text options names) p (FencedCode count byte) false old new next
   unfolding OpensAs
   fenced_added count byte columns width a =
@@ -102,7 +102,7 @@ module _ (text : List ℕ) (options : Options) (names : Names) (p : Place) (old 
 
   -- HTML up to a text
   pub html_end_added : (tag : List ℕ) (columns : ℕ) → html_end (drop 1 (all_taken p.rest).left) ≡ Some tag → columns ≡ indent p.rest
-      → (let e : Extent = html_to_end text (path_of old) tag (unindented p) in AddsRaw text options names (λ d. IsHtml d at columns e.places e.«end») e.left old new next) → AddsKind (document text options names) p HtmlToEnd false old new next
+      → (let e : Extent = html_to_end text (path_of old) tag (unindented p) in AddsRaw (document text options names) (λ d. IsHtml d at columns e.places e.«end») e.left old new next) → AddsKind (document text options names) p HtmlToEnd false old new next
   unfolding OpensAs
   html_end_added tag columns tag_is width a =
       let path : List Container = path_of old in
@@ -126,7 +126,7 @@ module _ (text : List ℕ) (options : Options) (names : Names) (p : Place) (old 
 
   -- HTML up to a blank line
   pub html_blank_added : (columns : ℕ) → columns ≡ indent p.rest
-      → (let e : Extent = html_to_blank text (path_of old) (unindented p) in AddsRaw text options names (λ d. IsHtml d at columns e.places e.«end») e.left old new next) → AddsKind (document text options names) p HtmlToBlank false old new next
+      → (let e : Extent = html_to_blank text (path_of old) (unindented p) in AddsRaw (document text options names) (λ d. IsHtml d at columns e.places e.«end») e.left old new next) → AddsKind (document text options names) p HtmlToBlank false old new next
   unfolding OpensAs
   html_blank_added columns width a =
       let path : List Container = path_of old in
@@ -190,7 +190,7 @@ adds_moved t text o options names p kind gap f old new next a b e h =
 
 -- an HTML block up to a blank line, at a place
 abbrev pub AddsHtml : List ℕ → Options → Names → ℕ → ℕ → Place → Forest Item → Forest Item → ℕ → Type 0
-AddsHtml text options names start columns p old new next = let e : Extent = html_to_blank text (path_of old) p in AddsRaw text options names (λ d. IsHtml d start columns e.places e.«end») e.left old new next
+AddsHtml text options names start columns p old new next = let e : Extent = html_to_blank text (path_of old) p in AddsRaw (document text options names) (λ d. IsHtml d start columns e.places e.«end») e.left old new next
 
 pub html_moved : (t text : List ℕ) (o options : Options) (names : Names) (start columns : ℕ) (p : Place) (f old new : Forest Item) (next : ℕ) → t ≡ text → o ≡ options → f ≡ old → AddsHtml t o names start columns p f new next → AddsHtml text options names start columns p old new next
 html_moved t text o options names start columns p f old new next a b e h =

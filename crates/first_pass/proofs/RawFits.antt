@@ -34,7 +34,7 @@ place_of text start p b i = record {
 
 module _ (text : List ℕ) (options : Options) (names : Names) (old new : Forest Item) (start next : ℕ) (u : IsUtf8 text) (b : IsCharBoundary text start) (within : next ≤ length text) where
   pub fenced_between : (columns byte count : ℕ) → code_fence (drop start text) ≡ Some (count, byte)
-      → (let e : Extent = fenced_behind text (path_of old) columns byte count start in AddsRaw text options names (λ d. IsFencedCode d start count e.places e.«end») e.left old new next)
+      → (let e : Extent = fenced_behind text (path_of old) columns byte count start in AddsRaw (document text options names) (λ d. IsFencedCode d start count e.places e.«end») e.left old new next)
       → (from : ℕ) → from ≤ start → AddsBetween text from next old new
   fenced_between columns byte count fence a from low =
       let e : Extent = fenced_behind text (path_of old) columns byte count start in
@@ -45,7 +45,7 @@ module _ (text : List ℕ) (options : Options) (names : Names) (old new : Forest
         fits = between-any text (within_top old) from _ a.items (fenced_fits (document text options names) start count e a.items u (a.are names (extends_none names)) b (fenced_behind_placed text u (path_of old) columns byte count start b) from next low before);
       }
 
-  pub metadata_between : (byte : ℕ) → is_content byte ≡ true → (let e : Extent = metadata_behind text (path_of old) byte start in AddsRaw text options names (λ d. IsMetadata d start byte e.places e.«end») e.left old new next)
+  pub metadata_between : (byte : ℕ) → is_content byte ≡ true → (let e : Extent = metadata_behind text (path_of old) byte start in AddsRaw (document text options names) (λ d. IsMetadata d start byte e.places e.«end») e.left old new next)
       → (from : ℕ) → from ≤ start → AddsBetween text from next old new
   metadata_between byte plain a from low =
       let e : Extent = metadata_behind text (path_of old) byte start in
@@ -56,7 +56,7 @@ module _ (text : List ℕ) (options : Options) (names : Names) (old new : Forest
         fits = between-any text (within_top old) from _ a.items (metadata_fits (document text options names) start byte e a.items u (a.are names (extends_none names)) b (metadata_behind_placed text u (path_of old) byte start b) from next low before);
       }
 
-  pub to_end_between : (tag : List ℕ) (columns : ℕ) → ((p : Place) → IsPlaceAt text start p → let e : Extent = html_to_end text (path_of old) tag p in AddsRaw text options names (λ d. IsHtml d start columns e.places e.«end») e.left old new next)
+  pub to_end_between : (tag : List ℕ) (columns : ℕ) → ((p : Place) → IsPlaceAt text start p → let e : Extent = html_to_end text (path_of old) tag p in AddsRaw (document text options names) (λ d. IsHtml d start columns e.places e.«end») e.left old new next)
       → (from : ℕ) → from ≤ start → AddsBetween text from next old new
   to_end_between tag columns adds from low =
       let p : Place = first_at text start 0 in
@@ -70,7 +70,7 @@ module _ (text : List ℕ) (options : Options) (names : Names) (old new : Forest
         fits = between-any text (within_top old) from _ a.items (html_fits (document text options names) start columns e a.items u (a.are names (extends_none names)) b (subst (λ n. IsPlaced text n e) i.offset_is (to_end_placed text u (path_of old) tag p (place_of text start p b i))) from next low before);
       }
 
-  pub to_blank_between : (columns : ℕ) (p : Place) → IsPlaceAt text start p → (let e : Extent = html_to_blank text (path_of old) p in AddsRaw text options names (λ d. IsHtml d start columns e.places e.«end») e.left old new next)
+  pub to_blank_between : (columns : ℕ) (p : Place) → IsPlaceAt text start p → (let e : Extent = html_to_blank text (path_of old) p in AddsRaw (document text options names) (λ d. IsHtml d start columns e.places e.«end») e.left old new next)
       → (from : ℕ) → from ≤ start → AddsBetween text from (html_to_blank text (path_of old) p).«end» old new
   to_blank_between columns p i a from low =
       let e : Extent = html_to_blank text (path_of old) p in
@@ -81,7 +81,7 @@ module _ (text : List ℕ) (options : Options) (names : Names) (old new : Forest
       }
 
   -- up to where the lines begin that it leaves, at most four nodes of the tree's own are new for each byte
-  pub to_blank_few : (columns : ℕ) (p : Place) → IsPlaceAt text start p → (let e : Extent = html_to_blank text (path_of old) p in AddsRaw text options names (λ d. IsHtml d start columns e.places e.«end») e.left old new next)
+  pub to_blank_few : (columns : ℕ) (p : Place) → IsPlaceAt text start p → (let e : Extent = html_to_blank text (path_of old) p in AddsRaw (document text options names) (λ d. IsHtml d start columns e.places e.«end») e.left old new next)
       → (from : ℕ) → from ≤ start → from < next → GrowsBy from next old.nodes new.nodes
   to_blank_few columns p i a from low apart =
       let e : Extent = html_to_blank text (path_of old) p in
@@ -98,7 +98,7 @@ module _ (text : List ℕ) (options : Options) (names : Names) (old new : Forest
   pub to_blank_ends : (p : Place) → IsPlaceAt text start p → IsCharBoundary text (html_to_blank text (path_of old) p).«end»
   to_blank_ends p i = (to_blank_placed text u (path_of old) p (place_of text start p b i)).boundary
 
-  pub indented_between : (owed : ℕ) (blank : Bool) → ((p : Place) → IsPlaceAt text start p → p.rest.owed ≡ owed → AddsIndented text options names p old new next blank) → (from : ℕ) → from ≤ start → AddsBetween text from next old new
+  pub indented_between : (owed : ℕ) (blank : Bool) → ((p : Place) → IsPlaceAt text start p → p.rest.owed ≡ owed → AddsIndented (document text options names) p old new next blank) → (from : ℕ) → from ≤ start → AddsBetween text from next old new
   indented_between owed blank adds from low =
       let p : Place = first_at text start owed in
       let i = first_is text start owed in

@@ -5,6 +5,7 @@ ghost use Rattle.first_pass_lines.specs.Lines.{is_blank_line, is_content};
 ghost use Rattle.first_pass_scan.specs.LeafLines.{code_fence};
 ghost use Rattle.first_pass_lines.specs.Rest.{indent};
 ghost use Rattle.first_pass_lines.specs.Places.{Place, offset, line_end, IsPlaceOf};
+ghost use Rattle.first_pass_grammar.specs.Leaves.{document};
 ghost use Rattle.first_pass_grammar.specs.Names.{Extends};
 ghost use Rattle.first_pass_grammar.specs.Kinds.{IndentedCode, is_blank_rest};
 ghost use Rattle.first_pass_grammar.specs.RawLines.{range_text, range_html};
@@ -130,8 +131,8 @@ impl<'a> FirstPass<'a> {
         ensures tables { OnOk result (tables (allocs_of self.new) ≡ tables (allocs_of self.old)) }
         ensures block { IfOk result (λ next. (p : Place) → IsPlaceAt (source_text self.old) start_ix p
             → p.rest.owed ≡ remaining_space
-            → AddsIndented (source_text self.old) (source_options self.old)
-            (names_of (allocs_of self.new)) p (tree_of self.old) (tree_of self.new) next (reading_of self.new).blank) }
+            → AddsIndented (document (source_text self.old) (source_options self.old) (names_of (allocs_of self.new))) p
+            (tree_of self.old) (tree_of self.new) next (reading_of self.new).blank) }
         ensures boundary { IfOk result (λ next. (behind_line_at (source_text self.old) start_ix ≤ next)
             × IsCharBoundary (source_text self.old) next) }
         ensures fits { IfOk result (λ next. (from : ℕ) → from ≤ start_ix
@@ -186,7 +187,7 @@ impl<'a> FirstPass<'a> {
         ensures reading { OnOk result (reading_of self.new ≡ with_block (reading_of self.old) (tree_of self.new)) }
         ensures block { IfOk result (λ next. let e = fenced_behind (source_text self.old)
             (path_of (tree_of self.old)) indent fence_ch n_fence_char start_ix in
-            AddsRaw (source_text self.old) (source_options self.old) (names_of (allocs_of self.new)) (λ d.
+            AddsRaw (document (source_text self.old) (source_options self.old) (names_of (allocs_of self.new))) (λ d.
             IsFencedCode d start_ix n_fence_char e.places e.«end») e.left (tree_of self.old) (tree_of self.new)
             next) }
         ensures boundary { IfOk result (λ next. (behind_line_at (source_text self.old) start_ix ≤ next)
@@ -230,7 +231,7 @@ impl<'a> FirstPass<'a> {
         ensures reading { OnOk result (reading_of self.new ≡ with_block (reading_of self.old) (tree_of self.new)) }
         ensures block { IfOk result (λ next. let e = metadata_behind (source_text self.old)
             (path_of (tree_of self.old)) metadata_block_ch start_ix in
-            AddsRaw (source_text self.old) (source_options self.old) (names_of (allocs_of self.new)) (λ d.
+            AddsRaw (document (source_text self.old) (source_options self.old) (names_of (allocs_of self.new))) (λ d.
             IsMetadata d start_ix metadata_block_ch e.places e.«end») e.left (tree_of self.old) (tree_of self.new)
             next) }
         ensures boundary { IfOk result (λ next. (behind_line_at (source_text self.old) start_ix ≤ next)
@@ -272,7 +273,7 @@ impl<'a> FirstPass<'a> {
         ensures reading { OnOk result (reading_of self.new ≡ with_block (reading_of self.old) (tree_of self.new)) }
         ensures block { IfOk result (λ next. (p : Place) → IsPlaceAt (source_text self.old) start_ix p
             → let e = html_to_end (source_text self.old) (path_of (tree_of self.old)) html_end_tag.now p in
-            AddsRaw (source_text self.old) (source_options self.old) (names_of (allocs_of self.new)) (λ d.
+            AddsRaw (document (source_text self.old) (source_options self.old) (names_of (allocs_of self.new))) (λ d.
             IsHtml d start_ix (max remaining_space indent) e.places e.«end») e.left (tree_of self.old)
             (tree_of self.new) next) }
         ensures boundary { IfOk result (λ next. (behind_line_at (source_text self.old) start_ix ≤ next)
@@ -314,7 +315,7 @@ impl<'a> FirstPass<'a> {
         ensures reading { OnOk result (reading_of self.new ≡ with_block (reading_of self.old) (tree_of self.new)) }
         ensures block { IfOk result (λ next. (p : Place) → IsPlaceAt (source_text self.old) start_ix p
             → let e = html_to_blank (source_text self.old) (path_of (tree_of self.old)) p in
-            AddsRaw (source_text self.old) (source_options self.old) (names_of (allocs_of self.new)) (λ d.
+            AddsRaw (document (source_text self.old) (source_options self.old) (names_of (allocs_of self.new))) (λ d.
             IsHtml d start_ix (max remaining_space indent) e.places e.«end») e.left (tree_of self.old)
             (tree_of self.new) next) }
         ensures boundary { IfOk result (λ next. (behind_line_at (source_text self.old) start_ix ≤ next)

@@ -76,7 +76,7 @@ lines_last range text options names whole rest chain none goes_on more e =
 
 -- behind the last line
 pub lines_end : (range : Ranges) (text : List ℕ) (options : Options) (names : Names) (whole rest : Extent) (old now : Forest Item) (e next : ℕ) → LinesSoFar range text options names whole rest old now → rest ≡ ends_at e (lines_from text next)
-    → AppendsLines range text options names whole old now e next
+    → AppendsLines range (document text options names) whole old now e next
 lines_end range text options names whole rest old now e next s is =
     record {
       chain = s.chain;
@@ -168,7 +168,7 @@ module _ (range : Ranges) (text : List ℕ) (options : Options) (names : Names) 
   rest = extent_from text (path_of old) judge at
 
   -- the text ends
-  pub read_end : at ≡ length text → AppendsLines range text options names (extent_from text (path_of old) judge start) old now at at
+  pub read_end : at ≡ length text → AppendsLines range (document text options names) (extent_from text (path_of old) judge start) old now at at
   read_end past = lines_end range text options names whole rest old now at at s (extent_at_end text (path_of old) judge at past)
 
   module _ (next : ℕ) (there : AreIn (length old.nodes) old.spine) (line : IsLineAt text at next) where
@@ -176,7 +176,7 @@ module _ (range : Ranges) (text : List ℕ) (options : Options) (names : Names) 
     same_path = lines_path range text options names whole rest old now s there
 
     -- the line doesn't go on with the containers
-    pub read_left : (found : Option Rest) → found ≡ None → found ≡ after (path_of now) (line_rest (drop at text)) → AppendsLines range text options names (extent_from text (path_of old) judge start) old now at at
+    pub read_left : (found : Option Rest) → found ≡ None → found ≡ after (path_of now) (line_rest (drop at text)) → AppendsLines range (document text options names) (extent_from text (path_of old) judge start) old now at at
     read_left found none is =
         lines_end range text options names whole rest old now at at s
         (extent_here text (path_of old) judge at next None (Judged.Stops at) line (ap (λ path. after path (line_rest (drop at text))) (sym same_path) ∙ sym is ∙ none) refl ∙ ap (ends_at at) (sym line.lines))
@@ -187,11 +187,11 @@ module _ (range : Ranges) (text : List ℕ) (options : Options) (names : Names) 
           extent_here text (path_of old) judge at next (Some r) (said v (place_at at q)) line (ap (λ path. after path (line_rest (drop at text))) (sym same_path) ∙ sym taken) (is ∙ ap (λ (a : Answer). said a (place_at at q)) e)
 
       -- the line is none of the block's
-      pub read_stops : (e : ℕ) → answer ≡ Stops e → AppendsLines range text options names (extent_from text (path_of old) judge start) old now e at
+      pub read_stops : (e : ℕ) → answer ≡ Stops e → AppendsLines range (document text options names) (extent_from text (path_of old) judge start) old now e at
       read_stops e stops = lines_end range text options names whole rest old now e at s (rest_by (Stops e) stops ∙ ap (ends_at e) (sym line.lines))
 
       -- it closes the block
-      pub read_closes : (e : ℕ) → answer ≡ Closes e → AppendsLines range text options names (extent_from text (path_of old) judge start) old now e next
+      pub read_closes : (e : ℕ) → answer ≡ Closes e → AppendsLines range (document text options names) (extent_from text (path_of old) judge start) old now e next
       read_closes e closes = lines_end range text options names whole rest old now e next s (rest_by (Closes e) closes)
 
       module _ (named : Names) (owed from : ℕ) (new : Forest Item) (apart : JoinsNone old) (extends : Extends named names) (appends : AppendsRaw range text named owed from next now new) (owed_is : owed ≡ q.owed) (from_is : from ≡ at + q.taken)
@@ -203,7 +203,7 @@ module _ (range : Ranges) (text : List ℕ) (options : Options) (names : Names) 
             (rest_by GoesOn goes) extends appends owed_is from_is next_is
 
         -- it is the last
-        pub read_last : answer ≡ IsLast → AppendsLines range text options named (extent_from text (path_of old) judge start) old new next next
+        pub read_last : answer ≡ IsLast → AppendsLines range (document text options named) (extent_from text (path_of old) judge start) old new next next
         read_last last =
             let ends : Extent = ends_at next (lines_from text next) in
             lines_end range text options named whole ends old new next next
@@ -223,15 +223,15 @@ opened_path g opened start body is leaf there =
 
 -- the lines behind the first of a block that was just opened
 pub lines_of : (range : Ranges) (text : List ℕ) (options : Options) (names : Names) (g opened filled : Forest Item) (start first e next : ℕ) (body : ItemBody) (judge : Place → Place → Verdict) → AreIn (length g.nodes) g.spine
-    → opened ≡ opened_block g start body → container_of body ≡ None → first ≡ behind_line_at text start → AppendsLines range text options names (extent_from text (path_of opened) judge first) opened filled e next
-    → AppendsLines range text options names (extent_from text (path_of g) judge (behind_line_at text start)) opened filled e next
+    → opened ≡ opened_block g start body → container_of body ≡ None → first ≡ behind_line_at text start → AppendsLines range (document text options names) (extent_from text (path_of opened) judge first) opened filled e next
+    → AppendsLines range (document text options names) (extent_from text (path_of g) judge (behind_line_at text start)) opened filled e next
 lines_of range text options names g opened filled start first e next body judge there is leaf first_is lines =
-    subst (λ y. AppendsLines range text options names y opened filled e next)
+    subst (λ y. AppendsLines range (document text options names) y opened filled e next)
     (ap (λ path. extent_from text path judge first) (opened_path g opened start body is leaf there) ∙ ap (extent_from text (path_of g) judge) first_is) lines
 
 -- a block that was opened, and then filled with its lines
 module _ (range : Ranges) (text : List ℕ) (options : Options) (names : Names) (whole : Extent) (g opened filled : Forest Item) (start : ℕ) (body : ItemBody) (e next : ℕ)
-    (is : opened ≡ opened_block g start body) (lines : AppendsLines range text options names whole opened filled e next) where
+    (is : opened ≡ opened_block g start body) (lines : AppendsLines range (document text options names) whole opened filled e next) where
   filled_is : filled ≡ chained (opened_block g start body) lines.chain
   filled_is = lines.tree_is ∙ ap (λ f. chained f lines.chain) is
 

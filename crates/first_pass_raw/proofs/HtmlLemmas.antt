@@ -153,14 +153,14 @@ module _ (text : List ℕ) (options : Options) (named : Names) (start columns ne
         (sym i.offset_is) first_end
 
     -- a block that has it alone
-    first_alone : AppendsLines range_html text options named (with_line (owing columns p) (ends_at next (lines_from text next))) opened one next next
+    first_alone : AppendsLines range_html (document text options named) (with_line (owing columns p) (ends_at next (lines_from text next))) opened one next next
     first_alone =
         let further : Extent = ends_at next (lines_from text next) in
         lines_end range_html text options named (with_line (owing columns p) further) further opened one next next (first_read further) refl
 
     -- a block that has lines behind it, too
-    first_then : (names : Names) (further : Extent) (two : Forest Item) (e stop : ℕ) → Extends names named → AppendsLines range_html text options names further one two e stop
-        → AppendsLines range_html text options names (with_line (owing columns p) further) opened two e stop
+    first_then : (names : Names) (further : Extent) (two : Forest Item) (e stop : ℕ) → Extends names named → AppendsLines range_html (document text options names) further one two e stop
+        → AppendsLines range_html (document text options names) (with_line (owing columns p) further) opened two e stop
     first_then names further two e stop extends lines =
         let s = first_read further in
         record {
@@ -174,10 +174,10 @@ module _ (text : List ℕ) (options : Options) (named : Names) (start columns ne
         }
 
     -- the block with its lines, closed
-    whole_added : (names : Names) (e further : Extent) (two new : Forest Item) (stop left : ℕ) → e ≡ with_line p further → AppendsLines range_html text options names (with_line (owing columns p) further) opened two stop left
-        → new ≡ closed_by two stop two.spine → AddsRaw text options names (λ d. IsHtml d start columns e.places e.«end») e.left g new left
+    whole_added : (names : Names) (e further : Extent) (two new : Forest Item) (stop left : ℕ) → e ≡ with_line p further → AppendsLines range_html (document text options names) (with_line (owing columns p) further) opened two stop left
+        → new ≡ closed_by two stop two.spine → AddsRaw (document text options names) (λ d. IsHtml d start columns e.places e.«end») e.left g new left
     whole_added names e further two new stop left e_is lines new_is =
-        subst (λ (x : Extent). AddsRaw text options names (λ d. IsHtml d start columns x.places x.«end») x.left g new left) (sym e_is)
+        subst (λ (x : Extent). AddsRaw (document text options names) (λ d. IsHtml d start columns x.places x.«end») x.left g new left) (sym e_is)
         (record {
           items = block_with start further.«end» HtmlBlock lines.chain;
           tree_is = block_done range_html text options names (with_line (owing columns p) further) g opened two start HtmlBlock stop left refl lines new new_is;
@@ -212,16 +212,16 @@ module _ (text : List ℕ) (options : Options) (named : Names) (start columns ne
 
     -- the block has one line
     pub html_one : (tag : List ℕ) (new : Forest Item) → holds tag (line_of p) ≡ true → new ≡ closed_by one next one.spine
-        → (let e = html_to_end text (path_of g) tag p in AddsRaw text options named (λ d. IsHtml d start columns e.places e.«end») e.left g new next)
+        → (let e = html_to_end text (path_of g) tag p in AddsRaw (document text options named) (λ d. IsHtml d start columns e.places e.«end») e.left g new next)
     html_one tag new held new_is = whole_added named (html_to_end text (path_of g) tag p) (ends_at next (lines_from text next)) one new next next (held_extent (path_of g) tag held) first_alone new_is
 
     -- it has those behind the first, too
-    module _ (names : Names) (judge : Place → Place → Verdict) (two : Forest Item) (e : Extent) (stop left : ℕ) (path : path_of one ≡ path_of g) (lines : AppendsLines range_html text options names (extent_from text (path_of one) judge next) one two stop left)
+    module _ (names : Names) (judge : Place → Place → Verdict) (two : Forest Item) (e : Extent) (stop left : ℕ) (path : path_of one ≡ path_of g) (lines : AppendsLines range_html (document text options names) (extent_from text (path_of one) judge next) one two stop left)
         (e_is : e ≡ with_line p (extent_from text (path_of g) judge next)) where
-      pub html_more : (new : Forest Item) → Extends names named → new ≡ closed_by two stop two.spine → AddsRaw text options names (λ d. IsHtml d start columns e.places e.«end») e.left g new left
+      pub html_more : (new : Forest Item) → Extends names named → new ≡ closed_by two stop two.spine → AddsRaw (document text options names) (λ d. IsHtml d start columns e.places e.«end») e.left g new left
       html_more new extends new_is =
           let further : Extent = extent_from text (path_of g) judge next in
-          let here = subst (λ path. AppendsLines range_html text options names (extent_from text path judge next) one two stop left) path lines in
+          let here = subst (λ path. AppendsLines range_html (document text options names) (extent_from text path judge next) one two stop left) path lines in
           whole_added names e further two new stop left e_is (first_then names further two stop left extends here) new_is
 
   -- it is open still behind its first line, and behind the others
@@ -230,7 +230,7 @@ module _ (text : List ℕ) (options : Options) (named : Names) (start columns ne
       let p : Place = first_at text start 0 in
       block_open range_html text options named (with_line (owing columns p) (ends_at next (lines_from text next))) g opened one start HtmlBlock next next refl (first_alone p (first_is text start 0))
 
-  pub more_open : (names : Names) (further : Extent) (two : Forest Item) (stop left : ℕ) → Extends names named → AppendsLines range_html text options names further one two stop left → IsSome (slice_get two.spine 0)
+  pub more_open : (names : Names) (further : Extent) (two : Forest Item) (stop left : ℕ) → Extends names named → AppendsLines range_html (document text options names) further one two stop left → IsSome (slice_get two.spine 0)
   more_open names further two stop left extends lines =
       let p : Place = first_at text start 0 in
       block_open range_html text options names (with_line (owing columns p) further) g opened two start HtmlBlock stop left refl (first_then p (first_is text start 0) names further two stop left extends lines)

@@ -535,7 +535,7 @@ module _ (text : List ℕ) (options : Options) (names : Names) (p : Place) (old 
   code_open = still_open old now (code_item start) a.chain (place_in (length old.nodes)) refl block_filled
 
   -- it is closed
-  pub code_added : (new : Forest Item) → IsForest old → offset p ≡ start → new ≡ closed_by now «end» now.spine → AddsIndented text options names p old new next blank
+  pub code_added : (new : Forest Item) → IsForest old → offset p ≡ start → new ≡ closed_by now «end» now.spine → AddsIndented (document text options names) p old new next blank
   code_added new f at closed =
       let path : path_of opened ≡ path_of old = ap path_of opened_is ∙ path_of-opened old (code_item start) (place_in (length old.nodes)) refl (open_are_in old.nodes old.spine f.opened) in
       let same = ap (λ c. code_behind text c (offset p)) path in

@@ -6,7 +6,7 @@ use Rattle.first_pass_items.specs.declared.item.MetadataBlockKind.{MetadataBlock
 use Rattle.first_pass_items.specs.declared.option_set.Options.{Options}
 use Rattle.first_pass_tree.specs.Forest.{Forest}
 use Rattle.first_pass_grammar.specs.Names.{Names}
-use Rattle.first_pass_grammar.specs.Leaves.{block_with}
+use Rattle.first_pass_grammar.specs.Leaves.{document, block_with}
 use Rattle.first_pass_grammar.specs.RawLines.{range_text}
 use Rattle.first_pass_grammar.specs.Extents.{Extent}
 use Rattle.first_pass_grammar.specs.CodeBlocks.{metadata_judge, metadata_kind, IsMetadata}
@@ -18,8 +18,8 @@ use Rattle.first_pass_raw.proofs.ExtentLemmas.{extent_from, lines_of, block_done
 
 pub metadata_added : (text : List ℕ) (options : Options) (names : Names) (g opened filled new : Forest Item) (start byte first e next : ℕ) (kind : MetadataBlockKind) → AreIn (length g.nodes) g.spine
     → opened ≡ opened_block g start (MetadataBlock kind) → kind ≡ metadata_kind byte → first ≡ behind_line_at text start
-    → AppendsLines range_text text options names (extent_from text (path_of opened) (metadata_judge byte) first) opened filled e next → new ≡ closed_by filled e filled.spine
-    → (let x = metadata_behind text (path_of g) byte start in AddsRaw text options names (λ d. IsMetadata d start byte x.places x.«end») x.left g new next)
+    → AppendsLines range_text (document text options names) (extent_from text (path_of opened) (metadata_judge byte) first) opened filled e next → new ≡ closed_by filled e filled.spine
+    → (let x = metadata_behind text (path_of g) byte start in AddsRaw (document text options names) (λ d. IsMetadata d start byte x.places x.«end») x.left g new next)
 metadata_added text options names g opened filled new start byte first e next kind there is kind_is first_is lines new_is =
     let x : Extent = metadata_behind text (path_of g) byte start in
     let all = lines_of range_text text options names g opened filled start first e next (MetadataBlock kind) (metadata_judge byte) there is refl first_is lines in

@@ -63,12 +63,12 @@ abbrev pub code_behind : List ℕ → List Container → ℕ → List Place × L
 code_behind text path start = code_lines path (lines_from text (behind_line_at text start))
 
 -- Indented code is a last child of the innermost open node.
-pub record AddsIndented (text : List ℕ) (options : Options) (names : Names) (p : Place) (old new : Forest Item) (next : ℕ) (blank : Bool) : Type 0 where
+pub record AddsIndented (d : Document) (p : Place) (old new : Forest Item) (next : ℕ) (blank : Bool) : Type 0 where
   pub items : List (ℕ × Item)
   pub tree_is : new ≡ added old items
-  pub is : (more : Names) → Extends more names → IsIndentedCode (document text options more) p (code_behind text (path_of old) (offset p)).0 items
-  pub blank_is : blank ≡ last_is_blank (code_behind text (path_of old) (offset p)).0
-  pub left_is : lines_from text next ≡ (code_behind text (path_of old) (offset p)).1
+  pub is : (more : Names) → Extends more d.names → IsIndentedCode (document d.text d.options more) p (code_behind d.text (path_of old) (offset p)).0 items
+  pub blank_is : blank ≡ last_is_blank (code_behind d.text (path_of old) (offset p)).0
+  pub left_is : lines_from d.text next ≡ (code_behind d.text (path_of old) (offset p)).1
 
 -- what a line is to a block whose text, if it has one, is at a place
 abbrev pub said : Answer → Place → Verdict
@@ -78,19 +78,19 @@ said (Closes e) p = Judged.Closes e
 said (Stops e) p = Judged.Stops e
 
 -- The raw lines of an extent stand behind the nodes of a tree, whatever more is named.
-pub record AppendsLines (range : Ranges) (text : List ℕ) (options : Options) (names : Names) (e : Extent) (old new : Forest Item) («end» next : ℕ) : Type 0 where
+pub record AppendsLines (range : Ranges) (d : Document) (e : Extent) (old new : Forest Item) («end» next : ℕ) : Type 0 where
   pub chain : List Item
   pub tree_is : new ≡ chained old chain
-  pub lines : (more : Names) → Extends more names → AreRawLines range (document text options more) [] e.places chain
+  pub lines : (more : Names) → Extends more d.names → AreRawLines range (document d.text d.options more) [] e.places chain
   pub end_is : «end» ≡ e.«end»
-  pub left_is : lines_from text next ≡ e.left
+  pub left_is : lines_from d.text next ≡ e.left
 
 -- A block is a last child of the innermost open node, whose items are, whatever more is named, what is said of them; and the lines from an offset on are left.
-pub record AddsRaw (text : List ℕ) (options : Options) (names : Names) (Are : Document → List (ℕ × Item) → Type 0) (left : List Place) (old new : Forest Item) (next : ℕ) : Type 0 where
+pub record AddsRaw (d : Document) (Are : Document → List (ℕ × Item) → Type 0) (left : List Place) (old new : Forest Item) (next : ℕ) : Type 0 where
   pub items : List (ℕ × Item)
   pub tree_is : new ≡ added old items
-  pub are : (more : Names) → Extends more names → Are (document text options more) items
-  pub left_is : lines_from text next ≡ left
+  pub are : (more : Names) → Extends more d.names → Are (document d.text d.options more) items
+  pub left_is : lines_from d.text next ≡ left
 
 -- the lines behind the one that has something at an offset, which are a fenced code block's, or a metadata block's
 abbrev pub fenced_behind : List ℕ → List Container → ℕ → ℕ → ℕ → ℕ → Extent

@@ -3,6 +3,7 @@
 ghost use Rattle.std.specs.Prelude.{◌≡◌, ◌≤◌, length, drop, IfOk, OnOk, IsCharBoundary};
 ghost use Rattle.first_pass_lines.specs.Places.{Place, place_at, line_place, line_end, IsPlaceOf};
 ghost use Rattle.first_pass_tokens.specs.TreeTokens.{JoinsNone};
+ghost use Rattle.first_pass_grammar.specs.Leaves.{document};
 ghost use Rattle.first_pass_grammar.specs.Names.{Extends};
 ghost use Rattle.first_pass_grammar.specs.Completion.{lines_from};
 ghost use Rattle.first_pass_grammar.specs.Extents.{Verdict as Judgement, extent, in_containers};
@@ -56,7 +57,7 @@ pub fn read_lines<'a, J: JudgesLines>(
 ) -> Result<BlockLines, AllocError>
     requires boundary { IsCharBoundary text.now start }
     requires apart { JoinsNone tree.old }
-    ensures lines { IfOk result (λ lines. AppendsLines (range_of kind) text.now options (names_of allocs.new)
+    ensures lines { IfOk result (λ lines. AppendsLines (range_of kind) (document text.now options (names_of allocs.new))
         (extent (in_containers (path_of tree.old) (J.judges judge.now)) (length text.now) (lines_from text.now start))
         tree.old tree.new lines.«end» lines.next) }
     ensures boundary { IfOk result (λ lines. (start ≤ lines.next) × IsCharBoundary text.now lines.next) }

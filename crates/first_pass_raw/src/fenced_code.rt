@@ -4,6 +4,7 @@ ghost use Rattle.std.specs.Prelude.{◌≡◌, ◌≤◌, length, drop, Some, If
 ghost use Rattle.std.specs.List.{suffix_len};
 ghost use Rattle.first_pass_lines.specs.Lines.{is_ascii_white};
 ghost use Rattle.first_pass_lines.specs.Places.{place_at, IsPlaceOf};
+ghost use Rattle.first_pass_grammar.specs.Leaves.{document};
 ghost use Rattle.first_pass_grammar.specs.Names.{Extends};
 ghost use Rattle.first_pass_open.specs.Path.{path_of};
 ghost use Rattle.first_pass_names.specs.TableEntries.{tables, names_of};
@@ -50,7 +51,7 @@ pub fn parse_fenced_code_block<'a>(
     requires fence { code_fence (drop start_ix text.now) ≡ Some (fence.count, fence.byte) }
     ensures block { IfOk result (λ next.
         let e = fenced_behind text.now (path_of tree.old) fence.indent fence.byte fence.count start_ix in
-        AddsRaw text.now options (names_of allocs.new) (λ d.
+        AddsRaw (document text.now options (names_of allocs.new)) (λ d.
         IsFencedCode d start_ix fence.count e.places e.«end») e.left tree.old tree.new next) }
     ensures boundary { IfOk result (λ next. (behind_line_at text.now start_ix ≤ next) × IsCharBoundary text.now next) }
     ensures names { OnOk result (Extends (names_of allocs.new) (names_of allocs.old)) }

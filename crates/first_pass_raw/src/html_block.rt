@@ -2,6 +2,7 @@
 
 ghost use Rattle.std.specs.Prelude.{◌≡◌, ◌≤◌, IfOk, OnOk, IsUtf8, IsCharBoundary};
 ghost use Rattle.first_pass_lines.specs.Places.{Place};
+ghost use Rattle.first_pass_grammar.specs.Leaves.{document};
 ghost use Rattle.first_pass_grammar.specs.Names.{Extends};
 ghost use Rattle.first_pass_open.specs.Path.{path_of};
 ghost use Rattle.first_pass_names.specs.TableEntries.{tables, names_of};
@@ -41,7 +42,7 @@ pub fn parse_html_block_type_1_to_5<'a>(
     requires columns { columns ≤ 3 }
     ensures block { IfOk result (λ next. (p : Place) → IsPlaceAt text.now start_ix p
         → let e = html_to_end text.now (path_of tree.old) html_end_tag.now p in
-        AddsRaw text.now options (names_of allocs.new) (λ d.
+        AddsRaw (document text.now options (names_of allocs.new)) (λ d.
         IsHtml d start_ix columns e.places e.«end») e.left tree.old tree.new next) }
     ensures boundary { IfOk result (λ next. (behind_line_at text.now start_ix ≤ next) × IsCharBoundary text.now next) }
     ensures names { OnOk result (Extends (names_of allocs.new) (names_of allocs.old)) }
@@ -75,7 +76,7 @@ pub fn parse_html_block_type_6_or_7<'a>(
     requires columns { columns ≤ 3 }
     ensures block { IfOk result (λ next. (p : Place) → IsPlaceAt text.now start_ix p
         → let e = html_to_blank text.now (path_of tree.old) p in
-        AddsRaw text.now options (names_of allocs.new) (λ d.
+        AddsRaw (document text.now options (names_of allocs.new)) (λ d.
         IsHtml d start_ix columns e.places e.«end») e.left tree.old tree.new next) }
     ensures boundary { IfOk result (λ next. (behind_line_at text.now start_ix ≤ next) × IsCharBoundary text.now next) }
     ensures names { OnOk result (Extends (names_of allocs.new) (names_of allocs.old)) }

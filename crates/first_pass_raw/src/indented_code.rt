@@ -3,6 +3,7 @@
 ghost use Rattle.std.specs.Prelude.{◌≡◌, ◌≤◌, length, drop, Some, false, if◌then◌else◌, IfOk, OnOk, IfSome, IsCharBoundary, IsUtf8};
 ghost use Rattle.first_pass_tree.specs.Forest.{IsChild, kept_after, with_end_at};
 ghost use Rattle.first_pass_lines.specs.Places.{Place, place_at, offset, IsPlaceOf};
+ghost use Rattle.first_pass_grammar.specs.Leaves.{document};
 ghost use Rattle.first_pass_grammar.specs.Names.{Extends};
 ghost use Rattle.first_pass_grammar.specs.RawLines.{range_text};
 ghost use Rattle.first_pass_open.specs.Path.{path_of};
@@ -37,7 +38,7 @@ pub fn parse_indented_code_block<'a>(
     requires owed { remaining_space ≤ 3 }
     requires code { is_blank_line (drop start_ix text.now) ≡ false }
     ensures block { IfOk result (λ answer. (p : Place) → IsPlaceAt text.now start_ix p → p.rest.owed ≡ remaining_space
-        → AddsIndented text.now options (names_of allocs.new) p tree.old tree.new answer.0 answer.1) }
+        → AddsIndented (document text.now options (names_of allocs.new)) p tree.old tree.new answer.0 answer.1) }
     ensures boundary { IfOk result (λ answer. (behind_line_at text.now start_ix ≤ answer.0)
         × IsCharBoundary text.now answer.0) }
     ensures names { OnOk result (Extends (names_of allocs.new) (names_of allocs.old)) }

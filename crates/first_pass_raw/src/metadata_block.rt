@@ -1,6 +1,7 @@
 //! Metadata blocks.
 
 ghost use Rattle.std.specs.Prelude.{◌≡◌, ◌≤◌, length, IfOk, OnOk, IsCharBoundary, IsUtf8};
+ghost use Rattle.first_pass_grammar.specs.Leaves.{document};
 ghost use Rattle.first_pass_grammar.specs.Names.{Extends};
 ghost use Rattle.first_pass_open.specs.Path.{path_of};
 ghost use Rattle.first_pass_names.specs.TableEntries.{tables, names_of};
@@ -44,7 +45,7 @@ pub fn parse_metadata_block<'a>(
     requires boundary { IsCharBoundary text.now start_ix }
     ensures block { IfOk result (λ next.
         let e = metadata_behind text.now (path_of tree.old) metadata_block_ch start_ix in
-        AddsRaw text.now options (names_of allocs.new) (λ d.
+        AddsRaw (document text.now options (names_of allocs.new)) (λ d.
         IsMetadata d start_ix metadata_block_ch e.places e.«end») e.left tree.old tree.new next) }
     ensures boundary { IfOk result (λ next. (behind_line_at text.now start_ix ≤ next) × IsCharBoundary text.now next) }
     ensures names { OnOk result (Extends (names_of allocs.new) (names_of allocs.old)) }

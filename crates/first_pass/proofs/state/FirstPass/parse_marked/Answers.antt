@@ -5,6 +5,7 @@ use Rattle.first_pass_items.specs.declared.item.Item.{Item}
 use Rattle.first_pass_lines.specs.Lines.{atx_level}
 use Rattle.first_pass_scan.specs.LeafLines.{code_fence}
 use Rattle.first_pass_html.specs.Starts.{html_end}
+use Rattle.first_pass_grammar.specs.Leaves.{document}
 use Rattle.first_pass_grammar.specs.Kinds.{Metadata, HtmlToEnd, ThematicBreak, AtxHeading, FencedCode, all_taken, unindented}
 use Rattle.first_pass_grammar.specs.Extents.{Extent}
 use Rattle.first_pass_grammar.specs.HtmlBlocks.{IsHtml}
@@ -95,7 +96,7 @@ returns-in_ok-next-in-HtmlToEnd c =
     let lines : Extent = html_to_end text (path_of old) tag (unindented p) in
     leaf_added self new p c.args.at next c.requires.utf8 c.requires.place f.at_is HtmlToEnd (marked_kind c.args.leaf) (ap marked_kind c.in-HtmlToEnd.is) c.requires.not_blank e.source e.names e.tables e.reading e.boundary e.fits
     (html_end_added text options (names_of new.allocs) p old new.reading.tree c.args.at next f.at_is i tag c.args.columns tag_is (columns_are _ _ f.columns_are (found_says _ _ _ _ _ _ c.in-HtmlToEnd.is f)).0
-    (subst (λ k. AddsRaw text options (names_of new.allocs) (λ d. IsHtml d c.args.at k lines.places lines.«end») lines.left old new.reading.tree next) (zero-max c.args.columns)
+    (subst (λ k. AddsRaw (document text options (names_of new.allocs)) (λ d. IsHtml d c.args.at k lines.places lines.«end») lines.left old new.reading.tree next) (zero-max c.args.columns)
     (e.block (unindented p) (is_here text options (names_of new.allocs) p old new.reading.tree c.args.at next f.at_is i))))
 
 pub returns-in_ok-next-in-ThematicBreak : goal.returns-in_ok-next-in-ThematicBreak
