@@ -1,5 +1,5 @@
 -- Items that read alike: they differ at most in indices that name one text, the same alignments, or the same attributes.
-use Rattle.std.proofs.Common.{◌≡◌, ℕ, zero, suc, ◌+◌, ◌-◌, ◌==◌, Bool, true, false, nat_lt, List, [], ◌∷◌, ◌++◌, map, Option, Some, None, refl, sym, ap, ◌∙◌, if◌then◌else◌}
+use Rattle.std.proofs.Common.{◌≡◌, ℕ, zero, suc, ◌+◌, ◌==◌, Bool, true, false, List, [], ◌∷◌, ◌++◌, map, Option, Some, None, refl, sym, ap, ◌∙◌, if◌then◌else◌}
 use Rattle.std.specs.Option.{option_and_then, option_map}
 use Rattle.std.proofs.lemmas.List.{map-append}
 use Rattle.first_pass_items.specs.declared.item.Alignment.{Alignment}
@@ -14,14 +14,15 @@ use Rattle.first_pass_attributes.specs.Attributes.{Attributes}
 use Rattle.first_pass_tree.specs.Forest.{at_depth, is_text}
 use Rattle.first_pass_lines.specs.Places.{Place, offset, line_end}
 use Rattle.first_pass_tokens.specs.TreeTokens.{leaves}
-use Rattle.first_pass_tokens.specs.Chains.{text_token, touches, add_token, add_tokens}
+use Rattle.first_pass_tokens.specs.Chains.{touches, add_token, add_tokens}
 use Rattle.first_pass_grammar.specs.Names.{Names, NamesText, NamesAlignments, NamesAttributes, TextAt, AlignmentsAt, AttributesAt, Named, AText, Alignments, OfHeading, index_of, kind_alone, named, read, read_nodes}
 use Rattle.first_pass_grammar.specs.Leaves.{Document, document, block_with}
-use Rattle.first_pass_grammar.specs.RawLines.{AreColumns, ends_with_both, Ranges, range_text, range_html, raw_items, AreRawLines, spaces}
+use Rattle.first_pass_grammar.specs.RawLines.{AreColumns, Ranges, range_text, range_html, raw_items, AreRawLines, spaces}
 use Rattle.first_pass_grammar.specs.Skeleton.{LeafBlock, Leaf, BlankLine, Block, From, Line, Blanks, At, Anything, ALeafAlone, TextOf, MarkAlone, Opening, OpensLeaf, OpensNode, Skeleton, Nil, Then, Node}
 use Rattle.first_pass_grammar.specs.Kinds.{Kind}
 use Rattle.first_pass_grammar.specs.Derivation.{node_of, tight_body, tightened}
-use Rattle.first_pass_grammar.proofs.NoIndex.{HasNoIndex, HaveNoIndex, read_alone, both_free, unless_free}
+use Rattle.first_pass_grammar.proofs.NoIndex.{IsWithoutIndex, HasNoIndex, HaveNoIndex, read_alone, tokens_free}
+use Rattle.first_pass_grammar.proofs.EachToken.{range_text_each, raw_each}
 
 -- the same document, where indices name other texts
 abbrev pub with_names : Document → Names → Document
@@ -165,21 +166,15 @@ columns_alike m n (suc owed) at xs ys (i, names, e) (j, names', f) =
     ap (map (read m)) e ∙ ap (λ (z : Item × Option Named). z ∷ []) (indexed_alike m n at at (SynthesizeText i) (SynthesizeText j) refl (a ∙ sym b))
     ∙ sym (ap (map (read n)) f)
 
--- a range has no index, and so the bytes of a raw line
+-- a range has no index
 abbrev pub AreFree : Ranges → Type 0
 AreFree range = (from to : ℕ) → HaveNoIndex (range from to)
 
 pub text_free : AreFree range_text
-text_free from to = unless_free (nat_lt from to) (text_token from to false ∷ []) [] (refl, tt) tt
+text_free = range_text_each IsWithoutIndex tokens_free
 
 pub html_free : AreFree range_html
 html_free from to = (refl, tt)
-
-raw_free : (range : Ranges) → AreFree range → (text : List ℕ) (from to : ℕ) → HaveNoIndex (raw_items range text from to)
-unfolding raw_items
-raw_free range free text from to =
-    unless_free (ends_with_both text from to) (range from (to - 2) ++ range (to - 1) to) (range from to)
-    (both_free (range from (to - 2)) (range (to - 1) to) (free from (to - 2)) (free (to - 1) to)) (free from to)
 
 -- columns with items behind them that have no index
 line_alike : (m n : Names) (owed at : ℕ) (more xs ys : List Item) → HaveNoIndex more
@@ -193,7 +188,7 @@ unfolding AreRawLines
 raw_alike range free d n chain chain' [] w w' a e f = ap (map (read d.names)) e ∙ a ∙ sym (ap (map (read n)) f)
 raw_alike range free d n chain chain' (p ∷ ps) w w' a (line, is, more) (line', is', more') =
     raw_alike range free d n (add_tokens chain line) (add_tokens chain' line') ps w w'
-    (tokens_alike d.names n chain chain' line line' a (line_alike d.names n p.rest.owed (offset p) (raw_items range d.text (offset p) (line_end p)) line line' (raw_free range free d.text (offset p) (line_end p)) is is'))
+    (tokens_alike d.names n chain chain' line line' a (line_alike d.names n p.rest.owed (offset p) (raw_items range d.text (offset p) (line_end p)) line line' (raw_each IsWithoutIndex range d.text (offset p) (line_end p) free) is is'))
     more more'
 
 -- blocks with chains that read alike

@@ -30,22 +30,25 @@ abbrev pub AreEach : (ItemBody → Type 0) → List Item → Type 0
 AreEach P [] = Unit {0}
 AreEach P (x ∷ xs) = P x.body × AreEach P xs
 
--- this holds of each token of a text's lines, and of what stands for raw lines
+-- this holds of each token of a text's lines
 pub record HoldsOfTokens (P : ItemBody → Type 0) : Type 0 where
   pub text : (escaped : Bool) → P (Text escaped)
   pub soft : P SoftBreak
   pub hard : (by_backslash : Bool) → P (HardBreak by_backslash)
   pub markup : (body : ItemBody) → is_markup body ≡ true → P body
+
+-- this holds of what stands for raw lines beside texts
+pub record HoldsOfRaw (P : ItemBody → Type 0) : Type 0 where
   pub html : P Html
   pub columns : (ix : CowIndex) → P (SynthesizeText ix)
 
-module _ (P : ItemBody → Type 0) (holds : HoldsOfTokens P) where
+module _ (P : ItemBody → Type 0) where
   -- more items
-  both_each : (xs ys : List Item) → AreEach P xs → AreEach P ys → AreEach P (xs ++ ys)
+  pub both_each : (xs ys : List Item) → AreEach P xs → AreEach P ys → AreEach P (xs ++ ys)
   both_each [] ys h k = k
   both_each (x ∷ xs) ys h k = (h.0, both_each xs ys h.1 k)
 
-  unless_each : (t : Bool) (xs ys : List Item) → AreEach P xs → AreEach P ys → AreEach P (if t then xs else ys)
+  pub unless_each : (t : Bool) (xs ys : List Item) → AreEach P xs → AreEach P ys → AreEach P (if t then xs else ys)
   unless_each true xs ys h k = h
   unless_each false xs ys h k = k
 
@@ -62,17 +65,28 @@ module _ (P : ItemBody → Type 0) (holds : HoldsOfTokens P) where
   tokens_each chain [] h k = h
   tokens_each chain (x ∷ xs) h k = tokens_each (add_token chain x) xs (token_each chain x h k.0) k.1
 
+  -- the bytes of a raw line
+  pub raw_each : (range : Ranges) (text : List ℕ) (from to : ℕ) → ((a b : ℕ) → AreEach P (range a b)) → AreEach P (raw_items range text from to)
+  unfolding raw_items
+  raw_each range text from to each =
+      unless_each (ends_with_both text from to) (range from (to - 2) ++ range (to - 1) to) (range from to)
+      (both_each (range from (to - 2)) (range (to - 1) to) (each from (to - 2)) (each (to - 1) to)) (each from to)
+
+module _ (P : ItemBody → Type 0) (holds : HoldsOfTokens P) where
+  pub range_text_each : (a b : ℕ) → AreEach P (range_text a b)
+  range_text_each a b = unless_each P (nat_lt a b) (text_token a b false ∷ []) [] (holds.text false, tt) tt
+
   text_each : (from to : ℕ) (escaped : Bool) (chain : List Item) → AreEach P chain → AreEach P (add_text from to escaped chain)
   text_each from to escaped chain h =
-      unless_each (nat_lt from to) (add_token chain (text_token from to escaped)) chain (token_each chain (text_token from to escaped) h (holds.text escaped)) h
+      unless_each P (nat_lt from to) (add_token chain (text_token from to escaped)) chain (token_each P chain (text_token from to escaped) h (holds.text escaped)) h
 
   -- the tokens of pieces
   piece_each : (text : List ℕ) (stop at : ℕ) (p : Piece) (chain : List Item) → IsPieceAt text at p → AreEach P chain → AreEach P (add_piece stop at p chain)
   piece_each text stop at (Left n) chain facts h = text_each at (min (at + n) stop) false chain h
   piece_each text stop at (Begins dropped escaped) chain facts h = text_each (at + dropped) (min (at + (dropped + 1)) stop) escaped chain h
-  piece_each text stop at (Token dropped n body) chain facts h = token_each chain (token (at + dropped) n body) h (holds.markup body facts.kind)
+  piece_each text stop at (Token dropped n body) chain facts h = token_each P chain (token (at + dropped) n body) h (holds.markup body facts.kind)
 
-  pieces_each : (s : Source) (stop at : ℕ) (ps : List Piece) (end : ℕ) (chain : List Item) → ArePieces s at ps end → AreEach P chain
+  pub pieces_each : (s : Source) (stop at : ℕ) (ps : List Piece) (end : ℕ) (chain : List Item) → ArePieces s at ps end → AreEach P chain
       → AreEach P (add_pieces stop at ps chain)
   pieces_each s stop at [] end chain are h = h
   pieces_each s stop at (p ∷ ps) end chain are h =
@@ -108,23 +122,23 @@ module _ (P : ItemBody → Type 0) (holds : HoldsOfTokens P) where
   closed_each : (o : Option Item) (chain : List Item) → AreEach P chain → AreEach P (close_break o chain)
   closed_each None chain h = h
   closed_each (Some x) chain h =
-      unless_each (is_backslash_break x.body) (add_text x.start (x.start + 1) false chain) chain (text_each x.start (x.start + 1) false chain h) h
+      unless_each P (is_backslash_break x.body) (add_text x.start (x.start + 1) false chain) chain (text_each x.start (x.start + 1) false chain h) h
 
   broken_each : (o : Option Item) (chain : List Item) → IfSome o (λ y. P y.body) → AreEach P chain → AreEach P (add_break o chain)
   broken_each None chain k h = h
-  broken_each (Some x) chain k h = both_each chain (x ∷ []) h (k, tt)
+  broken_each (Some x) chain k h = both_each P chain (x ∷ []) h (k, tt)
 
   -- the chain of a text's lines
   pub lines_each : (d : Document) (path : List Container) (start : ℕ) (chain : List Item) (lines : List Place) (t : TextLines) → AreEach P chain
       → AreTextLines d path start chain lines t → AreEach P t.chain
   unfolding AreTextLines
   lines_each d path start chain [] t h (k, a, i, e) =
-      subst (λ (z : TextLines). AreEach P z.chain) (sym e) (tokens_each chain k h (line_each (content_at d start) k a i))
+      subst (λ (z : TextLines). AreEach P z.chain) (sym e) (tokens_each P chain k h (line_each (content_at d start) k a i))
   lines_each d path start chain (line ∷ lines) t h (k, a, i, inl (ends, e)) =
-      subst (λ (z : TextLines). AreEach P z.chain) (sym e) (tokens_each chain k h (line_each (content_at d start) k a i))
+      subst (λ (z : TextLines). AreEach P z.chain) (sym e) (tokens_each P chain k h (line_each (content_at d start) k a i))
   lines_each d path start chain (line ∷ lines) t h (k, a, i, inr (goes, more)) =
       lines_each d path (offset (unindented (at_rest line (front path line.rest)))) (add_break a.1 (add_tokens chain k)) lines t
-      (broken_each a.1 (add_tokens chain k) (break_each (content_at d start) k a i) (tokens_each chain k h (line_each (content_at d start) k a i))) more
+      (broken_each a.1 (add_tokens chain k) (break_each (content_at d start) k a i) (tokens_each P chain k h (line_each (content_at d start) k a i))) more
 
   pub marked_each : (marker : Option Item) (chain : List Item) → IfSome marker (λ x. P x.body) → AreEach P chain → AreEach P (marker_items marker ++ chain)
   marked_each None chain h k = k
@@ -141,19 +155,19 @@ module _ (P : ItemBody → Type 0) (holds : HoldsOfTokens P) where
   cut_each : (e : ℕ) (chain : List Item) → AreEach P chain → AreEach P (cut e chain)
   cut_each e [] h = tt
   cut_each e (x ∷ xs) h =
-      unless_each (nat_lt x.start e) (cut_item e x ∷ cut e xs) (if is_escaped x.body && (x.start == e) then text_token (e - 1) e false ∷ [] else [])
+      unless_each P (nat_lt x.start e) (cut_item e x ∷ cut e xs) (if is_escaped x.body && (x.start == e) then text_token (e - 1) e false ∷ [] else [])
       (cut_item_each (nat_lt e x.«end») e x h.0, cut_each e xs h.1)
-      (unless_each (is_escaped x.body && (x.start == e)) (text_token (e - 1) e false ∷ []) [] (holds.text false, tt) tt)
+      (unless_each P (is_escaped x.body && (x.start == e)) (text_token (e - 1) e false ∷ []) [] (holds.text false, tt) tt)
 
   heading_chain_each : (kept start : ℕ) (chain : List Item) → AreEach P chain → AreEach P (heading_chain kept start chain)
   unfolding heading_chain
-  heading_chain_each kept start chain h = unless_each (kept == 0) [] (cut (start + kept) chain) tt (cut_each (start + kept) chain h)
+  heading_chain_each kept start chain h = unless_each P (kept == 0) [] (cut (start + kept) chain) tt (cut_each (start + kept) chain h)
 
   pub heading_each : (d : Document) (start : ℕ) (index : Option HeadingIndex) (chain : List Item) (e : ℕ) → IsHeading d start index chain e → AreEach P chain
   heading_each d start index chain e h =
       subst (AreEach P) (sym h.chain_is)
       (heading_chain_each _ start (close_break h.answer.1 (add_tokens [] h.tokens))
-      (closed_each h.answer.1 (add_tokens [] h.tokens) (tokens_each [] h.tokens tt (line_each (heading_content d start) h.tokens h.answer h.line))))
+      (closed_each h.answer.1 (add_tokens [] h.tokens) (tokens_each P [] h.tokens tt (line_each (heading_content d start) h.tokens h.answer h.line))))
 
   -- the children of a heading that is underlined
   cut_children_each : (d : Document) (start : ℕ) (marker : Option Item) (t : TextLines) (o : Option Braces) → AreEach P (marker_items marker ++ t.chain)
@@ -175,28 +189,20 @@ module _ (P : ItemBody → Type 0) (holds : HoldsOfTokens P) where
   cell_each s tokens stop h =
       subst (AreEach P) (sym h.tokens_are) (pieces_each s (stop - blanks_at_end s stop) s.start h.pieces stop [] h.division.divided tt)
 
-  -- raw lines
+-- raw lines
+module _ (P : ItemBody → Type 0) (raw : HoldsOfRaw P) where
   columns_each : (names : Names) (owed at : ℕ) (items : List Item) → AreColumns names owed at items → AreEach P items
   columns_each names zero at items is = subst (AreEach P) (sym is) tt
-  columns_each names (suc n) at items (ix, names_it, is) = subst (AreEach P) (sym is) (holds.columns ix, tt)
-
-  raw_each : (range : Ranges) (text : List ℕ) (from to : ℕ) → ((a b : ℕ) → AreEach P (range a b)) → AreEach P (raw_items range text from to)
-  unfolding raw_items
-  raw_each range text from to each =
-      unless_each (ends_with_both text from to) (range from (to - 2) ++ range (to - 1) to) (range from to)
-      (both_each (range from (to - 2)) (range (to - 1) to) (each from (to - 2)) (each (to - 1) to)) (each from to)
-
-  pub range_text_each : (a b : ℕ) → AreEach P (range_text a b)
-  range_text_each a b = unless_each (nat_lt a b) (text_token a b false ∷ []) [] (holds.text false, tt) tt
+  columns_each names (suc n) at items (ix, names_it, is) = subst (AreEach P) (sym is) (raw.columns ix, tt)
 
   pub range_html_each : (a b : ℕ) → AreEach P (range_html a b)
-  range_html_each a b = (holds.html, tt)
+  range_html_each a b = (raw.html, tt)
 
   raw_line_each : (range : Ranges) (d : Document) (owed from to : ℕ) (items : List Item) → ((a b : ℕ) → AreEach P (range a b))
       → IsRawLine range d owed from to items → AreEach P items
   raw_line_each range d owed from to items each (columns, are, is) =
       subst (AreEach P) (sym is)
-      (both_each columns (raw_items range d.text from to) (columns_each d.names owed from columns are) (raw_each range d.text from to each))
+      (both_each P columns (raw_items range d.text from to) (columns_each d.names owed from columns are) (raw_each P range d.text from to each))
 
   pub raw_lines_each : (range : Ranges) (d : Document) (chain : List Item) (places : List Place) (whole : List Item) → ((a b : ℕ) → AreEach P (range a b))
       → AreEach P chain → AreRawLines range d chain places whole → AreEach P whole
@@ -204,4 +210,4 @@ module _ (P : ItemBody → Type 0) (holds : HoldsOfTokens P) where
   raw_lines_each range d chain [] whole each h is = subst (AreEach P) (sym is) h
   raw_lines_each range d chain (p ∷ places) whole each h (line, is, more) =
       raw_lines_each range d (add_tokens chain line) places whole each
-      (tokens_each chain line h (raw_line_each range d p.rest.owed (offset p) (line_end p) line each is)) more
+      (tokens_each P chain line h (raw_line_each range d p.rest.owed (offset p) (line_end p) line each is)) more

@@ -6,13 +6,14 @@ use Rattle.first_pass_items.specs.declared.item.ItemBody.TheVariants.{TableRow, 
 use Rattle.first_pass_tree.specs.Forest.{at_depth, block_of}
 use Rattle.first_pass_lines.specs.Places.{Place}
 use Rattle.first_pass_tokens.specs.Pieces.{Source}
-use Rattle.first_pass_tokens.specs.LineTokens.{blanks_at_end, IsCell}
+use Rattle.first_pass_tokens.specs.LineTokens.{IsCell}
 use Rattle.first_pass_tokens.specs.TreeTokens.{leaves}
 use Rattle.first_pass_grammar.specs.declared.kind.Container.{Container}
 use Rattle.first_pass_grammar.specs.Names.{Names, index_of, read, read_nodes, AreNamed}
 use Rattle.first_pass_grammar.specs.Leaves.{Document}
 use Rattle.first_pass_grammar.specs.Tables.{cell_content, cell_start, cell_text, cell_block, AreCells, filled, side_by_side, row_cells, row_block, Taken, AreRows}
-use Rattle.first_pass_grammar.proofs.NoIndex.{HasNoIndex, HaveNoIndex, reads_alone, pieces_free}
+use Rattle.first_pass_grammar.proofs.NoIndex.{IsWithoutIndex, HasNoIndex, HaveNoIndex, reads_alone, tokens_free}
+use Rattle.first_pass_grammar.proofs.EachToken.{cell_each}
 use Rattle.first_pass_grammar.proofs.NamedItems.{free_entry}
 
 -- none of these nodes has an index
@@ -72,7 +73,7 @@ side_free (block ∷ blocks) h = both_nodes_free block (side_by_side blocks) h.0
 -- the tokens of a cell have no index
 cell_free : (s : Source) (tokens : List Item) (stop : ℕ) → IsCell s tokens stop → HaveNoIndex tokens
 cell_free s tokens stop h =
-    subst HaveNoIndex (sym h.tokens_are) (pieces_free s (stop - blanks_at_end s stop) s.start h.pieces stop [] h.division.divided tt)
+    cell_each IsWithoutIndex tokens_free s tokens stop h
 
 -- nor have the cells of a row
 pub cells_free : (d : Document) (at : ℕ) (cells : List (List (ℕ × Item))) («end» : ℕ) → AreCells d at cells «end» → AreFreeBlocks cells

@@ -18,7 +18,7 @@ use Rattle.first_pass_grammar.specs.Names.{Names}
 use Rattle.first_pass_grammar.specs.Leaves.{Document}
 use Rattle.first_pass_grammar.specs.Tables.{cell_content, cell_start, cell_text, cell_block, AreCells, filled, side_by_side, row_cells, row_block, Taken, AreRows, most_filled, IsTable}
 use Rattle.first_pass_grammar.specs.WholeTables.{Mark, ATable, ARow, ACell, shown, marks, RowCells, row_marks, table_marks, how_often, filled_in, HaveCells, AreFull, AreWholeTables}
-use Rattle.first_pass_grammar.proofs.EachToken.{AreEach, HoldsOfTokens, cell_each}
+use Rattle.first_pass_grammar.proofs.EachToken.{AreEach, HoldsOfTokens, HoldsOfRaw, cell_each}
 use Rattle.first_pass_grammar.proofs.RowEnds.{row_ends_its_line}
 use Rattle.first_pass_grammar.proofs.TableRows.{as_many_cells}
 use Rattle.first_pass_tokens.proofs.PieceFacts.{is_markup}
@@ -56,9 +56,10 @@ tokens_show =
       soft = λ names start end. refl;
       hard = λ by_backslash names start end. refl;
       markup = markup_shows;
-      html = λ names start end. refl;
-      columns = λ ix names start end. refl;
     }
+
+pub raw_shows : HoldsOfRaw ShowsNothing
+raw_shows = record { html = λ names start end. refl; columns = λ ix names start end. refl }
 
 pub leaves_show : (names : Names) (chain : List Item) → AreEach ShowsNothing chain → marks names (leaves chain) ≡ []
 unfolding marks

@@ -16,10 +16,11 @@ use Rattle.first_pass_grammar.specs.Derivation.{node_of}
 use Rattle.first_pass_grammar.specs.Tables.{cell_start, cell_text, cell_block, AreCells, filled, row_block, is_row, Taken, taking, AreRows, most_filled, IsTable}
 use Rattle.first_pass_grammar.specs.Headings.{heading_attributes_of}
 use Rattle.first_pass_grammar.specs.Texts.{IsPlainText, IsText, IsUnderlined, text_children, heading_bytes, heading_children, plain_text, underlined_text, underline_first, IsEnded}
-use Rattle.first_pass_grammar.proofs.NoIndex.{HasNoIndex, HaveNoIndex, read_alone, lines_free}
+use Rattle.first_pass_grammar.proofs.NoIndex.{IsWithoutIndex, HasNoIndex, HaveNoIndex, read_alone, tokens_free}
+use Rattle.first_pass_grammar.proofs.EachToken.{children_each, heading_children_each, lines_each}
 use Rattle.first_pass_grammar.proofs.Alike.{with_names, AlikeNodes, block_alike, heading_alike, table_alike}
 use Rattle.first_pass_grammar.proofs.TableItems.{AreFreeNodes, deeper_free, nodes_alone}
-use Rattle.first_pass_grammar.proofs.TextsNamed.{table_free, children_free, heading_children_free}
+use Rattle.first_pass_grammar.proofs.TextsNamed.{table_free}
 use Rattle.first_pass_grammar.proofs.LinesAlike.{one_lines}
 use Rattle.first_pass_items.specs.declared.item.HeadingLevel.{HeadingLevel}
 
@@ -126,7 +127,7 @@ unfolding heading_children
 one_ended d n start marker l t u None free h e f =
     taken_alike d.names n t u (plain_text d start marker l) (plain_text d start marker l) e f (
       block_alike d.names n start (start_of (length d.text) l.left) Paragraph Paragraph (text_children marker l) (text_children marker l) refl
-          (read_alone d.names n (text_children marker l) (children_free marker l free h)),
+          (read_alone d.names n (text_children marker l) (children_each IsWithoutIndex tokens_free marker l free h)),
       refl,
     )
 one_ended d n start marker l t u (Some underline) free h (i, named, e) (j, named', f) =
@@ -135,7 +136,7 @@ one_ended d n start marker l t u (Some underline) free h (i, named, e) (j, named
     taken_alike d.names n t u (underlined_text d start marker underline.1 i l) (underlined_text d start marker underline.1 j l) e f (
       block_alike d.names n start stop (Heading underline.1 i) (Heading underline.1 j) kids kids
           (heading_alike d.names n start stop underline.1 i j (heading_attributes_of d.options (heading_bytes d start marker l)) named named')
-          (read_alone d.names n kids (heading_children_free d start marker l free h)),
+          (read_alone d.names n kids (heading_children_each IsWithoutIndex tokens_free d start marker l free h)),
       refl,
     )
 
@@ -143,7 +144,7 @@ one_plain : (d : Document) (n : Names) (path : List Container) (p : Place) (mark
     → IsPlainText d path (offset p) marker lines t → IsPlainText (with_names d n) path (offset p) marker lines u → AlikeTaken d.names n t u
 one_plain d n path p marker lines t u free (l, are, is) (l', are', is') =
     let same : l ≡ l' = one_lines d n path (offset p) [] lines l l' are are' in
-    one_ended d n (offset p) marker l t u (underline_first path l.left) free (lines_free d path (offset p) [] lines l tt are) is
+    one_ended d n (offset p) marker l t u (underline_first path l.left) free (lines_each IsWithoutIndex tokens_free d path (offset p) [] lines l tt are) is
     (subst (λ (z : TextLines). IsEnded (with_names d n) path (offset p) marker z u) (sym same) is')
 
 -- what stands for a text reads alike, and leaves the same lines

@@ -1,6 +1,6 @@
 -- The index of a table names its alignments, that of a heading its attributes, and no other item of a text has one.
-use Rattle.std.proofs.Common.{ℕ, ◌+◌, ◌-◌, List, [], ◌++◌, length, drop, Option, Some, None, MatchOption, IfSome, refl, sym, subst, ◌≡◌}
-use Rattle.std.specs.Option.{option_map, option_map_or}
+use Rattle.std.proofs.Common.{ℕ, ◌-◌, List, [], ◌++◌, length, drop, Option, Some, None, MatchOption, IfSome, refl, sym, subst, ◌≡◌}
+use Rattle.std.specs.Option.{option_map}
 use Rattle.std.proofs.lemmas.Option.{slice_get_within}
 use Rattle.first_pass_items.specs.declared.item.Alignment.{Alignment}
 use Rattle.first_pass_items.specs.declared.item.HeadingIndex.{HeadingIndex}
@@ -9,19 +9,18 @@ use Rattle.first_pass_items.specs.declared.item.ItemBody.TheVariants.{TableHead,
 use Rattle.first_pass_tree.specs.Forest.{at_depth}
 use Rattle.first_pass_lines.specs.Places.{Place, offset, start_of}
 use Rattle.first_pass_grammar.specs.declared.kind.Container.{Container}
-use Rattle.first_pass_attributes.specs.AttributeBlocks.{Braces}
 use Rattle.first_pass_attributes.specs.Attributes.{Attributes}
-use Rattle.first_pass_grammar.specs.Headings.{heading_braces, heading_attributes_of, kept_before}
+use Rattle.first_pass_grammar.specs.Headings.{heading_attributes_of}
 use Rattle.first_pass_grammar.specs.Names.{Names, NamesAttributes, NamesEntry, AttributesAt, AreNamed, index_of}
-use Rattle.first_pass_grammar.specs.Leaves.{Document, around, TextLines, block_with, marker_items}
+use Rattle.first_pass_grammar.specs.Leaves.{Document, around, TextLines, block_with}
 use Rattle.first_pass_grammar.specs.TableHeads.{headed_table}
 use Rattle.first_pass_grammar.specs.Tables.{filled, row_block, Taken, taking, most_filled, IsTable}
-use Rattle.first_pass_grammar.specs.Texts.{IsPlainText, IsText, IsUnderlined, text_children, by_backslash, heading_bytes, heading_children, plain_text, underline_first}
-use Rattle.first_pass_grammar.proofs.NoIndex.{HasNoIndex, HaveNoIndex, lines_free, marked_free, closed_free, cut_free}
+use Rattle.first_pass_grammar.specs.Texts.{IsPlainText, IsText, IsUnderlined, text_children, heading_bytes, heading_children, plain_text, underline_first}
+use Rattle.first_pass_grammar.proofs.EachToken.{children_each, heading_children_each, lines_each}
+use Rattle.first_pass_grammar.proofs.NoIndex.{IsWithoutIndex, HasNoIndex, HaveNoIndex, tokens_free}
 use Rattle.first_pass_grammar.proofs.TableItems.{AreFreeNodes, both_nodes_free, deeper_free, free_nodes_named, cells_free, row_free, rows_free, leaves_free}
 use Rattle.first_pass_items.specs.declared.item.HeadingLevel.{HeadingLevel}
 use Rattle.first_pass_items.specs.declared.item.ItemBody.{ItemBody}
-use Rattle.first_pass_tokens.specs.Chains.{close_break, cut}
 use Rattle.first_pass_tokens.specs.TreeTokens.{leaves}
 
 -- what stands in a table has no index
@@ -43,25 +42,6 @@ table_named d path p alignments lines t h =
       free_nodes_named d.names (at_depth 1 kids) (deeper_free 1 kids (table_free d path p alignments lines t h)),
     )
 
--- what stands in a paragraph has no index
-pub children_free : (marker : Option Item) (l : TextLines) → IfSome marker HasNoIndex → HaveNoIndex l.chain → HaveNoIndex (text_children marker l)
-children_free marker l free h = marked_free marker (close_break l.break l.chain) free (closed_free l.break l.chain h)
-
--- nor has what stands in a heading
-cut_children_free : (d : Document) (start : ℕ) (marker : Option Item) (l : TextLines) (o : Option Braces) → HaveNoIndex (marker_items marker ++ l.chain)
-    → HaveNoIndex (text_children marker l)
-    → HaveNoIndex (option_map_or (λ (block : Braces). close_break l.break (cut (start + kept_before (by_backslash l.break) block.opening (heading_bytes d start marker l)) (marker_items marker ++ l.chain)))
-    o (text_children marker l))
-cut_children_free d start marker l None h k = k
-cut_children_free d start marker l (Some block) h k =
-    closed_free l.break _ (cut_free (start + kept_before (by_backslash l.break) block.opening (heading_bytes d start marker l)) (marker_items marker ++ l.chain) h)
-
-pub heading_children_free : (d : Document) (start : ℕ) (marker : Option Item) (l : TextLines) → IfSome marker HasNoIndex → HaveNoIndex l.chain
-    → HaveNoIndex (heading_children d start marker l)
-unfolding heading_children
-heading_children_free d start marker l free h =
-    cut_children_free d start marker l (heading_braces d.options (heading_bytes d start marker l)) (marked_free marker l.chain free h) (children_free marker l free h)
-
 -- the index of a heading, where it has one, names an entry
 pub given_entry : (names : Names) (ix : Option HeadingIndex) (attributes : Option Attributes) → NamesAttributes names ix attributes
     → NamesEntry names (option_map AttributesAt ix)
@@ -80,18 +60,18 @@ ended_named : (d : Document) (start : ℕ) (marker : Option Item) (l : TextLines
     → MatchOption o (t ≡ plain_text d start marker l) (λ underline. IsUnderlined d start marker l underline.1 t) → AreNamed d.names t.items
 ended_named d start marker l t None free h e =
     subst (λ (z : Taken). AreNamed d.names z.items) (sym e)
-    (block_entry d.names start (start_of (length d.text) l.left) ParagraphBody (text_children marker l) tt (children_free marker l free h))
+    (block_entry d.names start (start_of (length d.text) l.left) ParagraphBody (text_children marker l) tt (children_each IsWithoutIndex tokens_free marker l free h))
 ended_named d start marker l t (Some underline) free h (index, named, e) =
     subst (λ (z : Taken). AreNamed d.names z.items) (sym e)
     (block_entry d.names start (start_of (length d.text) (drop 1 l.left)) (HeadingBody underline.1 index) (heading_children d start marker l)
-    (given_entry d.names index (heading_attributes_of d.options (heading_bytes d start marker l)) named) (heading_children_free d start marker l free h))
+    (given_entry d.names index (heading_attributes_of d.options (heading_bytes d start marker l)) named) (heading_children_each IsWithoutIndex tokens_free d start marker l free h))
 
 -- so does each in what stands for a text
 text_by : (d : Document) (path : List Container) (p : Place) (marker : Option Item) (lines : List Place) (t : Taken) (o : Option (List Alignment))
     → IfSome marker HasNoIndex
     → MatchOption o (IsPlainText d path (offset p) marker lines t) (λ alignments. IsTable d path p alignments lines t) → AreNamed d.names t.items
 text_by d path p marker lines t None free (l, are, is) =
-    ended_named d (offset p) marker l t (underline_first path l.left) free (lines_free d path (offset p) [] lines l tt are) is
+    ended_named d (offset p) marker l t (underline_first path l.left) free (lines_each IsWithoutIndex tokens_free d path (offset p) [] lines l tt are) is
 text_by d path p marker lines t (Some alignments) free h = table_named d path p alignments lines t h
 
 pub text_named : (d : Document) (path : List Container) (p : Place) (marker : Option Item) (lines : List Place) (t : Taken) → IfSome marker HasNoIndex

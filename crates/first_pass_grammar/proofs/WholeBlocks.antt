@@ -30,7 +30,7 @@ use Rattle.first_pass_grammar.specs.WholeTables.{Mark, marks, table_marks, AreFu
 use Rattle.first_pass_grammar.proofs.EachToken.{AreEach, heading_each, range_text_each, range_html_each, raw_lines_each, lines_each, children_each, heading_children_each}
 use Rattle.first_pass_grammar.proofs.PlacesKept.{IsAt, AreAt, at_unindented, at_front, at_taken, at_quote, at_item, extent_at, tag_left_at, code_at}
 use Rattle.first_pass_grammar.proofs.LinesLeft.{BeyondAt, run_at, text_left}
-use Rattle.first_pass_grammar.proofs.TableMarks.{ShowsNothing, tokens_show, block_shows, table_shows}
+use Rattle.first_pass_grammar.proofs.TableMarks.{ShowsNothing, tokens_show, raw_shows, block_shows, table_shows}
 use Rattle.first_pass_items.specs.declared.item.HeadingLevel.{HeadingLevel}
 
 -- nodes that show nothing
@@ -126,28 +126,28 @@ module _ (d : Document) (full : HeadsAreFull d) where
   opens_as path p lines IndentedCode o i h (items, is, e) =
       subst (WholeOpening d) (sym e) (
         chain_whole d.names _ _ IndentCodeBlock is.chain items is.items_are (λ names start end. refl)
-            (raw_lines_each ShowsNothing tokens_show range_text d [] _ is.chain (range_text_each ShowsNothing tokens_show) tt is.lines),
+            (raw_lines_each ShowsNothing raw_shows range_text d [] _ is.chain (range_text_each ShowsNothing tokens_show) tt is.lines),
         tt,
         code_at d.text path lines h,
       )
   opens_as path p lines (Metadata byte) o i h (items, is, e) =
       subst (WholeOpening d) (sym e) (
         chain_whole d.names _ _ (MetadataBlock (metadata_kind byte)) is.chain items is.items_are (λ names start end. refl)
-            (raw_lines_each ShowsNothing tokens_show range_text d [] _ is.chain (range_text_each ShowsNothing tokens_show) tt is.lines),
+            (raw_lines_each ShowsNothing raw_shows range_text d [] _ is.chain (range_text_each ShowsNothing tokens_show) tt is.lines),
         tt,
         extent_at d.text (in_containers path (metadata_judge byte)) (length d.text) lines h,
       )
   opens_as path p lines HtmlToEnd o i h (text, found, (items, is, e)) =
       subst (WholeOpening d) (sym e) (
         chain_whole d.names _ _ HtmlBlock is.chain items is.items_are (λ names start end. refl)
-            (raw_lines_each ShowsNothing tokens_show range_html d [] _ is.chain (range_html_each ShowsNothing tokens_show) tt is.lines),
+            (raw_lines_each ShowsNothing raw_shows range_html d [] _ is.chain (range_html_each ShowsNothing raw_shows) tt is.lines),
         tt,
         tag_left_at d.text (holds text (line_of (unindented p))) (unindented p) lines _ h (extent_at d.text (in_containers path (tag_judge text)) (length d.text) lines h),
       )
   opens_as path p lines HtmlToBlank o i h (items, is, e) =
       subst (WholeOpening d) (sym e) (
         chain_whole d.names _ _ HtmlBlock is.chain items is.items_are (λ names start end. refl)
-            (raw_lines_each ShowsNothing tokens_show range_html d [] _ is.chain (range_html_each ShowsNothing tokens_show) tt is.lines),
+            (raw_lines_each ShowsNothing raw_shows range_html d [] _ is.chain (range_html_each ShowsNothing raw_shows) tt is.lines),
         tt,
         extent_at d.text (in_containers path blank_judge) (length d.text) lines h,
       )
@@ -163,7 +163,7 @@ module _ (d : Document) (full : HeadsAreFull d) where
   opens_as path p lines (FencedCode count byte) o i h (items, is, e) =
       subst (WholeOpening d) (sym e) (
         chain_whole d.names _ _ (FencedCodeBlock is.info) is.chain items is.items_are (λ names start end. refl)
-            (raw_lines_each ShowsNothing tokens_show range_text d [] _ is.chain (range_text_each ShowsNothing tokens_show) tt is.lines),
+            (raw_lines_each ShowsNothing raw_shows range_text d [] _ is.chain (range_text_each ShowsNothing tokens_show) tt is.lines),
         tt,
         extent_at d.text (in_containers path (fence_judge (indent p.rest) byte count)) (length d.text) lines h,
       )

@@ -1,5 +1,5 @@
 -- What the attribute block of a heading gives it, and what of its text stands before that (this project).
-use Rattle.std.specs.Prelude.{ℕ, ◌+◌, ◌-◌, Bool, List, [], ◌∷◌, take, Option, Some, None, if◌then◌else◌}
+use Rattle.std.specs.Prelude.{ℕ, ◌+◌, ◌-◌, Bool, List, [], ◌∷◌, take, Option, None, if◌then◌else◌}
 use Rattle.std.specs.List.{slice_range, suffix_len}
 use Rattle.std.specs.Option.{option_map, option_map_or}
 use Rattle.first_pass_items.specs.OptionWords.{has, heading_attributes}
