@@ -66,18 +66,24 @@ is_word_byte b = is_ascii_alphabetic b || b == space
 abbrev pub SparesWords : List Bool → Type 0
 SparesWords lut = (b : ℕ) → is_word_byte b ≡ true → slice_index_or lut b false ≡ false
 
+-- a table of marks, and the bytes that a walk with it goes over (this project)
+pub record Marking : Type 0 where
+  pub lut : List Bool
+  pub bytes : List ℕ
+
 -- Where step f k b i g says that the closure f, called at the place k with the byte b, may answer i and be g then:
--- the walk from ix calls it at the next marked place, from behind what that call skips at the next one again, and so on, once for each of the skips.
--- It ends with the length where no marked place is left, or with what the next call breaks with (this project).
-abbrev pub Walks : {F T : Type 0} → (F → ℕ → ℕ → LoopInstruction (Option T) → F → Type 0) → List Bool → List ℕ → ℕ → List ℕ → F → ℕ × Option T → F → Type 0
-Walks {F} {T} step lut bytes ix [] f answer last =
-    (NoneMarkedFrom lut bytes ix × (answer ≡ (length bytes, None)) × (last ≡ f))
-    ⊎ ((j : ℕ) × IsNextMarked lut bytes ix j × step f j (slice_index bytes j) (BreakAtWith answer.0 answer.1) last)
-Walks {F} {T} step lut bytes ix (n ∷ ns) f answer last =
-    (j : ℕ) × IsNextMarked lut bytes ix j × (g : F) × step f j (slice_index bytes j) (ContinueAndSkip n) g × Walks step lut bytes (j + n + 1) ns g answer last
+-- the walk from a place calls it at the next marked place, from behind what that call skips at the next one again, and so on, once for each of the skips.
+-- It ends with the length where no marked place is left, or with what the next call breaks with. It goes from a place and the closure as it is there to an
+-- answer and the closure as it is then (this project).
+abbrev pub Walks : {F T : Type 0} → (F → ℕ → ℕ → LoopInstruction (Option T) → F → Type 0) → Marking → List ℕ → ℕ × F → (ℕ × Option T) × F → Type 0
+Walks {F} {T} step marking [] (ix, f) (answer, last) =
+    (NoneMarkedFrom marking.lut marking.bytes ix × (answer ≡ (length marking.bytes, None)) × (last ≡ f))
+    ⊎ ((j : ℕ) × IsNextMarked marking.lut marking.bytes ix j × step f j (slice_index marking.bytes j) (BreakAtWith answer.0 answer.1) last)
+Walks {F} {T} step marking (n ∷ ns) (ix, f) (answer, last) =
+    (j : ℕ) × IsNextMarked marking.lut marking.bytes ix j × (g : F) × step f j (slice_index marking.bytes j) (ContinueAndSkip n) g × Walks step marking ns (j + n + 1, g) (answer, last)
 
 -- the answer of a walk from ix with the closure f: there are calls that lead to it (this project)
 pub record IsWalk {F T : Type 0} (step : F → ℕ → ℕ → LoopInstruction (Option T) → F → Type 0) (lut : List Bool) (bytes : List ℕ) (ix : ℕ) (f : F) (answer : ℕ × Option T) : Type 0 where
   pub skips : List ℕ
   pub last : F
-  pub walk : Walks step lut bytes ix skips f answer last
+  pub walk : Walks step (record { lut = lut; bytes = bytes }) skips (ix, f) (answer, last)

@@ -10,7 +10,7 @@ loop-at-preserved g c =
     elim (cases_lt sum 0x1_0000_0000_0000_0000) [ inl fits ↦ inl (omega arith) | inr past ↦ inr (omega arith, omega arith) ] in (
       search of_calls,
       λ skips answer last w. c.loop-at.invariant.1 (c.in-ContinueAndSkip.skip ∷ skips) answer last
-          (c.in-Some.at, c.in-Some.ensures.found, c.callback.new.self, c.in-ContinueAndSkip.ensures, walks_from_sum (λ f k b i h. goal.F-step g f k b i h) _ _ _ _ skips c.callback.new.self answer last ends w),
+          (c.in-Some.at, c.in-Some.ensures.found, c.callback.new.self, c.in-ContinueAndSkip.ensures, walks_from_sum (λ f k b i h. goal.F-step g f k b i h) _ _ _ skips c.callback.new.self answer last ends w),
     )
 
 pub returns-in-BreakAtWith : goal.returns-in-BreakAtWith
