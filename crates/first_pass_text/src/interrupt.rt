@@ -176,7 +176,8 @@ pub fn scan_next_line(
 ) -> Result<NextLine, AllocError>
     requires { IsCharBoundary source.text.now start }
     ensures value { IfOk result (λ next. next
-        ≡ next_line_of (context_of source.entry.options tree.now) start (line_rest (drop start source.entry.text.now))) }
+        ≡ next_line_of (context_of source.entry.options tree.now) start
+        (line_rest (drop start source.entry.text.now))) }
     ensures place { OnOk result (IsPlaceOf source.entry.text.now
         (unindented (place_at start (front (path_of tree.now) (line_rest (drop start source.entry.text.now)))))) }
     ensures utf8 { IsUtf8 source.entry.text.now }
