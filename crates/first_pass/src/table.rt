@@ -11,7 +11,7 @@ ghost use Rattle.first_pass_grammar.specs.Tables.{most_filled};
 ghost use Rattle.first_pass_open.specs.OpenBlock.{IsJustPushed};
 ghost use Rattle.first_pass_text.specs.Appends.{line_end_at};
 ghost use Rattle.first_pass.specs.Ordered.{behind_row};
-ghost use Rattle.first_pass_tables.specs.Appends.{IsOpenNode, ReadsRow, ReadsRowLine, AppendsRows, AddsWholeRows};
+ghost use Rattle.first_pass_tables.specs.Appends.{IsOpenNode, open_table, ReadsRow, ReadsRowLine, AppendsRows, AddsWholeRows};
 ghost use Rattle.first_pass.specs.Views.{allocs_of, reading_of, source_of, source_options, source_text, tree_of, with_tree};
 
 use crate::state::FirstPass;
@@ -85,7 +85,8 @@ impl<'a> FirstPass<'a> {
         ensures reading { OnOk result (reading_of self.new ≡ with_tree (reading_of self.old) (tree_of self.new)) }
         ensures row { IfOk result (λ row.
             ReadsRowLine (document (source_text self.old) (source_options self.old) no_names) row_cells ix
-            (tree_of self.old) (tree_of self.new) missing_empty_cells.old missing_empty_cells.new row) }
+            (open_table (tree_of self.old) missing_empty_cells.old)
+            (open_table (tree_of self.new) missing_empty_cells.new) row) }
         ensures order { IfOk result (λ row. (at : ℕ) → at ≤ ix
             → IsOrderedTo (source_text self.old) (tree_of self.old) at
             → IsOrderedTo (source_text self.old) (tree_of self.new) (behind_row row ix)) }
@@ -123,7 +124,8 @@ impl<'a> FirstPass<'a> {
         ensures reading { OnOk result (reading_of self.new ≡ with_tree (reading_of self.old) (tree_of self.new)) }
         ensures row { IfOk result (λ row.
             ReadsRow (document (source_text self.old) (source_options self.old) no_names) row_cells ix
-            (tree_of self.old) (tree_of self.new) missing_empty_cells.old missing_empty_cells.new row) }
+            (open_table (tree_of self.old) missing_empty_cells.old)
+            (open_table (tree_of self.new) missing_empty_cells.new) row) }
         ensures order { IfOk result (λ row. IsCharBoundary (source_text self.old) ix → (at : ℕ) → at ≤ ix
             → IsOrderedTo (source_text self.old) (tree_of self.old) at
             → IsOrderedTo (source_text self.old) (tree_of self.new) (behind_row row ix)) }

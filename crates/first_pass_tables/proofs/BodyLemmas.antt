@@ -23,7 +23,7 @@ use Rattle.first_pass_open.specs.OpenBlock.{IsJustPushed, closed_by}
 use Rattle.first_pass_open.specs.Path.{path_of, path_in}
 use Rattle.first_pass_open.proofs.PathLemmas.{AreIn, path_in-append}
 use Rattle.first_pass_open.proofs.PlaceLemmas.{line_start_end}
-use Rattle.first_pass_tables.specs.Appends.{with_below, AddsHead, keeps_row, ReadsRow, ReadsRowLine, AppendsRows}
+use Rattle.first_pass_tables.specs.Appends.{with_below, AddsHead, keeps_row, OpenTable, open_table, ReadsRow, ReadsRowLine, AppendsRows}
 use Rattle.first_pass_tables.specs.RowsRead.{AppendsBody, BodySoFar}
 use Rattle.first_pass_tables.proofs.RowPlaces.{begins_row, in_table-append, row_within}
 
@@ -93,47 +93,47 @@ left_by d path columns most at h =
       | inr past ↦ subst (λ lines. AreRows d path columns most lines (taking [] lines)) (sym (lines_at-end d.text at past)) (rows_none d path columns most)
     ]
 
-module _ (d : Document) (columns filled_in start : ℕ) (old now new : Forest Item) (missing more_missing at : ℕ) (utf8 : IsUtf8 d.text) (there : AreIn (length old.nodes) old.spine)
-    (s : BodySoFar d columns filled_in start old now missing at) where
-  path_is : path_of now ≡ path_of old
-  path_is = same_path old now (at_depth (length old.spine + 1) s.body) s.nodes s.spine there
+module _ (d : Document) (columns start : ℕ) (old now new : OpenTable) (at : ℕ) (utf8 : IsUtf8 d.text) (there : AreIn (length old.tree.nodes) old.tree.spine)
+    (s : BodySoFar d columns start old now at) where
+  path_is : path_of now.tree ≡ path_of old.tree
+  path_is = same_path old.tree now.tree (at_depth (length old.tree.spine + 1) s.body) s.nodes s.spine there
 
-  begins : (begin : ℕ) → row_text (path_of now) (line_place at (drop at d.text)) ≡ Some begin → row_text (path_of old) (line_place at (drop at d.text)) ≡ Some begin
+  begins : (begin : ℕ) → row_text (path_of now.tree) (line_place at (drop at d.text)) ≡ Some begin → row_text (path_of old.tree) (line_place at (drop at d.text)) ≡ Some begin
   begins begin h = subst (λ path. row_text path (line_place at (drop at d.text)) ≡ Some begin) path_is h
 
   -- behind a row
-  more_by : (next begin : ℕ) (ix : TreeIndex) → row_text (path_of now) (line_place at (drop at d.text)) ≡ Some begin → ReadsRow d columns begin now new missing more_missing (Some (next, ix))
-      → BodySoFar d columns filled_in start old new more_missing next × (at < next)
+  more_by : (next begin : ℕ) (ix : TreeIndex) → row_text (path_of now.tree) (line_place at (drop at d.text)) ≡ Some begin → ReadsRow d columns begin now new (Some (next, ix))
+      → BodySoFar d columns start old new next × (at < next)
   more_by next begin ix h r =
       let a = r.adds in
       let here = begins begin h in
-      let within : at < length d.text = row_within d.text (path_of old) at begin here in
+      let within : at < length d.text = row_within d.text (path_of old.tree) at begin here in
       let stop_is : next ≡ r.row_end = a.3 in
-      let line : r.row_end ≡ at + line_len (drop at d.text) = row_line d (path_of old) at begin r.cells r.row_end utf8 s.boundary here r.are_cells in
+      let line : r.row_end ≡ at + line_len (drop at d.text) = row_line d (path_of old.tree) at begin r.cells r.row_end utf8 s.boundary here r.are_cells in
       let next_is : next ≡ at + line_len (drop at d.text) = stop_is ∙ line in
       let block : List (ℕ × Item) = row_block TableRow columns begin r.cells next in
       let are : AreCells d begin r.cells next = subst (AreCells d begin r.cells) (sym stop_is) r.are_cells in
-      let new_is : new ≡ _ = a.1 ∙ ap (λ e. added now (row_block TableRow columns begin r.cells e)) (sym stop_is) in
-      let is = is_row_of (is_some now.current) true columns (most_filled - missing) r.cells (some_by now.current s.some) a.0 in
-      let fits = few_filled columns (most_filled - missing) r.cells is in
+      let new_is : new.tree ≡ _ = a.1 ∙ ap (λ e. added now.tree (row_block TableRow columns begin r.cells e)) (sym stop_is) in
+      let is = is_row_of (is_some now.tree.current) true columns (most_filled - now.filled_in) r.cells (some_by now.tree.current s.some) a.0 in
+      let fits = few_filled columns (most_filled - now.filled_in) r.cells is in
       let few = s.few in
-      let after : more_missing ≡ missing + filled columns r.cells = a.2 in
-      let left : most_filled - more_missing ≡ most_filled - missing - filled columns r.cells = omega (arith, after) in
+      let after : new.filled_in ≡ now.filled_in + filled columns r.cells = a.2 in
+      let left : most_filled - new.filled_in ≡ most_filled - now.filled_in - filled columns r.cells = omega (arith, after) in
       let later = line_len-within d.text at within in
       let low = s.later in (
         record {
           body = s.body ++ block;
-          nodes = more-added old now new s.body block s.nodes s.spine new_is;
+          nodes = more-added old.tree now.tree new.tree s.body block s.nodes s.spine new_is;
           spine = ap (λ (f : Forest Item). f.spine) new_is ∙ s.spine;
-          some = λ e. absurd (let z : Some (record { 0 = length now.nodes }) ≡ None = sym (ap (λ (f : Forest Item). f.current) new_is) ∙ e in cc);
+          some = λ e. absurd (let z : Some (record { 0 = length now.tree.nodes }) ≡ None = sym (ap (λ (f : Forest Item). f.current) new_is) ∙ e in cc);
           few = omega arith;
           later = omega arith;
           boundary = subst (IsCharBoundary d.text) (sym next_is) (line_end_boundary d.text at utf8 s.boundary within);
           goes_on = λ t rows.
-              subst (λ items. AreRows d (path_of old) columns (most_filled - filled_in) (lines_from d.text start) (taking items t.left)) (sym (append_assoc s.body block t.items))
+              subst (λ items. AreRows d (path_of old.tree) columns (most_filled - old.filled_in) (lines_from d.text start) (taking items t.left)) (sym (append_assoc s.body block t.items))
               (s.goes_on (taking (block ++ t.items) t.left)
-              (row_more d (path_of old) columns (most_filled - missing) at next begin r.cells t within next_is here are is
-              (subst (λ most. AreRows d (path_of old) columns most (lines_from d.text next) t) left rows)));
+              (row_more d (path_of old.tree) columns (most_filled - now.filled_in) at next begin r.cells t within next_is here are is
+              (subst (λ most. AreRows d (path_of old.tree) columns most (lines_from d.text next) t) left rows)));
         },
         omega arith,
       )
@@ -141,30 +141,30 @@ module _ (d : Document) (columns filled_in start : ℕ) (old now new : Forest It
   no_row : (next : ℕ) (ix : TreeIndex) → ◌≡◌ {A = Option (ℕ × TreeIndex)} (Some (next, ix)) None → ⊥
   no_row next ix e = none-some (next, ix) (sym e)
 
-  pub body_more : (next : ℕ) (ix : TreeIndex) → ReadsRowLine d columns at now new missing more_missing (Some (next, ix)) → BodySoFar d columns filled_in start old new more_missing next × (at < next)
-  body_more next ix (inl (none, answer, same, after)) = absurd (no_row next ix answer)
+  pub body_more : (next : ℕ) (ix : TreeIndex) → ReadsRowLine d columns at now new (Some (next, ix)) → BodySoFar d columns start old new next × (at < next)
+  body_more next ix (inl (none, answer, same)) = absurd (no_row next ix answer)
   body_more next ix (inr (begin, h, r)) = more_by next begin ix h r
 
   -- before what is no row
-  over_by : new ≡ now → AreRows d (path_of old) columns (most_filled - missing) (lines_from d.text at) (taking [] (lines_from d.text at)) → AppendsBody d columns filled_in start old new at
+  over_by : new ≡ now → AreRows d (path_of old.tree) columns (most_filled - now.filled_in) (lines_from d.text at) (taking [] (lines_from d.text at)) → AppendsBody d columns start old new.tree at
   over_by same rows = record {
     body = s.body;
-    are_rows = subst (λ items. AreRows d (path_of old) columns (most_filled - filled_in) (lines_from d.text start) (taking items (lines_from d.text at))) (append-nil s.body) (s.goes_on (taking [] (lines_from d.text at)) rows);
-    nodes = ap (λ (f : Forest Item). f.nodes) same ∙ s.nodes;
-    spine = ap (λ (f : Forest Item). f.spine) same ∙ s.spine;
+    are_rows = subst (λ items. AreRows d (path_of old.tree) columns (most_filled - old.filled_in) (lines_from d.text start) (taking items (lines_from d.text at))) (append-nil s.body) (s.goes_on (taking [] (lines_from d.text at)) rows);
+    nodes = ap (λ (t : OpenTable). t.tree.nodes) same ∙ s.nodes;
+    spine = ap (λ (t : OpenTable). t.tree.spine) same ∙ s.spine;
     later = s.later;
     boundary = s.boundary;
   }
 
-  pub body_over : ReadsRowLine d columns at now new missing more_missing None → AppendsBody d columns filled_in start old new at
-  body_over (inl (none, answer, same, after)) =
-      over_by same (left_by d (path_of old) columns (most_filled - missing) at
-      (row_none_by d (path_of old) columns (most_filled - missing) (line_place at (drop at d.text)) (lines_from d.text (at + line_len (drop at d.text))) (subst (λ path. row_text path (line_place at (drop at d.text)) ≡ None) path_is none)))
+  pub body_over : ReadsRowLine d columns at now new None → AppendsBody d columns start old new.tree at
+  body_over (inl (none, answer, same)) =
+      over_by same (left_by d (path_of old.tree) columns (most_filled - now.filled_in) at
+      (row_none_by d (path_of old.tree) columns (most_filled - now.filled_in) (line_place at (drop at d.text)) (lines_from d.text (at + line_len (drop at d.text))) (subst (λ path. row_text path (line_place at (drop at d.text)) ≡ None) path_is none)))
   body_over (inr (begin, h, r)) =
       let a = r.adds in
-      over_by a.1 (left_by d (path_of old) columns (most_filled - missing) at
-      (row_over_by d (path_of old) columns (most_filled - missing) begin r.row_end r.cells (line_place at (drop at d.text)) (lines_from d.text (at + line_len (drop at d.text))) (begins begin h) r.are_cells
-      (is_row_of (is_some now.current) false columns (most_filled - missing) r.cells (some_by now.current s.some) a.0)))
+      over_by a.1 (left_by d (path_of old.tree) columns (most_filled - now.filled_in) at
+      (row_over_by d (path_of old.tree) columns (most_filled - now.filled_in) begin r.row_end r.cells (line_place at (drop at d.text)) (lines_from d.text (at + line_len (drop at d.text))) (begins begin h) r.are_cells
+      (is_row_of (is_some now.tree.current) false columns (most_filled - now.filled_in) r.cells (some_by now.tree.current s.some) a.0)))
 
 -- what is left of the cells that may be filled in, behind those of a header row or as many as may be
 least_by : (n most : ℕ) (t u : Bool) → nat_lt most n ≡ t → most - (if is_lt (if t then Less else (if u then Equal else Greater)) then most else n) ≡ most - n
@@ -181,7 +181,7 @@ closed_as f g e ix rest [] nodes is = cc
 closed_as f g e ix rest (i ∷ is) nodes same = ap (λ (ns : List (ℕ × Item)). with_end_at (record { nodes = ns; spine = is; current = Some i }) i e) nodes
 
 pub rows_closed : (d : Document) (columns head_start body_start missing some next : ℕ) (old headed bodied new : Forest Item) → (ix : TreeIndex) × IsJustPushed old ix → AreIn (length old.nodes) old.spine
-    → AddsHead d columns head_start old headed missing → most_filled - some ≡ most_filled - missing → AppendsBody d columns some body_start headed bodied next → new ≡ closed_by bodied next bodied.spine
+    → AddsHead d columns head_start old headed missing → most_filled - some ≡ most_filled - missing → AppendsBody d columns body_start (open_table headed some) bodied next → new ≡ closed_by bodied next bodied.spine
     → AppendsRows d columns head_start body_start old new next
 rows_closed d columns head_start body_start missing some next old headed bodied new (ix, pushed) there head left body new_is =
     let row : List (ℕ × Item) = row_block TableHead columns head_start head.cells head.row_end in

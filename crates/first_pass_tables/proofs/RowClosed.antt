@@ -13,7 +13,7 @@ use Rattle.first_pass_tokens.proofs.ChainLemmas.{chained-spine, chained-nodes}
 use Rattle.first_pass_grammar.specs.Leaves.{Document}
 use Rattle.first_pass_grammar.specs.Tables.{cell_block, AreCells, filled, side_by_side, row_cells, row_block, most_filled}
 use Rattle.first_pass_open.specs.OpenBlock.{IsJustPushed, opened_block, begun_item, closed_by}
-use Rattle.first_pass_tables.specs.Appends.{AppendsCells, empty_cell, keeps_row, AddsRow, ReadsRow}
+use Rattle.first_pass_tables.specs.Appends.{AppendsCells, empty_cell, keeps_row, FoundRow, OpenTable, AddsRow, ReadsRow}
 use Rattle.first_pass_tables.proofs.RowCells.{side_more}
 use Rattle.first_pass_tables.proofs.RowDrops.{HasMore}
 
@@ -106,17 +106,18 @@ row_behind d columns start body old opened read back answer (Some ix) opened_is 
     }
 
 -- the row is read
-pub row_read : (d : Document) (columns start stop : ℕ) (old new : Forest Item) (before after : ℕ) (cells : List (List (ℕ × Item)))
+pub row_read : (d : Document) (columns start stop : ℕ) (old new : OpenTable) (cells : List (List (ℕ × Item)))
     (current : Option TreeIndex) (answer : Option (ℕ × TreeIndex)) → AreCells d start cells stop
-    → keeps_row (is_some old.current) columns (most_filled - before) cells ≡ true → new ≡ added old (row_block TableRow columns start cells stop)
-    → after ≡ before + filled columns cells → current ≡ new.current → answer ≡ option_map (λ (row : TreeIndex). (stop, row)) current
-    → ReadsRow d columns start old new before after answer
-row_read d columns start stop old new before after cells current answer are kept new_is after_is current_is answer_is =
-    let here : current ≡ Some (row_place old) = current_is ∙ ap (λ (f : Forest Item). f.current) new_is in
-    let is : answer ≡ Some (stop, row_place old) = answer_is ∙ ap (option_map (λ (row : TreeIndex). (stop, row))) here in
+    → keeps_row (is_some old.tree.current) columns (most_filled - old.filled_in) cells ≡ true → new.tree ≡ added old.tree (row_block TableRow columns start cells stop)
+    → new.filled_in ≡ old.filled_in + filled columns cells → current ≡ new.tree.current → answer ≡ option_map (λ (row : TreeIndex). (stop, row)) current
+    → ReadsRow d columns start old new answer
+row_read d columns start stop old new cells current answer are kept new_is after_is current_is answer_is =
+    let row : FoundRow = record { start = start; cells = cells; row_end = stop } in
+    let here : current ≡ Some (row_place old.tree) = current_is ∙ ap (λ (f : Forest Item). f.current) new_is in
+    let is : answer ≡ Some (stop, row_place old.tree) = answer_is ∙ ap (option_map (λ (row : TreeIndex). (stop, row))) here in
     record {
       cells = cells;
       row_end = stop;
       are_cells = are;
-      adds = subst (AddsRow columns start stop cells old new before after) (sym is) (kept, new_is, after_is, refl, refl);
+      adds = subst (AddsRow columns row old new) (sym is) (kept, new_is, after_is, refl, refl);
     }

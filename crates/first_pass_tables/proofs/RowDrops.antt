@@ -12,8 +12,9 @@ use Rattle.first_pass_tokens.specs.TreeTokens.{leaves}
 use Rattle.first_pass_grammar.specs.Leaves.{Document}
 use Rattle.first_pass_grammar.specs.Tables.{cell_start, AreCells, side_by_side}
 use Rattle.first_pass_open.specs.OpenBlock.{IsJustPushed}
+use Rattle.first_pass_tables.specs.declared.row.CellsRead.{CellsRead}
 use Rattle.first_pass_tables.specs.Appends.{IsOpenNode, without_behind, without_children, AppendsCells}
-use Rattle.first_pass_tables.specs.Reading.{AreAppended, AreAllAppended, EndsRow}
+use Rattle.first_pass_tables.specs.Reading.{AreAppended, AreAllAppended, AppendsSome}
 use Rattle.first_pass_tables.proofs.DropLemmas.{kept_back, childless_back}
 
 -- the current node is a child of the innermost open one
@@ -123,16 +124,17 @@ same_dropped f g new h n more is =
     let back = is ∙ dropped f g h n more in
     (ap (λ (t : Forest Item). t.nodes) back, ap (λ (t : Forest Item). t.spine) back)
 
--- the row goes on, or not
-pub not_ended : {d : Document} {most start at count : ℕ} {old new : Forest Item} {t : Bool} → t ≡ false → EndsRow d most start old new at count t
-    → AreAppended d start old new at count × (count ≡ most)
-not_ended {d} {most} {start} {at} {count} {old} {new} h ends = subst (EndsRow d most start old new at count) h ends
+ended_by : (d : Document) (most start : ℕ) (old new : Forest Item) (read : CellsRead) (t : Bool) → read.ended ≡ t → length d.text < most
+    → AppendsSome d most start old new read → AreAllAppended d start old new read.at read.count
+ended_by d most start old new read true is short some = some.all is
+ended_by d most start old new read false is short some =
+    let first = some.first is in
+    let later = first.0.later in
+    let within = first.0.within in
+    let full = first.1 in
+    absurd (omega arith)
 
 -- a row has fewer cells than the text has bytes
-pub ended_within : (d : Document) (most start at count : ℕ) (old new : Forest Item) (t : Bool) → length d.text < most → EndsRow d most start old new at count t
-    → AreAllAppended d start old new at count
-ended_within d most start at count old new true short ends = ends
-ended_within d most start at count old new false short (far, full) =
-    let later = far.later in
-    let within = far.within in
-    absurd (omega arith)
+pub ended_within : (d : Document) (most start : ℕ) (old new : Forest Item) (read : CellsRead) → length d.text < most → AppendsSome d most start old new read
+    → AreAllAppended d start old new read.at read.count
+ended_within d most start old new read short some = ended_by d most start old new read read.ended refl short some

@@ -1,5 +1,5 @@
 -- A row that is read lies in order where it is added, and so do the rows of a table, before the table is closed.
-use Rattle.std.proofs.Common.{◌≡◌, ◌⊎◌, inl, inr, ℕ, ◌-◌, ◌<◌, ◌≤◌, List, ◌++◌, length, Option, Some, None, IfSome, IsUtf8, IsCharBoundary, refl, sym, subst, arith}
+use Rattle.std.proofs.Common.{◌≡◌, ◌⊎◌, inl, inr, ℕ, ◌-◌, ◌<◌, ◌≤◌, List, ◌++◌, length, Option, Some, None, IfSome, IsUtf8, IsCharBoundary, refl, sym, ap, subst, arith}
 use Rattle.std.proofs.lemmas.Bool.{cases_lt}
 use Rattle.std.proofs.lemmas.Option.{none-some}
 use Rattle.first_pass_items.specs.declared.item.Item.{Item}
@@ -22,7 +22,7 @@ use Rattle.first_pass_grammar.proofs.TableEnds.{cells_end}
 use Rattle.first_pass_open.specs.Path.{path_of}
 use Rattle.first_pass_text.specs.Appends.{line_end_at}
 use Rattle.first_pass_text.specs.Between.{AddsBetween}
-use Rattle.first_pass_tables.specs.Appends.{ReadsRow, ReadsRowLine, AppendsRows, ClosesBetween}
+use Rattle.first_pass_tables.specs.Appends.{OpenTable, ReadsRow, ReadsRowLine, AppendsRows, ClosesBetween}
 use Rattle.first_pass_tables.proofs.CellsFit.{OneRow, between-order, between-join, between-wider, row_fits}
 use Rattle.first_pass_tables.proofs.RowsFit.{row_place, RowsBetween, rows_fit}
 
@@ -38,48 +38,48 @@ row_fits_behind d body columns start cells stop w from utf8 boundary are low =
     between-any d.text w from stop block (wide.0, wide.1, wide.2, λ room. omega arith)
 
 -- A row that is read lies between an offset before it and where it ends.
-pub row_between : (d : Document) (columns start : ℕ) (old new : Forest Item) (before after : ℕ) (answer : Option (ℕ × TreeIndex)) → IsUtf8 d.text
-    → IsCharBoundary d.text start → ReadsRow d columns start old new before after answer → (from : ℕ) → from ≤ start
-    → IfSome answer (λ r. AddsBetween d.text from r.0 old new)
-row_between d columns start old new before after None utf8 boundary r from low = tt
-row_between d columns start old new before after (Some (stop, ix)) utf8 boundary r from low =
+pub row_between : (d : Document) (columns start : ℕ) (old new : OpenTable) (answer : Option (ℕ × TreeIndex)) → IsUtf8 d.text
+    → IsCharBoundary d.text start → ReadsRow d columns start old new answer → (from : ℕ) → from ≤ start
+    → IfSome answer (λ r. AddsBetween d.text from r.0 old.tree new.tree)
+row_between d columns start old new None utf8 boundary r from low = tt
+row_between d columns start old new (Some (stop, ix)) utf8 boundary r from low =
     let a = r.adds in
     let block : List (ℕ × Item) = row_block TableRow columns start r.cells r.row_end in
     record {
       items = block;
       tree_is = a.1;
-      fits = subst (λ (n : ℕ). FitsBetween d.text (within_top old) from n block) (sym a.3)
-          (row_fits_behind d TableRow columns start r.cells r.row_end (within_top old) from utf8 boundary r.are_cells low);
+      fits = subst (λ (n : ℕ). FitsBetween d.text (within_top old.tree) from n block) (sym a.3)
+          (row_fits_behind d TableRow columns start r.cells r.row_end (within_top old.tree) from utf8 boundary r.are_cells low);
     }
 
 -- It ends in the text.
-pub row_ends : (d : Document) (columns start : ℕ) (old new : Forest Item) (before after : ℕ) (answer : Option (ℕ × TreeIndex)) → start ≤ length d.text
-    → ReadsRow d columns start old new before after answer → IfSome answer (λ r. r.0 ≤ length d.text)
-row_ends d columns start old new before after None within r = tt
-row_ends d columns start old new before after (Some (stop, ix)) within r =
+pub row_ends : (d : Document) (columns start : ℕ) (old new : OpenTable) (answer : Option (ℕ × TreeIndex)) → start ≤ length d.text
+    → ReadsRow d columns start old new answer → IfSome answer (λ r. r.0 ≤ length d.text)
+row_ends d columns start old new None within r = tt
+row_ends d columns start old new (Some (stop, ix)) within r =
     let ends = (cells_end d start r.cells r.row_end within r.are_cells).1 in
     let is : stop ≡ r.row_end = r.adds.3 in
     omega arith
 
 -- Where no row is read the tree stays as it is.
-pub row_none : (d : Document) (columns start : ℕ) (old new : Forest Item) (before after : ℕ) (answer : Option (ℕ × TreeIndex))
-    → ReadsRow d columns start old new before after answer → answer ≡ None → new ≡ old
-row_none d columns start old new before after None r is = r.adds.1
-row_none d columns start old new before after (Some (stop, ix)) r is = absurd (none-some (stop, ix) (sym is))
+pub row_none : (d : Document) (columns start : ℕ) (old new : OpenTable) (answer : Option (ℕ × TreeIndex))
+    → ReadsRow d columns start old new answer → answer ≡ None → new.tree ≡ old.tree
+row_none d columns start old new None r is = ap (λ (t : OpenTable). t.tree) r.adds.1
+row_none d columns start old new (Some (stop, ix)) r is = absurd (none-some (stop, ix) (sym is))
 
 -- the same of a line
-pub line_row_ends : (d : Document) (columns n : ℕ) (old new : Forest Item) (before after : ℕ) (answer : Option (ℕ × TreeIndex)) → IsUtf8 d.text
-    → IsCharBoundary d.text n → ReadsRowLine d columns n old new before after answer → IfSome answer (λ r. r.0 ≤ length d.text)
-line_row_ends d columns n old new before after answer utf8 boundary (inl (none, is, same, count)) =
+pub line_row_ends : (d : Document) (columns n : ℕ) (old new : OpenTable) (answer : Option (ℕ × TreeIndex)) → IsUtf8 d.text
+    → IsCharBoundary d.text n → ReadsRowLine d columns n old new answer → IfSome answer (λ r. r.0 ≤ length d.text)
+line_row_ends d columns n old new answer utf8 boundary (inl (none, is, same)) =
     subst (λ (o : Option (ℕ × TreeIndex)). IfSome o (λ r. r.0 ≤ length d.text)) (sym is) tt
-line_row_ends d columns n old new before after answer utf8 boundary (inr (start, begins, r)) =
-    let p = row_place d.text (path_of old) n start utf8 boundary begins in
-    row_ends d columns start old new before after answer (subst (λ (k : ℕ). k ≤ length d.text) (sym p.start_is) p.is.within) r
+line_row_ends d columns n old new answer utf8 boundary (inr (start, begins, r)) =
+    let p = row_place d.text (path_of old.tree) n start utf8 boundary begins in
+    row_ends d columns start old new answer (subst (λ (k : ℕ). k ≤ length d.text) (sym p.start_is) p.is.within) r
 
-pub line_row_none : (d : Document) (columns n : ℕ) (old new : Forest Item) (before after : ℕ) (answer : Option (ℕ × TreeIndex))
-    → ReadsRowLine d columns n old new before after answer → answer ≡ None → new ≡ old
-line_row_none d columns n old new before after answer (inl (none, nothing, same, count)) is = same
-line_row_none d columns n old new before after answer (inr (start, begins, r)) is = row_none d columns start old new before after answer r is
+pub line_row_none : (d : Document) (columns n : ℕ) (old new : OpenTable) (answer : Option (ℕ × TreeIndex))
+    → ReadsRowLine d columns n old new answer → answer ≡ None → new.tree ≡ old.tree
+line_row_none d columns n old new answer (inl (none, nothing, same)) is = ap (λ (t : OpenTable). t.tree) same
+line_row_none d columns n old new answer (inr (start, begins, r)) is = row_none d columns start old new answer r is
 
 -- a header row and the rows behind it, where the header row has a byte or none are behind it
 both_between : (text : List ℕ) (from start mid behind next : ℕ) (head body : List (ℕ × Item)) → from ≤ start → mid ≤ behind → (start < mid) ⊎ (next ≤ start)

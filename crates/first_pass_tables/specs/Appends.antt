@@ -69,26 +69,43 @@ pub record IsOpenNode (f : Forest Item) : Type 0 where
 abbrev pub keeps_row : Bool → ℕ → ℕ → List (List (ℕ × Item)) → Bool
 keeps_row behind columns most cells = (not behind || nat_lt 0 (length cells)) && nat_le (filled columns cells) most
 
--- A row with these cells, which begins and ends at these offsets, is added where it is kept, and what is filled into it is counted; else nothing is (GFM 4.10, and this project).
-abbrev pub AddsRow : ℕ → ℕ → ℕ → List (List (ℕ × Item)) → Forest Item → Forest Item → ℕ → ℕ → Option (ℕ × TreeIndex) → Type 0
-AddsRow columns start «end» cells old new before after None =
-    (keeps_row (is_some old.current) columns (most_filled - before) cells ≡ false) × (new ≡ old) × (after ≡ before)
-AddsRow columns start «end» cells old new before after (Some (stop, ix)) =
-    (keeps_row (is_some old.current) columns (most_filled - before) cells ≡ true) × (new ≡ added old (row_block TableRow columns start cells «end»))
-    × (after ≡ before + filled columns cells) × (stop ≡ «end») × (ix.0 ≡ length old.nodes)
+-- a row as it is found in a text: where it begins, its cells, and where it ends (GFM 4.10)
+pub record FoundRow : Type 0 where
+  pub start : ℕ
+  pub cells : List (List (ℕ × Item))
+  pub row_end : ℕ
 
--- the row that begins at an offset is read, where so many cells were filled in before it in its table, and as many after it (GFM 4.10, and this project)
-pub record ReadsRow (d : Document) (columns start : ℕ) (old new : Forest Item) (before after : ℕ) (answer : Option (ℕ × TreeIndex)) : Type 0 where
+-- a tree in which a table is open, and how many cells are filled into the rows of that table so far (this project)
+pub record OpenTable : Type 0 where
+  pub tree : Forest Item
+  pub filled_in : ℕ
+
+-- such a tree, with so many cells filled in
+abbrev pub open_table : Forest Item → ℕ → OpenTable
+open_table tree filled_in = record { tree = tree; filled_in = filled_in }
+
+-- A row is added to a table of so many columns where it is kept, what is filled into it is counted, and it is answered where it ends and its index; else nothing
+-- changes (GFM 4.10, and this project).
+abbrev pub AddsRow : ℕ → FoundRow → OpenTable → OpenTable → Option (ℕ × TreeIndex) → Type 0
+AddsRow columns row old new None =
+    (keeps_row (is_some old.tree.current) columns (most_filled - old.filled_in) row.cells ≡ false) × (new ≡ old)
+AddsRow columns row old new (Some (stop, ix)) =
+    (keeps_row (is_some old.tree.current) columns (most_filled - old.filled_in) row.cells ≡ true)
+    × (new.tree ≡ added old.tree (row_block TableRow columns row.start row.cells row.row_end)) × (new.filled_in ≡ old.filled_in + filled columns row.cells)
+    × (stop ≡ row.row_end) × (ix.0 ≡ length old.tree.nodes)
+
+-- the row of a table of so many columns that begins at an offset is read (GFM 4.10, and this project)
+pub record ReadsRow (d : Document) (columns start : ℕ) (old new : OpenTable) (answer : Option (ℕ × TreeIndex)) : Type 0 where
   pub cells : List (List (ℕ × Item))
   pub row_end : ℕ
   pub are_cells : AreCells d start cells row_end
-  pub adds : AddsRow columns start row_end cells old new before after answer
+  pub adds : AddsRow columns (record { start = start; cells = cells; row_end = row_end }) old new answer
 
 -- the line that begins at an offset is read as a row: it is none, or the row that begins in it is read (GFM 4.10)
-abbrev pub ReadsRowLine : Document → ℕ → ℕ → Forest Item → Forest Item → ℕ → ℕ → Option (ℕ × TreeIndex) → Type 0
-ReadsRowLine d columns ix old new before after answer =
-    ((row_text (path_of old) (line_place ix (drop ix d.text)) ≡ None) × (answer ≡ None) × (new ≡ old) × (after ≡ before))
-    ⊎ ((start : ℕ) × (row_text (path_of old) (line_place ix (drop ix d.text)) ≡ Some start) × ReadsRow d columns start old new before after answer)
+abbrev pub ReadsRowLine : Document → ℕ → ℕ → OpenTable → OpenTable → Option (ℕ × TreeIndex) → Type 0
+ReadsRowLine d columns ix old new answer =
+    ((row_text (path_of old.tree) (line_place ix (drop ix d.text)) ≡ None) × (answer ≡ None) × (new ≡ old))
+    ⊎ ((start : ℕ) × (row_text (path_of old.tree) (line_place ix (drop ix d.text)) ≡ Some start) × ReadsRow d columns start old new answer)
 
 -- The rows of a table stand in the innermost open node, which is closed behind them: the header row, which begins at an offset, and those among the lines from another on (GFM 4.10).
 pub record AppendsRows (d : Document) (columns head_start body_start : ℕ) (old new : Forest Item) (next : ℕ) : Type 0 where

@@ -1,5 +1,5 @@
 -- What is read of a row so far; only private functions of this crate cite it.
-use Rattle.std.specs.Prelude.{◌≡◌, ℕ, ◌+◌, ◌≤◌, Bool, true, false, List, ◌++◌, length, None}
+use Rattle.std.specs.Prelude.{◌≡◌, ℕ, ◌+◌, ◌≤◌, true, false, List, ◌++◌, length, None}
 use Rattle.first_pass_items.specs.declared.item.Item.{Item}
 use Rattle.first_pass_tree.specs.Forest.{Forest, at_depth}
 use Rattle.first_pass_grammar.specs.Leaves.{Document}
@@ -31,12 +31,8 @@ pub record AreAllAppended (d : Document) (start : ℕ) (old new : Forest Item) (
   pub later : start + count ≤ «end»
   pub within : «end» ≤ length d.text
 
--- all cells of a row are appended, or the first ones, as many as may be (this project)
-abbrev pub EndsRow : Document → ℕ → ℕ → Forest Item → Forest Item → ℕ → ℕ → Bool → Type 0
-EndsRow d most start old new at count true = AreAllAppended d start old new at count
-EndsRow d most start old new at count false = AreAppended d start old new at count × (count ≡ most)
-
--- the cells of the row that begins at an offset are appended, up to so many (this project)
+-- The cells of the row that begins at an offset are appended, up to so many: all of them where the row ended, else as many as may be (this project).
 pub record AppendsSome (d : Document) (most start : ℕ) (old new : Forest Item) (read : CellsRead) : Type 0 where
   pub few : read.count ≤ most
-  pub cells : EndsRow d most start old new read.at read.count read.ended
+  pub all : read.ended ≡ true → AreAllAppended d start old new read.at read.count
+  pub first : read.ended ≡ false → AreAppended d start old new read.at read.count × (read.count ≡ most)

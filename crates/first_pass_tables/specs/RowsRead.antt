@@ -6,24 +6,25 @@ use Rattle.first_pass_grammar.specs.Leaves.{Document}
 use Rattle.first_pass_grammar.specs.Completion.{lines_from}
 use Rattle.first_pass_grammar.specs.Tables.{Taken, taking, AreRows, most_filled}
 use Rattle.first_pass_open.specs.Path.{path_of}
+use Rattle.first_pass_tables.specs.Appends.{OpenTable}
 
--- The rows among the lines from an offset on stand in the innermost open node, behind which another row may stand, where so many cells are filled in before them.
-pub record AppendsBody (d : Document) (columns filled start : ℕ) (old new : Forest Item) (next : ℕ) : Type 0 where
+-- The rows among the lines from an offset on stand in the open table, behind which another row may stand.
+pub record AppendsBody (d : Document) (columns start : ℕ) (old : OpenTable) (new : Forest Item) (next : ℕ) : Type 0 where
   pub body : List (ℕ × Item)
-  pub are_rows : AreRows d (path_of old) columns (most_filled - filled) (lines_from d.text start) (taking body (lines_from d.text next))
-  pub nodes : new.nodes ≡ old.nodes ++ at_depth (length old.spine + 1) body
-  pub spine : new.spine ≡ old.spine
+  pub are_rows : AreRows d (path_of old.tree) columns (most_filled - old.filled_in) (lines_from d.text start) (taking body (lines_from d.text next))
+  pub nodes : new.nodes ≡ old.tree.nodes ++ at_depth (length old.tree.spine + 1) body
+  pub spine : new.spine ≡ old.tree.spine
   pub later : start ≤ next
   pub boundary : IsCharBoundary d.text next
 
--- Rows are read up to an offset, with so many cells filled in by then: what are the rows from there on, are with them the rows from the first on.
-pub record BodySoFar (d : Document) (columns filled start : ℕ) (old now : Forest Item) (more_filled at : ℕ) : Type 0 where
+-- Rows are read up to an offset, and the table is as it is now by then: what are the rows from there on, are with them the rows from the first on.
+pub record BodySoFar (d : Document) (columns start : ℕ) (old now : OpenTable) (at : ℕ) : Type 0 where
   pub body : List (ℕ × Item)
-  pub nodes : now.nodes ≡ old.nodes ++ at_depth (length old.spine + 1) body
-  pub spine : now.spine ≡ old.spine
-  pub some : now.current ≡ None → ⊥
-  pub few : more_filled ≤ most_filled
+  pub nodes : now.tree.nodes ≡ old.tree.nodes ++ at_depth (length old.tree.spine + 1) body
+  pub spine : now.tree.spine ≡ old.tree.spine
+  pub some : now.tree.current ≡ None → ⊥
+  pub few : now.filled_in ≤ most_filled
   pub later : start ≤ at
   pub boundary : IsCharBoundary d.text at
-  pub goes_on : (t : Taken) → AreRows d (path_of old) columns (most_filled - more_filled) (lines_from d.text at) t
-      → AreRows d (path_of old) columns (most_filled - filled) (lines_from d.text start) (taking (body ++ t.items) t.left)
+  pub goes_on : (t : Taken) → AreRows d (path_of old.tree) columns (most_filled - now.filled_in) (lines_from d.text at) t
+      → AreRows d (path_of old.tree) columns (most_filled - old.filled_in) (lines_from d.text start) (taking (body ++ t.items) t.left)

@@ -8,7 +8,7 @@ ghost use Rattle.first_pass_grammar.specs.Leaves.{document};
 ghost use Rattle.first_pass_grammar.specs.Tables.{most_filled};
 ghost use Rattle.first_pass_open.specs.OpenBlock.{IsJustPushed};
 ghost use Rattle.first_pass_text.specs.Between.{AddsBetween};
-ghost use Rattle.first_pass_tables.specs.Appends.{AppendsCells, AddsHead, IsOpenNode, ReadsRow};
+ghost use Rattle.first_pass_tables.specs.Appends.{AppendsCells, AddsHead, IsOpenNode, open_table, ReadsRow};
 ghost use Rattle.first_pass_tables.specs.Reading.{AppendsSome};
 
 use crate::cells::{append_table_cell, cell_start, drop_behind, fill_row};
@@ -151,8 +151,8 @@ pub fn parse_table_row_inner(
     requires open { IsOpenNode tree.old }
     requires few { missing_empty_cells.old ≤ most_filled }
     ensures row { IfOk result (λ row.
-        ReadsRow (document source.entry.text.now source.entry.options no_names) row_cells ix tree.old tree.new
-        missing_empty_cells.old missing_empty_cells.new row) }
+        ReadsRow (document source.entry.text.now source.entry.options no_names) row_cells ix
+        (open_table tree.old missing_empty_cells.old) (open_table tree.new missing_empty_cells.new) row) }
     ensures fits { IfOk result (λ row. IsCharBoundary source.entry.text.now ix → (from : ℕ) → from ≤ ix
         → IfSome row (λ r. AddsBetween source.entry.text.now from r.0 tree.old tree.new)) }
 {

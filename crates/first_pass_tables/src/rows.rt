@@ -12,7 +12,7 @@ ghost use Rattle.first_pass_open.specs.OpenBlock.{IsJustPushed};
 ghost use Rattle.first_pass_open.specs.Path.{path_of};
 ghost use Rattle.first_pass_text.specs.Appends.{line_end_at};
 ghost use Rattle.first_pass_text.specs.Between.{AddsBetween};
-ghost use Rattle.first_pass_tables.specs.Appends.{IsOpenNode, ReadsRowLine, AppendsRows, AddsWholeRows, ClosesBetween};
+ghost use Rattle.first_pass_tables.specs.Appends.{IsOpenNode, open_table, ReadsRowLine, AppendsRows, AddsWholeRows, ClosesBetween};
 ghost use Rattle.first_pass_tables.specs.RowsRead.{AppendsBody};
 
 use crate::row::{MAX_AUTOCOMPLETED_CELLS, append_head_row, parse_table_row_inner};
@@ -73,8 +73,8 @@ pub fn parse_table_row(
     requires table { in_table tree.old.nodes tree.old.spine ≡ true }
     requires few { missing_empty_cells.old ≤ most_filled }
     ensures row { IfOk result (λ row.
-        ReadsRowLine (document source.entry.text.now source.entry.options no_names) row_cells ix tree.old tree.new
-        missing_empty_cells.old missing_empty_cells.new row) }
+        ReadsRowLine (document source.entry.text.now source.entry.options no_names) row_cells ix
+        (open_table tree.old missing_empty_cells.old) (open_table tree.new missing_empty_cells.new) row) }
     ensures fits { IfOk result (λ row. (from : ℕ) → from ≤ ix
         → IfSome row (λ r. AddsBetween source.entry.text.now from r.0 tree.old tree.new)) }
     ensures utf8 { OnOk result (IsUtf8 source.entry.text.now) }
@@ -105,8 +105,8 @@ fn append_body(
     requires table { in_table tree.old.nodes tree.old.spine ≡ true }
     requires few { filled ≤ most_filled }
     ensures body { IfOk result (λ next.
-        AppendsBody (document source.entry.text.now source.entry.options no_names) columns filled start tree.old
-        tree.new next) }
+        AppendsBody (document source.entry.text.now source.entry.options no_names) columns start
+        (open_table tree.old filled) tree.new next) }
     ensures utf8 { OnOk result (IsUtf8 source.entry.text.now) }
 {
     tree.is_forest();

@@ -5,7 +5,7 @@ use Rattle.first_pass_tree.specs.declared.tree_index.TreeIndex.{TreeIndex}
 use Rattle.first_pass_names.specs.TableEntries.{no_names}
 use Rattle.first_pass_grammar.specs.Leaves.{document}
 use Rattle.first_pass_tables.specs.Appends.{without_behind}
-use Rattle.first_pass_tables.proofs.RowDrops.{HaveSame, has_more, none_more, current_is_child, same_dropped, still_open_node, first_kept, not_ended, ended_within}
+use Rattle.first_pass_tables.proofs.RowDrops.{HaveSame, has_more, none_more, current_is_child, same_dropped, still_open_node, first_kept, ended_within}
 use Rattle.first_pass_tables.proofs.row.append_cells.Goals as goal
 use Rattle.first_pass_tables.proofs.row.append_cells.Goals.{then-excess-gt0, else-excess-gt0}
 
@@ -16,7 +16,7 @@ drop_behind-requires c =
     let over = c.append_some_cells-2.new.tree in
     let short = c.is_short.ensures in
     let some = c.if-excess-gt0.true in
-    let all = ended_within d _ c.in_ok-kept.kept.at c.in_ok-excess.excess.at c.in_ok-excess.excess.count tree over c.in_ok-excess.excess.ended (omega arith) c.in_ok-excess.ensures.cells.cells in
+    let all = ended_within d _ c.in_ok-kept.kept.at tree over c.in_ok-excess.excess (omega arith) c.in_ok-excess.ensures.cells in
     subst (λ (o : Option TreeIndex). IfSome o (λ ix. IsChild over ix)) (sym c.cur-last.ensures)
     (current_is_child tree over c.is_forest.ensures (has_more d c.in_ok-kept.kept.at c.in_ok-excess.excess.at c.in_ok-excess.excess.count tree over (omega arith) all))
 
@@ -30,8 +30,8 @@ returns-clause-cells c =
     let kept = c.in_ok-kept.kept in
     let excess = c.in_ok-excess.excess in
     let short = c.is_short.ensures in
-    let far = not_ended c.if-kept.false c.in_ok-kept.ensures.cells.cells in
-    let all = ended_within d _ c.in_ok-kept.kept.at c.in_ok-excess.excess.at c.in_ok-excess.excess.count tree over c.in_ok-excess.excess.ended (omega arith) c.in_ok-excess.ensures.cells.cells in
+    let far = c.in_ok-kept.ensures.cells.first c.if-kept.false in
+    let all = ended_within d _ c.in_ok-kept.kept.at tree over c.in_ok-excess.excess (omega arith) c.in_ok-excess.ensures.cells in
     let node = still_open_node d c.args.start kept.at kept.count old tree c.requires.fresh.0 c.requires.fresh.1 far.0 in
     let same : HaveSame new tree =
     elim c.if-excess-gt0.branch [

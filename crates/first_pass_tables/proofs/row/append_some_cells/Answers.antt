@@ -21,10 +21,11 @@ returns-in-Some-clause-cells c =
     let eol = c.in-Some.ensures.within in
     record {
       few = c.loop-count.invariant.1;
-      cells = all_read (document text c.args.source.options no_names) c.args.start at c.loop-count.count from c.in-Some.eol c.args.tree.now c.loop-count.tree
+      all = λ ended. all_read (document text c.args.source.options no_names) c.args.start at c.loop-count.count from c.in-Some.eol c.args.tree.now c.loop-count.tree
           c.loop-count.invariant.0 (content_found text bytes c.rest_of.result.now at cell c.scan_whitespace_no_nl.result same c.cell_start-cell.ensures.value c.rest_of.ensures.value c.scan_whitespace_no_nl.ensures.value)
           (omega arith) (omega arith)
           (end_found text bytes c.rest_of-in-loop-count.result.now from c.scan_eol.result same c.rest_of-in-loop-count.ensures.value c.scan_eol.ensures.value ∙ c.in-Some.is);
+      first = λ ended. cc;
     }
 
 -- one more cell is appended, and ends further on

@@ -1,11 +1,12 @@
-use Rattle.std.proofs.Common.{rules, ◌≡◌, ℕ, ◌-◌, Bool, Option, IfSome, is_some, ◌+◌, refl, sym, ap, subst, ◌∙◌}
+use Rattle.std.proofs.Common.{rules, ◌≡◌, ℕ, ◌-◌, Bool, Option, IfSome, is_some, ◌+◌, sym, ap, subst, ◌∙◌}
+use Rattle.first_pass_items.specs.declared.item.Item.{Item}
 use Rattle.first_pass_items.specs.declared.item.ItemBody.TheVariants.{TableRow}
 use Rattle.first_pass_tree.specs.declared.tree_index.TreeIndex.{TreeIndex}
-use Rattle.first_pass_tree.specs.Forest.{IsChild}
+use Rattle.first_pass_tree.specs.Forest.{Forest, IsChild}
 use Rattle.first_pass_names.specs.TableEntries.{no_names}
 use Rattle.first_pass_grammar.specs.Leaves.{document}
 use Rattle.first_pass_grammar.specs.Tables.{most_filled}
-use Rattle.first_pass_tables.specs.Appends.{keeps_row, without_behind}
+use Rattle.first_pass_tables.specs.Appends.{keeps_row, open_table, without_behind}
 use Rattle.first_pass_tables.proofs.RowDrops.{current_is_child, dropped}
 use Rattle.first_pass_tables.proofs.RowClosed.{row_place, row_opened, row_is_open, row_closed, same_test, row_behind, row_read}
 use Rattle.first_pass_tables.proofs.RowsAdded.{row_between}
@@ -48,8 +49,7 @@ returns-then-not-is_kept-clause-row c =
       are_cells = adds.are_cells;
       adds = (
         ap (λ (t : Bool). keeps_row t c.args.row_cells most adds.cells) (sym behind) ∙ sym test ∙ sym c.is_kept.ensures.value ∙ c.if-not-is_kept.true,
-        c.drop_behind.ensures ∙ ap (without_behind back) c.cur-before.ensures ∙ dropped old back c.is_forest.ensures c.requires.open more,
-        refl,
+        ap (λ (f : Forest Item). open_table f c.args.missing_empty_cells.now) (c.drop_behind.ensures ∙ ap (without_behind back) c.cur-before.ensures ∙ dropped old back c.is_forest.ensures c.requires.open more),
       );
     }
 
@@ -62,8 +62,8 @@ returns-clause-row c =
     let missing_is = c.saturating_sub-missing.ensures ∙ ap (λ (n : ℕ). c.args.row_cells - n) adds.count in
     let behind : c.is_some.result ≡ is_some old.current = c.is_some.ensures ∙ ap (λ (o : Option TreeIndex). is_some o) c.cur-before.ensures in
     let test = same_test c.is_some.result c.args.row_cells most c.in_ok-end.count c.saturating_sub-missing.result adds.cells adds.count missing_is in
-    row_read d c.args.row_cells c.args.ix c.in_ok-end.end old c.close_block.new.tree c.args.missing_empty_cells.now
-    (c.args.missing_empty_cells.now + c.saturating_sub-missing.result) adds.cells c.cur.result c.map.result adds.are_cells
+    row_read d c.args.row_cells c.args.ix c.in_ok-end.end (open_table old c.args.missing_empty_cells.now)
+    (open_table c.close_block.new.tree (c.args.missing_empty_cells.now + c.saturating_sub-missing.result)) adds.cells c.cur.result c.map.result adds.are_cells
     (ap (λ (t : Bool). keeps_row t c.args.row_cells most adds.cells) (sym behind) ∙ sym test ∙ sym c.is_kept.ensures.value ∙ c.if-not-is_kept.false)
     (row_closed d c.args.row_cells c.args.ix c.in_ok-end.end c.in_ok-end.count c.saturating_sub-missing.result TableRow old
     c.open_block.new.tree c.append_cells.new.tree c.fill_row.new.tree c.in_ok-open_block.ensures adds c.saturating_sub-missing.ensures c.in_ok-fill_row.ensures
@@ -72,5 +72,5 @@ returns-clause-row c =
 
 pub returns-clause-fits : goal.returns-clause-fits
 returns-clause-fits c = λ begins from low.
-    row_between (document c.args.source.text.now c.args.source.options no_names) c.args.row_cells c.args.ix c.args.tree.now c.close_block.new.tree c.args.missing_empty_cells.now
-    (c.args.missing_empty_cells.now + c.saturating_sub-missing.result) c.map.result c.in_ok-end.ensures.utf8 begins (returns-clause-row c) from low
+    row_between (document c.args.source.text.now c.args.source.options no_names) c.args.row_cells c.args.ix (open_table c.args.tree.now c.args.missing_empty_cells.now)
+    (open_table c.close_block.new.tree (c.args.missing_empty_cells.now + c.saturating_sub-missing.result)) c.map.result c.in_ok-end.ensures.utf8 begins (returns-clause-row c) from low
