@@ -14,12 +14,10 @@ use Rattle.first_pass_lines.specs.Lines.{line_len}
 use Rattle.first_pass_lines.specs.Places.{Place, offset, line_end, line_place, start_of, IsPlaceOf}
 use Rattle.first_pass_lines.proofs.LineFacts.{lines_at-line, lines_at-end}
 use Rattle.first_pass_lines.proofs.PlaceFacts.{line_is_place, start_of-lines}
-use Rattle.first_pass_tokens.specs.Chains.{add_tokens}
 use Rattle.first_pass_grammar.specs.declared.kind.Container.{Container}
-use Rattle.first_pass_grammar.specs.Containers.{Context, context, at_rest, front}
-use Rattle.first_pass_grammar.specs.Kinds.{unindented}
+use Rattle.first_pass_grammar.specs.Containers.{Context, context}
 use Rattle.first_pass_grammar.specs.Names.{Names, Extends, NamesAlignments}
-use Rattle.first_pass_grammar.specs.Leaves.{Document, document, add_break, TextLines, AreTextLines}
+use Rattle.first_pass_grammar.specs.Leaves.{Document, document}
 use Rattle.first_pass_grammar.specs.Completion.{lines_from}
 use Rattle.first_pass_grammar.specs.TableHeads.{headed_table}
 use Rattle.first_pass_grammar.specs.Tables.{AreCells, filled, row_block, Taken, taking, AreRows, most_filled, IsTable}
