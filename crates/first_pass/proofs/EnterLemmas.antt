@@ -282,11 +282,12 @@ module _ (d : Document) (defined : Tables) (r : Reading) (line : Place) (lines :
         path_below r.tree.nodes (with_body_at r.tree empty.place (ListItemBody 0)).nodes empty.place.0 empty.outer
         (λ i h. body-other r.tree.nodes empty.place.0 i (λ x. record { start = x.start; «end» = x.«end»; body = ListItemBody 0 }) h) b.1
 
-    emptied_blank : (blank : Bool) → is_blank_rest rest ≡ true → ReadyInItem d defined r.tree e empty.columns (line ∷ lines) blank → ReadyAt d defined (with_body_at r.tree empty.place (ListItemBody 0)) true (Blanks e) lines
-    emptied_blank true h (none, ready) =
+    emptied_blank : (blank : Bool) → r.blank ≡ blank → is_blank_rest rest ≡ true → ReadyInItem d defined r.tree e (line ∷ lines) blank → ReadyAt d defined (with_body_at r.tree empty.place (ListItemBody 0)) true (Blanks e) lines
+    emptied_blank true is h ready =
+        let none = empty.none is in
         let item : body_at r.tree.nodes empty.place.0 ≡ Some (ListItemBody 0) = empty.item ∙ ap (λ n. Some (ListItemBody n)) none in
         subst (λ f. ReadyAt d defined f true (Blanks e) lines) (sym (zero_same none)) (only_blank d defined r.tree true e empty.place empty.outer line lines empty.spine item (blank_item h) ready)
-    emptied_blank false h ready =
+    emptied_blank false is h ready =
         let test : next_is_blank (path_of r.tree) (line ∷ lines) ≡ true = ap is_blank_behind goes ∙ h in
         let now : ReadyAt d defined (emptied r.tree r.tree.spine) false (Blanks e) (line ∷ lines) = subst (ReadyBeforeLine d defined r.tree e (line ∷ lines)) test ready in
         let zero : ReadyAt d defined (with_body_at r.tree empty.place (ListItemBody 0)) false (Blanks e) (line ∷ lines) = subst (λ f. ReadyAt d defined f false (Blanks e) (line ∷ lines)) zero_is now in
@@ -305,7 +306,7 @@ module _ (d : Document) (defined : Tables) (r : Reading) (line : Place) (lines :
     unfolding Ready
     ready_emptied some h =
         let now : Reading = record r { tree = with_body_at r.tree empty.place (ListItemBody 0); blank = true } in
-        let ready : ReadyEmpty d defined now e lines = record { place = empty.place; outer = empty.outer; columns = 0; spine = empty.spine; item = zero_body; ready = (refl, emptied_blank r.blank h empty.ready) } in
+        let ready : ReadyEmpty d defined now e lines = record { place = empty.place; outer = empty.outer; columns = 0; spine = empty.spine; item = zero_body; none = λ on. refl; ready = emptied_blank r.blank refl h empty.ready } in
         subst (λ q. ReadyWith d defined q lines q.empty_item) (sym (read_is some)) (subst (λ o. ReadyWith d defined now lines o) (sym some) ready)
 
   blank_with : (o : Option ℕ) → r.empty_item ≡ o → is_blank_rest rest ≡ true → ReadyWith d defined r (line ∷ lines) o → Ready d defined (blank_read r) lines
@@ -323,9 +324,10 @@ module _ (d : Document) (defined : Tables) (r : Reading) (line : Place) (lines :
         ap (λ o. record (if r.blank && is_item o then popped e r else r) { empty_item = None }) (top_item e empty) ∙ ap (λ t. record (if t then popped e r else r) { empty_item = None }) (and_true r.blank ∙ is)
 
     -- the item ends before a line that isn't blank
-    emptied_ends : (blank : Bool) → r.blank ≡ blank → is_blank_rest rest ≡ false → ReadyInItem d defined r.tree e empty.columns (line ∷ lines) blank
+    emptied_ends : (blank : Bool) → r.blank ≡ blank → is_blank_rest rest ≡ false → ReadyInItem d defined r.tree e (line ∷ lines) blank
         → (let q : Reading = record (if blank then popped e r else r) { empty_item = None } in ReadyAt d defined q.tree q.blank (Inside (at_rest line rest)) lines)
-    emptied_ends true is h (none, ready) =
+    emptied_ends true is h ready =
+        let none = empty.none is in
         let path : List Container = path_in r.tree.nodes empty.outer in
         let g : Forest Item = closed_by r.tree e (empty.place ∷ empty.outer) in
         let item : body_at r.tree.nodes empty.place.0 ≡ Some (ListItemBody 0) = empty.item ∙ ap (λ n. Some (ListItemBody n)) none in

@@ -325,9 +325,12 @@ line_opening : (d : Document) (path : List Container) (p : Place) (lines : List 
     → item_opening d path p lines (byte, number, columns) (marker, rest) ≡ OpensNode (item_head p byte number columns) (task_alone marker (at_rest p rest) None) lines
 line_opening d path p lines byte number columns marker rest h n = rw (h, n) refl
 
-in_item : (d : Document) (defined : Tables) (f : Forest Item) (e columns : ℕ) (lines : List Place) (t blank : Bool) → blank ≡ false → next_is_blank (path_of f) lines ≡ t → ReadyBeforeLine d defined f e lines t → ReadyInItem d defined f e columns lines blank
-in_item d defined f e columns lines t true none is ready = cc
-in_item d defined f e columns lines t false none is ready = subst (ReadyBeforeLine d defined f e lines) (sym is) ready
+in_item : (d : Document) (defined : Tables) (f : Forest Item) (e : ℕ) (lines : List Place) (t blank : Bool) → blank ≡ false → next_is_blank (path_of f) lines ≡ t → ReadyBeforeLine d defined f e lines t → ReadyInItem d defined f e lines blank
+in_item d defined f e lines t true none is ready = cc
+in_item d defined f e lines t false none is ready = subst (ReadyBeforeLine d defined f e lines) (sym is) ready
+
+none_blank : (blank : Bool) (columns : ℕ) → blank ≡ false → blank ≡ true → columns ≡ 0
+none_blank blank columns none some = cc
 
 -- the path with an item opened, whatever its indent
 opened_path : (g : Forest Item) (start m n : ℕ) (path : List Container)
@@ -408,7 +411,8 @@ empty_by d defined r p lines item marker rest e true next forest is task blank e
       columns = columns;
       spine = marked_spine q.tree marker;
       item = marked_body q.tree marker (length g.nodes) (ListItemBody columns) within (item_body g (offset p) columns);
-      ready = in_item d defined (with_child q.tree marker) e columns lines true q.blank done.2 (ap (λ z. next_is_blank z lines) path ∙ next) (subst (λ f. ReadyAt d defined f false (Blanks e) lines) same marked);
+      none = none_blank q.blank columns done.2;
+      ready = in_item d defined (with_child q.tree marker) e lines true q.blank done.2 (ap (λ z. next_is_blank z lines) path ∙ next) (subst (λ f. ReadyAt d defined f false (Blanks e) lines) same marked);
     }
 empty_by d defined r p lines item marker rest e false next forest is task blank e_is none ready =
     let byte : ℕ = item.0.0 in let number : ℕ = item.0.1 in let columns : ℕ = item.0.2 in
@@ -429,7 +433,8 @@ empty_by d defined r p lines item marker rest e false next forest is task blank 
       columns = columns;
       spine = marked_spine q.tree marker;
       item = marked_body q.tree marker (length g.nodes) (ListItemBody columns) (omega arith) (item_body g (offset p) columns);
-      ready = in_item d defined (with_child q.tree marker) e columns lines false q.blank done.2 (ap (λ z. next_is_blank z lines) path ∙ next) marked;
+      none = none_blank q.blank columns done.2;
+      ready = in_item d defined (with_child q.tree marker) e lines false q.blank done.2 (ap (λ z. next_is_blank z lines) path ∙ next) marked;
     }
 
 -- an item with nothing behind its markers

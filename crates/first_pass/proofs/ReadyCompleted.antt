@@ -90,18 +90,17 @@ module _ (d : Document) (defined : Tables) (r : Reading) (lines : List Place) (e
   before_line false ready = completed_at d defined r.tree false Line lines (line_goes_on (path_of r.tree)) ready
 
   in_item : (blank : Bool)
-      → ((more : Names) → Extends more d.names → (columns : ℕ) × ReadyInItem (document d.text d.options more) defined r.tree e columns lines blank)
+      → ((more : Names) → Extends more d.names → ReadyInItem (document d.text d.options more) defined r.tree e lines blank)
       → CompletedInItem d defined r.tree e lines blank
   in_item true ready =
-      completed_at d defined r.tree true (Blanks e) lines (item_goes_on r.tree empty.place empty.outer empty.columns (Blanks e) empty.spine empty.item)
-      (λ more x. (ready more x).1.1)
-  in_item false ready = before_line (next_is_blank (path_of r.tree) lines) (λ more x. (ready more x).1)
+      completed_at d defined r.tree true (Blanks e) lines (item_goes_on r.tree empty.place empty.outer empty.columns (Blanks e) empty.spine empty.item) ready
+  in_item false ready = before_line (next_is_blank (path_of r.tree) lines) ready
 
 ready_with : (d : Document) (defined : Tables) (r : Reading) (lines : List Place) (o : Option ℕ)
     → ((more : Names) → Extends more d.names → ReadyWith (document d.text d.options more) defined r lines o) → CompletedWith d defined r lines o
 ready_with d defined r lines None ready = completed_at d defined r.tree r.blank Line lines (line_goes_on (path_of r.tree)) ready
 ready_with d defined r lines (Some e) ready =
-    in_item d defined r lines e (ready d.names (extends_none d.names)) r.blank (λ more x. let empty = ready more x in (empty.columns, empty.ready))
+    in_item d defined r lines e (ready d.names (extends_none d.names)) r.blank (λ more x. let empty = ready more x in empty.ready)
 
 pub ready_completed : (d : Document) (defined : Tables) (r : Reading) (lines : List Place)
     → ((more : Names) → Extends more d.names → Ready (document d.text d.options more) defined r lines) → IsCompleted d defined r lines

@@ -142,15 +142,15 @@ module _ (d : Document) (defined : Tables) (r : Reading) (lines : List Place) (e
   pop_none none ends ready =
       ready_plain d defined (popped e r) lines (popped-none none) (subst (λ b. ReadyAt d defined (popped e r).tree b Line lines) (sym popped-blank) (pop_plain ends ready))
 
-  closed_item : (columns x : ℕ) (blank : Bool) → r.blank ≡ blank → body_at r.tree.nodes ix.0 ≡ Some (ListItemBody columns) → Ends (path_of r.tree) Line lines → ReadyInItem d defined r.tree x columns lines blank → ReadyAt d defined (closed_by r.tree e (ix ∷ rest)) blank Line lines
-  closed_item columns x true is item ends (zero_is, ready) =
+  closed_item : (columns x : ℕ) (blank : Bool) → r.blank ≡ blank → (blank ≡ true → columns ≡ 0) → body_at r.tree.nodes ix.0 ≡ Some (ListItemBody columns) → Ends (path_of r.tree) Line lines → ReadyInItem d defined r.tree x lines blank → ReadyAt d defined (closed_by r.tree e (ix ∷ rest)) blank Line lines
+  closed_item columns x true is none item ends ready =
       let c : container_at r.tree.nodes ix ≡ Some (ListItem columns) = ap (option_and_then container_of) item in
       let ends' : Ends (ListItem columns ∷ path_in r.tree.nodes rest) Line lines = subst (λ o. Ends (with_container o (path_in r.tree.nodes rest)) Line lines) c (ends_at ends) in
-      let ends0 : Ends (ListItem 0 ∷ path_in r.tree.nodes rest) Line lines = subst (λ n. Ends (ListItem n ∷ path_in r.tree.nodes rest) Line lines) zero_is ends' in
+      let ends0 : Ends (ListItem 0 ∷ path_in r.tree.nodes rest) Line lines = subst (λ n. Ends (ListItem n ∷ path_in r.tree.nodes rest) Line lines) (none refl) ends' in
       let last : e ≡ end_before (length d.text) (path_in r.tree.nodes rest) (Blanks x) lines =
       sym (ap (λ t. if t then x else start_of (length d.text) lines) (not_on (path_in r.tree.nodes rest) lines ends0) ∙ e_is) in
       pop_container d defined r.tree true (Blanks x) lines e ix rest (ListItem columns) spine (ap (option_and_then frame_of) item) (not_blank (ListItem columns ∷ path_in r.tree.nodes rest) lines ends') last ready
-  closed_item columns x false is item ends ready =
+  closed_item columns x false is none item ends ready =
       let c : container_at r.tree.nodes ix ≡ Some (ListItem columns) = ap (option_and_then container_of) item in
       let ends' : Ends (ListItem columns ∷ path_in r.tree.nodes rest) Line lines = subst (λ o. Ends (with_container o (path_in r.tree.nodes rest)) Line lines) c (ends_at ends) in
       let now : ReadyAt d defined r.tree false Line lines = subst (ReadyBeforeLine d defined r.tree x lines) (not_blank (path_of r.tree) lines ends) ready in
@@ -163,7 +163,7 @@ module _ (d : Document) (defined : Tables) (r : Reading) (lines : List Place) (e
       let at : ready.place ≡ ix = cc in
       let item : body_at r.tree.nodes ix.0 ≡ Some (ListItemBody ready.columns) = subst (λ (i : TreeIndex). body_at r.tree.nodes i.0 ≡ Some (ListItemBody ready.columns)) at ready.item in
       subst (λ q. Ready d defined q lines) (sym (popped_item ready.columns item))
-      (ready_plain d defined (record r { tree = closed_by r.tree e (ix ∷ rest); empty_item = None }) lines refl (closed_item ready.columns x r.blank refl item ends ready.ready))
+      (ready_plain d defined (record r { tree = closed_by r.tree e (ix ∷ rest); empty_item = None }) lines refl (closed_item ready.columns x r.blank refl ready.none item ends ready.ready))
 
 -- the innermost open node closed before the next line
 pub ready_pop : (d : Document) (defined : Tables) (r : Reading) (lines : List Place) (e : ℕ) (ix : TreeIndex) (rest : List TreeIndex) → IsForest r.tree → r.tree.spine ≡ ix ∷ rest → start_of (length d.text) lines ≡ e → Ends (path_of r.tree) Line lines → Ready d defined r lines → Ready d defined (popped e r) lines

@@ -50,17 +50,20 @@ abbrev pub ReadyBeforeLine : Document → Tables → Forest Item → ℕ → Lis
 ReadyBeforeLine d defined tree e lines true = ReadyAt d defined (emptied tree tree.spine) false (Blanks e) lines
 ReadyBeforeLine d defined tree e lines false = ReadyAt d defined tree false Line lines
 
-abbrev pub ReadyInItem : Document → Tables → Forest Item → ℕ → ℕ → List Place → Bool → Type 0
-ReadyInItem d defined tree e columns lines true = (columns ≡ 0) × ReadyAt d defined tree true (Blanks e) lines
-ReadyInItem d defined tree e columns lines false = ReadyBeforeLine d defined tree e lines (next_is_blank (path_of tree) lines)
+-- the same where a blank line behind that marker's line is read already, or isn't yet
+abbrev pub ReadyInItem : Document → Tables → Forest Item → ℕ → List Place → Bool → Type 0
+ReadyInItem d defined tree e lines true = ReadyAt d defined tree true (Blanks e) lines
+ReadyInItem d defined tree e lines false = ReadyBeforeLine d defined tree e lines (next_is_blank (path_of tree) lines)
 
+-- the same of what the pass remembers; once that blank line is read, the item asks for no columns
 pub record ReadyEmpty (d : Document) (defined : Tables) (r : Reading) (e : ℕ) (lines : List Place) : Type 0 where
   pub place : TreeIndex
   pub outer : List TreeIndex
   pub columns : ℕ
   pub spine : r.tree.spine ≡ place ∷ outer
   pub item : body_at r.tree.nodes place.0 ≡ Some (ListItemBody columns)
-  pub ready : ReadyInItem d defined r.tree e columns lines r.blank
+  pub none : r.blank ≡ true → columns ≡ 0
+  pub ready : ReadyInItem d defined r.tree e lines r.blank
 
 abbrev pub ReadyWith : Document → Tables → Reading → List Place → Option ℕ → Type 0
 ReadyWith d defined r lines None = ReadyAt d defined r.tree r.blank Line lines
