@@ -1,8 +1,21 @@
 -- What is read from a reader and written to a writer, and the faults of both (this project).
 use Rattle.std.specs.Prelude.{◌≡◌, ◌⊎◌, ℕ, List, ◌++◌, Option}
-use Rattle.std.specs.Io.KnownBytes.{Appends, Consumes, IsAtEnd}
+use Rattle.std.specs.Io.KnownBytes.{Appends, Consumes, IsAtEnd, Keeps}
 use Rattle.first_pass_host.specs.declared.fault.BlocksFault.{BlocksFault}
 use Rattle.first_pass_host.specs.declared.fault.BlocksFault.TheVariants.{OutOfMemory, ReadFailed, WriteFailed}
+
+-- what is known of a stream at two moments: of a reader what it has still to give, of a writer what it holds, of a clock what it has still to tell
+pub record Stream : Type 0 where
+  pub old : Option (List ℕ)
+  pub new : Option (List ℕ)
+
+-- a stream between what is known of it then and now
+abbrev pub stream_between : Option (List ℕ) → Option (List ℕ) → Stream
+stream_between old new = record { old = old; new = new }
+
+-- nothing is read from the stream, or written to it: what is known of it stays
+abbrev pub IsUntouched : Stream → Type 0
+IsUntouched stream = Keeps stream.old stream.new
 
 -- known bytes grow by a beginning of a text, which may be nothing
 pub record AppendsFront (old new : Option (List ℕ)) (text : List ℕ) : Type 0 where

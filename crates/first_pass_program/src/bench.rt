@@ -2,6 +2,7 @@
 
 ghost use Rattle.std.specs.Prelude.{ℕ, List, OnOk, IfErr};
 ghost use Rattle.std.specs.Io.KnownBytes.{Appends};
+ghost use Rattle.first_pass_host.specs.Streams.{stream_between};
 ghost use Rattle.first_pass_program.specs.Bench.{IsReported, Leaves, LeavesText, WritesReport};
 
 use crate::timed::time_runs;
@@ -28,10 +29,13 @@ pub fn bench_run<T: TimeSource, R: Read, W: Write>(
     input: &mut R,
     output: &mut W,
 ) -> Result<(), BlocksFault>
-    ensures ok { OnOk result (WritesReport words.now (R.remaining input.old) (R.remaining input.new)
-        (T.readings clock.old) (T.readings clock.new) (W.contents output.old) (W.contents output.new)) }
-    ensures fault { IfErr result (λ fault. Leaves fault words.now (R.remaining input.old) (R.remaining input.new)
-        (T.readings clock.old) (T.readings clock.new) (W.contents output.old) (W.contents output.new)) }
+    ensures ok { OnOk result (WritesReport words.now (stream_between (R.remaining input.old) (R.remaining input.new))
+        (stream_between (T.readings clock.old) (T.readings clock.new))
+        (stream_between (W.contents output.old) (W.contents output.new))) }
+    ensures fault { IfErr result (λ fault. Leaves fault words.now
+        (stream_between (R.remaining input.old) (R.remaining input.new))
+        (stream_between (T.readings clock.old) (T.readings clock.new))
+        (stream_between (W.contents output.old) (W.contents output.new))) }
 {
     let task = match parse_task(words) {
         Some(task) => task,
@@ -52,8 +56,9 @@ fn report_text<T: TimeSource, W: Write>(
     ensures ok { OnOk result ((line : List ℕ)
         × IsReported task bytes.now (T.readings clock.old) (T.readings clock.new) line
         × Appends (W.contents output.old) (W.contents output.new) line) }
-    ensures fault { IfErr result (λ fault. LeavesText fault task bytes.now (T.readings clock.old) (T.readings clock.new)
-        (W.contents output.old) (W.contents output.new)) }
+    ensures fault { IfErr result (λ fault. LeavesText fault task bytes.now
+        (stream_between (T.readings clock.old) (T.readings clock.new))
+        (stream_between (W.contents output.old) (W.contents output.new))) }
 {
     let text = match str::from_utf8(bytes) {
         Ok(text) => text,

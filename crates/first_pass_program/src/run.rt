@@ -8,7 +8,7 @@ ghost use Rattle.first_pass_host.specs.OptionWord.{StandFor};
 ghost use Rattle.first_pass_names.specs.TableEntries.{names_of, tables, link_entry};
 ghost use Rattle.first_pass_program.specs.Printed.{node_line, link_line, printed_lines};
 ghost use Rattle.first_pass_program.specs.Runs.{IsPrinted, Leaves, LeavesText, WritesWhole};
-ghost use Rattle.first_pass_host.specs.Streams.{AppendsFront, IsWriteFault};
+ghost use Rattle.first_pass_host.specs.Streams.{AppendsFront, IsWriteFault, stream_between};
 
 use crate::printed::append_node;
 use crate::printed_links::append_link;
@@ -41,10 +41,11 @@ pub fn blocks_run<R: Read, W: Write>(
     input: &mut R,
     output: &mut W,
 ) -> Result<(), BlocksFault>
-    ensures ok { OnOk result (WritesWhole words.now (R.remaining input.old) (R.remaining input.new)
-        (W.contents output.old) (W.contents output.new)) }
-    ensures fault { IfErr result (λ fault. Leaves fault words.now (R.remaining input.old) (R.remaining input.new)
-        (W.contents output.old) (W.contents output.new)) }
+    ensures ok { OnOk result (WritesWhole words.now (stream_between (R.remaining input.old) (R.remaining input.new))
+        (stream_between (W.contents output.old) (W.contents output.new))) }
+    ensures fault { IfErr result (λ fault. Leaves fault words.now
+        (stream_between (R.remaining input.old) (R.remaining input.new))
+        (stream_between (W.contents output.old) (W.contents output.new))) }
     ensures bad_options { ((bits : ℕ) → StandFor words.now bits → ⊥) → result ≡ Err BadOptions }
     ensures options { (bits : ℕ) → StandFor words.now bits → result ≡ Err BadOptions → ⊥ }
 {
@@ -65,8 +66,8 @@ fn print_text<W: Write>(
 ) -> Result<(), BlocksFault>
     ensures ok { OnOk result ((whole : List ℕ) × IsPrinted options bytes.now whole
         × Appends (W.contents output.old) (W.contents output.new) whole) }
-    ensures fault { IfErr result (λ fault. LeavesText fault options bytes.now (W.contents output.old)
-        (W.contents output.new)) }
+    ensures fault { IfErr result (λ fault. LeavesText fault options bytes.now
+        (stream_between (W.contents output.old) (W.contents output.new))) }
 {
     let text = match str::from_utf8(bytes) {
         Ok(text) => text,
