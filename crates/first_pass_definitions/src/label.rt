@@ -53,7 +53,7 @@ pub fn parse_refdef_label<'a>(
 
 // How many bytes the line that `bytes` begin with, all that the text has from the line on, has before the place
 // where a label goes on in it; `None` where it doesn't.
-fn scan_label_prefix(
+pub(crate) fn scan_label_prefix(
     alloc: Global,
     source: Source<'_>,
     tree: &Tree<Item>,

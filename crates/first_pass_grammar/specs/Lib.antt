@@ -3,6 +3,7 @@ pub mod Completion
 pub mod Containers
 pub mod Counting
 pub mod Definitions
+pub mod Footnotes
 pub mod Derivation
 pub mod Extents
 pub mod Headings

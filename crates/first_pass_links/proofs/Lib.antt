@@ -6,3 +6,4 @@ pub mod Destinations
 pub mod Runs
 pub mod Parts
 pub mod Labels
+pub mod Footnotes

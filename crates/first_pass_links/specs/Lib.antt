@@ -4,5 +4,6 @@ pub mod Escapes
 pub mod Changes
 pub mod Destinations
 pub mod Labels
+pub mod Footnotes
 pub mod Units
 pub mod Runs

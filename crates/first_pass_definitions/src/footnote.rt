@@ -1,0 +1,68 @@
+//! The head of a footnote definition.
+
+ghost use Rattle.std.specs.Prelude.{◌≡◌, ℕ, ◌+◌, ◌-◌, ◌<◌, take, drop, None, IfOk, IfSome, IsSomeAnd, MatchOption, IsCharBoundary};
+ghost use Rattle.first_pass_items.specs.CowText.{text_of};
+ghost use Rattle.first_pass_links.specs.Texts.{Borrows};
+ghost use Rattle.first_pass_tree.specs.Forest.{in_table};
+ghost use Rattle.first_pass_grammar.specs.Footnotes.{footnote_prefix, footnote_at};
+ghost use Rattle.first_pass_open.specs.Path.{context_of};
+
+use crate::label::scan_label_prefix;
+use first_pass_items::cow_str::CowStr;
+use first_pass_items::item::Item;
+use first_pass_links::footnote::scan_footnote_head;
+use first_pass_open::source::Source;
+use first_pass_tree::forest::Tree;
+use std::alloc::{AllocError, Global};
+
+/// The head of the footnote definition that begins at the offset `start` into the text, up to behind its colon: how
+/// many bytes it has, and its label. As GitHub has footnotes, its label holds no line end; in their old form it goes
+/// on over lines as `parse_refdef_label` does. The tree is that of the open blocks.
+///
+/// `None` where no head begins. The error is want of memory (this project).
+pub fn scan_footnote<'a>(
+    alloc: Global,
+    source: Source<'a>,
+    tree: &Tree<Item>,
+    start: usize,
+) -> Result<Option<(usize, CowStr<'a>)>, AllocError>
+    requires { IsCharBoundary source.text.now start }
+    ensures value { IfOk result (λ answer. MatchOption
+        (footnote_at (in_table tree.now.nodes tree.now.spine) (context_of source.entry.options tree.now)
+        (drop start source.entry.text.now))
+        (answer ≡ None)
+        (λ head. IsSomeAnd answer (λ found. (found.0 ≡ head.0) × (text_of found.1 ≡ head.1)))) }
+    ensures fits { IfOk result (λ answer. IfSome answer (λ found.
+        (3 < found.0) × IsCharBoundary source.entry.text.now (start + found.0))) }
+    ensures borrowed { IfOk result (λ answer. IfSome answer (λ found.
+        text_of found.1 ≡ take (found.0 - 4) (drop (start + 2) source.entry.text.now)
+        → Borrows (take (found.0 - 4) (drop (start + 2) source.entry.text.now)) found.1)) }
+{
+    let in_table = tree.is_in_table();
+    scan_footnote_head(
+        alloc,
+        &source.text[start..],
+        |behind: &[u8]| scan_footnote_prefix(alloc, source, tree, behind),
+        in_table,
+    )
+}
+
+// How many bytes the line that `bytes` begin with, all that the text has from the line on, has before the place
+// where the label of a footnote goes on in it; `None` where it doesn't.
+fn scan_footnote_prefix(
+    alloc: Global,
+    source: Source<'_>,
+    tree: &Tree<Item>,
+    bytes: &[u8],
+) -> Result<Option<usize>, AllocError>
+    ensures value { IfOk result (λ answer. (at : ℕ) → IsCharBoundary source.entry.text.now at
+        → bytes.now ≡ drop at source.entry.text.now
+        → footnote_prefix (context_of source.entry.options tree.now) bytes.now ≡ answer) }
+    ensures place { IfOk result (λ answer. IfSome answer (λ n. (at : ℕ) → IsCharBoundary source.entry.text.now at
+        → bytes.now ≡ drop at source.entry.text.now → IsCharBoundary bytes.now n)) }
+{
+    if source.options.has_gfm_footnotes() {
+        return Ok(None);
+    }
+    scan_label_prefix(alloc, source, tree, bytes)
+}

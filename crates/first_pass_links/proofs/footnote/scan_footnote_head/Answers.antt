@@ -1,0 +1,69 @@
+use Rattle.std.proofs.Common.{◌≡◌, ◌+◌, Some, None, true, false, drop, refl, sym, ap, subst, ◌∙◌, arith}
+use Rattle.std.specs.Str.{IsCharBoundary}
+use Rattle.first_pass_lines.specs.Lines.{begins}
+use Rattle.first_pass_links.specs.Footnotes.{begins_footnote}
+use Rattle.first_pass_links.specs.Labels.{label_at}
+use Rattle.first_pass_links.proofs.Footnotes.{IsAnswer, behind_mark, further, no_mark, no_label, head_by, behind_colon}
+use Rattle.first_pass_links.proofs.footnote.scan_footnote_head.Goals as goal
+use Rattle.first_pass_links.proofs.footnote.scan_footnote_head.Goals.{Else-not-begins_footnote, In_default, After-begins}
+
+pub returns-then-not-begins_footnote-clause-value : goal.returns-then-not-begins_footnote-clause-value
+returns-then-not-begins_footnote-clause-value g c = λ prefix a.
+    let e = no_mark prefix c.args.is_in_table c.args.text.now
+    (ap begins_footnote (sym c.as_bytes-bytes.ensures.value) ∙ sym c.begins_footnote.ensures ∙ c.if-not-begins_footnote.true) in
+    rw e refl
+
+-- the text begins with `[^`
+mark_is : (g : _) (c : Else-not-begins_footnote g) → begins_footnote c.args.text.now ≡ true
+mark_is g c = ap begins_footnote (sym c.as_bytes-bytes.ensures.value) ∙ sym c.begins_footnote.ensures ∙ c.if-not-begins_footnote.false
+
+mark_place : (g : _) (c : Else-not-begins_footnote g) → IsCharBoundary c.args.text.now 2
+mark_place g c = behind_mark c.args.text.now c.utf8.text (mark_is g c)
+
+pub range_from-requires : goal.range_from-requires
+range_from-requires g c = λ h. mark_place g c
+
+pub scan_link_label_rest-requires-clause-places : goal.scan_link_label_rest-requires-clause-places
+scan_link_label_rest-requires-clause-places g c = λ behind n at b e.
+    let there = further c.args.text.now behind.now c.range_from.result.now at (mark_place g (goal.at.scan_link_label_rest-requires-clause-places g c).Else-not-begins_footnote) c.range_from.ensures.value b e in
+    c.requires.places behind n (2 + at) there.0 there.1
+
+pub returns-in_default-clause-value : goal.returns-in_default-clause-value
+returns-in_default-clause-value g c = λ prefix a.
+    let before = (goal.at.returns-in_default-clause-value g c).Else-not-begins_footnote in
+    let k = rw c.in_default.is at c.in_ok-len.ensures.value prefix (λ behind answer at b e.
+    let there = further c.args.text.now behind.now c.range_from.result.now at (mark_place g before) c.range_from.ensures.value b e in
+    a behind answer (2 + at) there.0 there.1) in
+    let e = no_label prefix c.args.is_in_table c.args.text.now (mark_is g before)
+    (subst (λ xs. IsAnswer (label_at prefix c.args.is_in_table xs) None) c.range_from.ensures.value k) in
+    rw e refl
+
+-- whether a colon stands behind the label
+colon_is : (g : _) (c : After-begins g) → begins 58 (drop (c.in-Some.len + 2) c.args.text.now) ≡ c.begins.result
+colon_is g c =
+    ap (begins 58) (sym (c.rest_of.ensures.value ∙ ap (drop (c.in-Some.len + 2)) c.as_bytes-bytes.ensures.value)) ∙ sym c.begins.ensures.value
+
+pub returns-then-not-begins-clause-value : goal.returns-then-not-begins-clause-value
+returns-then-not-begins-clause-value g c = λ prefix a.
+    let before = (goal.at.returns-then-not-begins-clause-value g c).Else-not-begins_footnote in
+    let k = rw c.in-Some.is at c.in_ok-len.ensures.value prefix (λ behind answer at b e.
+    let there = further c.args.text.now behind.now c.range_from.result.now at (mark_place g before) c.range_from.ensures.value b e in
+    a behind answer (2 + at) there.0 there.1) in
+    head_by false prefix c.args.is_in_table c.args.text.now c.in-Some.len c.in-Some.label (mark_is g before)
+    (subst (λ xs. IsAnswer (label_at prefix c.args.is_in_table xs) (Some (c.in-Some.len, c.in-Some.label))) c.range_from.ensures.value k)
+    (colon_is g (goal.at.returns-then-not-begins-clause-value g c).After-begins ∙ c.if-not-begins.true)
+
+pub returns-clause-value : goal.returns-clause-value
+returns-clause-value g c = λ prefix a.
+    let before = (goal.at.returns-clause-value g c).Else-not-begins_footnote in
+    let k = rw c.in-Some.is at c.in_ok-len.ensures.value prefix (λ behind answer at b e.
+    let there = further c.args.text.now behind.now c.range_from.result.now at (mark_place g before) c.range_from.ensures.value b e in
+    a behind answer (2 + at) there.0 there.1) in
+    head_by true prefix c.args.is_in_table c.args.text.now c.in-Some.len c.in-Some.label (mark_is g before)
+    (subst (λ xs. IsAnswer (label_at prefix c.args.is_in_table xs) (Some (c.in-Some.len, c.in-Some.label))) c.range_from.ensures.value k)
+    (colon_is g (goal.at.returns-clause-value g c).After-begins ∙ c.if-not-begins.false)
+
+pub returns-clause-fits : goal.returns-clause-fits
+returns-clause-fits g c =
+    let within = (rw c.in-Some.is at c.in_ok-len.ensures.within).0 in
+    (omega arith, behind_colon c.args.text.now c.in-Some.len c.utf8.text (colon_is g (goal.at.returns-clause-fits g c).After-begins ∙ c.if-not-begins.false))

@@ -1,0 +1,20 @@
+-- Heads of footnote definitions (this project; CommonMark 4.7 on their labels).
+use Rattle.std.specs.Prelude.{ℕ, ◌+◌, ◌&&◌, Bool, List, drop, Option, Some, None, if◌then◌else◌}
+use Rattle.std.specs.Option.{option_and_then}
+use Rattle.first_pass_items.specs.Bytes.{colon, left_bracket, circumflex}
+use Rattle.first_pass_lines.specs.Lines.{begins}
+use Rattle.first_pass_links.specs.Labels.{label_at}
+
+-- `[^` stands here (this project)
+abbrev pub begins_footnote : List ℕ → Bool
+begins_footnote bs = begins left_bracket bs && begins circumflex (drop 1 bs)
+
+-- the head with a label that is read behind its `[^`: a colon is directly behind the label (this project)
+abbrev pub head_behind : List ℕ → ℕ × List ℕ → Option (ℕ × List ℕ)
+head_behind bs label = if begins colon (drop label.0 bs) then Some (label.0 + 3, label.1) else None
+
+-- The head of the footnote definition that begins here: `[^`, a label as a link has it, and a colon; how many bytes it has, and the label as it is read.
+-- The label goes on over the line ends behind which these prefixes stand (this project).
+unfoldable pub footnote_head : (List ℕ → Option ℕ) → Bool → List ℕ → Option (ℕ × List ℕ)
+footnote_head prefix in_table bs =
+    if begins_footnote bs then option_and_then (head_behind (drop 2 bs)) (label_at prefix in_table (drop 2 bs)) else None

@@ -1,0 +1,67 @@
+//! Heads of footnote definitions (this project; CommonMark 4.7 on their labels).
+
+ghost use Rattle.std.specs.Prelude.{◌≡◌, ◌+◌, ◌-◌, ◌<◌, ℕ, List, Option, None, take, drop, IfOk, IfSome, IsSomeAnd, MatchOption};
+ghost use Rattle.std.specs.Str.{IsCharBoundary};
+ghost use Rattle.first_pass_items.specs.CowText.{text_of};
+ghost use Rattle.first_pass_links.specs.Texts.{Borrows};
+ghost use Rattle.first_pass_links.specs.Labels.{AnswersWith, AnswersPlaces};
+ghost use Rattle.first_pass_links.specs.Footnotes.{begins_footnote as begins_head, footnote_head};
+
+use crate::label::scan_link_label_rest;
+use first_pass_items::cow_str::CowStr;
+use first_pass_lines::lines::begins;
+use first_pass_lines::places::rest_of;
+use std::alloc::{AllocError, Global};
+
+/// The head of the footnote definition that `text` begins with, `[^`, a label, `]` and `:`: how many bytes it has,
+/// and its label, read as `scan_link_label_rest` reads one and borrowed where nothing changes.
+///
+/// `linebreak_handler` gets the bytes behind each line end in the label, and answers how many bytes of prefix the
+/// next line has, which are left out, or `None` where the label may not go on there.
+///
+/// `None` where no head begins. The error is the handler's, or want of memory.
+pub fn scan_footnote_head<'t, F>(
+    alloc: Global,
+    text: &'t str,
+    linebreak_handler: F,
+    is_in_table: bool,
+) -> Result<Option<(usize, CowStr<'t>)>, AllocError>
+where
+    F: Fn(&[u8]) -> Result<Option<usize>, AllocError> + Drop,
+    requires callable { F.IsAlwaysCallable linebreak_handler }
+    requires places { AnswersPlaces text.now (F.post linebreak_handler) }
+    ensures value { IfOk result (λ answer. (prefix : List ℕ → Option ℕ)
+        → AnswersWith text.now prefix (F.post linebreak_handler)
+        → MatchOption (footnote_head prefix is_in_table text.now)
+        (answer ≡ None)
+        (λ head. IsSomeAnd answer (λ found. (found.0 ≡ head.0) × (text_of found.1 ≡ head.1)))) }
+    ensures fits { IfOk result (λ answer. IfSome answer (λ found. (3 < found.0) × IsCharBoundary text.now found.0)) }
+    ensures borrowed { IfOk result (λ answer. IfSome answer (λ found.
+        text_of found.1 ≡ take (found.0 - 4) (drop 2 text.now)
+        → Borrows (take (found.0 - 4) (drop 2 text.now)) found.1)) }
+{
+    let bytes = text.as_bytes();
+    if !begins_footnote(bytes) {
+        return Ok(None);
+    }
+    let Some((len, label)) = scan_link_label_rest(
+        alloc,
+        &text[2..],
+        linebreak_handler,
+        is_in_table,
+    )?
+    else {
+        return Ok(None);
+    };
+    if !begins(b':', rest_of(bytes, len + 2)) {
+        return Ok(None);
+    }
+    Ok(Some((len + 3, label)))
+}
+
+/// Whether `[^` stands first in `bytes`.
+pub fn begins_footnote(bytes: &[u8]) -> bool
+    ensures { result ≡ begins_head bytes.now }
+{
+    begins(b'[', bytes) && begins(b'^', &bytes[1..])
+}
