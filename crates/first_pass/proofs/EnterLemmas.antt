@@ -33,6 +33,7 @@ use Rattle.first_pass.proofs.OpenLemmas.{open_path}
 use Rattle.first_pass_lists.proofs.BodyLemmas.{body-changed, body-other, not_changed}
 use Rattle.first_pass.proofs.PopLemmas.{pop_container}
 use Rattle.first_pass.proofs.StateLemmas.{ready_plain, after_zero, popped_is, same_path, closed_containers}
+use Rattle.first_pass_items.specs.declared.option_set.Options.{Options}
 
 -- Columns change nothing of whether a line is blank.
 some_mapped : (o : Option ℕ) (f : ℕ → ℕ) → is_some (option_map f o) ≡ is_some o
@@ -144,9 +145,9 @@ opens_blank d path p lines h =
     (Blank, blank_kind d.options p.rest h, refl))
 
 -- inside a line that all open containers go on with
-pub ready_enter : (d : Document) (defined : Tables) (f : Forest Item) (run : Bool) (line : Place) (lines : List Place) (r : Rest) → after (path_of f) line.rest ≡ Some r → ReadyAt d defined f run Line (line ∷ lines) → ReadyAt d defined f run (Inside (at_rest line r)) lines
+pub ready_enter : (d : Document) (defined : Tables) (f : Forest Item) (run : Bool) (line : Place) (lines : List Place) (r : Rest) → after (path_of d.options f) line.rest ≡ Some r → ReadyAt d defined f run Line (line ∷ lines) → ReadyAt d defined f run (Inside (at_rest line r)) lines
 ready_enter d defined f run line lines r is ready =
-    let path = open_path f.nodes f.spine ready.frames ready.are_open in
+    let path = open_path d.options f.nodes f.spine ready.frames ready.are_open in
     record {
       frames = ready.frames;
       are_open = ready.are_open;
@@ -202,7 +203,7 @@ module _ (d : Document) (defined : Tables) (r : Reading) (p : Place) (lines : Li
   pub ready_blank : r.empty_item ≡ None → ReadyAt d defined r.tree r.blank (Inside p) lines → Ready d defined (blank_read r) lines
   unfolding blank_read
   ready_blank none ready =
-      let path = open_path r.tree.nodes r.tree.spine ready.frames ready.are_open in
+      let path = open_path d.options r.tree.nodes r.tree.spine ready.frames ready.are_open in
       let b : Option ItemBody = top_body r.tree in
       let counts : counts_in ready.frames r.blank ≡ (blank_read_by r b).blank = blank_at ready.frames r.tree.spine refl ready.are_open in
       let now : ReadyAt d defined r.tree (counts_in ready.frames r.blank) Line lines = record {
@@ -218,14 +219,14 @@ blank_place line None h = cc
 blank_place line (Some q) h = (q, refl, h)
 
 only_blank_by : (d : Document) (defined : Tables) (f : Forest Item) (run : Bool) (e : ℕ) (ix : TreeIndex) (rest : List TreeIndex) (line : Place) (lines : List Place) (frames : List Frame) → frame_at f.nodes ix.0 ≡ Some (InContainer (ListItem 0))
-    → is_blank_behind (after (ListItem 0 ∷ path_in f.nodes rest) line.rest) ≡ true → AreOpen f.nodes (ix ∷ rest) frames → CompletesAt d defined run frames f.nodes (ix.0 ∷ map (λ i. i.0) rest) (Blanks e) (line ∷ lines)
+    → is_blank_behind (after (ListItem 0 ∷ path_in d.options f.nodes rest) line.rest) ≡ true → AreOpen f.nodes (ix ∷ rest) frames → CompletesAt d defined run frames f.nodes (ix.0 ∷ map (λ i. i.0) rest) (Blanks e) (line ∷ lines)
     → CompletesAt d defined true frames f.nodes (ix.0 ∷ map (λ i. i.0) rest) (Blanks e) lines
 only_blank_by d defined f run e ix rest line lines [] is blank o k = absurd o
 only_blank_by d defined f run e ix rest line lines (InList byte loose ∷ frames) is blank o k = (let x : Some (InContainer (ListItem 0)) ≡ Some (InList byte loose) = sym is ∙ o.0 in cc)
 only_blank_by d defined f run e ix rest line lines (InContainer c ∷ frames) is blank o k =
     let x : Some (InContainer (ListItem 0)) ≡ Some (InContainer c) = sym is ∙ o.0 in
     let same : ListItem 0 ≡ c = cc in
-    let path : path_in f.nodes rest ≡ containers_of frames = open_path f.nodes rest frames o.1 in
+    let path : path_in d.options f.nodes rest ≡ containers_of frames = open_path d.options f.nodes rest frames o.1 in
     let b = blank_place line (after (ListItem 0 ∷ containers_of frames) line.rest) (subst (λ z. is_blank_behind (after (ListItem 0 ∷ z) line.rest) ≡ true) path blank) in
     let k' : CompletesAt d defined run (InContainer (ListItem 0) ∷ frames) f.nodes (ix.0 ∷ map (λ i. i.0) rest) (Blanks e) (line ∷ lines) = subst (λ z. CompletesAt d defined run (InContainer z ∷ frames) f.nodes (ix.0 ∷ map (λ i. i.0) rest) (Blanks e) (line ∷ lines)) (sym same) k in
     subst (λ z. CompletesAt d defined true (InContainer z ∷ frames) f.nodes (ix.0 ∷ map (λ i. i.0) rest) (Blanks e) lines) same
@@ -234,7 +235,7 @@ only_blank_by d defined f run e ix rest line lines (InContainer c ∷ frames) is
 
 -- a blank line in an item that takes blank lines alone
 only_blank : (d : Document) (defined : Tables) (f : Forest Item) (run : Bool) (e : ℕ) (ix : TreeIndex) (rest : List TreeIndex) (line : Place) (lines : List Place) → f.spine ≡ ix ∷ rest → body_at f.nodes ix.0 ≡ Some (ListItemBody 0)
-    → is_blank_behind (after (ListItem 0 ∷ path_in f.nodes rest) line.rest) ≡ true → ReadyAt d defined f run (Blanks e) (line ∷ lines) → ReadyAt d defined f true (Blanks e) lines
+    → is_blank_behind (after (ListItem 0 ∷ path_in d.options f.nodes rest) line.rest) ≡ true → ReadyAt d defined f run (Blanks e) (line ∷ lines) → ReadyAt d defined f true (Blanks e) lines
 only_blank d defined f run e ix rest line lines spine item blank ready =
     let o : AreOpen f.nodes (ix ∷ rest) ready.frames = subst (λ s. AreOpen f.nodes s ready.frames) spine ready.are_open in
     let k : CompletesAt d defined run ready.frames f.nodes (ix.0 ∷ map (λ i. i.0) rest) (Blanks e) (line ∷ lines) = subst (λ s. CompletesAt d defined run ready.frames f.nodes (map (λ i. i.0) s) (Blanks e) (line ∷ lines)) spine ready.completes in
@@ -245,25 +246,25 @@ only_blank d defined f run e ix rest line lines spine item blank ready =
     }
 
 -- what is below a place alone counts
-pub path_below : (nodes other : List (ℕ × Item)) (n : ℕ) (s : List TreeIndex) → ((i : ℕ) → i < n → body_at other i ≡ body_at nodes i) → AreBelow n (map (λ ix. ix.0) s) → path_in other s ≡ path_in nodes s
-path_below nodes other n [] h b = refl
-path_below nodes other n (ix ∷ s) h b =
+pub path_below : (options : Options) (nodes other : List (ℕ × Item)) (n : ℕ) (s : List TreeIndex) → ((i : ℕ) → i < n → body_at other i ≡ body_at nodes i) → AreBelow n (map (λ ix. ix.0) s) → path_in options other s ≡ path_in options nodes s
+path_below options nodes other n [] h b = refl
+path_below options nodes other n (ix ∷ s) h b =
     let w : ix.0 < n = b.0 in
-    ap (λ o. with_container (option_and_then container_of o) (path_in other s)) (h ix.0 w) ∙ ap (with_container (container_at nodes ix)) (path_below nodes other ix.0 s (λ i l. h i (omega arith)) b.1)
+    ap (λ o. with_container (option_and_then (container_of options) o) (path_in options other s)) (h ix.0 w) ∙ ap (with_container (container_at options nodes ix)) (path_below options nodes other ix.0 s (λ i l. h i (omega arith)) b.1)
 
 and_true : (a : Bool) → (a && true) ≡ a
 and_true true = refl
 and_true false = refl
 
-module _ (d : Document) (defined : Tables) (r : Reading) (line : Place) (lines : List Place) (rest : Rest) (goes : after (path_of r.tree) line.rest ≡ Some rest) where
+module _ (d : Document) (defined : Tables) (r : Reading) (line : Place) (lines : List Place) (rest : Rest) (goes : after (path_of d.options r.tree) line.rest ≡ Some rest) where
   -- the item that is empty
-  item_path : (ix : TreeIndex) (outer : List TreeIndex) (columns : ℕ) → r.tree.spine ≡ ix ∷ outer → body_at r.tree.nodes ix.0 ≡ Some (ListItemBody columns) → after (ListItem columns ∷ path_in r.tree.nodes outer) line.rest ≡ Some rest
+  item_path : (ix : TreeIndex) (outer : List TreeIndex) (columns : ℕ) → r.tree.spine ≡ ix ∷ outer → body_at r.tree.nodes ix.0 ≡ Some (ListItemBody columns) → after (ListItem columns ∷ path_in d.options r.tree.nodes outer) line.rest ≡ Some rest
   item_path ix outer columns spine item =
-      sym (ap (λ s. after (path_in r.tree.nodes s) line.rest) spine ∙ ap (λ o. after (with_container (option_and_then container_of o) (path_in r.tree.nodes outer)) line.rest) item) ∙ goes
+      sym (ap (λ s. after (path_in d.options r.tree.nodes s) line.rest) spine ∙ ap (λ o. after (with_container (option_and_then (container_of d.options) o) (path_in d.options r.tree.nodes outer)) line.rest) item) ∙ goes
 
   module _ (e : ℕ) (empty : ReadyEmpty d defined r e (line ∷ lines)) where
-    blank_item : is_blank_rest rest ≡ true → is_blank_behind (after (ListItem 0 ∷ path_in r.tree.nodes empty.outer) line.rest) ≡ true
-    blank_item blank = blank_behind empty.columns (path_in r.tree.nodes empty.outer) line.rest (ap is_blank_behind (item_path empty.place empty.outer empty.columns empty.spine empty.item) ∙ blank)
+    blank_item : is_blank_rest rest ≡ true → is_blank_behind (after (ListItem 0 ∷ path_in d.options r.tree.nodes empty.outer) line.rest) ≡ true
+    blank_item blank = blank_behind empty.columns (path_in d.options r.tree.nodes empty.outer) line.rest (ap is_blank_behind (item_path empty.place empty.outer empty.columns empty.spine empty.item) ∙ blank)
 
     zero_is : emptied r.tree r.tree.spine ≡ with_body_at r.tree empty.place (ListItemBody 0)
     zero_is = ap (emptied r.tree) empty.spine
@@ -276,10 +277,10 @@ module _ (d : Document) (defined : Tables) (r : Reading) (line : Place) (lines :
         (not_changed r.tree.nodes empty.place.0 (λ x. record { start = x.start; «end» = x.«end»; body = ListItemBody 0 }) (ListItemBody 0) (empty.item ∙ ap (λ n. Some (ListItemBody n)) none) (λ x h. ap (λ b. node_of x.start x.«end» b) (sym h)))
 
     -- the nodes around the item stay
-    outer_path : (run : Bool) (from : From) (ls : List Place) → ReadyAt d defined (with_body_at r.tree empty.place (ListItemBody 0)) run from ls → path_in (with_body_at r.tree empty.place (ListItemBody 0)).nodes empty.outer ≡ path_in r.tree.nodes empty.outer
+    outer_path : (run : Bool) (from : From) (ls : List Place) → ReadyAt d defined (with_body_at r.tree empty.place (ListItemBody 0)) run from ls → path_in d.options (with_body_at r.tree empty.place (ListItemBody 0)).nodes empty.outer ≡ path_in d.options r.tree.nodes empty.outer
     outer_path run from ls ready =
         let b = subst (λ s. AreBelow (length (with_body_at r.tree empty.place (ListItemBody 0)).nodes) (map (λ (i : TreeIndex). i.0) s)) empty.spine ready.completes.below in
-        path_below r.tree.nodes (with_body_at r.tree empty.place (ListItemBody 0)).nodes empty.place.0 empty.outer
+        path_below d.options r.tree.nodes (with_body_at r.tree empty.place (ListItemBody 0)).nodes empty.place.0 empty.outer
         (λ i h. body-other r.tree.nodes empty.place.0 i (λ x. record { start = x.start; «end» = x.«end»; body = ListItemBody 0 }) h) b.1
 
     emptied_blank : (blank : Bool) → r.blank ≡ blank → is_blank_rest rest ≡ true → ReadyInItem d defined r.tree e (line ∷ lines) blank → ReadyAt d defined (with_body_at r.tree empty.place (ListItemBody 0)) true (Blanks e) lines
@@ -288,7 +289,7 @@ module _ (d : Document) (defined : Tables) (r : Reading) (line : Place) (lines :
         let item : body_at r.tree.nodes empty.place.0 ≡ Some (ListItemBody 0) = empty.item ∙ ap (λ n. Some (ListItemBody n)) none in
         subst (λ f. ReadyAt d defined f true (Blanks e) lines) (sym (zero_same none)) (only_blank d defined r.tree true e empty.place empty.outer line lines empty.spine item (blank_item h) ready)
     emptied_blank false is h ready =
-        let test : next_is_blank (path_of r.tree) (line ∷ lines) ≡ true = ap is_blank_behind goes ∙ h in
+        let test : next_is_blank (path_of d.options r.tree) (line ∷ lines) ≡ true = ap is_blank_behind goes ∙ h in
         let now : ReadyAt d defined (emptied r.tree r.tree.spine) false (Blanks e) (line ∷ lines) = subst (ReadyBeforeLine d defined r.tree e (line ∷ lines)) test ready in
         let zero : ReadyAt d defined (with_body_at r.tree empty.place (ListItemBody 0)) false (Blanks e) (line ∷ lines) = subst (λ f. ReadyAt d defined f false (Blanks e) (line ∷ lines)) zero_is now in
         only_blank d defined (with_body_at r.tree empty.place (ListItemBody 0)) false e empty.place empty.outer line lines empty.spine zero_body
@@ -328,7 +329,7 @@ module _ (d : Document) (defined : Tables) (r : Reading) (line : Place) (lines :
         → (let q : Reading = record (if blank then popped e r else r) { empty_item = None } in ReadyAt d defined q.tree q.blank (Inside (at_rest line rest)) lines)
     emptied_ends true is h ready =
         let none = empty.none is in
-        let path : List Container = path_in r.tree.nodes empty.outer in
+        let path : List Container = path_in d.options r.tree.nodes empty.outer in
         let g : Forest Item = closed_by r.tree e (empty.place ∷ empty.outer) in
         let item : body_at r.tree.nodes empty.place.0 ≡ Some (ListItemBody 0) = empty.item ∙ ap (λ n. Some (ListItemBody n)) none in
         let on : after (ListItem 0 ∷ path) line.rest ≡ Some rest = item_path empty.place empty.outer 0 empty.spine item in
@@ -337,11 +338,11 @@ module _ (d : Document) (defined : Tables) (r : Reading) (line : Place) (lines :
         let closed : ReadyAt d defined g true Line (line ∷ lines) =
         pop_container d defined r.tree true (Blanks e) (line ∷ lines) e empty.place empty.outer (ListItem 0) empty.spine (ap (option_and_then frame_of) item) (ap is_blank_behind on ∙ h) last ready in
         let now : popped e r ≡ record r { tree = g; empty_item = None } = popped_is e r empty.place empty.outer empty.spine ∙ ap (popped_by r g empty.place) item in
-        let same : path_of g ≡ path = same_path r.tree.nodes g.nodes (closed_containers e r empty.place empty.outer) empty.outer in
+        let same : path_of d.options g ≡ path = same_path d.options r.tree.nodes g.nodes (closed_containers e r empty.place empty.outer d.options) empty.outer in
         let inside : ReadyAt d defined g true (Inside (at_rest line rest)) lines = ready_enter d defined g true line lines rest (ap (λ z. after z line.rest) same ∙ outer) closed in
         subst (λ (q : Reading). ReadyAt d defined q.tree q.blank (Inside (at_rest line rest)) lines) (sym now) (subst (λ t. ReadyAt d defined g t (Inside (at_rest line rest)) lines) (sym is) inside)
     emptied_ends false is h ready =
-        let test : next_is_blank (path_of r.tree) (line ∷ lines) ≡ false = ap is_blank_behind goes ∙ h in
+        let test : next_is_blank (path_of d.options r.tree) (line ∷ lines) ≡ false = ap is_blank_behind goes ∙ h in
         let now : ReadyAt d defined r.tree false Line (line ∷ lines) = subst (ReadyBeforeLine d defined r.tree e (line ∷ lines)) test ready in
         subst (λ t. ReadyAt d defined r.tree t (Inside (at_rest line rest)) lines) (sym is) (ready_enter d defined r.tree false line lines rest goes now)
 

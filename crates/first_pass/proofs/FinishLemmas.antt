@@ -25,6 +25,7 @@ use Rattle.first_pass_lists.proofs.BodyLemmas.{body-other, body-later, body-chan
 use Rattle.first_pass.proofs.ListLemmas.{open_flags}
 use Rattle.first_pass.proofs.PopLemmas.{list_popped, leave_list}
 use Rattle.first_pass.proofs.StateLemmas.{popped_is, popped_paths, popped_spine, same_path}
+use Rattle.first_pass_items.specs.declared.option_set.Options.{Options}
 
 -- the nodes go on at a place in a line, and no list is innermost
 abbrev pub ReadyPlain : Document → Tables → Forest Item → Bool → Place → List Place → Type 0
@@ -48,17 +49,17 @@ plain_by nodes (ix ∷ s) (InContainer c ∷ frames) o n = tt
 plain_by nodes (ix ∷ s) (InList byte loose ∷ frames) o n = absurd (no_list_frame (body_at nodes ix.0) byte loose o.0 n)
 
 -- what is closed is no container
-path_left : (r : Reading) (at : ℕ) (s : List TreeIndex) (b : Option ItemBody) → r.tree.spine ≡ s → option_and_then (λ (ix : TreeIndex). body_at r.tree.nodes ix.0) (slice_get s 0) ≡ b → path_of (if is_list b then popped at r else r).tree ≡ path_of r.tree
-path_left r at [] None spine is = refl
-path_left r at [] (Some b) spine is = cc
-path_left r at (ix ∷ rest) None spine is = refl
-path_left r at (ix ∷ rest) (Some (ListBody flags list number)) spine is =
+path_left : (options : Options) (r : Reading) (at : ℕ) (s : List TreeIndex) (b : Option ItemBody) → r.tree.spine ≡ s → option_and_then (λ (ix : TreeIndex). body_at r.tree.nodes ix.0) (slice_get s 0) ≡ b → path_of options (if is_list b then popped at r else r).tree ≡ path_of options r.tree
+path_left options r at [] None spine is = refl
+path_left options r at [] (Some b) spine is = cc
+path_left options r at (ix ∷ rest) None spine is = refl
+path_left options r at (ix ∷ rest) (Some (ListBody flags list number)) spine is =
     let now : (popped at r).tree.spine ≡ rest = popped_spine at r ix rest spine in
-    popped_paths at r ix rest spine (popped at r).tree.spine ∙ ap (path_in r.tree.nodes) now
-    ∙ sym (ap (path_in r.tree.nodes) spine ∙ ap (λ o. with_container (option_and_then container_of o) (path_in r.tree.nodes rest)) is)
-path_left r at (ix ∷ rest) (Some b) spine is = refl
+    popped_paths at r ix rest options spine (popped at r).tree.spine ∙ ap (path_in options r.tree.nodes) now
+    ∙ sym (ap (path_in options r.tree.nodes) spine ∙ ap (λ o. with_container (option_and_then (container_of options) o) (path_in options r.tree.nodes rest)) is)
+path_left options r at (ix ∷ rest) (Some b) spine is = refl
 
-module _ (d : Document) (defined : Tables) (r : Reading) (p : Place) (lines : List Place) (at : ℕ) (opening : Opening) (forest : IsForest r.tree) (opens : Opens d (path_of r.tree) p lines opening) where
+module _ (d : Document) (defined : Tables) (r : Reading) (p : Place) (lines : List Place) (at : ℕ) (opening : Opening) (forest : IsForest r.tree) (opens : Opens d (path_of d.options r.tree) p lines opening) where
   left_by : (s : List TreeIndex) (b : Option ItemBody) → r.tree.spine ≡ s → option_and_then (λ (ix : TreeIndex). body_at r.tree.nodes ix.0) (slice_get s 0) ≡ b → EndsListAt at b opening → ReadyAt d defined r.tree r.blank (Inside p) lines
       → ReadyPlain d defined (if is_list b then popped at r else r).tree r.blank p lines
   left_by [] None spine is away ready = (ready, plain_by r.tree.nodes r.tree.spine ready.frames ready.are_open (ap (λ (s : List TreeIndex). is_list (option_and_then (λ (ix : TreeIndex). body_at r.tree.nodes ix.0) (slice_get s 0))) spine))
@@ -66,8 +67,8 @@ module _ (d : Document) (defined : Tables) (r : Reading) (p : Place) (lines : Li
   left_by (ix ∷ rest) None spine is away ready =
       (ready, plain_by r.tree.nodes r.tree.spine ready.frames ready.are_open (ap (λ (s : List TreeIndex). is_list (option_and_then (λ (ix : TreeIndex). body_at r.tree.nodes ix.0) (slice_get s 0))) spine ∙ ap is_list is))
   left_by (ix ∷ rest) (Some (ListBody flags list number)) spine is away ready =
-      let path : path_of r.tree ≡ path_in r.tree.nodes rest =
-      ap (path_in r.tree.nodes) spine ∙ ap (λ o. with_container (option_and_then container_of o) (path_in r.tree.nodes rest)) is in
+      let path : path_of d.options r.tree ≡ path_in d.options r.tree.nodes rest =
+      ap (path_in d.options r.tree.nodes) spine ∙ ap (λ o. with_container (option_and_then (container_of d.options) o) (path_in d.options r.tree.nodes rest)) is in
       let q = leave_list d defined r.tree r.blank lines at ix rest flags list number forest spine is p opening (subst (λ z. Opens d z p lines opening) path opens) away ready in
       let now : (popped at r).tree ≡ list_popped r.tree at ix rest flags = ap (λ (q : Reading). q.tree) (popped_is at r ix rest spine ∙ ap (popped_by r (closed_by r.tree at (ix ∷ rest)) ix) is) in
       subst (λ f. ReadyPlain d defined f r.blank p lines) (sym now) q
@@ -109,21 +110,21 @@ loosened_spine f ix None = refl
 loosened_spine f ix (Some (ListBody flags list number)) = refl
 loosened_spine f ix (Some b) = refl
 
-container_named : (nodes : List (ℕ × Item)) (place : ℕ) (flags : ListFlags) (list number : ℕ) (c : ItemBody) → container_of c ≡ None → body_at nodes place ≡ Some (ListBody flags list number)
-    → (i : ℕ) → option_and_then container_of (body_at (modify nodes place (λ x. record { start = x.start; «end» = x.«end»; body = c })) i) ≡ option_and_then container_of (body_at nodes i)
-container_named [] place flags list number c none is i = refl
-container_named (n ∷ nodes) zero flags list number c none is zero =
-    (let h : n.1.body ≡ ListBody flags list number = cc in none ∙ sym (ap container_of h))
-container_named (n ∷ nodes) zero flags list number c none is (suc i) = refl
-container_named (n ∷ nodes) (suc place) flags list number c none is zero = refl
-container_named (n ∷ nodes) (suc place) flags list number c none is (suc i) = container_named nodes place flags list number c none is i
+container_named : (options : Options) (nodes : List (ℕ × Item)) (place : ℕ) (flags : ListFlags) (list number : ℕ) (c : ItemBody) → container_of options c ≡ None → body_at nodes place ≡ Some (ListBody flags list number)
+    → (i : ℕ) → option_and_then (container_of options) (body_at (modify nodes place (λ x. record { start = x.start; «end» = x.«end»; body = c })) i) ≡ option_and_then (container_of options) (body_at nodes i)
+container_named options [] place flags list number c none is i = refl
+container_named options (n ∷ nodes) zero flags list number c none is zero =
+    (let h : n.1.body ≡ ListBody flags list number = cc in none ∙ sym (ap (container_of options) h))
+container_named options (n ∷ nodes) zero flags list number c none is (suc i) = refl
+container_named options (n ∷ nodes) (suc place) flags list number c none is zero = refl
+container_named options (n ∷ nodes) (suc place) flags list number c none is (suc i) = container_named options nodes place flags list number c none is i
 
-pub loosened_paths : (f : Forest Item) (ix : TreeIndex) (b : Option ItemBody) → body_at f.nodes ix.0 ≡ b → (s : List TreeIndex) → path_in (loosened_by f ix b).nodes s ≡ path_in f.nodes s
-loosened_paths f ix None is s = refl
-loosened_paths f ix (Some (ListBody flags list number)) is s =
-    same_path f.nodes (modify f.nodes ix.0 (λ x. record { start = x.start; «end» = x.«end»; body = ListBody (list_flags false) list number }))
-    (container_named f.nodes ix.0 flags list number (ListBody (list_flags false) list number) refl is) s
-loosened_paths f ix (Some b) is s = refl
+pub loosened_paths : (options : Options) (f : Forest Item) (ix : TreeIndex) (b : Option ItemBody) → body_at f.nodes ix.0 ≡ b → (s : List TreeIndex) → path_in options (loosened_by f ix b).nodes s ≡ path_in options f.nodes s
+loosened_paths options f ix None is s = refl
+loosened_paths options f ix (Some (ListBody flags list number)) is s =
+    same_path options f.nodes (modify f.nodes ix.0 (λ x. record { start = x.start; «end» = x.«end»; body = ListBody (list_flags false) list number }))
+    (container_named options f.nodes ix.0 flags list number (ListBody (list_flags false) list number) refl is) s
+loosened_paths options f ix (Some b) is s = refl
 
 -- the frame of a list that is made loose
 pub loose_frame : (f : Forest Item) (ix : TreeIndex) (flags : ListFlags) (list number byte : ℕ) (loose : Bool) → body_at f.nodes ix.0 ≡ Some (ListBody flags list number) → frame_at f.nodes ix.0 ≡ Some (InList byte loose)
@@ -134,11 +135,11 @@ loose_frame f ix flags list number byte loose is framed =
     ap (λ b. body_at (loosened_by f ix b).nodes ix.0) is ∙ body-changed f.nodes ix.0 _ (ListBody flags list number) (ListBody (list_flags false) list number) is (λ x h. refl) in
     ap (option_and_then frame_of) now ∙ ap (λ b. Some (InList b true)) set.0 ∙ ap (λ l. Some (InList byte l)) (sym (or_true loose))
 
-module _ (d : Document) (defined : Tables) (f : Forest Item) (p : Place) (lines : List Place) (opening : Opening) (opens : Opens d (path_of f) p lines opening) (block : OpensBlock opening) where
+module _ (d : Document) (defined : Tables) (f : Forest Item) (p : Place) (lines : List Place) (opening : Opening) (opens : Opens d (path_of d.options f) p lines opening) (block : OpensBlock opening) where
   noted_at : (frames : List Frame) (run : Bool) → IsPlain frames → AreOpen f.nodes f.spine frames → CompletesAt d defined run frames f.nodes (map (λ i. i.0) f.spine) (Inside p) lines
       → CompletesAt d defined false (loosened_in run frames) f.nodes (map (λ i. i.0) f.spine) (Inside p) lines
   noted_at frames run plain o k =
-      completes-note d defined run frames f.nodes (map (λ i. i.0) f.spine) p lines opening plain (subst (λ z. Opens d z p lines opening) (open_path f.nodes f.spine frames o) opens) block k
+      completes-note d defined run frames f.nodes (map (λ i. i.0) f.spine) p lines opening plain (subst (λ z. Opens d z p lines opening) (open_path d.options f.nodes f.spine frames o) opens) block k
 
   plain_in : (run : Bool) (frames : List Frame) → IsPlain frames → IsPlain (loosened_in run frames)
   plain_in run [] h = tt
@@ -210,40 +211,40 @@ module _ (d : Document) (defined : Tables) (f : Forest Item) (p : Place) (lines 
   ready_noted true (q, plain) = noted_by f.spine q.frames refl plain q.are_open q.completes
   ready_noted false q = q
 
-gap_paths : (f : Forest Item) (spine s : List TreeIndex) → path_in (gap_tree f spine).nodes s ≡ path_in f.nodes s
-gap_paths f [] s = refl
-gap_paths f (ix ∷ []) s = refl
-gap_paths f (ix ∷ jx ∷ rest) s = loosened_paths f jx (body_at f.nodes jx.0) refl s
+gap_paths : (options : Options) (f : Forest Item) (spine s : List TreeIndex) → path_in options (gap_tree f spine).nodes s ≡ path_in options f.nodes s
+gap_paths options f [] s = refl
+gap_paths options f (ix ∷ []) s = refl
+gap_paths options f (ix ∷ jx ∷ rest) s = loosened_paths options f jx (body_at f.nodes jx.0) refl s
 
 gap_spine : (f : Forest Item) (spine : List TreeIndex) → (gap_tree f spine).spine ≡ f.spine
 gap_spine f [] = refl
 gap_spine f (ix ∷ []) = refl
 gap_spine f (ix ∷ jx ∷ rest) = loosened_spine f jx (body_at f.nodes jx.0)
 
-gap_path : (f : Forest Item) (spine : List TreeIndex) → path_of (gap_tree f spine) ≡ path_of f
-gap_path f spine = ap (path_in (gap_tree f spine).nodes) (gap_spine f spine) ∙ gap_paths f spine f.spine
+gap_path : (options : Options) (f : Forest Item) (spine : List TreeIndex) → path_of options (gap_tree f spine) ≡ path_of options f
+gap_path options f spine = ap (path_in options (gap_tree f spine).nodes) (gap_spine f spine) ∙ gap_paths options f spine f.spine
 
 -- what is remembered once a new block has ended what it ends
 pub record Finished (d : Document) (defined : Tables) (old new : Reading) (p : Place) (lines : List Place) : Type 0 where
   pub ready : ReadyPlain d defined new.tree false p lines
-  pub path : path_of new.tree ≡ path_of old.tree
+  pub path : path_of d.options new.tree ≡ path_of d.options old.tree
   pub blank : new.blank ≡ false
   pub none : new.empty_item ≡ None
 
 noted_as : (d : Document) (defined : Tables) (r : Reading) (p : Place) (lines : List Place) (run : Bool) → r.blank ≡ run → r.empty_item ≡ None → ReadyPlain d defined (if run then gap_tree r.tree r.tree.spine else r.tree) false p lines
     → (let q : Reading = if run then record r { tree = gap_tree r.tree r.tree.spine; blank = false } else r in
-    ReadyPlain d defined q.tree false p lines × (path_of q.tree ≡ path_of r.tree) × (q.blank ≡ false) × (q.empty_item ≡ None))
-noted_as d defined r p lines true is none ready = (ready, gap_path r.tree r.tree.spine, refl, none)
+    ReadyPlain d defined q.tree false p lines × (path_of d.options q.tree ≡ path_of d.options r.tree) × (q.blank ≡ false) × (q.empty_item ≡ None))
+noted_as d defined r p lines true is none ready = (ready, gap_path d.options r.tree r.tree.spine, refl, none)
 noted_as d defined r p lines false is none ready = (ready, refl, is, none)
 
 -- a new block ends the list that is innermost, and a blank line before it is noted
-pub ready_finished : (d : Document) (defined : Tables) (r : Reading) (p : Place) (lines : List Place) (at : ℕ) (opening : Opening) → IsForest r.tree → Opens d (path_of r.tree) p lines opening → OpensBlock opening → EndsListAt at (top_body r.tree) opening
+pub ready_finished : (d : Document) (defined : Tables) (r : Reading) (p : Place) (lines : List Place) (at : ℕ) (opening : Opening) → IsForest r.tree → Opens d (path_of d.options r.tree) p lines opening → OpensBlock opening → EndsListAt at (top_body r.tree) opening
     → r.empty_item ≡ None → ReadyAt d defined r.tree r.blank (Inside p) lines → Finished d defined r (list_finished at r) p lines
 unfolding list_finished item_finished
 ready_finished d defined r p lines at opening forest opens block away none ready =
     let l : Reading = list_left at r in
     let kept = kept_left d defined r p lines at opening forest opens r.tree.spine (top_body r.tree) refl refl in
-    let path : path_of l.tree ≡ path_of r.tree = path_left r at r.tree.spine (top_body r.tree) refl refl in
+    let path : path_of d.options l.tree ≡ path_of d.options r.tree = path_left d.options r at r.tree.spine (top_body r.tree) refl refl in
     let left : ReadyPlain d defined l.tree r.blank p lines = ready_left d defined r p lines at opening forest opens away ready in
     let left' : ReadyPlain d defined l.tree l.blank p lines = subst (λ t. ReadyPlain d defined l.tree t p lines) (sym kept.0) left in
     let noted : ReadyPlain d defined (if l.blank then gap_tree l.tree l.tree.spine else l.tree) false p lines = ready_noted d defined l.tree p lines opening (subst (λ z. Opens d z p lines opening) (sym path) opens) block l.blank left' in
@@ -251,14 +252,14 @@ ready_finished d defined r p lines at opening forest opens block away none ready
     let same : item_finished_by r r.empty_item ≡ r = ap (item_finished_by r) none in
     subst (λ q. Finished d defined r (gap_noted (list_left at q)) p lines) (sym same) (record { ready = done.0; path = done.1 ∙ path; blank = done.2; none = done.3 })
 
-path_noted : (t : Bool) (r : Reading) → path_of (if t then record r { tree = gap_tree r.tree r.tree.spine; blank = false } else r).tree ≡ path_of r.tree
-path_noted true r = gap_path r.tree r.tree.spine
-path_noted false r = refl
+path_noted : (options : Options) (t : Bool) (r : Reading) → path_of options (if t then record r { tree = gap_tree r.tree r.tree.spine; blank = false } else r).tree ≡ path_of options r.tree
+path_noted options true r = gap_path options r.tree r.tree.spine
+path_noted options false r = refl
 
 -- a new block ends no container
-pub path_finished : (at : ℕ) (r : Reading) → r.empty_item ≡ None → path_of (list_finished at r).tree ≡ path_of r.tree
+pub path_finished : (options : Options) (at : ℕ) (r : Reading) → r.empty_item ≡ None → path_of options (list_finished at r).tree ≡ path_of options r.tree
 unfolding list_finished item_finished
-path_finished at r none =
+path_finished options at r none =
     let same : item_finished_by r r.empty_item ≡ r = ap (item_finished_by r) none in
     let l : Reading = list_left at r in
-    subst (λ q. path_of (gap_noted (list_left at q)).tree ≡ path_of r.tree) (sym same) (path_noted l.blank l ∙ path_left r at r.tree.spine (top_body r.tree) refl refl)
+    subst (λ q. path_of options (gap_noted (list_left at q)).tree ≡ path_of options r.tree) (sym same) (path_noted options l.blank l ∙ path_left options r at r.tree.spine (top_body r.tree) refl refl)

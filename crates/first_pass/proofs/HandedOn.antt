@@ -27,6 +27,7 @@ use Rattle.first_pass.specs.Ordered.{IsOrderedAt, IsHandedOn, IsOrderedFrom}
 use Rattle.first_pass.proofs.OrderLemmas.{ordered_none, ordered_blank_read, ordered_item_finished}
 use Rattle.first_pass.proofs.OrderSteps.{ordered_tree, place_before_end}
 use Rattle.first_pass.proofs.LineLemmas.{finished_none}
+use Rattle.first_pass_items.specs.declared.option_set.Options.{Options}
 
 -- An extent ends where the lines begin that it leaves, or behind what a path takes of the first of them, which is blank.
 abbrev pub StopsBlank : ℕ → List Container → Extent → Type 0
@@ -53,8 +54,8 @@ pub html_stops : (n : ℕ) (path : List Container) (p : Place) (lines : List Pla
 html_stops n path p lines = stops_behind n path lines
 
 -- a block that is added changes no path
-pub path_added : (f : Forest Item) (items : List (ℕ × Item)) → IsForest f → path_of (added f items) ≡ path_of f
-path_added f items forest = path_in-append f.nodes (at_depth (length f.spine + 1) items) f.spine (open_are_in f.nodes f.spine forest.opened)
+pub path_added : (options : Options) (f : Forest Item) (items : List (ℕ × Item)) → IsForest f → path_of options (added f items) ≡ path_of options f
+path_added options f items forest = path_in-append options f.nodes (at_depth (length f.spine + 1) items) f.spine (open_are_in f.nodes f.spine forest.opened)
 
 -- no blank line counts behind what a new block ends
 noted_blank : (r : Reading) (t : Bool) → r.blank ≡ t → (gap_noted r).blank ≡ false
@@ -70,12 +71,12 @@ line_by path line q None h = cc
 line_by path line q (Some r) h = let e : at_rest line r ≡ q = cc in (r, refl, sym e)
 
 -- What is remembered behind such a block is in order up to where reading goes on, or the blank line is handed on there.
-pub ordered_stopped : (text : List ℕ) (r : Reading) (path : List Container) (e : Extent) (next : ℕ) → IsCharBoundary text next → r.empty_item ≡ None → path_of r.tree ≡ path → StopsBlank (length text) path e → lines_from text next ≡ e.left
-    → IsOrderedAt text r e.«end» → IsOrderedFrom text r next
-ordered_stopped text r path e next b none path_is (inl h) left o =
+pub ordered_stopped : (options : Options) (text : List ℕ) (r : Reading) (path : List Container) (e : Extent) (next : ℕ) → IsCharBoundary text next → r.empty_item ≡ None → path_of options r.tree ≡ path → StopsBlank (length text) path e → lines_from text next ≡ e.left
+    → IsOrderedAt text r e.«end» → IsOrderedFrom options text r next
+ordered_stopped options text r path e next b none path_is (inl h) left o =
     let there = start_of-lines text next b.0 in
     inl (subst (IsOrderedAt text r) (h ∙ ap (start_of (length text)) (sym left) ∙ there) o)
-ordered_stopped text r path e next b none path_is (inr (line, lines, q, e_left, took, blank, at)) left o =
+ordered_stopped options text r path e next b none path_is (inr (line, lines, q, e_left, took, blank, at)) left o =
     let f = first_line text next line lines (sym (left ∙ e_left)) in
     let found = line_by path line q (after path line.rest) took in
     let s : Rest = found.0 in
@@ -90,39 +91,39 @@ ordered_stopped text r path e next b none path_is (inr (line, lines, q, e_left, 
     })
 
 -- A line that is handed on goes on with all that is open, and is blank behind that.
-pub handed_whole : (text : List ℕ) (r : Reading) (at kept : ℕ) (line left : Rest) → line ≡ line_rest (drop at text) → kept ≤ length r.tree.spine → after (path_in r.tree.nodes (outer kept r.tree.spine)) line ≡ Some left
-    → ((m : ℕ) → kept < m → m ≤ length r.tree.spine → after (path_in r.tree.nodes (outer m r.tree.spine)) line ≡ None) → IsHandedOn text r at → (kept ≡ length r.tree.spine) × (is_blank_rest left ≡ true)
-handed_whole text r at kept line left is within took stops h =
+pub handed_whole : (options : Options) (text : List ℕ) (r : Reading) (at kept : ℕ) (line left : Rest) → line ≡ line_rest (drop at text) → kept ≤ length r.tree.spine → after (path_in options r.tree.nodes (outer kept r.tree.spine)) line ≡ Some left
+    → ((m : ℕ) → kept < m → m ≤ length r.tree.spine → after (path_in options r.tree.nodes (outer m r.tree.spine)) line ≡ None) → IsHandedOn options text r at → (kept ≡ length r.tree.spine) × (is_blank_rest left ≡ true)
+handed_whole options text r at kept line left is within took stops h =
     let ns = r.tree.nodes in
     let spine = r.tree.spine in
-    let all : after (path_in ns (outer (length spine) spine)) line ≡ Some h.rest = ap (λ z. after (path_in ns z) line) (outer-all spine) ∙ ap (after (path_of r.tree)) is ∙ h.taken in
+    let all : after (path_in options ns (outer (length spine) spine)) line ≡ Some h.rest = ap (λ z. after (path_in options ns z) line) (outer-all spine) ∙ ap (after (path_of options r.tree)) is ∙ h.taken in
     elim (cases_lt kept (length spine)) [
       | inl less ↦ (let none = stops (length spine) less (omega arith) in cc)
       | inr more ↦
           (let same : kept ≡ length spine = omega arith in
-          let here : after (path_in ns (outer (length spine) spine)) line ≡ Some left = subst (λ k. after (path_in ns (outer k spine)) line ≡ Some left) same took in
+          let here : after (path_in options ns (outer (length spine) spine)) line ≡ Some left = subst (λ k. after (path_in options ns (outer k spine)) line ≡ Some left) same took in
           let rest_is : h.rest ≡ left = cc in
           (same, ap is_blank_rest (sym rest_is) ∙ h.blank))
     ]
 
 -- Once the blank line is read that was handed on, what is remembered is in order up to its end.
-handed_read : (text : List ℕ) (r : Reading) (at : ℕ) → IsUtf8 text → IsCharBoundary text at → IsHandedOn text r at → IsOrderedAt text (blank_read r) (at + line_len (drop at text))
-handed_read text r at u b h =
-    let k = after_keeps text at (path_of r.tree) (line_rest (drop at text)) h.rest u h.taken (line_is_place text at b) in
+handed_read : (options : Options) (text : List ℕ) (r : Reading) (at : ℕ) → IsUtf8 text → IsCharBoundary text at → IsHandedOn options text r at → IsOrderedAt text (blank_read r) (at + line_len (drop at text))
+handed_read options text r at u b h =
+    let k = after_keeps text at (path_of options r.tree) (line_rest (drop at text)) h.rest u h.taken (line_is_place text at b) in
     let ends : line_end (place_at at h.rest) ≡ at + line_len (drop at text) = k.1 ∙ line_start_end text at in
     let before = place_before_end (place_at at h.rest) in
     let within = (line_len-within text at h.within).1 in
     ordered_blank_read text r (offset (place_at at h.rest)) (at + line_len (drop at text)) (omega arith) within (ordered_none text r (offset (place_at at h.rest)) h.none (omega arith) h.ordered)
 
 -- A line is entered where what the line doesn't go on with was closed: a blank line is read,
-pub ordered_blank_line : (text : List ℕ) (old closed : Reading) (at : ℕ) → IsUtf8 text → at < length text → IsCharBoundary text at → (IsOrderedAt text old at → IsOrderedAt text closed at) → (IsHandedOn text old at → closed ≡ old)
-    → IsOrderedFrom text old at → IsOrderedAt text (blank_read closed) (at + line_len (drop at text))
-ordered_blank_line text old closed at u w b closes same (inl o) =
+pub ordered_blank_line : (options : Options) (text : List ℕ) (old closed : Reading) (at : ℕ) → IsUtf8 text → at < length text → IsCharBoundary text at → (IsOrderedAt text old at → IsOrderedAt text closed at) → (IsHandedOn options text old at → closed ≡ old)
+    → IsOrderedFrom options text old at → IsOrderedAt text (blank_read closed) (at + line_len (drop at text))
+ordered_blank_line options text old closed at u w b closes same (inl o) =
     let n = line_len-within text at w in
     ordered_blank_read text closed at (at + line_len (drop at text)) (omega arith) n.1 (closes o)
-ordered_blank_line text old closed at u w b closes same (inr h) = subst (λ r. IsOrderedAt text (blank_read r) (at + line_len (drop at text))) (sym (same h)) (handed_read text old at u b h)
+ordered_blank_line options text old closed at u w b closes same (inr h) = subst (λ r. IsOrderedAt text (blank_read r) (at + line_len (drop at text))) (sym (same h)) (handed_read options text old at u b h)
 
 -- and before any other, which no block hands on, an empty item is closed that blank lines ended.
-pub ordered_other_line : (text : List ℕ) (old closed : Reading) (at : ℕ) → (IsOrderedAt text old at → IsOrderedAt text closed at) → (IsHandedOn text old at → ⊥) → IsOrderedFrom text old at → IsOrderedTo text (item_finished closed).tree at
-ordered_other_line text old closed at closes none (inl o) = ordered_tree text (item_finished closed) at (finished_none closed) (ordered_item_finished text closed at (closes o))
-ordered_other_line text old closed at closes none (inr h) = absurd (none h)
+pub ordered_other_line : (options : Options) (text : List ℕ) (old closed : Reading) (at : ℕ) → (IsOrderedAt text old at → IsOrderedAt text closed at) → (IsHandedOn options text old at → ⊥) → IsOrderedFrom options text old at → IsOrderedTo text (item_finished closed).tree at
+ordered_other_line options text old closed at closes none (inl o) = ordered_tree text (item_finished closed) at (finished_none closed) (ordered_item_finished text closed at (closes o))
+ordered_other_line options text old closed at closes none (inr h) = absurd (none h)

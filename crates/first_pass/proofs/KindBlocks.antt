@@ -41,7 +41,7 @@ pub code_added : (text : List ℕ) (options : Options) (names : Names) (p : Plac
 unfolding OpensAs
 code_added text options names p old new next blank place a =
     let q : Place = moved_columns 4 p in
-    let path : List Container = path_of old in
+    let path : List Container = path_of options old in
     let ends : behind_line_at text (offset q) ≡ line_end p = ap (λ (bs : List ℕ). offset q + line_len bs) (sym place.left) ∙ columns_line_end 4 p in
     let same : code_behind text path (offset q) ≡ code_lines path (lines_from text (line_end p)) = ap (λ n. code_lines path (lines_from text n)) ends in
     record {
@@ -64,10 +64,10 @@ module _ (text : List ℕ) (options : Options) (names : Names) (p : Place) (old 
   is_here = record { offset_is = sym at_is; left_is = place.left ∙ ap (λ n. drop n text) (sym at_is) }
 
   -- metadata
-  pub metadata_added : (byte : ℕ) → (let e : Extent = metadata_behind text (path_of old) byte at in AddsRaw (document text options names) (λ d. IsMetadata d at byte e.places e.«end») e.left old new next) → AddsKind (document text options names) p (Metadata byte) false old new next
+  pub metadata_added : (byte : ℕ) → (let e : Extent = metadata_behind text (path_of options old) byte at in AddsRaw (document text options names) (λ d. IsMetadata d at byte e.places e.«end») e.left old new next) → AddsKind (document text options names) p (Metadata byte) false old new next
   unfolding OpensAs
   metadata_added byte a =
-      let path : List Container = path_of old in
+      let path : List Container = path_of options old in
       let e : Extent = metadata_behind text path byte at in
       let f : Extent = metadata_lines (length text) path byte (lines_from text (line_end p)) in
       let same : e ≡ f = ap (λ n. metadata_lines (length text) path byte (lines_from text n)) ends_here in
@@ -82,11 +82,11 @@ module _ (text : List ℕ) (options : Options) (names : Names) (p : Place) (old 
       }
 
   -- a fenced code block
-  pub fenced_added : (count byte columns : ℕ) → columns ≡ indent p.rest → (let e : Extent = fenced_behind text (path_of old) columns byte count at in AddsRaw (document text options names) (λ d. IsFencedCode d at count e.places e.«end») e.left old new next)
+  pub fenced_added : (count byte columns : ℕ) → columns ≡ indent p.rest → (let e : Extent = fenced_behind text (path_of options old) columns byte count at in AddsRaw (document text options names) (λ d. IsFencedCode d at count e.places e.«end») e.left old new next)
       → AddsKind (document text options names) p (FencedCode count byte) false old new next
   unfolding OpensAs
   fenced_added count byte columns width a =
-      let path : List Container = path_of old in
+      let path : List Container = path_of options old in
       let e : Extent = fenced_behind text path columns byte count at in
       let f : Extent = fenced_lines (length text) path (indent p.rest) byte count (lines_from text (line_end p)) in
       let same : e ≡ f = ap (λ n. fenced_lines (length text) path columns byte count (lines_from text n)) ends_here ∙ ap (λ k. fenced_lines (length text) path k byte count (lines_from text (line_end p))) width in
@@ -102,10 +102,10 @@ module _ (text : List ℕ) (options : Options) (names : Names) (p : Place) (old 
 
   -- HTML up to a text
   pub html_end_added : (tag : List ℕ) (columns : ℕ) → html_end (drop 1 (all_taken p.rest).left) ≡ Some tag → columns ≡ indent p.rest
-      → (let e : Extent = html_to_end text (path_of old) tag (unindented p) in AddsRaw (document text options names) (λ d. IsHtml d at columns e.places e.«end») e.left old new next) → AddsKind (document text options names) p HtmlToEnd false old new next
+      → (let e : Extent = html_to_end text (path_of options old) tag (unindented p) in AddsRaw (document text options names) (λ d. IsHtml d at columns e.places e.«end») e.left old new next) → AddsKind (document text options names) p HtmlToEnd false old new next
   unfolding OpensAs
   html_end_added tag columns tag_is width a =
-      let path : List Container = path_of old in
+      let path : List Container = path_of options old in
       let e : Extent = html_to_end text path tag (unindented p) in
       let f : Extent = until_end (length text) path tag (unindented p) (lines_from text (line_end p)) in
       let same : e ≡ f = ap (λ n. until_end (length text) path tag (unindented p) (lines_from text n)) (line_end_of text p place) in
@@ -126,10 +126,10 @@ module _ (text : List ℕ) (options : Options) (names : Names) (p : Place) (old 
 
   -- HTML up to a blank line
   pub html_blank_added : (columns : ℕ) → columns ≡ indent p.rest
-      → (let e : Extent = html_to_blank text (path_of old) (unindented p) in AddsRaw (document text options names) (λ d. IsHtml d at columns e.places e.«end») e.left old new next) → AddsKind (document text options names) p HtmlToBlank false old new next
+      → (let e : Extent = html_to_blank text (path_of options old) (unindented p) in AddsRaw (document text options names) (λ d. IsHtml d at columns e.places e.«end») e.left old new next) → AddsKind (document text options names) p HtmlToBlank false old new next
   unfolding OpensAs
   html_blank_added columns width a =
-      let path : List Container = path_of old in
+      let path : List Container = path_of options old in
       let e : Extent = html_to_blank text path (unindented p) in
       let f : Extent = until_blank (length text) path (unindented p) (lines_from text (line_end p)) in
       let same : e ≡ f = ap (λ n. until_blank (length text) path (unindented p) (lines_from text n)) (line_end_of text p place) in
@@ -149,7 +149,7 @@ module _ (text : List ℕ) (options : Options) (names : Names) (p : Place) (old 
   rule_added size next_is new_is = record {
     items = rule_block at size;
     tree_is = new_is;
-    opens = λ more extends. opens_rule (document text options more) (path_of old) p at next size at_is next_is;
+    opens = λ more extends. opens_rule (document text options more) (path_of options old) p at next size at_is next_is;
   }
 
   -- an ATX heading
@@ -157,7 +157,7 @@ module _ (text : List ℕ) (options : Options) (names : Names) (p : Place) (old 
   heading_added level h = record {
     items = heading_block at next level h.index h.chain;
     tree_is = h.tree_is;
-    opens = λ more extends. opens_heading text options names more (path_of old) old new p at next level at_is place h extends;
+    opens = λ more extends. opens_heading text options names more (path_of options old) old new p at next level at_is place h extends;
   }
 
 -- behind a leaf block of a kind
@@ -169,10 +169,10 @@ ready_kind text options defined own names r new p kind gap next forest is other 
     let lines : List Place = lines_from text (line_end p) in
     let left : List Place = lines_from text next in
     let o : Opening = OpensLeaf (leaf_block kind p a.items gap) Line left in
-    let opens = subst (λ path. OpensAs d path p lines kind o) (path_finished p.line r none) (a.opens names extends) in
+    let opens = subst (λ path. OpensAs d path p lines kind o) (path_finished options p.line r none) (a.opens names extends) in
     subst (λ z. Ready d z (remembered new empty blank) left) (told_none defined)
     (ready_added d defined r new p lines left p.line (block_at kind p a.items gap) (ap (λ t. if t then offset (unindented p) else p.line) other) kind forest is
-    (subst (λ k. OpensAs d (path_of r.tree) p lines k o) (sym (kind_in_other (context_of options r.tree) p kind other)) opens) a.tree_is none ready empty blank e b)
+    (subst (λ k. OpensAs d (path_of options r.tree) p lines k o) (sym (kind_in_other (context_of options r.tree) p kind other)) opens) a.tree_is none ready empty blank e b)
 
 -- the same of a kind that is this one, and blank lines or none at its end
 pub adds_so : (text : List ℕ) (options : Options) (names : Names) (p : Place) (k kind : Kind) (gap blank : Bool) (old new : Forest Item) (next : ℕ) → kind ≡ k → blank ≡ gap → AddsKind (document text options names) p k gap old new next → AddsKind (document text options names) p kind blank old new next
@@ -190,7 +190,7 @@ adds_moved t text o options names p kind gap f old new next a b e h =
 
 -- an HTML block up to a blank line, at a place
 abbrev pub AddsHtml : List ℕ → Options → Names → ℕ → ℕ → Place → Forest Item → Forest Item → ℕ → Type 0
-AddsHtml text options names start columns p old new next = let e : Extent = html_to_blank text (path_of old) p in AddsRaw (document text options names) (λ d. IsHtml d start columns e.places e.«end») e.left old new next
+AddsHtml text options names start columns p old new next = let e : Extent = html_to_blank text (path_of options old) p in AddsRaw (document text options names) (λ d. IsHtml d start columns e.places e.«end») e.left old new next
 
 pub html_moved : (t text : List ℕ) (o options : Options) (names : Names) (start columns : ℕ) (p : Place) (f old new : Forest Item) (next : ℕ) → t ≡ text → o ≡ options → f ≡ old → AddsHtml t o names start columns p f new next → AddsHtml text options names start columns p old new next
 html_moved t text o options names start columns p f old new next a b e h =

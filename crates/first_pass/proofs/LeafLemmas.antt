@@ -85,7 +85,7 @@ remembered_so : (d : Document) (defined : Tables) (new : Forest Item) (empty : O
 remembered_so d defined new empty blank gap left none same ready = ready_plain d defined (remembered new empty blank) left none (subst (λ t. ReadyAt d defined new t Line left) (sym same) ready)
 
 -- a block is added once a new block has ended what it ends
-added_block : (d : Document) (defined : Tables) (r : Reading) (new : Forest Item) (p : Place) (lines left : List Place) (at : ℕ) (block : LeafBlock) → leaf_closes block ≡ at → IsForest r.tree → Opens d (path_of r.tree) p lines (OpensLeaf (Block block) Line left)
+added_block : (d : Document) (defined : Tables) (r : Reading) (new : Forest Item) (p : Place) (lines left : List Place) (at : ℕ) (block : LeafBlock) → leaf_closes block ≡ at → IsForest r.tree → Opens d (path_of d.options r.tree) p lines (OpensLeaf (Block block) Line left)
     → new ≡ added (list_finished at r).tree block.items → r.empty_item ≡ None → ReadyAt d defined r.tree r.blank (Inside p) lines → ReadyAt d (told defined block.definitions) new block.gap Line left
 added_block d defined r new p lines left at block closes forest opens new_is none ready =
     let opening : Opening = OpensLeaf (Block block) Line left in
@@ -93,19 +93,19 @@ added_block d defined r new p lines left at block closes forest opens new_is non
     let f : Forest Item = (list_finished at r).tree in
     let frames : List Frame = done.ready.0.frames in
     let os : List ℕ = map (λ (i : TreeIndex). i.0) f.spine in
-    let opens' : Opens d (containers_of frames) p lines opening = subst (λ z. Opens d z p lines opening) (sym done.path ∙ open_path f.nodes f.spine frames done.ready.0.are_open) opens in
+    let opens' : Opens d (containers_of frames) p lines opening = subst (λ z. Opens d z p lines opening) (sym done.path ∙ open_path d.options f.nodes f.spine frames done.ready.0.are_open) opens in
     let k = completes-block d defined frames f.nodes os p lines left block done.ready.1 opens' done.ready.0.completes in
     subst (λ z. ReadyAt d (told defined block.definitions) z block.gap Line left) (sym new_is) (with_block d (told defined block.definitions) f frames block.items block.gap left done.ready.0.are_open done.ready.0.completes.below k)
 
 -- the same behind the tag of a block quote, where a new block ends nothing
-lazy_block : (d : Document) (defined : Tables) (r : Reading) (new : Forest Item) (p : Place) (lines left : List Place) (at : ℕ) (block : LeafBlock) → OpensBlockAt d (path_of r.tree) p lines (OpensLeaf (Block block) Line left)
+lazy_block : (d : Document) (defined : Tables) (r : Reading) (new : Forest Item) (p : Place) (lines left : List Place) (at : ℕ) (block : LeafBlock) → OpensBlockAt d (path_of d.options r.tree) p lines (OpensLeaf (Block block) Line left)
     → new ≡ added (list_finished at r).tree block.items → r.empty_item ≡ None → ReadyLazy d defined r p lines → ReadyAt d (told defined block.definitions) new block.gap Line left
 lazy_block d defined r new p lines left at block opens new_is none lazy =
     let f : Forest Item = r.tree in
     let frames : List Frame = lazy.ready.frames in
     let os : List ℕ = map (λ (i : TreeIndex). i.0) f.spine in
     let plain = plain_by f.nodes f.spine frames lazy.ready.are_open (ap is_list lazy.quote) in
-    let path = open_path f.nodes f.spine frames lazy.ready.are_open in
+    let path = open_path d.options f.nodes f.spine frames lazy.ready.are_open in
     let first : IsFirst d (containers_of frames) (At p ALeafAlone) lines (OpensLeaf (Block block) Line left) = record {
       place = p;
       behind = lines;
@@ -119,11 +119,11 @@ lazy_block d defined r new p lines left at block opens new_is none lazy =
 
 -- a leaf is added at its place
 pub ready_added : (d : Document) (defined : Tables) (r : Reading) (new : Forest Item) (p : Place) (lines left : List Place) (at : ℕ) (block : LeafBlock) → leaf_closes block ≡ at → (k : Kind) → IsForest r.tree → IsKind d.options p.rest k
-    → OpensAs d (path_of r.tree) p lines (kind_in (context_of d.options r.tree) p k) (OpensLeaf (Block block) Line left) → new ≡ added (list_finished at r).tree block.items → r.empty_item ≡ None → ReadyLeaf d defined r p lines
+    → OpensAs d (path_of d.options r.tree) p lines (kind_in (context_of d.options r.tree) p k) (OpensLeaf (Block block) Line left) → new ≡ added (list_finished at r).tree block.items → r.empty_item ≡ None → ReadyLeaf d defined r p lines
     → (empty : Option ℕ) (blank : Bool) → empty ≡ None → blank ≡ block.gap → Ready d (told defined block.definitions) (remembered new empty blank) left
 ready_added d defined r new p lines left at block closes k forest kind opens new_is none (inl (no_item, no_quote, ready)) empty blank e b =
     remembered_so d (told defined block.definitions) new empty blank block.gap left e b
-    (added_block d defined r new p lines left at block closes forest (no_container d (path_of r.tree) p lines k (OpensLeaf (Block block) Line left) no_item no_quote kind opens) new_is none ready)
+    (added_block d defined r new p lines left at block closes forest (no_container d (path_of d.options r.tree) p lines k (OpensLeaf (Block block) Line left) no_item no_quote kind opens) new_is none ready)
 ready_added d defined r new p lines left at block closes k forest kind opens new_is none (inr lazy) empty blank e b =
     remembered_so d (told defined block.definitions) new empty blank block.gap left e b (lazy_block d defined r new p lines left at block (k, kind, opens) new_is none lazy)
 
@@ -221,15 +221,15 @@ opens_flow d path q at next xs items at_is place is = (taking items (lines_from 
 
 -- behind a text, which stands behind link definitions or none
 pub ready_flows : (d : Document) (defined : Tables) (r : Reading) (new : Forest Item) (p q : Place) (at next : ℕ) (xs : List LinkEntry) (items : List (ℕ × Item)) → IsForest r.tree → IsKind d.options p.rest Paragraph → IsPlaceOf d.text q → at ≡ offset q
-    → IsRun (context_of d.options r.tree) (unindented p) (lines_from d.text (line_end p)) xs (FlowsOn q (lines_from d.text (line_end q))) → IsTextAt d (path_of (list_finished at r).tree) at None items next
+    → IsRun (context_of d.options r.tree) (unindented p) (lines_from d.text (line_end p)) xs (FlowsOn q (lines_from d.text (line_end q))) → IsTextAt d (path_of d.options (list_finished at r).tree) at None items next
     → new ≡ added (list_finished at r).tree items → r.empty_item ≡ None
     → ReadyLeaf d defined r p (lines_from d.text (line_end p)) → (empty : Option ℕ) (blank : Bool) → empty ≡ None → blank ≡ false → Ready d (told defined xs) (remembered new empty blank) (lines_from d.text next)
 ready_flows d defined r new p q at next xs items forest kind place at_is run is new_is none ready =
     let lines : List Place = lines_from d.text (line_end p) in
     let left : List Place = lines_from d.text next in
     let block : LeafBlock = flowing_block q xs items in
-    let here : IsTextAt d (path_of r.tree) at None items next = subst (λ path. IsTextAt d path at None items next) (path_finished at r none) is in
-    let opens = text_opens d (path_of r.tree) p lines xs (FlowsOn q (lines_from d.text (line_end q))) (OpensLeaf (Block block) Line left) run (opens_flow d (path_of r.tree) q at next xs items at_is place here) in
+    let here : IsTextAt d (path_of d.options r.tree) at None items next = subst (λ path. IsTextAt d path at None items next) (path_finished d.options at r none) is in
+    let opens = text_opens d (path_of d.options r.tree) p lines xs (FlowsOn q (lines_from d.text (line_end q))) (OpensLeaf (Block block) Line left) run (opens_flow d (path_of d.options r.tree) q at next xs items at_is place here) in
     ready_added d defined r new p lines left at block (sym at_is) Paragraph forest kind opens new_is none ready
 
 -- nothing is added where a block has no items
@@ -251,7 +251,7 @@ ready_ended d defined r p q next xs forest kind run none ready =
     let lines : List Place = lines_from d.text (line_end p) in
     let left : List Place = lines_from d.text next in
     let now : Reading = list_finished q.line r in
-    let opens = text_opens d (path_of r.tree) p lines xs (Ended q left) (OpensLeaf (Block (run_block q xs)) Line left) run refl in
+    let opens = text_opens d (path_of d.options r.tree) p lines xs (Ended q left) (OpensLeaf (Block (run_block q xs)) Line left) run refl in
     let done : ReadyAt d (told defined xs) (added now.tree []) false Line left =
     ready_added d defined r (added now.tree []) p lines left q.line (run_block q xs) refl Paragraph forest kind opens refl none ready None false refl refl in
     ready_plain d (told defined xs) now left (list_finished_none q.line r)
@@ -259,7 +259,7 @@ ready_ended d defined r p q next xs forest kind run none ready =
 
 -- behind the text of a task list item
 pub ready_text : (d : Document) (defined : Tables) (r : Reading) (new : Forest Item) (p : Place) (at next : ℕ) (marker : Item) (items : List (ℕ × Item)) → at ≡ offset (unindented p) → IsPlaceOf d.text (unindented p)
-    → IsTextAt d (path_of r.tree) at (Some marker) items next → new ≡ added r.tree items → r.empty_item ≡ None
+    → IsTextAt d (path_of d.options r.tree) at (Some marker) items next → new ≡ added r.tree items → r.empty_item ≡ None
     → ReadyText d defined r marker p (lines_from d.text (line_end p)) → Ready d defined (remembered new r.empty_item r.blank) (lines_from d.text next)
 ready_text d defined r new p at next marker items at_is place is new_is none text =
     let ready = text.ready in
@@ -268,7 +268,7 @@ ready_text d defined r new p at next marker items at_is place is new_is none tex
     let os : List ℕ = map (λ (i : TreeIndex). i.0) f.spine in
     let lines : List Place = lines_from d.text (line_end p) in
     let left : List Place = lines_from d.text next in
-    let here : IsTextAt d (containers_of frames) at (Some marker) items next = subst (λ path. IsTextAt d path at (Some marker) items next) (open_path f.nodes f.spine frames ready.are_open) is in
+    let here : IsTextAt d (containers_of frames) at (Some marker) items next = subst (λ path. IsTextAt d path at (Some marker) items next) (open_path d.options f.nodes f.spine frames ready.are_open) is in
     let opens = opens_text d (containers_of frames) p at next (Some marker) items at_is place here in
     let k = completes-text d defined frames f.nodes os marker p lines left (block_at Paragraph p items false) text.plain opens ready.completes in
     let q = with_block d defined f frames items false left ready.are_open ready.completes.below

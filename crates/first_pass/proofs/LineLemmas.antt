@@ -22,26 +22,27 @@ use Rattle.first_pass_open.specs.Path.{path_in, path_of, outer}
 use Rattle.first_pass.specs.State.{NoMore, Ready, ReadyAt}
 use Rattle.first_pass_open.proofs.PlaceLemmas.{after_keeps, line_start_end}
 use Rattle.first_pass.proofs.EnterLemmas.{ready_blank_line, ready_line}
+use Rattle.first_pass_items.specs.declared.option_set.Options.{Options}
 
 -- a line and those behind it, of which the containers that don't go on with it are closed
 pub record IsAtLine (d : Document) (defined : Tables) (old new : Reading) (start : ℕ) (r : Rest) : Type 0 where
-  pub goes : after (path_of new.tree) (line_rest (drop start d.text)) ≡ Some r
+  pub goes : after (path_of d.options new.tree) (line_rest (drop start d.text)) ≡ Some r
   pub ready : Ready d defined old (lines_from d.text start) → Ready d defined new (line_place start (drop start d.text) ∷ lines_from d.text (start + line_len (drop start d.text)))
 
 pub at_line : (d : Document) (defined : Tables) (old new : Reading) (start kept : ℕ) (line r : Rest) → line ≡ line_rest (drop start d.text) → start < length d.text → new.tree.spine ≡ outer kept old.tree.spine
-    → ((s : List TreeIndex) → path_in new.tree.nodes s ≡ path_in old.tree.nodes s)
-    → ((d : Document) (lines : List Place) → start_of (length d.text) lines ≡ start → NoMore old.tree kept lines → Ready d defined old lines → Ready d defined new lines)
-    → after (path_in old.tree.nodes (outer kept old.tree.spine)) line ≡ Some r
-    → ((m : ℕ) → kept < m → m ≤ length old.tree.spine → after (path_in old.tree.nodes (outer m old.tree.spine)) line ≡ None)
+    → ((s : List TreeIndex) → path_in d.options new.tree.nodes s ≡ path_in d.options old.tree.nodes s)
+    → ((d : Document) (lines : List Place) → start_of (length d.text) lines ≡ start → NoMore d.options old.tree kept lines → Ready d defined old lines → Ready d defined new lines)
+    → after (path_in d.options old.tree.nodes (outer kept old.tree.spine)) line ≡ Some r
+    → ((m : ℕ) → kept < m → m ≤ length old.tree.spine → after (path_in d.options old.tree.nodes (outer m old.tree.spine)) line ≡ None)
     → IsAtLine d defined old new start r
 at_line d defined old new start kept line r line_is within spine paths closes taken stops =
     let here : Place = line_place start (drop start d.text) in
     let lines : List Place = lines_from d.text (start + line_len (drop start d.text)) in
     let first : lines_from d.text start ≡ here ∷ lines = lines_at-line d.text start within in
-    let path : path_of new.tree ≡ path_in old.tree.nodes (outer kept old.tree.spine) = paths new.tree.spine ∙ ap (path_in old.tree.nodes) spine in
+    let path : path_of d.options new.tree ≡ path_in d.options old.tree.nodes (outer kept old.tree.spine) = paths new.tree.spine ∙ ap (path_in d.options old.tree.nodes) spine in
     record {
-      goes = ap (λ p. after p (line_rest (drop start d.text))) path ∙ ap (after (path_in old.tree.nodes (outer kept old.tree.spine))) (sym line_is) ∙ taken;
-      ready = λ ready. closes d (here ∷ lines) refl (λ m low high. ap (after (path_in old.tree.nodes (outer m old.tree.spine))) (sym line_is) ∙ stops m low high) (subst (Ready d defined old) first ready);
+      goes = ap (λ p. after p (line_rest (drop start d.text))) path ∙ ap (after (path_in d.options old.tree.nodes (outer kept old.tree.spine))) (sym line_is) ∙ taken;
+      ready = λ ready. closes d (here ∷ lines) refl (λ m low high. ap (after (path_in d.options old.tree.nodes (outer m old.tree.spine))) (sym line_is) ∙ stops m low high) (subst (Ready d defined old) first ready);
     }
 
 -- a blank line read
@@ -70,13 +71,13 @@ pub same_place : (text : List ℕ) (p q : Place) → p ≡ q → IsPlaceOf text 
 same_place text p q same i = subst (IsPlaceOf text) (sym same) i
 
 -- the place in the line behind what it goes on with
-pub line_kept : (text bytes rest : List ℕ) (start kept : ℕ) (f : Forest Item) (line r : Rest) → IsUtf8 bytes → bytes ≡ text → rest ≡ drop start bytes → line ≡ line_rest rest → IsCharBoundary text start → after (path_in f.nodes (outer kept f.spine)) line ≡ Some r
+pub line_kept : (options : Options) (text bytes rest : List ℕ) (start kept : ℕ) (f : Forest Item) (line r : Rest) → IsUtf8 bytes → bytes ≡ text → rest ≡ drop start bytes → line ≡ line_rest rest → IsCharBoundary text start → after (path_in options f.nodes (outer kept f.spine)) line ≡ Some r
     → IsPlaceOf text (place_at start r) × (line_end (place_at start r) ≡ start + line_len (drop start text))
-line_kept text bytes rest start kept f line r u bytes_is rest_is line_is boundary taken =
+line_kept options text bytes rest start kept f line r u bytes_is rest_is line_is boundary taken =
     let utf8 : IsUtf8 text = subst IsUtf8 bytes_is u in
     let from : line ≡ line_rest (drop start text) = line_is ∙ ap line_rest (rest_is ∙ ap (drop start) bytes_is) in
-    let taken' : after (path_in f.nodes (outer kept f.spine)) (line_rest (drop start text)) ≡ Some r = ap (after (path_in f.nodes (outer kept f.spine))) (sym from) ∙ taken in
-    let k = after_keeps text start (path_in f.nodes (outer kept f.spine)) (line_rest (drop start text)) r utf8 taken' (line_is_place text start boundary) in
+    let taken' : after (path_in options f.nodes (outer kept f.spine)) (line_rest (drop start text)) ≡ Some r = ap (after (path_in options f.nodes (outer kept f.spine))) (sym from) ∙ taken in
+    let k = after_keeps text start (path_in options f.nodes (outer kept f.spine)) (line_rest (drop start text)) r utf8 taken' (line_is_place text start boundary) in
     (k.0, k.1 ∙ line_start_end text start)
 
 -- Nothing that is closed or opened makes an item empty.

@@ -175,7 +175,7 @@ module _ (names : Names) where
 -- a leaf block of a kind that was added
 pub kind_named : (text : List ℕ) (options : Options) (names : Names) (p : Place) (kind : Kind) (gap : Bool) (old new : Forest Item) (next : ℕ) → (a : AddsKind (document text options names) p kind gap old new next) → AreNamed names a.items
 kind_named text options names p kind gap old new next a =
-    opens_named (document text options names) (path_of old) p (lines_from text (line_end p)) kind a.items gap (lines_from text next) (a.opens names (extends_none names))
+    opens_named (document text options names) (path_of options old) p (lines_from text (line_end p)) kind a.items gap (lines_from text next) (a.opens names (extends_none names))
 
 -- the root has no index
 pub first_named : (names : Names) (tree : Forest Item) (root : TreeIndex) (e : ℕ) → tree ≡ with_end_at empty_forest root e → AreNamed names tree.nodes

@@ -13,6 +13,7 @@ use Rattle.first_pass_open.specs.Path.{container_of, with_container, path_in}
 use Rattle.first_pass.specs.State.{frame_of, frame_at, AreOpen}
 use Rattle.first_pass_open.proofs.PathLemmas.{get_front}
 use Rattle.first_pass_lists.proofs.BodyLemmas.{body-kept, body-other}
+use Rattle.first_pass_items.specs.declared.option_set.Options.{Options}
 
 -- the container that a frame is, if it is one
 abbrev framed : Option Frame → Option Container
@@ -25,28 +26,29 @@ framed_list true b byte = refl
 framed_list false true byte = refl
 framed_list false false byte = refl
 
-container_framed : (b : ItemBody) → container_of b ≡ framed (frame_of b)
-container_framed (BlockQuoteBody kind) = refl
-container_framed (ListItemBody columns) = refl
-container_framed (ListBody flags byte number) = sym (framed_list (flags.0 == 1) (flags.0 == 0) byte)
-container_framed b = refl
+container_framed : (options : Options) (b : ItemBody) (frame : Frame) → frame_of b ≡ Some frame → container_of options b ≡ framed (Some frame)
+container_framed options (BlockQuoteBody kind) frame is = ap framed is
+container_framed options (ListItemBody columns) frame is = ap framed is
+container_framed options (ListBody flags byte number) frame is = sym (framed_list (flags.0 == 1) (flags.0 == 0) byte) ∙ ap framed is
+container_framed options b frame is = cc
 
-container_framed_at : (o : Option ItemBody) → option_and_then container_of o ≡ framed (option_and_then frame_of o)
-container_framed_at None = refl
-container_framed_at (Some b) = container_framed b
+container_framed_at : (options : Options) (o : Option ItemBody) (frame : Frame) → option_and_then frame_of o ≡ Some frame
+    → option_and_then (container_of options) o ≡ framed (Some frame)
+container_framed_at options None frame is = cc
+container_framed_at options (Some b) frame is = container_framed options b frame is
 
 with_frame : (frame : Frame) (frames : List Frame) → with_container (framed (Some frame)) (containers_of frames) ≡ containers_of (frame ∷ frames)
 with_frame (InContainer c) frames = refl
 with_frame (InList byte loose) frames = refl
 
 -- the containers of the frames are those of the path
-pub open_path : (nodes : List (ℕ × Item)) (spine : List TreeIndex) (frames : List Frame) → AreOpen nodes spine frames → path_in nodes spine ≡ containers_of frames
-open_path nodes [] [] o = refl
-open_path nodes [] (frame ∷ frames) o = absurd o
-open_path nodes (ix ∷ spine) [] o = absurd o
-open_path nodes (ix ∷ spine) (frame ∷ frames) o =
-    ap (λ c. with_container c (path_in nodes spine)) (container_framed_at (body_at nodes ix.0) ∙ ap framed o.0)
-    ∙ ap (with_container (framed (Some frame))) (open_path nodes spine frames o.1) ∙ with_frame frame frames
+pub open_path : (options : Options) (nodes : List (ℕ × Item)) (spine : List TreeIndex) (frames : List Frame) → AreOpen nodes spine frames → path_in options nodes spine ≡ containers_of frames
+open_path options nodes [] [] o = refl
+open_path options nodes [] (frame ∷ frames) o = absurd o
+open_path options nodes (ix ∷ spine) [] o = absurd o
+open_path options nodes (ix ∷ spine) (frame ∷ frames) o =
+    ap (λ c. with_container c (path_in options nodes spine)) (container_framed_at options (body_at nodes ix.0) frame o.0)
+    ∙ ap (with_container (framed (Some frame))) (open_path options nodes spine frames o.1) ∙ with_frame frame frames
 
 -- what is below a place alone counts
 pub open_below : (nodes other : List (ℕ × Item)) (n : ℕ) (spine : List TreeIndex) (frames : List Frame) → ((i : ℕ) → i < n → frame_at other i ≡ frame_at nodes i) → AreBelow n (map (λ ix. ix.0) spine) → AreOpen nodes spine frames → AreOpen other spine frames

@@ -39,6 +39,7 @@ use Rattle.first_pass.proofs.OpenLemmas.{open_path, open_below, frame-append, ge
 use Rattle.first_pass_lists.proofs.BodyLemmas.{body-other}
 use Rattle.first_pass.proofs.ListLemmas.{open_flags}
 use Rattle.first_pass.proofs.FinishLemmas.{EndsListAt, ready_finished, loose_is, loose_frame, loosened_spine}
+use Rattle.first_pass_items.specs.declared.option_set.Options.{Options}
 
 or_false : (a : Bool) → (a || false) ≡ a
 or_false true = refl
@@ -78,19 +79,19 @@ quote_body f start kind = get_end f.nodes (length f.spine + 1, node_of start 0 (
 -- a block quote of a kind opened, wherever blocks go on in it
 pub record QuoteIsOpen (d : Document) (defined : Tables) (old : Reading) (q : Reading) (kind : Option BlockQuoteKind) (inside : From) (behind : List Place) : Type 0 where
   pub ready : ReadyAt d defined q.tree false inside behind
-  pub path : path_of q.tree ≡ BlockQuote kind ∷ path_of old.tree
+  pub path : path_of d.options q.tree ≡ BlockQuote kind ∷ path_of d.options old.tree
   pub top : top_body q.tree ≡ Some (BlockQuoteBody kind)
   pub blank : q.blank ≡ false
   pub none : q.empty_item ≡ None
 
-pub quote_is_open : (d : Document) (defined : Tables) (r : Reading) (p : Place) (lines behind : List Place) (kind : Option BlockQuoteKind) (inside : From) → IsForest r.tree → Opens d (path_of r.tree) p lines (OpensNode (quote_head p kind) inside behind) → r.empty_item ≡ None
+pub quote_is_open : (d : Document) (defined : Tables) (r : Reading) (p : Place) (lines behind : List Place) (kind : Option BlockQuoteKind) (inside : From) → IsForest r.tree → Opens d (path_of d.options r.tree) p lines (OpensNode (quote_head p kind) inside behind) → r.empty_item ≡ None
     → ReadyAt d defined r.tree r.blank (Inside p) lines → QuoteIsOpen d defined r (begun (quote_start p) (BlockQuoteBody kind) (list_finished p.line r)) kind inside behind
 quote_is_open d defined r p lines behind kind inside forest opens none ready =
     let opening : Opening = OpensNode (quote_head p kind) inside behind in
     let done = ready_finished d defined r p lines p.line opening forest opens tt (quote_away (top_body r.tree) p kind behind inside) none ready in
     let f : Forest Item = (list_finished p.line r).tree in
     let frames : List Frame = done.ready.0.frames in
-    let opens' : Opens d (containers_of frames) p lines opening = subst (λ z. Opens d z p lines opening) (sym done.path ∙ open_path f.nodes f.spine frames done.ready.0.are_open) opens in
+    let opens' : Opens d (containers_of frames) p lines opening = subst (λ z. Opens d z p lines opening) (sym done.path ∙ open_path d.options f.nodes f.spine frames done.ready.0.are_open) opens in
     let os : List ℕ = map (λ (i : TreeIndex). i.0) f.spine in
     let x : Item = node_of (quote_start p) 0 (BlockQuoteBody kind) in
     let g : Forest Item = pushed (appended f x) (record { 0 = length f.nodes }) in
@@ -102,7 +103,7 @@ quote_is_open d defined r p lines behind kind inside forest opens none ready =
     } in
     record {
       ready = now;
-      path = open_path g.nodes g.spine now.frames now.are_open ∙ ap (λ z. BlockQuote kind ∷ z) (sym (open_path f.nodes f.spine frames done.ready.0.are_open) ∙ done.path);
+      path = open_path d.options g.nodes g.spine now.frames now.are_open ∙ ap (λ z. BlockQuote kind ∷ z) (sym (open_path d.options f.nodes f.spine frames done.ready.0.are_open) ∙ done.path);
       top = quote_body f (quote_start p) kind;
       blank = done.blank;
       none = done.none;
@@ -113,7 +114,7 @@ pub ready_quote : (d : Document) (defined : Tables) (r : Reading) (p : Place) (l
     → ReadyAt d defined r.tree r.blank (Inside p) lines → (let q : Reading = begun (quote_start p) (BlockQuoteBody None) (list_finished p.line r) in ReadyAt d defined q.tree q.blank (Inside (at_rest p inside)) lines)
 ready_quote d defined r p lines inside forest no_item is no_tag none ready =
     let q : Reading = begun (quote_start p) (BlockQuoteBody None) (list_finished p.line r) in
-    let path : List Container = path_of r.tree in
+    let path : List Container = path_of d.options r.tree in
     let opens = subst (λ t. Opens d path p lines (quote_opening (around d path) p (at_rest p inside) lines t)) no_tag (opens_quote d path p lines inside no_item is) in
     let begun_is = quote_is_open d defined r p lines lines None (Inside (at_rest p inside)) forest opens none ready in
     subst (λ t. ReadyAt d defined q.tree t (Inside (at_rest p inside)) lines) (sym begun_is.blank) begun_is.ready
@@ -123,7 +124,7 @@ pub ready_tagged : (d : Document) (defined : Tables) (r : Reading) (p : Place) (
     → ReadyAt d defined r.tree r.blank (Inside p) lines → ReadyTagged d defined (begun (quote_start p) (BlockQuoteBody (Some kind)) (list_finished p.line r)) lines
 ready_tagged d defined r p lines inside kind forest no_item is tag none ready =
     let q : Reading = begun (quote_start p) (BlockQuoteBody (Some kind)) (list_finished p.line r) in
-    let path : List Container = path_of r.tree in
+    let path : List Container = path_of d.options r.tree in
     let from : From × List Place = behind_tag (around d (BlockQuote (Some kind) ∷ path)) lines in
     let opens = subst (λ t. Opens d path p lines (quote_opening (around d path) p (at_rest p inside) lines t)) tag (opens_quote d path p lines inside no_item is) in
     let begun_is = quote_is_open d defined r p lines from.1 (Some kind) from.0 forest opens none ready in
@@ -144,17 +145,17 @@ item_away None p byte number columns inside lines other = tt
 item_away (Some (ListBody flags list n)) p byte number columns inside lines other = (refl, other)
 item_away (Some b) p byte number columns inside lines other = tt
 
-module _ (d : Document) (defined : Tables) (r : Reading) (p : Place) (lines : List Place) (byte number columns : ℕ) (inside : From) (forest : IsForest r.tree) (opens : Opens d (path_of r.tree) p lines (OpensNode (item_head p byte number columns) inside lines))
+module _ (d : Document) (defined : Tables) (r : Reading) (p : Place) (lines : List Place) (byte number columns : ℕ) (inside : From) (forest : IsForest r.tree) (opens : Opens d (path_of d.options r.tree) p lines (OpensNode (item_head p byte number columns) inside lines))
     (none : r.empty_item ≡ None) (ready : ReadyAt d defined r.tree r.blank (Inside p) lines) where
   -- in a list that begins with it
   in_new_list : is_list_of byte (top_body r.tree) ≡ false
-      → (let q : Reading = begun (offset p) (ListItemBody columns) (begun (offset p) (ListBody (list_flags true) byte number) (list_finished (offset p) r)) in ReadyAt d defined q.tree false inside lines × (path_of q.tree ≡ ListItem columns ∷ path_of r.tree) × (q.blank ≡ false) × (q.empty_item ≡ None))
+      → (let q : Reading = begun (offset p) (ListItemBody columns) (begun (offset p) (ListBody (list_flags true) byte number) (list_finished (offset p) r)) in ReadyAt d defined q.tree false inside lines × (path_of d.options q.tree ≡ ListItem columns ∷ path_of d.options r.tree) × (q.blank ≡ false) × (q.empty_item ≡ None))
   in_new_list other =
       let opening : Opening = OpensNode (item_head p byte number columns) inside lines in
       let done = ready_finished d defined r p lines (offset p) opening forest opens tt (item_away (top_body r.tree) p byte number columns inside lines other) none ready in
       let f : Forest Item = (list_finished (offset p) r).tree in
       let frames : List Frame = done.ready.0.frames in
-      let opens' : Opens d (containers_of frames) p lines opening = subst (λ z. Opens d z p lines opening) (sym done.path ∙ open_path f.nodes f.spine frames done.ready.0.are_open) opens in
+      let opens' : Opens d (containers_of frames) p lines opening = subst (λ z. Opens d z p lines opening) (sym done.path ∙ open_path d.options f.nodes f.spine frames done.ready.0.are_open) opens in
       let os : List ℕ = map (λ (i : TreeIndex). i.0) f.spine in
       let y : Item = node_of (offset p) 0 (ListBody (list_flags true) byte number) in
       let x : Item = node_of (offset p) 0 (ListItemBody columns) in
@@ -175,8 +176,8 @@ module _ (d : Document) (defined : Tables) (r : Reading) (p : Place) (lines : Li
         completes = subst (λ z. CompletesAt d defined false (InContainer (ListItem columns) ∷ InList byte false ∷ frames) h.nodes (z ∷ length f.nodes ∷ os) inside lines) (sym n)
             (subst (λ z. CompletesAt d defined false (InContainer (ListItem columns) ∷ InList byte false ∷ frames) z (suc (length f.nodes) ∷ length f.nodes ∷ os) inside lines) nodes k);
       } in
-      let same : path_of h ≡ ListItem columns ∷ path_of r.tree =
-      open_path h.nodes h.spine q.frames q.are_open ∙ ap (λ z. ListItem columns ∷ z) (sym (open_path f.nodes f.spine frames done.ready.0.are_open) ∙ done.path) in
+      let same : path_of d.options h ≡ ListItem columns ∷ path_of d.options r.tree =
+      open_path d.options h.nodes h.spine q.frames q.are_open ∙ ap (λ z. ListItem columns ∷ z) (sym (open_path d.options f.nodes f.spine frames done.ready.0.are_open) ∙ done.path) in
       (q, same, done.blank, done.none)
 
   -- the list that goes on, made loose where a blank line is before the item
@@ -208,7 +209,7 @@ module _ (d : Document) (defined : Tables) (r : Reading) (p : Place) (lines : Li
   item_by : (run : Bool) (ix : TreeIndex) (rest : List TreeIndex) (flags : ListFlags) (list n : ℕ) (frames : List Frame) → r.tree.spine ≡ ix ∷ rest → body_at r.tree.nodes ix.0 ≡ Some (ListBody flags list n) → list ≡ byte
       → AreOpen r.tree.nodes (ix ∷ rest) frames → CompletesAt d defined run frames r.tree.nodes (ix.0 ∷ map (λ i. i.0) rest) (Inside p) lines
       → (let f : Forest Item = if run then loosened_at r.tree ix else r.tree in let g : Forest Item = pushed (appended f (node_of (offset p) 0 (ListItemBody columns))) (record { 0 = length f.nodes }) in
-      ReadyAt d defined g false inside lines × (path_of g ≡ ListItem columns ∷ path_of r.tree))
+      ReadyAt d defined g false inside lines × (path_of d.options g ≡ ListItem columns ∷ path_of d.options r.tree))
   item_by run ix rest flags list n [] spine body same o k = absurd o
   item_by run ix rest flags list n (InContainer c ∷ frames) spine body same o k = absurd (not_container (flags.0 == 1) (flags.0 == 0) list c (sym (ap (option_and_then frame_of) body) ∙ o.0))
   item_by run ix rest flags list n (InList b loose ∷ frames) spine body same o k =
@@ -216,7 +217,7 @@ module _ (d : Document) (defined : Tables) (r : Reading) (p : Place) (lines : Li
       let set = open_flags flags list n b loose (sym (ap (option_and_then frame_of) body) ∙ o.0) in
       let os : List ℕ = map (λ (i : TreeIndex). i.0) rest in
       let b_is : b ≡ byte = sym set.0 ∙ same in
-      let path : path_of r.tree ≡ containers_of frames = ap (path_in r.tree.nodes) spine ∙ open_path r.tree.nodes (ix ∷ rest) (InList b loose ∷ frames) o in
+      let path : path_of d.options r.tree ≡ containers_of frames = ap (path_in d.options r.tree.nodes) spine ∙ open_path d.options r.tree.nodes (ix ∷ rest) (InList b loose ∷ frames) o in
       let now = goes_on_as run ix rest flags list n b loose frames spine body o k in
       let opens' : Opens d (containers_of frames) p lines (OpensNode (item_head p byte number columns) inside lines) = subst (λ z. Opens d z p lines (OpensNode (item_head p byte number columns) inside lines)) path opens in
       let x : Item = node_of (offset p) 0 (ListItemBody columns) in
@@ -233,11 +234,11 @@ module _ (d : Document) (defined : Tables) (r : Reading) (p : Place) (lines : Li
             (subst (λ z. CompletesAt d defined false (InContainer (ListItem columns) ∷ frames') (f.nodes ++ (z, x) ∷ []) (length f.nodes ∷ ix.0 ∷ os) inside lines) deep done);
       } in
       let g : Forest Item = pushed (appended f x) (record { 0 = length f.nodes }) in
-      (q, open_path g.nodes g.spine q.frames q.are_open ∙ ap (λ z. ListItem columns ∷ z) (sym path))
+      (q, open_path d.options g.nodes g.spine q.frames q.are_open ∙ ap (λ z. ListItem columns ∷ z) (sym path))
 
   -- what is remembered with the item opened
   abbrev ItemIsOpen : Reading → Type 0
-  ItemIsOpen q = ReadyAt d defined q.tree false inside lines × (path_of q.tree ≡ ListItem columns ∷ path_of r.tree) × (q.blank ≡ false) × (q.empty_item ≡ None)
+  ItemIsOpen q = ReadyAt d defined q.tree false inside lines × (path_of d.options q.tree ≡ ListItem columns ∷ path_of d.options r.tree) × (q.blank ≡ false) × (q.empty_item ≡ None)
 
   in_list_by : (s : List TreeIndex) (b : Option ItemBody) → r.tree.spine ≡ s → option_and_then (λ (ix : TreeIndex). body_at r.tree.nodes ix.0) (slice_get s 0) ≡ b → is_list_of byte b ≡ true → ItemIsOpen (begun (offset p) (ListItemBody columns) (list_kept r))
   in_list_by s None spine is same = cc
@@ -248,7 +249,7 @@ module _ (d : Document) (defined : Tables) (r : Reading) (p : Place) (lines : Li
       let f : Forest Item = if r.blank then loosened_at r.tree ix else r.tree in
       let done = item_by r.blank ix rest flags list n ready.frames spine is equal (subst (λ z. AreOpen r.tree.nodes z ready.frames) spine ready.are_open) (subst (λ z. CompletesAt d defined r.blank ready.frames r.tree.nodes (map (λ (i : TreeIndex). i.0) z) (Inside p) lines) spine ready.completes) in (
         subst (λ (z : Forest Item). ReadyAt d defined (pushed (appended z (node_of (offset p) 0 (ListItemBody columns))) (record { 0 = length z.nodes })) false inside lines) (sym kept.0) done.0,
-        subst (λ (z : Forest Item). path_of (pushed (appended z (node_of (offset p) 0 (ListItemBody columns))) (record { 0 = length z.nodes })) ≡ ListItem columns ∷ path_of r.tree) (sym kept.0) done.1,
+        subst (λ (z : Forest Item). path_of d.options (pushed (appended z (node_of (offset p) 0 (ListItemBody columns))) (record { 0 = length z.nodes })) ≡ ListItem columns ∷ path_of d.options r.tree) (sym kept.0) done.1,
         kept.1,
         kept.2,
       )
@@ -303,8 +304,8 @@ pub ready_item : (d : Document) (defined : Tables) (r : Reading) (p : Place) (li
 ready_item d defined r p lines item marker rest forest is task some none ready =
     let from : From = behind_task marker (at_rest p rest) in
     let inside : Opening = OpensNode (item_head p item.0.0 item.0.1 item.0.2) from lines in
-    let opens : Opens d (path_of r.tree) p lines inside =
-    subst (Opens d (path_of r.tree) p lines) (ap (item_opening d (path_of r.tree) p lines (item.0.0, item.0.1, item.0.2)) task ∙ inside_by d (path_of r.tree) p lines item.0.0 item.0.1 item.0.2 marker rest some) (opens_item d (path_of r.tree) p lines item is) in
+    let opens : Opens d (path_of d.options r.tree) p lines inside =
+    subst (Opens d (path_of d.options r.tree) p lines) (ap (item_opening d (path_of d.options r.tree) p lines (item.0.0, item.0.1, item.0.2)) task ∙ inside_by d (path_of d.options r.tree) p lines item.0.0 item.0.1 item.0.2 marker rest some) (opens_item d (path_of d.options r.tree) p lines item is) in
     let done = item_is_open d defined r p lines item.0.0 item.0.1 item.0.2 from forest opens none ready in
     let g : Forest Item = (list_continued (offset p) item.0.0 item.0.1 r).tree in
     let q : Reading = item_opened (offset p) item.0.0 item.0.1 item.0.2 r in
@@ -325,7 +326,7 @@ line_opening : (d : Document) (path : List Container) (p : Place) (lines : List 
     → item_opening d path p lines (byte, number, columns) (marker, rest) ≡ OpensNode (item_head p byte number columns) (task_alone marker (at_rest p rest) None) lines
 line_opening d path p lines byte number columns marker rest h n = rw (h, n) refl
 
-in_item : (d : Document) (defined : Tables) (f : Forest Item) (e : ℕ) (lines : List Place) (t blank : Bool) → blank ≡ false → next_is_blank (path_of f) lines ≡ t → ReadyBeforeLine d defined f e lines t → ReadyInItem d defined f e lines blank
+in_item : (d : Document) (defined : Tables) (f : Forest Item) (e : ℕ) (lines : List Place) (t blank : Bool) → blank ≡ false → next_is_blank (path_of d.options f) lines ≡ t → ReadyBeforeLine d defined f e lines t → ReadyInItem d defined f e lines blank
 in_item d defined f e lines t true none is ready = cc
 in_item d defined f e lines t false none is ready = subst (ReadyBeforeLine d defined f e lines) (sym is) ready
 
@@ -333,14 +334,14 @@ none_blank : (blank : Bool) (columns : ℕ) → blank ≡ false → blank ≡ tr
 none_blank blank columns none some = cc
 
 -- the path with an item opened, whatever its indent
-opened_path : (g : Forest Item) (start m n : ℕ) (path : List Container)
+opened_path : (options : Options) (g : Forest Item) (start m n : ℕ) (path : List Container)
     → (let f : ℕ → Forest Item = λ k. pushed (appended g (node_of start 0 (ListItemBody k))) (record { 0 = length g.nodes }) in
-    AreBelow (length (f m).nodes) (map (λ (i : TreeIndex). i.0) (f m).spine) → path_of (f m) ≡ ListItem m ∷ path → path_of (f n) ≡ ListItem n ∷ path)
-opened_path g start m n path below is =
+    AreBelow (length (f m).nodes) (map (λ (i : TreeIndex). i.0) (f m).spine) → path_of options (f m) ≡ ListItem m ∷ path → path_of options (f n) ≡ ListItem n ∷ path)
+opened_path options g start m n path below is =
     let f : ℕ → Forest Item = λ k. pushed (appended g (node_of start 0 (ListItemBody k))) (record { 0 = length g.nodes }) in
-    let top : (k : ℕ) → path_of (f k) ≡ ListItem k ∷ path_in (f k).nodes g.spine = λ k. ap (λ o. with_container (option_and_then container_of o) (path_in (f k).nodes g.spine)) (item_body g start k) in
-    let outer : path_in (f m).nodes g.spine ≡ path = (let e = sym (top m) ∙ is in cc) in
-    let same : (k : ℕ) → path_in (f k).nodes g.spine ≡ path_in g.nodes g.spine = λ k. path_below g.nodes (f k).nodes (length g.nodes) g.spine (λ i h. ap (option_map (λ (n : ℕ × Item). n.1.body)) (get_front g.nodes _ i h)) below.1 in
+    let top : (k : ℕ) → path_of options (f k) ≡ ListItem k ∷ path_in options (f k).nodes g.spine = λ k. ap (λ o. with_container (option_and_then (container_of options) o) (path_in options (f k).nodes g.spine)) (item_body g start k) in
+    let outer : path_in options (f m).nodes g.spine ≡ path = (let e = sym (top m) ∙ is in cc) in
+    let same : (k : ℕ) → path_in options (f k).nodes g.spine ≡ path_in options g.nodes g.spine = λ k. path_below options g.nodes (f k).nodes (length g.nodes) g.spine (λ i h. ap (option_map (λ (n : ℕ × Item). n.1.body)) (get_front g.nodes _ i h)) below.1 in
     top n ∙ ap (λ z. ListItem n ∷ z) (same n ∙ sym (same m) ∙ outer)
 
 -- a task list item marker with nothing behind it, in the item that is innermost
@@ -374,15 +375,15 @@ marked_body : (f : Forest Item) (marker : Option Item) (i : ℕ) (b : ItemBody) 
 marked_body f None i b h is = is
 marked_body f (Some x) i b h is = ap (option_map (λ (n : ℕ × Item). n.1.body)) (get_front f.nodes ((length f.spine + 1, x) ∷ []) i h) ∙ is
 
-marked_path : (f : Forest Item) (marker : Option Item) → AreBelow (length f.nodes) (map (λ (i : TreeIndex). i.0) f.spine) → path_of (with_child f marker) ≡ path_of f
-marked_path f None below = refl
-marked_path f (Some x) below = path_below f.nodes (f.nodes ++ (length f.spine + 1, x) ∷ []) (length f.nodes) f.spine (λ i h. ap (option_map (λ (n : ℕ × Item). n.1.body)) (get_front f.nodes _ i h)) below
+marked_path : (options : Options) (f : Forest Item) (marker : Option Item) → AreBelow (length f.nodes) (map (λ (i : TreeIndex). i.0) f.spine) → path_of options (with_child f marker) ≡ path_of options f
+marked_path options f None below = refl
+marked_path options f (Some x) below = path_below options f.nodes (f.nodes ++ (length f.spine + 1, x) ∷ []) (length f.nodes) f.spine (λ i h. ap (option_map (λ (n : ℕ × Item). n.1.body)) (get_front f.nodes _ i h)) below
 
 -- what is remembered behind the markers of an empty item
 abbrev pub empty_item_read : Reading → Option Item → ℕ → Reading
 empty_item_read r marker e = record r { tree = with_child r.tree marker; empty_item = Some e }
 
-empty_by : (d : Document) (defined : Tables) (r : Reading) (p : Place) (lines : List Place) (item : (ℕ × ℕ × ℕ) × Rest) (marker : Option Item) (rest : Rest) (e : ℕ) (t : Bool) → next_is_blank (ListItem item.0.2 ∷ path_of r.tree) lines ≡ t → IsForest r.tree → item_at p.rest ≡ Some item
+empty_by : (d : Document) (defined : Tables) (r : Reading) (p : Place) (lines : List Place) (item : (ℕ × ℕ × ℕ) × Rest) (marker : Option Item) (rest : Rest) (e : ℕ) (t : Bool) → next_is_blank (ListItem item.0.2 ∷ path_of d.options r.tree) lines ≡ t → IsForest r.tree → item_at p.rest ≡ Some item
     → task_behind d.options p.line item.1 ≡ (marker, rest) → is_blank_rest rest ≡ true → start_of (length d.text) lines ≡ e → r.empty_item ≡ None → ReadyAt d defined r.tree r.blank (Inside p) lines
     → ReadyEmpty d defined (empty_item_read (item_opened (offset p) item.0.0 item.0.1 item.0.2 r) marker e) e lines
 empty_by d defined r p lines item marker rest e true next forest is task blank e_is none ready =
@@ -392,9 +393,9 @@ empty_by d defined r p lines item marker rest e true next forest is task blank e
     let place : TreeIndex = record { 0 = length g.nodes } in
     let item_node : ℕ → Item = λ k. node_of (offset p) 0 (ListItemBody k) in
     let from : From = task_alone marker (at_rest p rest) (Some e) in
-    let opens : Opens d (path_of r.tree) p lines (OpensNode (item_head p byte number 0) from lines) =
-    subst (Opens d (path_of r.tree) p lines) (ap (item_opening d (path_of r.tree) p lines (byte, number, columns)) task ∙ empty_opening d (path_of r.tree) p lines byte number columns marker rest e blank next e_is)
-    (opens_item d (path_of r.tree) p lines item is) in
+    let opens : Opens d (path_of d.options r.tree) p lines (OpensNode (item_head p byte number 0) from lines) =
+    subst (Opens d (path_of d.options r.tree) p lines) (ap (item_opening d (path_of d.options r.tree) p lines (byte, number, columns)) task ∙ empty_opening d (path_of d.options r.tree) p lines byte number columns marker rest e blank next e_is)
+    (opens_item d (path_of d.options r.tree) p lines item is) in
     let done = item_is_open d defined r p lines byte number 0 from forest opens none ready in
     let more : length (appended g (item_node columns)).nodes ≡ length g.nodes + 1 = length-append g.nodes ((length g.spine + 1, item_node columns) ∷ []) in
     let fewer : length (appended g (item_node 0)).nodes ≡ length g.nodes + 1 = length-append g.nodes ((length g.spine + 1, item_node 0) ∷ []) in
@@ -403,8 +404,8 @@ empty_by d defined r p lines item marker rest e true next forest is task blank e
     let marked : ReadyAt d defined (with_child (pushed (appended g (item_node 0)) place) marker) false (Blanks e) lines =
     ready_marked d defined (pushed (appended g (item_node 0)) place) marker (at_rest p rest) (Some e) lines place g.spine 0 refl (item_body g (offset p) 0) done.0 in
     let same = ap (λ z. with_child z marker) (sym (emptied_opened g (offset p) columns)) ∙ emptied_marked (appended g (item_node columns)) place marker within in
-    let path : path_of (with_child q.tree marker) ≡ ListItem columns ∷ path_of r.tree =
-    marked_path q.tree marker below ∙ opened_path g (offset p) 0 columns (path_of r.tree) done.0.completes.below done.1 in
+    let path : path_of d.options (with_child q.tree marker) ≡ ListItem columns ∷ path_of d.options r.tree =
+    marked_path d.options q.tree marker below ∙ opened_path d.options g (offset p) 0 columns (path_of d.options r.tree) done.0.completes.below done.1 in
     record {
       place = place;
       outer = g.spine;
@@ -420,13 +421,13 @@ empty_by d defined r p lines item marker rest e false next forest is task blank 
     let q : Reading = item_opened (offset p) byte number columns r in
     let place : TreeIndex = record { 0 = length g.nodes } in
     let from : From = task_alone marker (at_rest p rest) None in
-    let opens : Opens d (path_of r.tree) p lines (OpensNode (item_head p byte number columns) from lines) =
-    subst (Opens d (path_of r.tree) p lines) (ap (item_opening d (path_of r.tree) p lines (byte, number, columns)) task ∙ line_opening d (path_of r.tree) p lines byte number columns marker rest blank next)
-    (opens_item d (path_of r.tree) p lines item is) in
+    let opens : Opens d (path_of d.options r.tree) p lines (OpensNode (item_head p byte number columns) from lines) =
+    subst (Opens d (path_of d.options r.tree) p lines) (ap (item_opening d (path_of d.options r.tree) p lines (byte, number, columns)) task ∙ line_opening d (path_of d.options r.tree) p lines byte number columns marker rest blank next)
+    (opens_item d (path_of d.options r.tree) p lines item is) in
     let done = item_is_open d defined r p lines byte number columns from forest opens none ready in
     let more : length q.tree.nodes ≡ length g.nodes + 1 = length-append g.nodes ((length g.spine + 1, node_of (offset p) 0 (ListItemBody columns)) ∷ []) in
     let marked : ReadyAt d defined (with_child q.tree marker) false Line lines = ready_marked d defined q.tree marker (at_rest p rest) None lines place g.spine columns refl (item_body g (offset p) columns) done.0 in
-    let path : path_of (with_child q.tree marker) ≡ ListItem columns ∷ path_of r.tree = marked_path q.tree marker done.0.completes.below ∙ done.1 in
+    let path : path_of d.options (with_child q.tree marker) ≡ ListItem columns ∷ path_of d.options r.tree = marked_path d.options q.tree marker done.0.completes.below ∙ done.1 in
     record {
       place = place;
       outer = g.spine;
@@ -443,7 +444,7 @@ pub ready_empty_item : (d : Document) (defined : Tables) (r : Reading) (p : Plac
     → ReadyAt d defined r.tree r.blank (Inside p) lines → Ready d defined (empty_item_read (item_opened (offset p) item.0.0 item.0.1 item.0.2 r) marker e) lines
 unfolding Ready
 ready_empty_item d defined r p lines item marker rest e forest is task blank e_is none ready =
-    empty_by d defined r p lines item marker rest e (next_is_blank (ListItem item.0.2 ∷ path_of r.tree) lines) refl forest is task blank e_is none ready
+    empty_by d defined r p lines item marker rest e (next_is_blank (ListItem item.0.2 ∷ path_of d.options r.tree) lines) refl forest is task blank e_is none ready
 
 -- what is opened where more of the line is left
 pub opened_behind : (marker : Option Item) (q : Reading) (old new : Rest) (e : ℕ) → ((x : Item) → marker ≡ Some x → is_task_marker x.body ≡ true) → length new.left < length old.left → q.empty_item ≡ None → is_in_item q.tree ≡ true

@@ -33,7 +33,7 @@ not_container false true list c h = cc
 not_container false false list c h = cc
 
 closed_container : (d : Document) (defined : Tables) (f : Forest Item) (run : Bool) (from : From) (lines : List Place) (e : ℕ) (ix : TreeIndex) (rest : List TreeIndex) (c : Container) (frames : List Frame) → frame_at f.nodes ix.0 ≡ Some (InContainer c)
-    → Ends (c ∷ path_in f.nodes rest) from lines → e ≡ end_before (length d.text) (path_in f.nodes rest) from lines → AreOpen f.nodes (ix ∷ rest) frames → CompletesAt d defined run frames f.nodes (ix.0 ∷ map (λ i. i.0) rest) from lines
+    → Ends (c ∷ path_in d.options f.nodes rest) from lines → e ≡ end_before (length d.text) (path_in d.options f.nodes rest) from lines → AreOpen f.nodes (ix ∷ rest) frames → CompletesAt d defined run frames f.nodes (ix.0 ∷ map (λ i. i.0) rest) from lines
     → ReadyAt d defined (closed_by f e (ix ∷ rest)) run Line lines
 unfolding ended
 closed_container d defined f run from lines e ix rest c [] is ends e_is o k = absurd o
@@ -41,8 +41,8 @@ closed_container d defined f run from lines e ix rest c (InList byte loose ∷ f
 closed_container d defined f run from lines e ix rest c (InContainer b ∷ frames) is ends e_is o k =
     let x : Some (InContainer c) ≡ Some (InContainer b) = sym is ∙ o.0 in
     let same : c ≡ b = cc in
-    let path : path_in f.nodes rest ≡ containers_of frames = open_path f.nodes rest frames o.1 in
-    let ends' : Ends (b ∷ containers_of frames) from lines = subst (λ p. Ends (b ∷ p) from lines) path (subst (λ z. Ends (z ∷ path_in f.nodes rest) from lines) same ends) in
+    let path : path_in d.options f.nodes rest ≡ containers_of frames = open_path d.options f.nodes rest frames o.1 in
+    let ends' : Ends (b ∷ containers_of frames) from lines = subst (λ p. Ends (b ∷ p) from lines) path (subst (λ z. Ends (z ∷ path_in d.options f.nodes rest) from lines) same ends) in
     let e' : end_before (length d.text) (containers_of frames) from lines ≡ e = ap (λ p. end_before (length d.text) p from lines) (sym path) ∙ sym e_is in
     record {
       frames = frames;
@@ -52,7 +52,7 @@ closed_container d defined f run from lines e ix rest c (InContainer b ∷ frame
 
 -- a container closed
 pub pop_container : (d : Document) (defined : Tables) (f : Forest Item) (run : Bool) (from : From) (lines : List Place) (e : ℕ) (ix : TreeIndex) (rest : List TreeIndex) (c : Container) → f.spine ≡ ix ∷ rest → frame_at f.nodes ix.0 ≡ Some (InContainer c)
-    → Ends (c ∷ path_in f.nodes rest) from lines → e ≡ end_before (length d.text) (path_in f.nodes rest) from lines → ReadyAt d defined f run from lines → ReadyAt d defined (closed_by f e (ix ∷ rest)) run Line lines
+    → Ends (c ∷ path_in d.options f.nodes rest) from lines → e ≡ end_before (length d.text) (path_in d.options f.nodes rest) from lines → ReadyAt d defined f run from lines → ReadyAt d defined (closed_by f e (ix ∷ rest)) run Line lines
 pop_container d defined f run from lines e ix rest c spine is ends e_is ready =
     closed_container d defined f run from lines e ix rest c ready.frames is ends e_is (subst (λ s. AreOpen f.nodes s ready.frames) spine ready.are_open)
     (subst (λ s. CompletesAt d defined run ready.frames f.nodes (map (λ i. i.0) s) from lines) spine ready.completes)
@@ -90,36 +90,36 @@ module _ (d : Document) (defined : Tables) (f : Forest Item) (run : Bool) (lines
       } in
       (q, refl)
 
-  popped_list : (frames : List Frame) → start_of (length d.text) lines ≡ e → Ends (path_in f.nodes rest) Line lines → AreOpen f.nodes (ix ∷ rest) frames → CompletesAt d defined run frames f.nodes (ix.0 ∷ map (λ i. i.0) rest) Line lines
+  popped_list : (frames : List Frame) → start_of (length d.text) lines ≡ e → Ends (path_in d.options f.nodes rest) Line lines → AreOpen f.nodes (ix ∷ rest) frames → CompletesAt d defined run frames f.nodes (ix.0 ∷ map (λ i. i.0) rest) Line lines
       → ReadyAt d defined (list_popped f e ix rest flags) run Line lines
   popped_list [] e_is ends o k = absurd o
   popped_list (InContainer c ∷ frames) e_is ends o k = absurd (not_container (flags.0 == 1) (flags.0 == 0) list c (sym (ap (option_and_then frame_of) is) ∙ o.0))
   popped_list (InList byte loose ∷ frames) e_is ends o k =
       let set = open_flags flags list number byte loose (sym (ap (option_and_then frame_of) is) ∙ o.0) in
-      let path : path_in f.nodes rest ≡ containers_of frames = open_path f.nodes rest frames o.1 in
+      let path : path_in d.options f.nodes rest ≡ containers_of frames = open_path d.options f.nodes rest frames o.1 in
       (list_left_open byte loose Line frames set.1 o.1 k.below.1
       (subst (λ z. CompletesAt d defined run frames (list_closed f.nodes ix.0 (suc (suc (suc (length (map (λ (i : TreeIndex). i.0) rest))))) loose z) (map (λ i. i.0) rest) Line lines) e_is
       (completes-pop_list d defined run byte loose frames f.nodes ix.0 (map (λ i. i.0) rest) lines (subst (λ p. Ends p Line lines) path ends) k))).0
 
   -- a list closed with what is around it
-  pub pop_list : start_of (length d.text) lines ≡ e → Ends (path_in f.nodes rest) Line lines → ReadyAt d defined f run Line lines → ReadyAt d defined (list_popped f e ix rest flags) run Line lines
+  pub pop_list : start_of (length d.text) lines ≡ e → Ends (path_in d.options f.nodes rest) Line lines → ReadyAt d defined f run Line lines → ReadyAt d defined (list_popped f e ix rest flags) run Line lines
   pop_list e_is ends ready =
       popped_list ready.frames e_is ends (subst (λ s. AreOpen f.nodes s ready.frames) spine ready.are_open)
       (subst (λ s. CompletesAt d defined run ready.frames f.nodes (map (λ i. i.0) s) Line lines) spine ready.completes)
 
-  left_list : (p : Place) (opening : Opening) (frames : List Frame) → Opens d (path_in f.nodes rest) p lines opening → OpensAway list e opening → AreOpen f.nodes (ix ∷ rest) frames → CompletesAt d defined run frames f.nodes (ix.0 ∷ map (λ i. i.0) rest) (Inside p) lines
+  left_list : (p : Place) (opening : Opening) (frames : List Frame) → Opens d (path_in d.options f.nodes rest) p lines opening → OpensAway list e opening → AreOpen f.nodes (ix ∷ rest) frames → CompletesAt d defined run frames f.nodes (ix.0 ∷ map (λ i. i.0) rest) (Inside p) lines
       → (q : ReadyAt d defined (list_popped f e ix rest flags) run (Inside p) lines) × IsPlain q.frames
   left_list p opening [] opens away o k = absurd o
   left_list p opening (InContainer c ∷ frames) opens away o k = absurd (not_container (flags.0 == 1) (flags.0 == 0) list c (sym (ap (option_and_then frame_of) is) ∙ o.0))
   left_list p opening (InList byte loose ∷ frames) opens away o k =
       let set = open_flags flags list number byte loose (sym (ap (option_and_then frame_of) is) ∙ o.0) in
-      let path : path_in f.nodes rest ≡ containers_of frames = open_path f.nodes rest frames o.1 in
+      let path : path_in d.options f.nodes rest ≡ containers_of frames = open_path d.options f.nodes rest frames o.1 in
       let left = list_left_open byte loose (Inside p) frames set.1 o.1 k.below.1
       (completes-close d defined run byte loose frames f.nodes ix.0 (map (λ i. i.0) rest) p lines e opening (subst (λ z. Opens d z p lines opening) path opens) (subst (λ z. OpensAway z e opening) set.0 away) k) in
       (left.0, subst IsPlain (sym left.1) k.shape.0)
 
   -- a list closed before a block that ends it
-  pub leave_list : (p : Place) (opening : Opening) → Opens d (path_in f.nodes rest) p lines opening → OpensAway list e opening → ReadyAt d defined f run (Inside p) lines → (q : ReadyAt d defined (list_popped f e ix rest flags) run (Inside p) lines) × IsPlain q.frames
+  pub leave_list : (p : Place) (opening : Opening) → Opens d (path_in d.options f.nodes rest) p lines opening → OpensAway list e opening → ReadyAt d defined f run (Inside p) lines → (q : ReadyAt d defined (list_popped f e ix rest flags) run (Inside p) lines) × IsPlain q.frames
   leave_list p opening opens away ready =
       left_list p opening ready.frames opens away (subst (λ s. AreOpen f.nodes s ready.frames) spine ready.are_open)
       (subst (λ s. CompletesAt d defined run ready.frames f.nodes (map (λ i. i.0) s) (Inside p) lines) spine ready.completes)

@@ -22,6 +22,7 @@ use Rattle.first_pass.specs.State.{AreOpen, ReadyAt, ReadyBeforeLine, ReadyInIte
 use Rattle.first_pass.specs.Completed.{CompletedAt, CompletedBeforeLine, CompletedInItem, CompletedWith, IsCompleted}
 use Rattle.first_pass_lists.proofs.BodyLemmas.{body-changed}
 use Rattle.first_pass.proofs.OpenLemmas.{open_path}
+use Rattle.first_pass_items.specs.declared.option_set.Options.{Options}
 
 -- open nodes are in one way what frames say
 open_length : (nodes : List (ℕ × Item)) (spine : List TreeIndex) (frames : List Frame) → AreOpen nodes spine frames
@@ -50,7 +51,7 @@ standing_of defined tree run = record { nodes = tree.nodes; list = NoList; run =
 abbrev AlwaysReady : Document → Tables → Forest Item → Bool → From → List Place → Type 0
 AlwaysReady d defined tree run from lines = (more : Names) → Extends more d.names → ReadyAt (document d.text d.options more) defined tree run from lines
 
-completed_at : (d : Document) (defined : Tables) (tree : Forest Item) (run : Bool) (from : From) (lines : List Place) → CanGoOn (path_of tree) from
+completed_at : (d : Document) (defined : Tables) (tree : Forest Item) (run : Bool) (from : From) (lines : List Place) → CanGoOn (path_of d.options tree) from
     → AlwaysReady d defined tree run from lines → CompletedAt d defined tree run from lines
 unfolding standing_of
 completed_at d defined tree run from lines can ready =
@@ -61,44 +62,44 @@ completed_at d defined tree run from lines can ready =
     let at_last = ready more x in
     subst (λ z. Completes (document d.text d.options more) z places (standing_of defined tree run) from lines)
     (open_once tree.nodes tree.spine at_last.frames now.frames at_last.are_open now.are_open) at_last.completes in
-    let inside = subst (λ z. CanGoOn z from) (open_path tree.nodes tree.spine now.frames now.are_open) can in
+    let inside = subst (λ z. CanGoOn z from) (open_path d.options tree.nodes tree.spine now.frames now.are_open) can in
     let size = open_length tree.nodes tree.spine now.frames now.are_open in
     let done = completion_derives d now.frames places (standing_of defined tree run) from lines size inside always in
     record { frames = now.frames; are_open = now.are_open; completion = done.0; derives = done.1 }
 
 -- an empty item is a container
-item_goes_on : (f : Forest Item) (ix : TreeIndex) (rest : List TreeIndex) (columns : ℕ) (from : From) → f.spine ≡ ix ∷ rest
-    → body_at f.nodes ix.0 ≡ Some (ListItemBody columns) → CanGoOn (path_of f) from
-item_goes_on f ix rest columns from spine item =
-    subst (λ (s : List TreeIndex). CanGoOn (path_in f.nodes s) from) (sym spine)
-    (subst (λ (o : Option ItemBody). CanGoOn (with_container (option_and_then container_of o) (path_in f.nodes rest)) from) (sym item) tt)
+item_goes_on : (options : Options) (f : Forest Item) (ix : TreeIndex) (rest : List TreeIndex) (columns : ℕ) (from : From) → f.spine ≡ ix ∷ rest
+    → body_at f.nodes ix.0 ≡ Some (ListItemBody columns) → CanGoOn (path_of options f) from
+item_goes_on options f ix rest columns from spine item =
+    subst (λ (s : List TreeIndex). CanGoOn (path_in options f.nodes s) from) (sym spine)
+    (subst (λ (o : Option ItemBody). CanGoOn (with_container (option_and_then (container_of options) o) (path_in options f.nodes rest)) from) (sym item) tt)
 
 module _ (d : Document) (defined : Tables) (r : Reading) (lines : List Place) (e : ℕ) (empty : ReadyEmpty d defined r e lines) where
   zero_is : emptied r.tree r.tree.spine ≡ with_body_at r.tree empty.place (ListItemBody 0)
   zero_is = ap (emptied r.tree) empty.spine
 
-  zero_goes_on : CanGoOn (path_of (emptied r.tree r.tree.spine)) (Blanks e)
+  zero_goes_on : CanGoOn (path_of d.options (emptied r.tree r.tree.spine)) (Blanks e)
   zero_goes_on =
       let change : Item → Item = λ x. record { start = x.start; «end» = x.«end»; body = ListItemBody 0 } in
       let body = body-changed r.tree.nodes empty.place.0 change (ListItemBody empty.columns) (ListItemBody 0) empty.item (λ x h. refl) in
-      subst (λ f. CanGoOn (path_of f) (Blanks e)) (sym zero_is)
-      (item_goes_on (with_body_at r.tree empty.place (ListItemBody 0)) empty.place empty.outer 0 (Blanks e) empty.spine body)
+      subst (λ f. CanGoOn (path_of d.options f) (Blanks e)) (sym zero_is)
+      (item_goes_on d.options (with_body_at r.tree empty.place (ListItemBody 0)) empty.place empty.outer 0 (Blanks e) empty.spine body)
 
   before_line : (t : Bool) → ((more : Names) → Extends more d.names → ReadyBeforeLine (document d.text d.options more) defined r.tree e lines t)
       → CompletedBeforeLine d defined r.tree e lines t
   before_line true ready = completed_at d defined (emptied r.tree r.tree.spine) false (Blanks e) lines zero_goes_on ready
-  before_line false ready = completed_at d defined r.tree false Line lines (line_goes_on (path_of r.tree)) ready
+  before_line false ready = completed_at d defined r.tree false Line lines (line_goes_on (path_of d.options r.tree)) ready
 
   in_item : (blank : Bool)
       → ((more : Names) → Extends more d.names → ReadyInItem (document d.text d.options more) defined r.tree e lines blank)
       → CompletedInItem d defined r.tree e lines blank
   in_item true ready =
-      completed_at d defined r.tree true (Blanks e) lines (item_goes_on r.tree empty.place empty.outer empty.columns (Blanks e) empty.spine empty.item) ready
-  in_item false ready = before_line (next_is_blank (path_of r.tree) lines) ready
+      completed_at d defined r.tree true (Blanks e) lines (item_goes_on d.options r.tree empty.place empty.outer empty.columns (Blanks e) empty.spine empty.item) ready
+  in_item false ready = before_line (next_is_blank (path_of d.options r.tree) lines) ready
 
 ready_with : (d : Document) (defined : Tables) (r : Reading) (lines : List Place) (o : Option ℕ)
     → ((more : Names) → Extends more d.names → ReadyWith (document d.text d.options more) defined r lines o) → CompletedWith d defined r lines o
-ready_with d defined r lines None ready = completed_at d defined r.tree r.blank Line lines (line_goes_on (path_of r.tree)) ready
+ready_with d defined r lines None ready = completed_at d defined r.tree r.blank Line lines (line_goes_on (path_of d.options r.tree)) ready
 ready_with d defined r lines (Some e) ready =
     in_item d defined r lines e (ready d.names (extends_none d.names)) r.blank (λ more x. let empty = ready more x in empty.ready)
 

@@ -80,7 +80,7 @@ module _ (d : Document) (defined : Tables) (lines : List Place) (at : AreAt d.te
   whole_in_item : (r : Reading) (e : ℕ) → ReadyEmpty d defined r e lines → (blank : Bool) → CompletedInItem d defined r.tree e lines blank
       → IsWholeOnce d.names r.tree.nodes
   whole_in_item r e empty true c = whole_at r.tree true (Blanks e) tt c
-  whole_in_item r e empty false c = whole_before_line r e empty (next_is_blank (path_of r.tree) lines) c
+  whole_in_item r e empty false c = whole_before_line r e empty (next_is_blank (path_of d.options r.tree) lines) c
 
   whole_with : (r : Reading) (o : Option ℕ) → ReadyWith d defined r lines o → CompletedWith d defined r lines o → IsWholeOnce d.names r.tree.nodes
   whole_with r None ready c = whole_at r.tree r.blank Line tt c

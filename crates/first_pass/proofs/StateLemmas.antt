@@ -96,7 +96,7 @@ framed_open nodes ix rest (frame ∷ frames) o = (frame, o.0)
 
 module _ (d : Document) (defined : Tables) (r : Reading) (lines : List Place) (e : ℕ) (ix : TreeIndex) (rest : List TreeIndex) (forest : IsForest r.tree) (spine : r.tree.spine ≡ ix ∷ rest) (e_is : start_of (length d.text) lines ≡ e) where
   -- the innermost open node closed before the next line, where no item is empty
-  pop_as : (b : Option ItemBody) (frame : Frame) → body_at r.tree.nodes ix.0 ≡ b → option_and_then frame_of b ≡ Some frame → Ends (with_container (option_and_then container_of b) (path_in r.tree.nodes rest)) Line lines
+  pop_as : (b : Option ItemBody) (frame : Frame) → body_at r.tree.nodes ix.0 ≡ b → option_and_then frame_of b ≡ Some frame → Ends (with_container (option_and_then (container_of d.options) b) (path_in d.options r.tree.nodes rest)) Line lines
       → ReadyAt d defined r.tree r.blank Line lines → ReadyAt d defined (popped_by r (closed_by r.tree e (ix ∷ rest)) ix b).tree r.blank Line lines
   pop_as None frame is framed ends ready = cc
   pop_as (Some (BlockQuoteBody kind)) frame is framed ends ready =
@@ -107,10 +107,10 @@ module _ (d : Document) (defined : Tables) (r : Reading) (lines : List Place) (e
       pop_list d defined r.tree r.blank lines e ix rest flags list number forest spine is e_is ends ready
   pop_as (Some b) frame is framed ends ready = cc
 
-  ends_at : Ends (path_of r.tree) Line lines → Ends (path_in r.tree.nodes (ix ∷ rest)) Line lines
-  ends_at ends = subst (λ s. Ends (path_in r.tree.nodes s) Line lines) spine ends
+  ends_at : Ends (path_of d.options r.tree) Line lines → Ends (path_in d.options r.tree.nodes (ix ∷ rest)) Line lines
+  ends_at ends = subst (λ s. Ends (path_in d.options r.tree.nodes s) Line lines) spine ends
 
-  pop_plain : Ends (path_of r.tree) Line lines → ReadyAt d defined r.tree r.blank Line lines → ReadyAt d defined (popped e r).tree r.blank Line lines
+  pop_plain : Ends (path_of d.options r.tree) Line lines → ReadyAt d defined r.tree r.blank Line lines → ReadyAt d defined (popped e r).tree r.blank Line lines
   pop_plain ends ready =
       let o : AreOpen r.tree.nodes (ix ∷ rest) ready.frames = subst (λ s. AreOpen r.tree.nodes s ready.frames) spine ready.are_open in
       let frame = framed_open r.tree.nodes ix rest ready.frames o in
@@ -138,25 +138,25 @@ module _ (d : Document) (defined : Tables) (r : Reading) (lines : List Place) (e
   popped_item : (columns : ℕ) → body_at r.tree.nodes ix.0 ≡ Some (ListItemBody columns) → popped e r ≡ record r { tree = closed_by r.tree e (ix ∷ rest); empty_item = None }
   popped_item columns item = popped_is e r ix rest spine ∙ ap (popped_by r (closed_by r.tree e (ix ∷ rest)) ix) item
 
-  pop_none : r.empty_item ≡ None → Ends (path_of r.tree) Line lines → ReadyAt d defined r.tree r.blank Line lines → Ready d defined (popped e r) lines
+  pop_none : r.empty_item ≡ None → Ends (path_of d.options r.tree) Line lines → ReadyAt d defined r.tree r.blank Line lines → Ready d defined (popped e r) lines
   pop_none none ends ready =
       ready_plain d defined (popped e r) lines (popped-none none) (subst (λ b. ReadyAt d defined (popped e r).tree b Line lines) (sym popped-blank) (pop_plain ends ready))
 
-  closed_item : (columns x : ℕ) (blank : Bool) → r.blank ≡ blank → (blank ≡ true → columns ≡ 0) → body_at r.tree.nodes ix.0 ≡ Some (ListItemBody columns) → Ends (path_of r.tree) Line lines → ReadyInItem d defined r.tree x lines blank → ReadyAt d defined (closed_by r.tree e (ix ∷ rest)) blank Line lines
+  closed_item : (columns x : ℕ) (blank : Bool) → r.blank ≡ blank → (blank ≡ true → columns ≡ 0) → body_at r.tree.nodes ix.0 ≡ Some (ListItemBody columns) → Ends (path_of d.options r.tree) Line lines → ReadyInItem d defined r.tree x lines blank → ReadyAt d defined (closed_by r.tree e (ix ∷ rest)) blank Line lines
   closed_item columns x true is none item ends ready =
-      let c : container_at r.tree.nodes ix ≡ Some (ListItem columns) = ap (option_and_then container_of) item in
-      let ends' : Ends (ListItem columns ∷ path_in r.tree.nodes rest) Line lines = subst (λ o. Ends (with_container o (path_in r.tree.nodes rest)) Line lines) c (ends_at ends) in
-      let ends0 : Ends (ListItem 0 ∷ path_in r.tree.nodes rest) Line lines = subst (λ n. Ends (ListItem n ∷ path_in r.tree.nodes rest) Line lines) (none refl) ends' in
-      let last : e ≡ end_before (length d.text) (path_in r.tree.nodes rest) (Blanks x) lines =
-      sym (ap (λ t. if t then x else start_of (length d.text) lines) (not_on (path_in r.tree.nodes rest) lines ends0) ∙ e_is) in
-      pop_container d defined r.tree true (Blanks x) lines e ix rest (ListItem columns) spine (ap (option_and_then frame_of) item) (not_blank (ListItem columns ∷ path_in r.tree.nodes rest) lines ends') last ready
+      let c : container_at d.options r.tree.nodes ix ≡ Some (ListItem columns) = ap (option_and_then (container_of d.options)) item in
+      let ends' : Ends (ListItem columns ∷ path_in d.options r.tree.nodes rest) Line lines = subst (λ o. Ends (with_container o (path_in d.options r.tree.nodes rest)) Line lines) c (ends_at ends) in
+      let ends0 : Ends (ListItem 0 ∷ path_in d.options r.tree.nodes rest) Line lines = subst (λ n. Ends (ListItem n ∷ path_in d.options r.tree.nodes rest) Line lines) (none refl) ends' in
+      let last : e ≡ end_before (length d.text) (path_in d.options r.tree.nodes rest) (Blanks x) lines =
+      sym (ap (λ t. if t then x else start_of (length d.text) lines) (not_on (path_in d.options r.tree.nodes rest) lines ends0) ∙ e_is) in
+      pop_container d defined r.tree true (Blanks x) lines e ix rest (ListItem columns) spine (ap (option_and_then frame_of) item) (not_blank (ListItem columns ∷ path_in d.options r.tree.nodes rest) lines ends') last ready
   closed_item columns x false is none item ends ready =
-      let c : container_at r.tree.nodes ix ≡ Some (ListItem columns) = ap (option_and_then container_of) item in
-      let ends' : Ends (ListItem columns ∷ path_in r.tree.nodes rest) Line lines = subst (λ o. Ends (with_container o (path_in r.tree.nodes rest)) Line lines) c (ends_at ends) in
-      let now : ReadyAt d defined r.tree false Line lines = subst (ReadyBeforeLine d defined r.tree x lines) (not_blank (path_of r.tree) lines ends) ready in
+      let c : container_at d.options r.tree.nodes ix ≡ Some (ListItem columns) = ap (option_and_then (container_of d.options)) item in
+      let ends' : Ends (ListItem columns ∷ path_in d.options r.tree.nodes rest) Line lines = subst (λ o. Ends (with_container o (path_in d.options r.tree.nodes rest)) Line lines) c (ends_at ends) in
+      let now : ReadyAt d defined r.tree false Line lines = subst (ReadyBeforeLine d defined r.tree x lines) (not_blank (path_of d.options r.tree) lines ends) ready in
       pop_container d defined r.tree false Line lines e ix rest (ListItem columns) spine (ap (option_and_then frame_of) item) ends' (sym e_is) now
 
-  pop_with : (o : Option ℕ) → r.empty_item ≡ o → Ends (path_of r.tree) Line lines → ReadyWith d defined r lines o → Ready d defined (popped e r) lines
+  pop_with : (o : Option ℕ) → r.empty_item ≡ o → Ends (path_of d.options r.tree) Line lines → ReadyWith d defined r lines o → Ready d defined (popped e r) lines
   pop_with None none ends ready = pop_none none ends ready
   pop_with (Some x) some ends ready =
       let same : ready.place ∷ ready.outer ≡ ix ∷ rest = sym ready.spine ∙ spine in
@@ -166,54 +166,54 @@ module _ (d : Document) (defined : Tables) (r : Reading) (lines : List Place) (e
       (ready_plain d defined (record r { tree = closed_by r.tree e (ix ∷ rest); empty_item = None }) lines refl (closed_item ready.columns x r.blank refl ready.none item ends ready.ready))
 
 -- the innermost open node closed before the next line
-pub ready_pop : (d : Document) (defined : Tables) (r : Reading) (lines : List Place) (e : ℕ) (ix : TreeIndex) (rest : List TreeIndex) → IsForest r.tree → r.tree.spine ≡ ix ∷ rest → start_of (length d.text) lines ≡ e → Ends (path_of r.tree) Line lines → Ready d defined r lines → Ready d defined (popped e r) lines
+pub ready_pop : (d : Document) (defined : Tables) (r : Reading) (lines : List Place) (e : ℕ) (ix : TreeIndex) (rest : List TreeIndex) → IsForest r.tree → r.tree.spine ≡ ix ∷ rest → start_of (length d.text) lines ≡ e → Ends (path_of d.options r.tree) Line lines → Ready d defined r lines → Ready d defined (popped e r) lines
 unfolding Ready
 ready_pop d defined r lines e ix rest forest spine e_is ends ready = pop_with d defined r lines e ix rest forest spine e_is r.empty_item refl ends ready
 
 -- closing changes no container
-pub same_path : (nodes other : List (ℕ × Item)) → ((i : ℕ) → option_and_then container_of (body_at other i) ≡ option_and_then container_of (body_at nodes i)) → (s : List TreeIndex) → path_in other s ≡ path_in nodes s
-same_path nodes other h [] = refl
-same_path nodes other h (ix ∷ s) = ap (λ c. with_container c (path_in other s)) (h ix.0) ∙ ap (with_container (container_at nodes ix)) (same_path nodes other h s)
+pub same_path : (options : Options) (nodes other : List (ℕ × Item)) → ((i : ℕ) → option_and_then (container_of options) (body_at other i) ≡ option_and_then (container_of options) (body_at nodes i)) → (s : List TreeIndex) → path_in options other s ≡ path_in options nodes s
+same_path options nodes other h [] = refl
+same_path options nodes other h (ix ∷ s) = ap (λ c. with_container c (path_in options other s)) (h ix.0) ∙ ap (with_container (container_at options nodes ix)) (same_path options nodes other h s)
 
-tight_container : (b : ItemBody) → container_of (tight_body b) ≡ container_of b
-tight_container ParagraphBody = refl
-tight_container b = refl
+tight_container : (options : Options) (b : ItemBody) → container_of options (tight_body b) ≡ container_of options b
+tight_container options ParagraphBody = refl
+tight_container options b = refl
 
-tightened_container : (t : Bool) (x : Item) → container_of (if t then record { start = x.start; «end» = x.«end»; body = tight_body x.body } else x).body ≡ container_of x.body
-tightened_container true x = tight_container x.body
-tightened_container false x = refl
+tightened_container : (options : Options) (t : Bool) (x : Item) → container_of options (if t then record { start = x.start; «end» = x.«end»; body = tight_body x.body } else x).body ≡ container_of options x.body
+tightened_container options true x = tight_container options x.body
+tightened_container options false x = refl
 
-run_by : (t : Bool) (depth : ℕ) (n : ℕ × Item) (nodes : List (ℕ × Item)) (i : ℕ) → ((j : ℕ) → option_and_then container_of (body_at (tight_run depth nodes) j) ≡ option_and_then container_of (body_at nodes j))
-    → option_and_then container_of (body_at (if t then tightened (depth + 2) n ∷ tight_run depth nodes else n ∷ nodes) i) ≡ option_and_then container_of (body_at (n ∷ nodes) i)
-run_by true depth n nodes zero h = tightened_container (n.0 == (depth + 2)) n.1
-run_by true depth n nodes (suc i) h = h i
-run_by false depth n nodes i h = refl
+run_by : (options : Options) (t : Bool) (depth : ℕ) (n : ℕ × Item) (nodes : List (ℕ × Item)) (i : ℕ) → ((j : ℕ) → option_and_then (container_of options) (body_at (tight_run depth nodes) j) ≡ option_and_then (container_of options) (body_at nodes j))
+    → option_and_then (container_of options) (body_at (if t then tightened (depth + 2) n ∷ tight_run depth nodes else n ∷ nodes) i) ≡ option_and_then (container_of options) (body_at (n ∷ nodes) i)
+run_by options true depth n nodes zero h = tightened_container options (n.0 == (depth + 2)) n.1
+run_by options true depth n nodes (suc i) h = h i
+run_by options false depth n nodes i h = refl
 
-run_containers : (depth : ℕ) (nodes : List (ℕ × Item)) (i : ℕ) → option_and_then container_of (body_at (tight_run depth nodes) i) ≡ option_and_then container_of (body_at nodes i)
+run_containers : (options : Options) (depth : ℕ) (nodes : List (ℕ × Item)) (i : ℕ) → option_and_then (container_of options) (body_at (tight_run depth nodes) i) ≡ option_and_then (container_of options) (body_at nodes i)
 unfolding tight_run
-run_containers depth [] i = refl
-run_containers depth (n ∷ nodes) i = run_by (nat_lt depth n.0) depth n nodes i (λ j. run_containers depth nodes j)
+run_containers options depth [] i = refl
+run_containers options depth (n ∷ nodes) i = run_by options (nat_lt depth n.0) depth n nodes i (λ j. run_containers options depth nodes j)
 
-tight_containers : (depth from : ℕ) (nodes : List (ℕ × Item)) (i : ℕ) → option_and_then container_of (body_at (tight_at depth from nodes) i) ≡ option_and_then container_of (body_at nodes i)
+tight_containers : (options : Options) (depth from : ℕ) (nodes : List (ℕ × Item)) (i : ℕ) → option_and_then (container_of options) (body_at (tight_at depth from nodes) i) ≡ option_and_then (container_of options) (body_at nodes i)
 unfolding tight_at
-tight_containers depth zero nodes i = run_containers depth nodes i
-tight_containers depth (suc from) [] i = refl
-tight_containers depth (suc from) (n ∷ nodes) zero = refl
-tight_containers depth (suc from) (n ∷ nodes) (suc i) = tight_containers depth from nodes i
+tight_containers options depth zero nodes i = run_containers options depth nodes i
+tight_containers options depth (suc from) [] i = refl
+tight_containers options depth (suc from) (n ∷ nodes) zero = refl
+tight_containers options depth (suc from) (n ∷ nodes) (suc i) = tight_containers options depth from nodes i
 
 module _ (e : ℕ) (r : Reading) (ix : TreeIndex) (rest : List TreeIndex) where
-  pub closed_containers : (i : ℕ) → option_and_then container_of (body_at (closed_by r.tree e (ix ∷ rest)).nodes i) ≡ option_and_then container_of (body_at r.tree.nodes i)
-  closed_containers i = ap (option_and_then container_of) (body-kept r.tree.nodes ix.0 i (λ x. record { start = x.start; «end» = e; body = x.body }) (λ x. refl))
+  pub closed_containers : (options : Options) (i : ℕ) → option_and_then (container_of options) (body_at (closed_by r.tree e (ix ∷ rest)).nodes i) ≡ option_and_then (container_of options) (body_at r.tree.nodes i)
+  closed_containers options i = ap (option_and_then (container_of options)) (body-kept r.tree.nodes ix.0 i (λ x. record { start = x.start; «end» = e; body = x.body }) (λ x. refl))
 
-  list_containers : (t : Bool) (i : ℕ) → option_and_then container_of (body_at (if t then tight_items (closed_by r.tree e (ix ∷ rest)) ix else closed_by r.tree e (ix ∷ rest)).nodes i) ≡ option_and_then container_of (body_at r.tree.nodes i)
-  list_containers true i = tight_containers _ (ix.0 + 1) (closed_by r.tree e (ix ∷ rest)).nodes i ∙ closed_containers i
-  list_containers false i = closed_containers i
+  list_containers : (options : Options) (t : Bool) (i : ℕ) → option_and_then (container_of options) (body_at (if t then tight_items (closed_by r.tree e (ix ∷ rest)) ix else closed_by r.tree e (ix ∷ rest)).nodes i) ≡ option_and_then (container_of options) (body_at r.tree.nodes i)
+  list_containers options true i = tight_containers options _ (ix.0 + 1) (closed_by r.tree e (ix ∷ rest)).nodes i ∙ closed_containers options i
+  list_containers options false i = closed_containers options i
 
-  popped_containers : (b : Option ItemBody) (i : ℕ) → option_and_then container_of (body_at (popped_by r (closed_by r.tree e (ix ∷ rest)) ix b).tree.nodes i) ≡ option_and_then container_of (body_at r.tree.nodes i)
-  popped_containers None i = closed_containers i
-  popped_containers (Some (ListBody flags list number)) i = list_containers (bit_and flags.0 1 == 1) i
-  popped_containers (Some (ListItemBody columns)) i = closed_containers i
-  popped_containers (Some b) i = closed_containers i
+  popped_containers : (options : Options) (b : Option ItemBody) (i : ℕ) → option_and_then (container_of options) (body_at (popped_by r (closed_by r.tree e (ix ∷ rest)) ix b).tree.nodes i) ≡ option_and_then (container_of options) (body_at r.tree.nodes i)
+  popped_containers options None i = closed_containers options i
+  popped_containers options (Some (ListBody flags list number)) i = list_containers options (bit_and flags.0 1 == 1) i
+  popped_containers options (Some (ListItemBody columns)) i = closed_containers options i
+  popped_containers options (Some b) i = closed_containers options i
 
   list_spine : (t : Bool) → (if t then tight_items (closed_by r.tree e (ix ∷ rest)) ix else closed_by r.tree e (ix ∷ rest)).spine ≡ rest
   list_spine true = refl
@@ -225,10 +225,10 @@ module _ (e : ℕ) (r : Reading) (ix : TreeIndex) (rest : List TreeIndex) where
   spine_by (Some (ListItemBody columns)) = refl
   spine_by (Some b) = refl
 
-  pub popped_paths : r.tree.spine ≡ ix ∷ rest → (s : List TreeIndex) → path_in (popped e r).tree.nodes s ≡ path_in r.tree.nodes s
-  popped_paths spine s =
-      ap (λ (q : Reading). path_in q.tree.nodes s) (popped_is e r ix rest spine)
-      ∙ same_path r.tree.nodes (popped_by r (closed_by r.tree e (ix ∷ rest)) ix (body_at r.tree.nodes ix.0)).tree.nodes (popped_containers (body_at r.tree.nodes ix.0)) s
+  pub popped_paths : (options : Options) → r.tree.spine ≡ ix ∷ rest → (s : List TreeIndex) → path_in options (popped e r).tree.nodes s ≡ path_in options r.tree.nodes s
+  popped_paths options spine s =
+      ap (λ (q : Reading). path_in options q.tree.nodes s) (popped_is e r ix rest spine)
+      ∙ same_path options r.tree.nodes (popped_by r (closed_by r.tree e (ix ∷ rest)) ix (body_at r.tree.nodes ix.0)).tree.nodes (popped_containers options (body_at r.tree.nodes ix.0)) s
 
   pub popped_spine : r.tree.spine ≡ ix ∷ rest → (popped e r).tree.spine ≡ rest
   popped_spine spine = ap (λ (q : Reading). q.tree.spine) (popped_is e r ix rest spine) ∙ spine_by (body_at r.tree.nodes ix.0)
@@ -249,11 +249,11 @@ pub record ClosedSoFar (old now : Reading) (kept at : ℕ) : Type 0 where
   pub enough : kept ≤ length now.tree.spine
   pub fewer : length now.tree.spine ≤ length old.tree.spine
   pub spine : now.tree.spine ≡ outer (length now.tree.spine) old.tree.spine
-  pub paths : (s : List TreeIndex) → path_in now.tree.nodes s ≡ path_in old.tree.nodes s
-  pub ready : (d : Document) (defined : Tables) (lines : List Place) → start_of (length d.text) lines ≡ at → NoMore old.tree kept lines → Ready d defined old lines → Ready d defined now lines
+  pub paths : (options : Options) (s : List TreeIndex) → path_in options now.tree.nodes s ≡ path_in options old.tree.nodes s
+  pub ready : (d : Document) (defined : Tables) (lines : List Place) → start_of (length d.text) lines ≡ at → NoMore d.options old.tree kept lines → Ready d defined old lines → Ready d defined now lines
 
 pub closed_none : (old : Reading) (kept at : ℕ) → kept ≤ length old.tree.spine → ClosedSoFar old old kept at
-closed_none old kept at h = record { enough = h; fewer = (let l : length old.tree.spine ≡ length old.tree.spine = refl in omega arith); spine = sym (outer-all old.tree.spine); paths = λ s. refl; ready = λ d defined lines e none ready. ready }
+closed_none old kept at h = record { enough = h; fewer = (let l : length old.tree.spine ≡ length old.tree.spine = refl in omega arith); spine = sym (outer-all old.tree.spine); paths = λ options s. refl; ready = λ d defined lines e none ready. ready }
 
 closed_more : (old now : Reading) (kept at : ℕ) (s : List TreeIndex) → IsForest now.tree → now.tree.spine ≡ s → kept < length s → ClosedSoFar old now kept at → ClosedSoFar old (popped at now) kept at × (length (popped at now).tree.spine < length s)
 closed_more old now kept at [] forest spine more c = absurd (omega arith)
@@ -268,9 +268,9 @@ closed_more old now kept at (ix ∷ rest) forest spine more c =
         enough = omega arith;
         fewer = omega arith;
         spine = after_it ∙ left ∙ ap (λ n. outer n old.tree.spine) (sym k);
-        paths = λ s. popped_paths at now ix rest spine s ∙ c.paths s;
+        paths = λ options s. popped_paths at now ix rest options spine s ∙ c.paths options s;
         ready = λ d defined lines e none ready. ready_pop d defined now lines at ix rest forest spine e
-            (subst (λ p. Ends p Line lines) (sym (c.paths now.tree.spine ∙ ap (path_in old.tree.nodes) (spine ∙ here))) (none (suc (length rest)) (omega arith) (omega arith))) (c.ready d defined lines e none ready);
+            (subst (λ p. Ends p Line lines) (sym (c.paths d.options now.tree.spine ∙ ap (path_in d.options old.tree.nodes) (spine ∙ here))) (none (suc (length rest)) (omega arith) (omega arith))) (c.ready d defined lines e none ready);
       },
       omega arith,
     )

@@ -87,5 +87,5 @@ ready_any_line d defined r at is none tagged =
 
 -- the same, which belongs to the quote
 pub ready_its_line : (d : Document) (defined : Tables) (r : Reading) (at : ℕ) → ends_tag (context_of d.options r.tree) (line_rest (drop at d.text)) ≡ false → ReadyTagged d defined r (lines_from d.text at)
-    → ReadyLazy d defined r (unindented (place_at at (front (path_of r.tree) (line_rest (drop at d.text))))) (lines_from d.text (at + line_len (drop at d.text)))
+    → ReadyLazy d defined r (unindented (place_at at (front (path_of d.options r.tree) (line_rest (drop at d.text))))) (lines_from d.text (at + line_len (drop at d.text)))
 ready_its_line d defined r at is tagged = subst (λ (z : From × List Place). ReadyInQuote d defined r z.0 z.1) (tag_line (context_of d.options r.tree) d.text at false is) tagged

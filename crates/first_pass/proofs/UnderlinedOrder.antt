@@ -76,7 +76,7 @@ module _ (d : Document) (utf8 : IsUtf8 d.text) (f : Forest Item) (block : TreeIn
   whole_chain = marker_items h.marker ++ l.chain
 
   in_order : TextInOrder d h.start l
-  in_order = text_is_in_order d (path_of h.before) h.start l utf8 h.boundary h.lines
+  in_order = text_is_in_order d (path_of d.options h.before) h.start l utf8 h.boundary h.lines
 
   block_in : block.0 < length h.before.nodes
   block_in = omega (arith, h.opened.last)

@@ -20,7 +20,7 @@ pub record AddsKind (d : Document) (p : Place) (kind : Kind) (gap : Bool) (old n
   pub items : List (ℕ × Item)
   pub tree_is : new ≡ added old items
   pub opens : (more : Names) → Extends more d.names
-      → OpensAs (document d.text d.options more) (path_of old) p (lines_from d.text (line_end p)) kind (OpensLeaf (leaf_block kind p items gap) Line (lines_from d.text next))
+      → OpensAs (document d.text d.options more) (path_of d.options old) p (lines_from d.text (line_end p)) kind (OpensLeaf (leaf_block kind p items gap) Line (lines_from d.text next))
 
 -- A pass added such a block: it reads the same text, what was named keeps its name, no table changed, and no item is empty. The nodes of the block lie behind
 -- any offset before the place, and reading goes on at an offset behind the line of the place, between characters.

@@ -26,7 +26,7 @@ CompletedBeforeLine d defined tree e lines false = CompletedAt d defined tree fa
 
 abbrev pub CompletedInItem : Document → Tables → Forest Item → ℕ → List Place → Bool → Type 0
 CompletedInItem d defined tree e lines true = CompletedAt d defined tree true (Blanks e) lines
-CompletedInItem d defined tree e lines false = CompletedBeforeLine d defined tree e lines (next_is_blank (path_of tree) lines)
+CompletedInItem d defined tree e lines false = CompletedBeforeLine d defined tree e lines (next_is_blank (path_of d.options tree) lines)
 
 -- the same of what the pass remembers, whose innermost open node may be such an item
 abbrev pub CompletedWith : Document → Tables → Reading → List Place → Option ℕ → Type 0

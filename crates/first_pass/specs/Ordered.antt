@@ -12,6 +12,7 @@ use Rattle.first_pass_grammar.specs.Leaves.{Document, TextLines, AreTextLines, m
 use Rattle.first_pass_grammar.specs.Completion.{lines_from}
 use Rattle.first_pass_grammar.specs.OpenOrder.{IsOrderedTo}
 use Rattle.first_pass_open.specs.OpenBlock.{IsJustPushed, begun_item, with_child}
+use Rattle.first_pass_items.specs.declared.option_set.Options.{Options}
 use Rattle.first_pass_open.specs.Path.{path_of}
 use Rattle.first_pass_tokens.specs.TreeTokens.{chained}
 use Rattle.first_pass_text.specs.Appends.{line_end_at}
@@ -33,17 +34,17 @@ pub record IsOrderedAt (text : List ℕ) (r : Reading) (at : ℕ) : Type 0 where
 
 -- At an offset at which reading goes on a line begins that is blank behind what the open containers take of it, and the tree is in order up to there: an
 -- HTML block that a blank line stops ends behind their prefixes (CommonMark 4.6, and this project).
-pub record IsHandedOn (text : List ℕ) (r : Reading) (at : ℕ) : Type 0 where
+pub record IsHandedOn (options : Options) (text : List ℕ) (r : Reading) (at : ℕ) : Type 0 where
   pub rest : Rest
   pub within : at < length text
-  pub taken : after (path_of r.tree) (line_rest (drop at text)) ≡ Some rest
+  pub taken : after (path_of options r.tree) (line_rest (drop at text)) ≡ Some rest
   pub blank : is_blank_rest rest ≡ true
   pub none : r.empty_item ≡ None
   pub ordered : IsOrderedTo text r.tree (offset (place_at at rest))
 
 -- what the pass remembers is in order up to an offset at which reading goes on, or a blank line is handed on there
-abbrev pub IsOrderedFrom : List ℕ → Reading → ℕ → Type 0
-IsOrderedFrom text r at = IsOrderedAt text r at ⊎ IsHandedOn text r at
+abbrev pub IsOrderedFrom : Options → List ℕ → Reading → ℕ → Type 0
+IsOrderedFrom options text r at = IsOrderedAt text r at ⊎ IsHandedOn options text r at
 
 -- where reading goes on behind the row of a table: at its end, or at an offset where there is none (this project)
 abbrev pub behind_row : Option (ℕ × TreeIndex) → ℕ → ℕ
@@ -62,6 +63,6 @@ pub record HoldsText (d : Document) (f : Forest Item) (block : TreeIndex) (l : T
   pub boundary : IsCharBoundary d.text start
   pub stands : StandsBefore d.text from start marker
   pub ahead : IfSome marker (λ x. x.start < start)
-  pub lines : AreTextLines d (path_of before) start [] (lines_from d.text (line_end_at d.text start)) l
+  pub lines : AreTextLines d (path_of d.options before) start [] (lines_from d.text (line_end_at d.text start)) l
   pub tree_is : f ≡ chained before (marker_items marker ++ l.chain)
   pub ordered : IsOrderedTo d.text (with_child before marker) start

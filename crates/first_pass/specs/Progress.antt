@@ -21,7 +21,7 @@ pub record WentOn (old new : FirstPass) (far : ℕ) (begins : Names → Type 0) 
   pub boundary : IsCharBoundary (source_text old) next
   pub ready : (more : Names) → Extends more (names_of (allocs_of new)) → begins more → Ready (document (source_text old) (source_options old) more) (tables (allocs_of new)) (reading_of new) (lines_from (source_text old) next)
   pub named : AreNamed (names_of (allocs_of old)) (tree_of old).nodes → AreNamed (names_of (allocs_of new)) (tree_of new).nodes
-  pub order : in_order → IsOrderedFrom (source_text old) (reading_of new) next
+  pub order : in_order → IsOrderedFrom (source_options old) (source_text old) (reading_of new) next
 
 -- a pass read the leaf block that begins at a place where no container begins, or behind the tag of a block quote
 abbrev pub ReadsLeaf : FirstPass → FirstPass → Place → ℕ → Type 0

@@ -16,6 +16,7 @@ use Rattle.first_pass_grammar.specs.Completion.{NoList, Frame, InContainer, InLi
 use Rattle.first_pass_lists.specs.Closing.{emptied}
 use Rattle.first_pass_lists.specs.declared.reading.Reading.{Reading}
 use Rattle.first_pass_open.specs.Path.{path_in, path_of, outer}
+use Rattle.first_pass_items.specs.declared.option_set.Options.{Options}
 
 -- a list that is tight so far, or isn't
 abbrev pub list_frame : ℕ → ℕ → Option Frame
@@ -53,7 +54,7 @@ ReadyBeforeLine d defined tree e lines false = ReadyAt d defined tree false Line
 -- the same where a blank line behind that marker's line is read already, or isn't yet
 abbrev pub ReadyInItem : Document → Tables → Forest Item → ℕ → List Place → Bool → Type 0
 ReadyInItem d defined tree e lines true = ReadyAt d defined tree true (Blanks e) lines
-ReadyInItem d defined tree e lines false = ReadyBeforeLine d defined tree e lines (next_is_blank (path_of tree) lines)
+ReadyInItem d defined tree e lines false = ReadyBeforeLine d defined tree e lines (next_is_blank (path_of d.options tree) lines)
 
 -- the same of what the pass remembers; once that blank line is read, the item asks for no columns
 pub record ReadyEmpty (d : Document) (defined : Tables) (r : Reading) (e : ℕ) (lines : List Place) : Type 0 where
@@ -78,5 +79,5 @@ abbrev pub StaysReady : Document → Tables → Reading → List Place → Type 
 StaysReady d defined r lines = (more : Names) → Extends more d.names → Ready (document d.text d.options more) defined r lines
 
 -- no more than so many of the open nodes go on with the first of these lines
-abbrev pub NoMore : Forest Item → ℕ → List Place → Type 0
-NoMore f kept lines = (m : ℕ) → kept < m → m ≤ length f.spine → Ends (path_in f.nodes (outer m f.spine)) Line lines
+abbrev pub NoMore : Options → Forest Item → ℕ → List Place → Type 0
+NoMore options f kept lines = (m : ℕ) → kept < m → m ≤ length f.spine → Ends (path_in options f.nodes (outer m f.spine)) Line lines

@@ -54,9 +54,10 @@ pub(crate) enum Behind {
 pub(crate) fn close_containers(reading: &mut Reading, kept: usize, ix: usize)
     requires { kept ≤ length reading.old.tree.spine }
     ensures spine { reading.new.tree.spine ≡ outer kept reading.old.tree.spine }
-    ensures paths { (s : List TreeIndex) → path_in reading.new.tree.nodes s ≡ path_in reading.old.tree.nodes s }
+    ensures paths { (options : Options) (s : List TreeIndex)
+        → path_in options reading.new.tree.nodes s ≡ path_in options reading.old.tree.nodes s }
     ensures ready { (d : Document) (defined : Tables) (lines : List Place) → start_of (length d.text) lines ≡ ix
-        → NoMore reading.old.tree kept lines
+        → NoMore d.options reading.old.tree kept lines
         → Ready d defined reading.old lines
         → Ready d defined reading.new lines }
     ensures order { (text : List ℕ) → ix ≤ length text → IsCharBoundary text ix → IsOrderedAt text reading.old ix
@@ -95,7 +96,7 @@ pub(crate) fn enter_line<'a>(
         (λ place. ReadyAt (document source.entry.text.now source.entry.options names) defined reading.new.tree
         reading.new.blank (Inside place)
         (lines_from source.entry.text.now (start_ix + line_len (drop start_ix source.entry.text.now)))) }
-    ensures order { IsOrderedFrom source.entry.text.now reading.old start_ix
+    ensures order { IsOrderedFrom source.entry.options source.entry.text.now reading.old start_ix
         → MatchOption result
         (IsOrderedAt source.entry.text.now reading.new (start_ix + line_len (drop start_ix source.entry.text.now)))
         (λ place. IsOrderedTo source.entry.text.now reading.new.tree start_ix) }

@@ -4,7 +4,6 @@ ghost use Rattle.std.specs.Prelude.{◌≡◌, ◌&&◌, ◌||◌, not, Some, No
 ghost use Rattle.first_pass_lines.specs.Places.{line_rest};
 ghost use Rattle.first_pass_grammar.specs.Containers.{front};
 ghost use Rattle.first_pass_grammar.specs.Kinds.{all_taken, ends_tag, interrupts_with, is_blank_rest};
-ghost use Rattle.first_pass_open.specs.Path.{path_of};
 ghost use Rattle.first_pass_grammar.specs.TableHeads.{table_interrupts};
 ghost use Rattle.first_pass_text.specs.Rests.{IsRestOf};
 ghost use Rattle.first_pass_tree.specs.Forest.{in_table};
@@ -62,7 +61,7 @@ impl<'a> FirstPass<'a> {
     ) -> Result<Option<LineStart<'input>>, AllocError>
         requires { IsRestOf (source_text self.old) bytes.now }
         ensures unchanged { self.new ≡ self.old }
-        ensures value { IfOk result (λ rest. let line = front (path_of (tree_of self.old)) (line_rest bytes.now) in
+        ensures value { IfOk result (λ rest. let line = front (context_in self.old).path (line_rest bytes.now) in
             rest ≡ (if ends_tag (context_in self.old) (line_rest bytes.now) || is_blank_rest (all_taken line)
             then None
             else Some (all_taken line))) }

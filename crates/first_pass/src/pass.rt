@@ -108,8 +108,9 @@ impl<'a> FirstPass<'a> {
             → Ready (document (source_text self.old) (source_options self.old) names)
             (tables (allocs_of self.new)) (reading_of self.new)
             (lines_from (source_text self.old) next)) }
-        ensures order { IfOk result (λ next. IsOrderedFrom (source_text self.old) (reading_of self.old) start_ix
-            → IsOrderedFrom (source_text self.old) (reading_of self.new) next) }
+        ensures order { IfOk result (λ next.
+            IsOrderedFrom (source_options self.old) (source_text self.old) (reading_of self.old) start_ix
+            → IsOrderedFrom (source_options self.old) (source_text self.old) (reading_of self.new) next) }
         ensures few { IfOk result (λ next. GrowsBy start_ix next (tree_of self.old).nodes
             (tree_of self.new).nodes) }
         ensures named { OnOk result (AreNamed (names_of (allocs_of self.old)) (tree_of self.old).nodes

@@ -11,7 +11,6 @@ ghost use Rattle.first_pass_grammar.specs.Kinds.{IndentedCode, is_blank_rest};
 ghost use Rattle.first_pass_grammar.specs.RawLines.{range_text, range_html};
 ghost use Rattle.first_pass_grammar.specs.CodeBlocks.{IsFencedCode, IsMetadata};
 ghost use Rattle.first_pass_grammar.specs.HtmlBlocks.{IsHtml};
-ghost use Rattle.first_pass_open.specs.Path.{path_of};
 ghost use Rattle.first_pass_names.specs.TableEntries.{tables, names_of};
 ghost use Rattle.first_pass_raw.specs.RawBlocks.{range_of, AppendsRaw, IsPlaceAt, AddsIndented, AddsRaw, behind_line_at, fenced_behind, metadata_behind, html_to_end, html_to_blank};
 ghost use Rattle.first_pass.specs.Adding.{AddsLeaf};
@@ -19,7 +18,7 @@ ghost use Rattle.first_pass_grammar.specs.Order.{GrowsBy};
 ghost use Rattle.first_pass_lists.specs.Closing.{with_block};
 ghost use Rattle.first_pass_text.specs.Between.{AddsBetween};
 ghost use Rattle.first_pass.specs.Ordered.{IsOrderedAt, IsOrderedFrom};
-ghost use Rattle.first_pass.specs.Views.{allocs_of, reading_of, source_of, source_options, source_text, tree_of};
+ghost use Rattle.first_pass.specs.Views.{allocs_of, context_in, reading_of, source_of, source_options, source_text, tree_of};
 
 use crate::state::FirstPass;
 use first_pass_open::place::Place;
@@ -186,7 +185,7 @@ impl<'a> FirstPass<'a> {
         ensures tables { OnOk result (tables (allocs_of self.new) ≡ tables (allocs_of self.old)) }
         ensures reading { OnOk result (reading_of self.new ≡ with_block (reading_of self.old) (tree_of self.new)) }
         ensures block { IfOk result (λ next. let e = fenced_behind (source_text self.old)
-            (path_of (tree_of self.old)) indent fence_ch n_fence_char start_ix in
+            (context_in self.old).path indent fence_ch n_fence_char start_ix in
             AddsRaw (document (source_text self.old) (source_options self.old) (names_of (allocs_of self.new))) (λ d.
             IsFencedCode d start_ix n_fence_char e.places e.«end») e.left (tree_of self.old) (tree_of self.new)
             next) }
@@ -230,7 +229,7 @@ impl<'a> FirstPass<'a> {
         ensures tables { OnOk result (tables (allocs_of self.new) ≡ tables (allocs_of self.old)) }
         ensures reading { OnOk result (reading_of self.new ≡ with_block (reading_of self.old) (tree_of self.new)) }
         ensures block { IfOk result (λ next. let e = metadata_behind (source_text self.old)
-            (path_of (tree_of self.old)) metadata_block_ch start_ix in
+            (context_in self.old).path metadata_block_ch start_ix in
             AddsRaw (document (source_text self.old) (source_options self.old) (names_of (allocs_of self.new))) (λ d.
             IsMetadata d start_ix metadata_block_ch e.places e.«end») e.left (tree_of self.old) (tree_of self.new)
             next) }
@@ -272,7 +271,7 @@ impl<'a> FirstPass<'a> {
         ensures tables { OnOk result (tables (allocs_of self.new) ≡ tables (allocs_of self.old)) }
         ensures reading { OnOk result (reading_of self.new ≡ with_block (reading_of self.old) (tree_of self.new)) }
         ensures block { IfOk result (λ next. (p : Place) → IsPlaceAt (source_text self.old) start_ix p
-            → let e = html_to_end (source_text self.old) (path_of (tree_of self.old)) html_end_tag.now p in
+            → let e = html_to_end (source_text self.old) (context_in self.old).path html_end_tag.now p in
             AddsRaw (document (source_text self.old) (source_options self.old) (names_of (allocs_of self.new))) (λ d.
             IsHtml d start_ix (max remaining_space indent) e.places e.«end») e.left (tree_of self.old)
             (tree_of self.new) next) }
@@ -314,7 +313,7 @@ impl<'a> FirstPass<'a> {
         ensures tables { OnOk result (tables (allocs_of self.new) ≡ tables (allocs_of self.old)) }
         ensures reading { OnOk result (reading_of self.new ≡ with_block (reading_of self.old) (tree_of self.new)) }
         ensures block { IfOk result (λ next. (p : Place) → IsPlaceAt (source_text self.old) start_ix p
-            → let e = html_to_blank (source_text self.old) (path_of (tree_of self.old)) p in
+            → let e = html_to_blank (source_text self.old) (context_in self.old).path p in
             AddsRaw (document (source_text self.old) (source_options self.old) (names_of (allocs_of self.new))) (λ d.
             IsHtml d start_ix (max remaining_space indent) e.places e.«end») e.left (tree_of self.old)
             (tree_of self.new) next) }
@@ -322,10 +321,10 @@ impl<'a> FirstPass<'a> {
             × IsCharBoundary (source_text self.old) next) }
         ensures fits { IfOk result (λ next. (p : Place) → IsPlaceAt (source_text self.old) start_ix p → (from : ℕ)
             → from ≤ start_ix → AddsBetween (source_text self.old) from (html_to_blank (source_text self.old)
-            (path_of (tree_of self.old)) p).«end» (tree_of self.old) (tree_of self.new)) }
+            (context_in self.old).path p).«end» (tree_of self.old) (tree_of self.new)) }
         ensures order { IfOk result (λ next. (at : ℕ) → at ≤ start_ix
             → IsOrderedAt (source_text self.old) (reading_of self.old) at
-            → IsOrderedFrom (source_text self.old) (reading_of self.new) next) }
+            → IsOrderedFrom (source_options self.old) (source_text self.old) (reading_of self.new) next) }
         ensures few { IfOk result (λ next. (from : ℕ) → from ≤ start_ix → from < next
             → GrowsBy from next (tree_of self.old).nodes (tree_of self.new).nodes) }
     {

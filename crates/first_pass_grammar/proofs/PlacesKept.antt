@@ -11,7 +11,7 @@ use Rattle.first_pass_lines.proofs.Columns.{after-more, after-none}
 use Rattle.first_pass_scan.specs.Markers.{item_of, task_of}
 use Rattle.first_pass_scan.proofs.MarkerPlaces.{IsMarked, item-marked, task-marked}
 use Rattle.first_pass_grammar.specs.declared.kind.Container.{Container}
-use Rattle.first_pass_grammar.specs.declared.kind.Container.TheVariants.{BlockQuote, ListItem}
+use Rattle.first_pass_grammar.specs.declared.kind.Container.TheVariants.{BlockQuote, ListItem, FootnoteDefinition}
 use Rattle.first_pass_grammar.specs.Containers.{at_rest, has_columns, prefix, after, or_shorter, front, taken}
 use Rattle.first_pass_grammar.specs.Kinds.{all_taken, unindented, quote_inside, item_at}
 use Rattle.first_pass_grammar.specs.CodeBlocks.{code_place, code_by, code_lines}
@@ -99,6 +99,7 @@ prefix_follows (BlockQuote kind) r s h =
     let three : Rest = after_columns 3 r in
     mapped_by (past_quote three) r s (λ q e. follows_both r three q (columns_follow 3 r) (quote_if (three.owed == 0) three q e)) h
 prefix_follows (ListItem n) r s h = columns_if (has_columns n r) n r s h
+prefix_follows (FootnoteDefinition n) r s h = columns_if (has_columns n r) n r s h
 
 after_by : (c : Container) (o : Option Rest) (r s : Rest) → ((q : Rest) → o ≡ Some q → Follows r q) → option_and_then (prefix c) o ≡ Some s → Follows r s
 after_by c None r s f h = absurd (none-some s h)

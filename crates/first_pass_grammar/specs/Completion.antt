@@ -6,7 +6,7 @@ use Rattle.first_pass_items.specs.declared.item.ItemBody.TheVariants.{List as Li
 use Rattle.first_pass_tree.specs.Forest.{modify, map_from}
 use Rattle.first_pass_lines.specs.Places.{Place, lines_at}
 use Rattle.first_pass_grammar.specs.declared.kind.Container.{Container}
-use Rattle.first_pass_grammar.specs.declared.kind.Container.TheVariants.{BlockQuote, ListItem}
+use Rattle.first_pass_grammar.specs.declared.kind.Container.TheVariants.{BlockQuote, ListItem, FootnoteDefinition}
 use Rattle.first_pass_grammar.specs.Leaves.{Document, document}
 use Rattle.first_pass_grammar.specs.Names.{Names, Extends}
 use Rattle.first_pass_grammar.specs.Skeleton.{From, Line, blanks_alone, end_before, Skeleton, IsSequence}
@@ -94,6 +94,7 @@ containers_of (InList byte loose ∷ frames) = containers_of frames
 abbrev pub is_quote : Container → Bool
 is_quote (BlockQuote kind) = true
 is_quote (ListItem columns) = false
+is_quote (FootnoteDefinition columns) = false
 
 -- A block with a blank line before it makes the list loose in whose item it stands.
 abbrev pub loosened : Bool → List Frame → List Frame

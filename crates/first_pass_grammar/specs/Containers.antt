@@ -6,7 +6,7 @@ use Rattle.first_pass_lines.specs.Lines.{at_line_end}
 use Rattle.first_pass_lines.specs.Rest.{Rest, indent, after_columns, past_quote}
 use Rattle.first_pass_lines.specs.Places.{Place}
 use Rattle.first_pass_grammar.specs.declared.kind.Container.{Container}
-use Rattle.first_pass_grammar.specs.declared.kind.Container.TheVariants.{BlockQuote, ListItem}
+use Rattle.first_pass_grammar.specs.declared.kind.Container.TheVariants.{BlockQuote, ListItem, FootnoteDefinition}
 
 -- what a line is read in: the options, and the path of containers that are open, the innermost first
 pub record Context : Type 0 where
@@ -26,10 +26,12 @@ has_columns n r = nat_le n (indent r) || at_line_end (after_columns n r).left
 
 -- What is left of a line behind the prefix by which it goes on with a container, or none where it doesn't:
 -- a block quote has up to three columns, `>` with no column owed before it, and one column if there is one (CommonMark 5.1);
--- a list item has the columns of its indent, or fewer and then the end of the line (CommonMark 5.2).
+-- a list item has the columns of its indent, or fewer and then the end of the line (CommonMark 5.2);
+-- a footnote definition has four columns so as GitHub has footnotes, and none in their old form (this project).
 unfoldable pub prefix : Container → Rest → Option Rest
 prefix (BlockQuote kind) r = option_map (after_columns 1) (past_quote (after_columns 3 r))
 prefix (ListItem n) r = if has_columns n r then Some (after_columns n r) else None
+prefix (FootnoteDefinition n) r = if has_columns n r then Some (after_columns n r) else None
 
 -- the same for a path of containers, the innermost first: each takes its prefix in turn
 unfoldable pub after : List Container → Rest → Option Rest

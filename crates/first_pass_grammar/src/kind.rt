@@ -9,4 +9,7 @@ pub enum Container {
     BlockQuote(Option<BlockQuoteKind>),
     /// A list item, with the columns that a line needs to go on with it (CommonMark 5.2).
     ListItem(usize),
+    /// A footnote definition, with the columns that a line needs to go on with it: four as GitHub has footnotes,
+    /// none in their old form.
+    FootnoteDefinition(usize),
 }

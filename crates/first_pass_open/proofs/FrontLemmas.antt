@@ -10,6 +10,7 @@ use Rattle.first_pass_lines.specs.Rest.{Rest}
 use Rattle.first_pass_grammar.specs.declared.kind.Container.{Container}
 use Rattle.first_pass_grammar.specs.Containers.{after, front}
 use Rattle.first_pass_open.specs.Path.{container_of, container_at, prefix_of, with_container, path_in, outer}
+use Rattle.first_pass_items.specs.declared.option_set.Options.{Options}
 
 after_none : (r : Rest) → after [] r ≡ Some r
 unfolding after
@@ -49,48 +50,48 @@ pub outer-all : (spine : List TreeIndex) → outer (length spine) spine ≡ spin
 outer-all spine = let z : length spine - length spine ≡ 0 = omega arith in ap (λ k. drop k spine) z
 
 -- the path to one open node more
-abbrev pub path_to : List (ℕ × Item) → List TreeIndex → ℕ → List Container
-path_to ns spine m = path_in ns (outer m spine)
+abbrev pub path_to : (options : Options) → List (ℕ × Item) → List TreeIndex → ℕ → List Container
+path_to options ns spine m = path_in options ns (outer m spine)
 
-path_to-more : (ns : List (ℕ × Item)) (spine : List TreeIndex) (i : ℕ) (x : TreeIndex) → i < length spine → path_to ns spine (i + 1) ≡ with_container (container_at ns (get_or (reverse spine) i x)) (path_to ns spine i)
-path_to-more ns spine i x h = ap (path_in ns) (outer-more spine i x h)
+path_to-more : (options : Options) (ns : List (ℕ × Item)) (spine : List TreeIndex) (i : ℕ) (x : TreeIndex) → i < length spine → path_to options ns spine (i + 1) ≡ with_container (container_at options ns (get_or (reverse spine) i x)) (path_to options ns spine i)
+path_to-more options ns spine i x h = ap (path_in options ns) (outer-more spine i x h)
 
 -- one open node more
-pub taken_more : (ns : List (ℕ × Item)) (spine : List TreeIndex) (i : ℕ) (x : TreeIndex) (r q : Rest) → i < length spine → after (path_to ns spine i) r ≡ Some q
-    → after (path_to ns spine (i + 1)) r ≡ prefix_of (container_at ns (get_or (reverse spine) i x)) q
-taken_more ns spine i x r q h e = ap (λ c. after c r) (path_to-more ns spine i x h) ∙ after_step (container_at ns (get_or (reverse spine) i x)) (path_to ns spine i) r q e
+pub taken_more : (options : Options) (ns : List (ℕ × Item)) (spine : List TreeIndex) (i : ℕ) (x : TreeIndex) (r q : Rest) → i < length spine → after (path_to options ns spine i) r ≡ Some q
+    → after (path_to options ns spine (i + 1)) r ≡ prefix_of (container_at options ns (get_or (reverse spine) i x)) q
+taken_more options ns spine i x r q h e = ap (λ c. after c r) (path_to-more options ns spine i x h) ∙ after_step (container_at options ns (get_or (reverse spine) i x)) (path_to options ns spine i) r q e
 
 -- No longer path is taken.
-stops_by : (ns : List (ℕ × Item)) (spine : List TreeIndex) (i : ℕ) (x : TreeIndex) (r : Rest) (d : ℕ) → i + d ≤ length spine → after (path_to ns spine i) r ≡ None → after (path_to ns spine (i + d)) r ≡ None
-stops_by ns spine i x r zero h e = let z : i + 0 ≡ i = omega arith in rw z e
-stops_by ns spine i x r (suc d) h e =
+stops_by : (options : Options) (ns : List (ℕ × Item)) (spine : List TreeIndex) (i : ℕ) (x : TreeIndex) (r : Rest) (d : ℕ) → i + d ≤ length spine → after (path_to options ns spine i) r ≡ None → after (path_to options ns spine (i + d)) r ≡ None
+stops_by options ns spine i x r zero h e = let z : i + 0 ≡ i = omega arith in rw z e
+stops_by options ns spine i x r (suc d) h e =
     let z : i + suc d ≡ (i + d) + 1 = omega arith in
-    ap (λ m. after (path_to ns spine m) r) z ∙ ap (λ c. after c r) (path_to-more ns spine (i + d) x (omega arith))
-    ∙ after_short (container_at ns (get_or (reverse spine) (i + d) x)) (path_to ns spine (i + d)) r (stops_by ns spine i x r d (omega arith) e)
+    ap (λ m. after (path_to options ns spine m) r) z ∙ ap (λ c. after c r) (path_to-more options ns spine (i + d) x (omega arith))
+    ∙ after_short (container_at options ns (get_or (reverse spine) (i + d) x)) (path_to options ns spine (i + d)) r (stops_by options ns spine i x r d (omega arith) e)
 
-pub stops : (ns : List (ℕ × Item)) (spine : List TreeIndex) (i : ℕ) (x : TreeIndex) (r : Rest) → after (path_to ns spine (i + 1)) r ≡ None
-    → (m : ℕ) → i < m → m ≤ length spine → after (path_to ns spine m) r ≡ None
-stops ns spine i x r e m low high =
+pub stops : (options : Options) (ns : List (ℕ × Item)) (spine : List TreeIndex) (i : ℕ) (x : TreeIndex) (r : Rest) → after (path_to options ns spine (i + 1)) r ≡ None
+    → (m : ℕ) → i < m → m ≤ length spine → after (path_to options ns spine m) r ≡ None
+stops options ns spine i x r e m low high =
     let z : i + 1 + (m - (i + 1)) ≡ m = omega arith in
-    subst (λ k. after (path_to ns spine k) r ≡ None) z (stops_by ns spine (i + 1) x r (m - (i + 1)) (omega arith) e)
+    subst (λ k. after (path_to options ns spine k) r ≡ None) z (stops_by options ns spine (i + 1) x r (m - (i + 1)) (omega arith) e)
 
-front_by : (ns : List (ℕ × Item)) (spine : List TreeIndex) (i : ℕ) (x : TreeIndex) (r q : Rest) (d : ℕ) → i + d ≤ length spine → after (path_to ns spine i) r ≡ Some q
-    → ((m : ℕ) → i < m → m ≤ length spine → after (path_to ns spine m) r ≡ None) → front (path_to ns spine (i + d)) r ≡ q
-front_by ns spine i x r q zero h e s = let z : i + 0 ≡ i = omega arith in ap (λ m. front (path_to ns spine m) r) z ∙ front_taken (path_to ns spine i) r q e
-front_by ns spine i x r q (suc d) h e s =
+front_by : (options : Options) (ns : List (ℕ × Item)) (spine : List TreeIndex) (i : ℕ) (x : TreeIndex) (r q : Rest) (d : ℕ) → i + d ≤ length spine → after (path_to options ns spine i) r ≡ Some q
+    → ((m : ℕ) → i < m → m ≤ length spine → after (path_to options ns spine m) r ≡ None) → front (path_to options ns spine (i + d)) r ≡ q
+front_by options ns spine i x r q zero h e s = let z : i + 0 ≡ i = omega arith in ap (λ m. front (path_to options ns spine m) r) z ∙ front_taken (path_to options ns spine i) r q e
+front_by options ns spine i x r q (suc d) h e s =
     let z : i + suc d ≡ (i + d) + 1 = omega arith in
-    let more = path_to-more ns spine (i + d) x (omega arith) in
+    let more = path_to-more options ns spine (i + d) x (omega arith) in
     let none = subst (λ c. after c r ≡ None) more (s (i + d + 1) (omega arith) (omega arith)) in
-    ap (λ m. front (path_to ns spine m) r) z ∙ ap (λ c. front c r) more
-    ∙ front_short (container_at ns (get_or (reverse spine) (i + d) x)) (path_to ns spine (i + d)) r none ∙ front_by ns spine i x r q d (omega arith) e s
+    ap (λ m. front (path_to options ns spine m) r) z ∙ ap (λ c. front c r) more
+    ∙ front_short (container_at options ns (get_or (reverse spine) (i + d) x)) (path_to options ns spine (i + d)) r none ∙ front_by options ns spine i x r q d (omega arith) e s
 
 -- the longest beginning that is taken, and no longer one: the front
-pub front_is : (ns : List (ℕ × Item)) (spine : List TreeIndex) (i : ℕ) (r q : Rest) → i ≤ length spine → after (path_to ns spine i) r ≡ Some q
-    → ((m : ℕ) → i < m → m ≤ length spine → after (path_to ns spine m) r ≡ None) → front (path_in ns spine) r ≡ q
-front_is ns spine i r q h e s =
+pub front_is : (options : Options) (ns : List (ℕ × Item)) (spine : List TreeIndex) (i : ℕ) (r q : Rest) → i ≤ length spine → after (path_to options ns spine i) r ≡ Some q
+    → ((m : ℕ) → i < m → m ≤ length spine → after (path_to options ns spine m) r ≡ None) → front (path_in options ns spine) r ≡ q
+front_is options ns spine i r q h e s =
     let z : i + (length spine - i) ≡ length spine = omega arith in
-    ap (λ c. front (path_in ns c) r) (sym (outer-all spine)) ∙ ap (λ m. front (path_to ns spine m) r) (sym z)
-    ∙ front_by ns spine i (record { 0 = 0 }) r q (length spine - i) (omega arith) e s
+    ap (λ c. front (path_in options ns c) r) (sym (outer-all spine)) ∙ ap (λ m. front (path_to options ns spine m) r) (sym z)
+    ∙ front_by options ns spine i (record { 0 = 0 }) r q (length spine - i) (omega arith) e s
 
 -- an open node stands in the tree
 pub open_within : (ns : List (ℕ × Item)) (spine : List TreeIndex) (k : ℕ) (x : TreeIndex) → IsOpenPath (depths ns) spine → k < length spine → (get_or spine k x).0 < length ns
@@ -101,13 +102,13 @@ open_within ns (ix ∷ spine) (suc k) x o h = open_within ns spine k x o.1 (omeg
 pub open_at : (ns : List (ℕ × Item)) (spine : List TreeIndex) (k : ℕ) (x : TreeIndex) → IsOpenPath (depths ns) spine → k < length spine → (get_or (reverse spine) k x).0 < length ns
 open_at ns spine k x o h = subst (λ y. y.0 < length ns) (sym (get_or-reverse spine k x h)) (open_within ns spine (length spine - 1 - k) x o (omega arith))
 
-container_of_node : (n : Option (ℕ × Item)) (item : Item) → option_map (λ n. n.1) n ≡ Some item → option_and_then container_of (option_map (λ n. n.1.body) n) ≡ container_of item.body
-container_of_node None item e = cc
-container_of_node (Some n) item e = ap (λ o. elim o [ None ↦ None | Some x ↦ container_of x.body ]) e
+container_of_node : (options : Options) (n : Option (ℕ × Item)) (item : Item) → option_map (λ n. n.1) n ≡ Some item → option_and_then (container_of options) (option_map (λ n. n.1.body) n) ≡ container_of options item.body
+container_of_node options None item e = cc
+container_of_node options (Some n) item e = ap (λ o. elim o [ None ↦ None | Some x ↦ container_of options x.body ]) e
 
 -- the container that an item of the tree is
-pub container_is : (ns : List (ℕ × Item)) (ix : TreeIndex) (item : Item) → option_map (λ n. n.1) (slice_get ns ix.0) ≡ Some item → container_at ns ix ≡ container_of item.body
-container_is ns ix item e = container_of_node (slice_get ns ix.0) item e
+pub container_is : (options : Options) (ns : List (ℕ × Item)) (ix : TreeIndex) (item : Item) → option_map (λ n. n.1) (slice_get ns ix.0) ≡ Some item → container_at options ns ix ≡ container_of options item.body
+container_is options ns ix item e = container_of_node options (slice_get ns ix.0) item e
 
 -- where a prefix isn't there
 pub isnt_taken : (o : Option Rest) (b : Bool) (old new : Rest) → b ≡ false → MatchOption o ((b ≡ false) × (new ≡ old)) (λ next. (b ≡ true) × (new ≡ next)) → (o ≡ None) × (new ≡ old)
@@ -120,8 +121,8 @@ is_taken None b old new e (t, m) = let z : true ≡ false = sym e ∙ t in cc
 is_taken (Some r) b old new e m = ap Some (sym m.1)
 
 -- before the first open node
-pub taken_none : (ns : List (ℕ × Item)) (spine : List TreeIndex) (r : Rest) → after (path_in ns (outer 0 spine)) r ≡ Some r
-taken_none ns spine r = ap (λ s. after (path_in ns s) r) (outer-none spine) ∙ after_none r
+pub taken_none : (options : Options) (ns : List (ℕ × Item)) (spine : List TreeIndex) (r : Rest) → after (path_in options ns (outer 0 spine)) r ≡ Some r
+taken_none options ns spine r = ap (λ s. after (path_in options ns s) r) (outer-none spine) ∙ after_none r
 
 abbrev pub root : TreeIndex
 root = record { 0 = 0 }
@@ -134,8 +135,8 @@ pub place_within : (ns : List (ℕ × Item)) (spine places : List TreeIndex) (i 
 place_within ns spine places i o e h = subst (λ (xs : List TreeIndex). (get_or xs i root).0 < length ns) (sym e) (open_at ns spine i root o (in_spine spine places i e h))
 
 -- what the line takes for the next open node
-pub node_taken : (ns : List (ℕ × Item)) (spine places : List TreeIndex) (i : ℕ) (item : Item) (r q : Rest) → places ≡ reverse spine → i < length places
-    → option_map (λ n. n.1) (slice_get ns (get_or places i root).0) ≡ Some item → after (path_in ns (outer i spine)) r ≡ Some q → after (path_in ns (outer (i + 1) spine)) r ≡ prefix_of (container_of item.body) q
-node_taken ns spine places i item r q e h is so_far =
-    taken_more ns spine i root r q (in_spine spine places i e h) so_far
-    ∙ ap (λ o. prefix_of o q) (container_is ns (get_or (reverse spine) i root) item (subst (λ (xs : List TreeIndex). option_map (λ n. n.1) (slice_get ns (get_or xs i root).0) ≡ Some item) e is))
+pub node_taken : (options : Options) (ns : List (ℕ × Item)) (spine places : List TreeIndex) (i : ℕ) (item : Item) (r q : Rest) → places ≡ reverse spine → i < length places
+    → option_map (λ n. n.1) (slice_get ns (get_or places i root).0) ≡ Some item → after (path_in options ns (outer i spine)) r ≡ Some q → after (path_in options ns (outer (i + 1) spine)) r ≡ prefix_of (container_of options item.body) q
+node_taken options ns spine places i item r q e h is so_far =
+    taken_more options ns spine i root r q (in_spine spine places i e h) so_far
+    ∙ ap (λ o. prefix_of o q) (container_is options ns (get_or (reverse spine) i root) item (subst (λ (xs : List TreeIndex). option_map (λ n. n.1) (slice_get ns (get_or xs i root).0) ≡ Some item) e is))

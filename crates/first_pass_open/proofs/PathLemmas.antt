@@ -12,9 +12,10 @@ use Rattle.first_pass_lines.specs.Places.{line_rest}
 use Rattle.first_pass_tokens.specs.TreeTokens.{chained, leaves}
 use Rattle.first_pass_tokens.proofs.ChainLemmas.{chained-spine, chained-nodes}
 use Rattle.first_pass_grammar.specs.declared.kind.Container.{Container}
-use Rattle.first_pass_grammar.specs.declared.kind.Container.TheVariants.{BlockQuote, ListItem}
+use Rattle.first_pass_grammar.specs.declared.kind.Container.TheVariants.{BlockQuote, ListItem, FootnoteDefinition}
 use Rattle.first_pass_grammar.specs.Containers.{has_columns, prefix, after, or_shorter, front}
 use Rattle.first_pass_open.specs.Path.{container_of, container_at, with_container, path_in, path_of}
+use Rattle.first_pass_items.specs.declared.option_set.Options.{Options}
 
 -- each of these places is one of n
 abbrev pub AreIn : ℕ → List TreeIndex → Type 0
@@ -31,17 +32,17 @@ get_front (n ∷ ns) more zero h = refl
 get_front (n ∷ ns) more (suc i) h = get_front ns more i (omega arith)
 
 -- more nodes behind
-pub path_in-append : (ns more : List (ℕ × Item)) (spine : List TreeIndex) → AreIn (length ns) spine → path_in (ns ++ more) spine ≡ path_in ns spine
-path_in-append ns more [] a = refl
-path_in-append ns more (ix ∷ spine) a =
-    ap (λ n. with_container (option_and_then container_of (option_map (λ n. n.1.body) n)) (path_in (ns ++ more) spine)) (get_front ns more ix.0 a.0)
-    ∙ ap (with_container (container_at ns ix)) (path_in-append ns more spine a.1)
+pub path_in-append : (options : Options) (ns more : List (ℕ × Item)) (spine : List TreeIndex) → AreIn (length ns) spine → path_in options (ns ++ more) spine ≡ path_in options ns spine
+path_in-append options ns more [] a = refl
+path_in-append options ns more (ix ∷ spine) a =
+    ap (λ n. with_container (option_and_then (container_of options) (option_map (λ n. n.1.body) n)) (path_in options (ns ++ more) spine)) (get_front ns more ix.0 a.0)
+    ∙ ap (with_container (container_at options ns ix)) (path_in-append options ns more spine a.1)
 
 -- a chain in the innermost open node
-pub path_of-chained : (f : Forest Item) (chain : List Item) → AreIn (length f.nodes) f.spine → path_of (chained f chain) ≡ path_of f
-path_of-chained f chain a =
-    ap (λ s. path_in (chained f chain).nodes s) (chained-spine f chain)
-    ∙ ap (λ ns. path_in ns f.spine) (chained-nodes f chain) ∙ path_in-append f.nodes (at_depth (length f.spine + 1) (leaves chain)) f.spine a
+pub path_of-chained : (options : Options) (f : Forest Item) (chain : List Item) → AreIn (length f.nodes) f.spine → path_of options (chained f chain) ≡ path_of options f
+path_of-chained options f chain a =
+    ap (λ s. path_in options (chained f chain).nodes s) (chained-spine f chain)
+    ∙ ap (λ ns. path_in options ns f.spine) (chained-nodes f chain) ∙ path_in-append options f.nodes (at_depth (length f.spine + 1) (leaves chain)) f.spine a
 
 or_true : (t : Bool) → (t || true) ≡ true
 or_true true = refl
@@ -53,6 +54,10 @@ columns-end n = after-none n (line_rest []) refl
 item_prefix : (n : ℕ) (r : Rest) → has_columns n r ≡ true → prefix (ListItem n) r ≡ Some (after_columns n r)
 unfolding prefix
 item_prefix n r h = rw h refl
+
+same_prefix : (n : ℕ) (r : Rest) → prefix (FootnoteDefinition n) r ≡ prefix (ListItem n) r
+unfolding prefix
+same_prefix n r = refl
 
 item-end : (n : ℕ) → prefix (ListItem n) (line_rest []) ≡ Some (line_rest [])
 item-end n =
@@ -66,6 +71,8 @@ unfolding after prefix
 after-end [] = inr refl
 after-end (BlockQuote kind ∷ path) = elim (after-end path) [ inl none ↦ inl (rw none refl) | inr some ↦ inl (rw some refl) ]
 after-end (ListItem n ∷ path) = elim (after-end path) [ inl none ↦ inl (rw none refl) | inr some ↦ (let e = item-end n in inr (rw some e)) ]
+after-end (FootnoteDefinition n ∷ path) =
+    elim (after-end path) [ inl none ↦ inl (rw none refl) | inr some ↦ (let e = same_prefix n (line_rest []) ∙ item-end n in inr (rw some e)) ]
 
 front_by : (o : Option Rest) (r q : Rest) → (o ≡ None) ⊎ (o ≡ Some r) → q ≡ r → or_shorter o q ≡ r
 front_by None r q h e = e
@@ -88,10 +95,10 @@ get_last (n ∷ ns) x zero h = absurd (omega arith)
 get_last (n ∷ ns) x (suc i) h = get_last ns x i (omega arith)
 
 -- a node just opened
-pub path_of-opened : (g : Forest Item) (x : Item) (ix : TreeIndex) → ix.0 ≡ length g.nodes → AreIn (length g.nodes) g.spine → path_of (pushed (appended g x) ix) ≡ with_container (container_of x.body) (path_of g)
-path_of-opened g x ix at a =
-    ap (λ n. with_container (option_and_then container_of (option_map (λ n. n.1.body) n)) (path_in (g.nodes ++ (length g.spine + 1, x) ∷ []) g.spine)) (get_last g.nodes (length g.spine + 1, x) ix.0 at)
-    ∙ ap (with_container (container_of x.body)) (path_in-append g.nodes ((length g.spine + 1, x) ∷ []) g.spine a)
+pub path_of-opened : (options : Options) (g : Forest Item) (x : Item) (ix : TreeIndex) → ix.0 ≡ length g.nodes → AreIn (length g.nodes) g.spine → path_of options (pushed (appended g x) ix) ≡ with_container (container_of options x.body) (path_of options g)
+path_of-opened options g x ix at a =
+    ap (λ n. with_container (option_and_then (container_of options) (option_map (λ n. n.1.body) n)) (path_in options (g.nodes ++ (length g.spine + 1, x) ∷ []) g.spine)) (get_last g.nodes (length g.spine + 1, x) ix.0 at)
+    ∙ ap (with_container (container_of options x.body)) (path_in-append options g.nodes ((length g.spine + 1, x) ∷ []) g.spine a)
 
 pub opened_in : (g : Forest Item) (x : Item) (ix : TreeIndex) → ix.0 ≡ length g.nodes → AreIn (length g.nodes) g.spine → AreIn (length (pushed (appended g x) ix).nodes) (ix ∷ g.spine)
 opened_in g x ix at a =

@@ -19,7 +19,7 @@ use Rattle.first_pass_lines.proofs.LineFacts.{line_len-none}
 use Rattle.first_pass_lines.proofs.Columns.{after-more, after-none, all-more}
 use Rattle.first_pass_lines.proofs.PlaceFacts.{line_is_place, columns_keep, place_line_end, columns_line_end, columns_shorter, quote_keeps, quote_line_end, quote_shorter}
 use Rattle.first_pass_grammar.specs.declared.kind.Container.{Container}
-use Rattle.first_pass_grammar.specs.declared.kind.Container.TheVariants.{BlockQuote, ListItem}
+use Rattle.first_pass_grammar.specs.declared.kind.Container.TheVariants.{BlockQuote, ListItem, FootnoteDefinition}
 use Rattle.first_pass_grammar.specs.Containers.{has_columns, prefix, after, or_shorter, front}
 use Rattle.first_pass_grammar.specs.Kinds.{all_taken, unindented, item_at}
 use Rattle.first_pass_grammar.specs.Skeleton.{task_by, task_behind}
@@ -54,6 +54,9 @@ prefix_keeps text line (BlockQuote kind) r s u e i =
     let f = quote_prefix text line (after_columns 3 r) (past_quote (after_columns 3 r)) s u refl e (columns_keep text 3 (place_at line r) u i) in
     (f.0, f.1 ∙ columns_line_end 3 (place_at line r))
 prefix_keeps text line (ListItem n) r s u e i =
+    let f : after_columns n r ≡ s = (cond_some (has_columns n r) (after_columns n r) s e).1 in
+    (subst (λ z. IsPlaceOf text (place_at line z)) f (columns_keep text n (place_at line r) u i), ap (λ z. line_end (place_at line z)) (sym f) ∙ columns_line_end n (place_at line r))
+prefix_keeps text line (FootnoteDefinition n) r s u e i =
     let f : after_columns n r ≡ s = (cond_some (has_columns n r) (after_columns n r) s e).1 in
     (subst (λ z. IsPlaceOf text (place_at line z)) f (columns_keep text n (place_at line r) u i), ap (λ z. line_end (place_at line z)) (sym f) ∙ columns_line_end n (place_at line r))
 

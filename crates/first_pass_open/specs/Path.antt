@@ -1,25 +1,31 @@
 -- The containers that are open in a tree.
-use Rattle.std.specs.Prelude.{ℕ, ◌-◌, List, [], ◌∷◌, length, drop, Option, Some, None}
+use Rattle.std.specs.Prelude.{ℕ, ◌-◌, true, if◌then◌else◌, List, [], ◌∷◌, length, drop, Option, Some, None}
 use Rattle.std.specs.Option.{option_and_then}
 use Rattle.first_pass_items.specs.declared.item.Item.{Item}
 use Rattle.first_pass_items.specs.declared.item.ItemBody.{ItemBody}
-use Rattle.first_pass_items.specs.declared.item.ItemBody.TheVariants.{BlockQuote as BlockQuoteBody, ListItem as ListItemBody}
+use Rattle.first_pass_items.specs.declared.item.ItemBody.TheVariants.{BlockQuote as BlockQuoteBody, ListItem as ListItemBody, FootnoteDefinition as FootnoteDefinitionBody}
 use Rattle.first_pass_tree.specs.declared.tree_index.TreeIndex.{TreeIndex}
 use Rattle.first_pass_tree.specs.Forest.{Forest, body_at}
 use Rattle.first_pass_lines.specs.Rest.{Rest}
 use Rattle.first_pass_grammar.specs.declared.kind.Container.{Container}
-use Rattle.first_pass_grammar.specs.declared.kind.Container.TheVariants.{BlockQuote, ListItem}
+use Rattle.first_pass_grammar.specs.declared.kind.Container.TheVariants.{BlockQuote, ListItem, FootnoteDefinition}
 use Rattle.first_pass_items.specs.declared.option_set.Options.{Options}
+use Rattle.first_pass_items.specs.OptionWords.{gfm_footnotes}
 use Rattle.first_pass_grammar.specs.Containers.{Context, context, prefix}
 
--- the container that a node is, if it is one
-abbrev pub container_of : ItemBody → Option Container
-container_of (BlockQuoteBody kind) = Some (BlockQuote kind)
-container_of (ListItemBody columns) = Some (ListItem columns)
-container_of _ = None
+-- the columns that a line needs to go on with a footnote definition: four as GitHub has footnotes, none in their old form (this project)
+abbrev pub footnote_columns : Options → ℕ
+footnote_columns options = if gfm_footnotes options then 4 else 0
 
-abbrev pub container_at : List (ℕ × Item) → TreeIndex → Option Container
-container_at ns ix = option_and_then container_of (body_at ns ix.0)
+-- the container that a node is under these options, if it is one
+abbrev pub container_of : Options → ItemBody → Option Container
+container_of options (BlockQuoteBody kind) = Some (BlockQuote kind)
+container_of options (ListItemBody columns) = Some (ListItem columns)
+container_of options (FootnoteDefinitionBody label) = Some (FootnoteDefinition (footnote_columns options))
+container_of options _ = None
+
+abbrev pub container_at : Options → List (ℕ × Item) → TreeIndex → Option Container
+container_at options ns ix = option_and_then (container_of options) (body_at ns ix.0)
 
 -- what is no container goes on with every line, and takes nothing of it
 abbrev pub prefix_of : Option Container → Rest → Option Rest
@@ -31,16 +37,16 @@ with_container None path = path
 with_container (Some c) path = c ∷ path
 
 -- the containers among these open nodes, the innermost first
-abbrev pub path_in : List (ℕ × Item) → List TreeIndex → List Container
-path_in ns [] = []
-path_in ns (ix ∷ spine) = with_container (container_at ns ix) (path_in ns spine)
+abbrev pub path_in : Options → List (ℕ × Item) → List TreeIndex → List Container
+path_in options ns [] = []
+path_in options ns (ix ∷ spine) = with_container (container_at options ns ix) (path_in options ns spine)
 
-abbrev pub path_of : Forest Item → List Container
-path_of f = path_in f.nodes f.spine
+abbrev pub path_of : Options → Forest Item → List Container
+path_of options f = path_in options f.nodes f.spine
 
 -- what a line is read in, under these options, where these are open
 abbrev pub context_of : Options → Forest Item → Context
-context_of options f = context options (path_of f)
+context_of options f = context options (path_of options f)
 
 -- the outermost m open nodes
 abbrev pub outer : ℕ → List TreeIndex → List TreeIndex

@@ -28,11 +28,11 @@ fn takes_columns<'a>(columns: usize, line_start: &mut LineStart<'a>) -> bool
 
 // Takes the prefix by which the line goes on with a node, and says whether it does; takes nothing where it doesn't.
 #[tactic(auto, unfolding(first_pass_grammar::specs::Containers::prefix))]
-fn takes_prefix<'a>(body: ItemBody, line_start: &mut LineStart<'a>) -> bool
-    ensures { MatchOption (prefix_of (container_of body) line_start.old)
+fn takes_prefix<'a>(body: ItemBody, line_start: &mut LineStart<'a>, options: Options) -> bool
+    ensures { MatchOption (prefix_of (container_of options body) line_start.old)
         ((result ≡ false) × (line_start.new ≡ line_start.old)) (λ next. (result ≡ true) × (line_start.new ≡ next)) }
 {
-    // Two tests and no match on all kinds of nodes, which would be a jump that is seldom predicted.
+    // Three tests and no match on all kinds of nodes, which would be a jump that is seldom predicted.
     let columns = match body {
         ItemBody::ListItem(columns) => Some(columns),
         _ => None,
@@ -43,28 +43,33 @@ fn takes_prefix<'a>(body: ItemBody, line_start: &mut LineStart<'a>) -> bool
     if matches!(body, ItemBody::BlockQuote(_)) {
         return scan_quote(line_start).is_some();
     }
+    if matches!(body, ItemBody::FootnoteDefinition(_)) && options.has_gfm_footnotes() {
+        return takes_columns(4, line_start);
+    }
     true
 }
 
 /// How many of the open nodes the line goes on with, the outermost first, up to the first by which it
-/// doesn't; the line start is then behind what they take (CommonMark 5). What is no container goes on with
-/// every line. Neither the options nor the flag make a difference yet.
+/// doesn't; the line start is then behind what they take (CommonMark 5). A footnote definition takes four columns,
+/// or fewer and then the end of the line, where the options have footnotes as GitHub does, and else nothing; what is
+/// no container goes on with every line. The flag makes no difference.
 pub fn scan_containers<'a>(
     tree: &Tree<Item>,
     line_start: &mut LineStart<'a>,
-    _options: Options,
+    options: Options,
     _gfm_blockquote: bool,
 ) -> usize
     ensures within { result ≤ length tree.now.spine }
-    ensures taken { after (path_in tree.now.nodes (outer result tree.now.spine)) line_start.old ≡ Some line_start.new }
+    ensures taken { after (path_in options tree.now.nodes (outer result tree.now.spine)) line_start.old
+        ≡ Some line_start.new }
     ensures stops { (m : ℕ) → result < m → m ≤ length tree.now.spine
-        → after (path_in tree.now.nodes (outer m tree.now.spine)) line_start.old ≡ None }
-    ensures front { line_start.new ≡ front (path_of tree.now) line_start.old }
+        → after (path_in options tree.now.nodes (outer m tree.now.spine)) line_start.old ≡ None }
+    ensures front { line_start.new ≡ front (path_of options tree.now) line_start.old }
 {
     tree.is_forest();
     let spine = tree.walk_spine();
     for (i, ix) in spine.iter().enumerate() {
-        if !takes_prefix(tree[*ix].body, line_start) {
+        if !takes_prefix(tree[*ix].body, line_start, options) {
             return i;
         }
     }

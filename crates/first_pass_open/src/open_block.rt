@@ -56,7 +56,7 @@ pub fn go_on<'a>(
     options: Options,
 ) -> Option<LineStart<'a>>
     requires { IsCharBoundary text.now start }
-    ensures value { result ≡ after (path_of tree.now) (line_rest (drop start text.now)) }
+    ensures value { result ≡ after (path_of options tree.now) (line_rest (drop start text.now)) }
     ensures place { IfSome result (λ line_start. IsPlaceOf text.now (place_at start line_start)) }
     ensures utf8 { IsUtf8 text.now }
 {

@@ -87,8 +87,8 @@ lines_end range text options names whole rest old now e next s is =
     }
 
 -- the containers around the block, as its lines are read
-pub lines_path : (range : Ranges) (text : List ℕ) (options : Options) (names : Names) (whole rest : Extent) (old now : Forest Item) → LinesSoFar range text options names whole rest old now → AreIn (length old.nodes) old.spine → path_of now ≡ path_of old
-lines_path range text options names whole rest old now s there = ap path_of s.tree_is ∙ path_of-chained old s.chain there
+pub lines_path : (range : Ranges) (text : List ℕ) (options : Options) (names : Names) (whole rest : Extent) (old now : Forest Item) → LinesSoFar range text options names whole rest old now → AreIn (length old.nodes) old.spine → path_of options now ≡ path_of options old
+lines_path range text options names whole rest old now s there = ap (path_of options) s.tree_is ∙ path_of-chained options old s.chain there
 
 -- a line of the text from an offset up to where the next one begins
 pub record IsLineAt (text : List ℕ) (at next : ℕ) : Type 0 where
@@ -158,40 +158,40 @@ goes_by (Stops e) f g h = absurd (f e refl)
 
 -- the lines of a block from an offset on are read up to another
 abbrev pub ReadSoFar : Ranges → List ℕ → Options → Names → (Place → Place → Verdict) → ℕ → ℕ → Forest Item → Forest Item → Type 0
-ReadSoFar range text options names judge start at old now = LinesSoFar range text options names (extent_from text (path_of old) judge start) (extent_from text (path_of old) judge at) old now
+ReadSoFar range text options names judge start at old now = LinesSoFar range text options names (extent_from text (path_of options old) judge start) (extent_from text (path_of options old) judge at) old now
 
 module _ (range : Ranges) (text : List ℕ) (options : Options) (names : Names) (judge : Place → Place → Verdict) (start at : ℕ) (old now : Forest Item) (s : ReadSoFar range text options names judge start at old now) where
   abbrev whole : Extent
-  whole = extent_from text (path_of old) judge start
+  whole = extent_from text (path_of options old) judge start
 
   abbrev rest : Extent
-  rest = extent_from text (path_of old) judge at
+  rest = extent_from text (path_of options old) judge at
 
   -- the text ends
-  pub read_end : at ≡ length text → AppendsLines range (document text options names) (extent_from text (path_of old) judge start) old now at at
-  read_end past = lines_end range text options names whole rest old now at at s (extent_at_end text (path_of old) judge at past)
+  pub read_end : at ≡ length text → AppendsLines range (document text options names) (extent_from text (path_of options old) judge start) old now at at
+  read_end past = lines_end range text options names whole rest old now at at s (extent_at_end text (path_of options old) judge at past)
 
   module _ (next : ℕ) (there : AreIn (length old.nodes) old.spine) (line : IsLineAt text at next) where
-    same_path : path_of now ≡ path_of old
+    same_path : path_of options now ≡ path_of options old
     same_path = lines_path range text options names whole rest old now s there
 
     -- the line doesn't go on with the containers
-    pub read_left : (found : Option Rest) → found ≡ None → found ≡ after (path_of now) (line_rest (drop at text)) → AppendsLines range (document text options names) (extent_from text (path_of old) judge start) old now at at
+    pub read_left : (found : Option Rest) → found ≡ None → found ≡ after (path_of options now) (line_rest (drop at text)) → AppendsLines range (document text options names) (extent_from text (path_of options old) judge start) old now at at
     read_left found none is =
         lines_end range text options names whole rest old now at at s
-        (extent_here text (path_of old) judge at next None (Judged.Stops at) line (ap (λ path. after path (line_rest (drop at text))) (sym same_path) ∙ sym is ∙ none) refl ∙ ap (ends_at at) (sym line.lines))
+        (extent_here text (path_of options old) judge at next None (Judged.Stops at) line (ap (λ path. after path (line_rest (drop at text))) (sym same_path) ∙ sym is ∙ none) refl ∙ ap (ends_at at) (sym line.lines))
 
-    module _ (r q : Rest) (taken : Some r ≡ after (path_of now) (line_rest (drop at text))) (answer : Answer) (is : judge (line_place at (drop at text)) (place_at at r) ≡ said answer (place_at at q)) where
-      rest_by : (v : Answer) → answer ≡ v → rest ≡ extent_by (said v (place_at at q)) (line_place at (drop at text)) (lines_from text next) (extent_from text (path_of old) judge next)
+    module _ (r q : Rest) (taken : Some r ≡ after (path_of options now) (line_rest (drop at text))) (answer : Answer) (is : judge (line_place at (drop at text)) (place_at at r) ≡ said answer (place_at at q)) where
+      rest_by : (v : Answer) → answer ≡ v → rest ≡ extent_by (said v (place_at at q)) (line_place at (drop at text)) (lines_from text next) (extent_from text (path_of options old) judge next)
       rest_by v e =
-          extent_here text (path_of old) judge at next (Some r) (said v (place_at at q)) line (ap (λ path. after path (line_rest (drop at text))) (sym same_path) ∙ sym taken) (is ∙ ap (λ (a : Answer). said a (place_at at q)) e)
+          extent_here text (path_of options old) judge at next (Some r) (said v (place_at at q)) line (ap (λ path. after path (line_rest (drop at text))) (sym same_path) ∙ sym taken) (is ∙ ap (λ (a : Answer). said a (place_at at q)) e)
 
       -- the line is none of the block's
-      pub read_stops : (e : ℕ) → answer ≡ Stops e → AppendsLines range (document text options names) (extent_from text (path_of old) judge start) old now e at
+      pub read_stops : (e : ℕ) → answer ≡ Stops e → AppendsLines range (document text options names) (extent_from text (path_of options old) judge start) old now e at
       read_stops e stops = lines_end range text options names whole rest old now e at s (rest_by (Stops e) stops ∙ ap (ends_at e) (sym line.lines))
 
       -- it closes the block
-      pub read_closes : (e : ℕ) → answer ≡ Closes e → AppendsLines range (document text options names) (extent_from text (path_of old) judge start) old now e next
+      pub read_closes : (e : ℕ) → answer ≡ Closes e → AppendsLines range (document text options names) (extent_from text (path_of options old) judge start) old now e next
       read_closes e closes = lines_end range text options names whole rest old now e next s (rest_by (Closes e) closes)
 
       module _ (named : Names) (owed from : ℕ) (new : Forest Item) (apart : JoinsNone old) (extends : Extends named names) (appends : AppendsRaw range text named owed from next now new) (owed_is : owed ≡ q.owed) (from_is : from ≡ at + q.taken)
@@ -199,11 +199,11 @@ module _ (range : Ranges) (text : List ℕ) (options : Options) (names : Names) 
         -- it is one of the block's
         pub read_more : answer ≡ GoesOn → ReadSoFar range text options named judge start next old new
         read_more goes =
-            lines_more range text options names named whole rest (extent_from text (path_of old) judge next) (place_at at q) old now new owed from next apart s
+            lines_more range text options names named whole rest (extent_from text (path_of options old) judge next) (place_at at q) old now new owed from next apart s
             (rest_by GoesOn goes) extends appends owed_is from_is next_is
 
         -- it is the last
-        pub read_last : answer ≡ IsLast → AppendsLines range (document text options named) (extent_from text (path_of old) judge start) old new next next
+        pub read_last : answer ≡ IsLast → AppendsLines range (document text options named) (extent_from text (path_of options old) judge start) old new next next
         read_last last =
             let ends : Extent = ends_at next (lines_from text next) in
             lines_end range text options named whole ends old new next next
@@ -217,17 +217,17 @@ first_read text bytes start first u b e f =
     (is, subst (IsCharBoundary text) (line_start_end text start ∙ sym is) (place_end text (line_place start (drop start text)) u (line_is_place text start b)))
 
 -- the containers around a block that was just opened
-pub opened_path : (g opened : Forest Item) (start : ℕ) (body : ItemBody) → opened ≡ opened_block g start body → container_of body ≡ None → AreIn (length g.nodes) g.spine → path_of opened ≡ path_of g
-opened_path g opened start body is leaf there =
-    ap path_of is ∙ path_of-opened g (begun_item start body) (record { 0 = length g.nodes }) refl there ∙ ap (λ c. with_container c (path_of g)) leaf
+pub opened_path : (options : Options) (g opened : Forest Item) (start : ℕ) (body : ItemBody) → opened ≡ opened_block g start body → container_of options body ≡ None → AreIn (length g.nodes) g.spine → path_of options opened ≡ path_of options g
+opened_path options g opened start body is leaf there =
+    ap (path_of options) is ∙ path_of-opened options g (begun_item start body) (record { 0 = length g.nodes }) refl there ∙ ap (λ c. with_container c (path_of options g)) leaf
 
 -- the lines behind the first of a block that was just opened
 pub lines_of : (range : Ranges) (text : List ℕ) (options : Options) (names : Names) (g opened filled : Forest Item) (start first e next : ℕ) (body : ItemBody) (judge : Place → Place → Verdict) → AreIn (length g.nodes) g.spine
-    → opened ≡ opened_block g start body → container_of body ≡ None → first ≡ behind_line_at text start → AppendsLines range (document text options names) (extent_from text (path_of opened) judge first) opened filled e next
-    → AppendsLines range (document text options names) (extent_from text (path_of g) judge (behind_line_at text start)) opened filled e next
+    → opened ≡ opened_block g start body → container_of options body ≡ None → first ≡ behind_line_at text start → AppendsLines range (document text options names) (extent_from text (path_of options opened) judge first) opened filled e next
+    → AppendsLines range (document text options names) (extent_from text (path_of options g) judge (behind_line_at text start)) opened filled e next
 lines_of range text options names g opened filled start first e next body judge there is leaf first_is lines =
     subst (λ y. AppendsLines range (document text options names) y opened filled e next)
-    (ap (λ path. extent_from text path judge first) (opened_path g opened start body is leaf there) ∙ ap (extent_from text (path_of g) judge) first_is) lines
+    (ap (λ path. extent_from text path judge first) (opened_path options g opened start body is leaf there) ∙ ap (extent_from text (path_of options g) judge) first_is) lines
 
 -- a block that was opened, and then filled with its lines
 module _ (range : Ranges) (text : List ℕ) (options : Options) (names : Names) (whole : Extent) (g opened filled : Forest Item) (start : ℕ) (body : ItemBody) (e next : ℕ)

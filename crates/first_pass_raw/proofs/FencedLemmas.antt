@@ -167,10 +167,10 @@ fence_end text start n c u b h =
 pub fenced_added : (text : List ℕ) (options : Options) (named names : Names) (g opened filled new : Forest Item) (start columns byte count first e next : ℕ) (info : CowIndex) → AreIn (length g.nodes) g.spine
     → opened ≡ opened_block g start (FencedCodeBlock info) → first ≡ behind_line_at text start
     → ((more : Names) → Extends more named → NamesInfo more info (info_string (drop (start + count) text))) → Extends names named
-    → AppendsLines range_text (document text options names) (extent_from text (path_of opened) (fence_judge columns byte count) first) opened filled e next → new ≡ closed_by filled e filled.spine
-    → (let x = fenced_behind text (path_of g) columns byte count start in AddsRaw (document text options names) (λ d. IsFencedCode d start count x.places x.«end») x.left g new next)
+    → AppendsLines range_text (document text options names) (extent_from text (path_of options opened) (fence_judge columns byte count) first) opened filled e next → new ≡ closed_by filled e filled.spine
+    → (let x = fenced_behind text (path_of options g) columns byte count start in AddsRaw (document text options names) (λ d. IsFencedCode d start count x.places x.«end») x.left g new next)
 fenced_added text options named names g opened filled new start columns byte count first e next info there is first_is names_info extends lines new_is =
-    let x : Extent = fenced_behind text (path_of g) columns byte count start in
+    let x : Extent = fenced_behind text (path_of options g) columns byte count start in
     let all = lines_of range_text text options names g opened filled start first e next (FencedCodeBlock info) (fence_judge columns byte count) there is refl first_is lines in
     record {
       items = block_with start x.«end» (FencedCodeBlock info) all.chain;

@@ -206,21 +206,21 @@ module _ (text : List ℕ) (options : Options) (named : Names) (start columns ne
     blank_extent path = ap (with_line p) (behind_first path blank_judge)
 
     -- the containers around the block are those around its lines
-    path_by : AreIn (length g.nodes) g.spine → AreIn (length opened.nodes) opened.spine → path_of one ≡ path_of g
+    path_by : AreIn (length g.nodes) g.spine → AreIn (length opened.nodes) opened.spine → path_of options one ≡ path_of options g
     path_by there in_opened =
-        lines_path range_html text options named (with_line (owing columns p) (ends_at next [])) (ends_at next []) opened one (first_read (ends_at next [])) in_opened ∙ opened_path g opened start HtmlBlock refl refl there
+        lines_path range_html text options named (with_line (owing columns p) (ends_at next [])) (ends_at next []) opened one (first_read (ends_at next [])) in_opened ∙ opened_path options g opened start HtmlBlock refl refl there
 
     -- the block has one line
     pub html_one : (tag : List ℕ) (new : Forest Item) → holds tag (line_of p) ≡ true → new ≡ closed_by one next one.spine
-        → (let e = html_to_end text (path_of g) tag p in AddsRaw (document text options named) (λ d. IsHtml d start columns e.places e.«end») e.left g new next)
-    html_one tag new held new_is = whole_added named (html_to_end text (path_of g) tag p) (ends_at next (lines_from text next)) one new next next (held_extent (path_of g) tag held) first_alone new_is
+        → (let e = html_to_end text (path_of options g) tag p in AddsRaw (document text options named) (λ d. IsHtml d start columns e.places e.«end») e.left g new next)
+    html_one tag new held new_is = whole_added named (html_to_end text (path_of options g) tag p) (ends_at next (lines_from text next)) one new next next (held_extent (path_of options g) tag held) first_alone new_is
 
     -- it has those behind the first, too
-    module _ (names : Names) (judge : Place → Place → Verdict) (two : Forest Item) (e : Extent) (stop left : ℕ) (path : path_of one ≡ path_of g) (lines : AppendsLines range_html (document text options names) (extent_from text (path_of one) judge next) one two stop left)
-        (e_is : e ≡ with_line p (extent_from text (path_of g) judge next)) where
+    module _ (names : Names) (judge : Place → Place → Verdict) (two : Forest Item) (e : Extent) (stop left : ℕ) (path : path_of options one ≡ path_of options g) (lines : AppendsLines range_html (document text options names) (extent_from text (path_of options one) judge next) one two stop left)
+        (e_is : e ≡ with_line p (extent_from text (path_of options g) judge next)) where
       pub html_more : (new : Forest Item) → Extends names named → new ≡ closed_by two stop two.spine → AddsRaw (document text options names) (λ d. IsHtml d start columns e.places e.«end») e.left g new left
       html_more new extends new_is =
-          let further : Extent = extent_from text (path_of g) judge next in
+          let further : Extent = extent_from text (path_of options g) judge next in
           let here = subst (λ path. AppendsLines range_html (document text options names) (extent_from text path judge next) one two stop left) path lines in
           whole_added names e further two new stop left e_is (first_then names further two stop left extends here) new_is
 
@@ -235,5 +235,5 @@ module _ (text : List ℕ) (options : Options) (named : Names) (start columns ne
       let p : Place = first_at text start 0 in
       block_open range_html text options names (with_line (owing columns p) further) g opened two start HtmlBlock stop left refl (first_then p (first_is text start 0) names further two stop left extends lines)
 
-  pub first_path : AreIn (length g.nodes) g.spine → AreIn (length opened.nodes) opened.spine → path_of one ≡ path_of g
+  pub first_path : AreIn (length g.nodes) g.spine → AreIn (length opened.nodes) opened.spine → path_of options one ≡ path_of options g
   first_path there in_opened = path_by (first_at text start 0) (first_is text start 0) there in_opened

@@ -323,10 +323,10 @@ pub record IsJustOpened (f : Forest Item) : Type 0 where
 pub record AppendsIndented (text : List ℕ) (options : Options) (names : Names) (p : Place) (old new : Forest Item) («end» next : ℕ) (blank : Bool) : Type 0 where
   pub chain : List Item
   pub tree_is : new ≡ chained old chain
-  pub lines : (more : Names) → Extends more names → AreRawLines range_text (document text options more) [] (without_blanks (p ∷ (code_behind text (path_of old) (offset p)).0)) chain
-  pub end_is : «end» ≡ last_end (offset p) (without_blanks (p ∷ (code_behind text (path_of old) (offset p)).0))
-  pub blank_is : blank ≡ last_is_blank (code_behind text (path_of old) (offset p)).0
-  pub left_is : lines_from text next ≡ (code_behind text (path_of old) (offset p)).1
+  pub lines : (more : Names) → Extends more names → AreRawLines range_text (document text options more) [] (without_blanks (p ∷ (code_behind text (path_of options old) (offset p)).0)) chain
+  pub end_is : «end» ≡ last_end (offset p) (without_blanks (p ∷ (code_behind text (path_of options old) (offset p)).0))
+  pub blank_is : blank ≡ last_is_blank (code_behind text (path_of options old) (offset p)).0
+  pub left_is : lines_from text next ≡ (code_behind text (path_of options old) (offset p)).1
 
 -- The lines of indented code are read up to where another begins, its first at a place: the chain of those up to the last that isn't blank, which ends with a
 -- text, and the tokens of the blank ones behind it.
@@ -341,7 +341,7 @@ pub record IndentedSoFar (text : List ℕ) (options : Options) (names : Names) (
   pub all : (further : Names) → Extends further names → AreRawLines range_text (document text options further) [] (p ∷ read) (add_tokens chain more)
   pub end_is : kept.«end» ≡ last_end (offset p) (without_blanks (p ∷ read))
   pub blank_is : blank ≡ last_is_blank read
-  pub behind : code_behind text (path_of old) (offset p) ≡ put_before read (code_lines (path_of old) (lines_from text next))
+  pub behind : code_behind text (path_of options old) (offset p) ≡ put_before read (code_lines (path_of options old) (lines_from text next))
 
 -- a raw line from a place on
 line_at : (text : List ℕ) (options : Options) (names : Names) (p : Place) (owed from to : ℕ) (old new : Forest Item) (a : AppendsRaw range_text text names owed from to old new) → p.rest.owed ≡ owed → offset p ≡ from → line_end p ≡ to
@@ -382,11 +382,11 @@ so_far_first text options names p old now start owed next current at o some apar
       all = are;
       end_is = sym e ∙ sym (last_line_end (offset p) [] p) ∙ ap (last_end (offset p)) (sym one);
       blank_is = sym no_last;
-      behind = ap (λ k. code_lines (path_of old) (lines_from text k)) (ap (behind_line_at text) at.offset_is ∙ sym next_is);
+      behind = ap (λ k. code_lines (path_of options old) (lines_from text k)) (ap (behind_line_at text) at.offset_is ∙ sym next_is);
     }
 
 module _ (text : List ℕ) (options : Options) (names more_names : Names) (p : Place) (old now new : Forest Item) (next last owed taken : ℕ) (kept : Kept) (blank : Bool) (r : Rest) (u : IsUtf8 text) (b : IsCharBoundary text next) (apart : JoinsNone old)
-    (s : IndentedSoFar text options names p old now next kept blank) (goes : code_rest_at text (path_of old) next ≡ Some r) (i : IsPlaceOf text (place_at next r)) (e : Extends more_names names)
+    (s : IndentedSoFar text options names p old now next kept blank) (goes : code_rest_at text (path_of options old) next ≡ Some r) (i : IsPlaceOf text (place_at next r)) (e : Extends more_names names)
     (owed_is : owed ≡ r.owed) (taken_is : taken ≡ r.taken) (a : AppendsRaw range_text text more_names owed (next + taken) last now new) (last_is : last ≡ behind_line_at text (next + taken)) where
   -- where the text of the next line begins
   abbrev q : Place
@@ -396,7 +396,7 @@ module _ (text : List ℕ) (options : Options) (names more_names : Names) (p : P
   q_end = sym (last_is ∙ ap (λ k. behind_line_at text (next + k)) taken_is ∙ read_end text next r i)
 
   last_place : last ≡ behind_line_at text next
-  last_place = sym q_end ∙ next_end text (path_of old) next r u b goes
+  last_place = sym q_end ∙ next_end text (path_of options old) next r u b goes
 
   tree : new ≡ chained old (add_tokens (add_tokens s.chain s.more) a.items)
   tree = a.tree_is ∙ ap (λ f. with_tokens f a.items) s.tree_is ∙ with_tokens-chained old (add_tokens s.chain s.more) a.items apart
@@ -406,11 +406,11 @@ module _ (text : List ℕ) (options : Options) (names more_names : Names) (p : P
       more_lines (document text options further) [] (p ∷ s.read) q (add_tokens s.chain s.more) a.items (s.all further (extends_both further more_names names f e))
       (line_at text options more_names q owed (next + taken) last now new a (sym owed_is) (ap (λ k. next + k) (sym taken_is)) q_end further f)
 
-  behind_too : code_behind text (path_of old) (offset p) ≡ put_before (s.read ++ q ∷ []) (code_lines (path_of old) (lines_from text last))
+  behind_too : code_behind text (path_of options old) (offset p) ≡ put_before (s.read ++ q ∷ []) (code_lines (path_of options old) (lines_from text last))
   behind_too =
-      let further : List Place × List Place = code_lines (path_of old) (lines_from text (behind_line_at text next)) in
-      s.behind ∙ ap (put_before s.read) (lines_more text (path_of old) next r b.0 goes) ∙ ap (λ ps. (ps, further.1)) (sym (append_assoc s.read (q ∷ []) further.0))
-      ∙ ap (λ k. put_before (s.read ++ q ∷ []) (code_lines (path_of old) (lines_from text k))) (sym last_place)
+      let further : List Place × List Place = code_lines (path_of options old) (lines_from text (behind_line_at text next)) in
+      s.behind ∙ ap (put_before s.read) (lines_more text (path_of options old) next r b.0 goes) ∙ ap (λ ps. (ps, further.1)) (sym (append_assoc s.read (q ∷ []) further.0))
+      ∙ ap (λ k. put_before (s.read ++ q ∷ []) (code_lines (path_of options old) (lines_from text k))) (sym last_place)
 
   -- behind a blank line, and behind one that isn't
   blank_next : is_blank_rest r ≡ true → IndentedSoFar text options more_names p old new last kept true
@@ -462,9 +462,9 @@ module _ (text : List ℕ) (options : Options) (names more_names : Names) (p : P
 
 -- The lines open and close nothing, so that the next line is read in the containers that were open before.
 pub next_rest : (text : List ℕ) (options : Options) (names : Names) (p : Place) (old now : Forest Item) (next : ℕ) (kept : Kept) (blank : Bool) (found : Option Rest) → IndentedSoFar text options names p old now next kept blank → IsForest old
-    → found ≡ code_rest_at text (path_of now) next → found ≡ code_rest_at text (path_of old) next
+    → found ≡ code_rest_at text (path_of options now) next → found ≡ code_rest_at text (path_of options old) next
 next_rest text options names p old now next kept blank found s f e =
-    let path : path_of now ≡ path_of old = ap path_of s.tree_is ∙ path_of-chained old (add_tokens s.chain s.more) (open_are_in old.nodes old.spine f.opened) in
+    let path : path_of options now ≡ path_of options old = ap (path_of options) s.tree_is ∙ path_of-chained options old (add_tokens s.chain s.more) (open_are_in old.nodes old.spine f.opened) in
     e ∙ ap (λ c. code_rest_at text c next) path
 
 -- a node just opened is the last one
@@ -505,11 +505,11 @@ module _ (text : List ℕ) (options : Options) (names : Names) (p : Place) (old 
       ∙ last_ends old s.last.front x c kept.«end» refl ∙ ap (λ to. chained old (s.last.front ++ record s.last.last { «end» = to } ∷ [])) (sym s.last.ends) ∙ ap (chained old) (sym s.last.is)
 
   -- behind the last line
-  pub so_far_stop : (new : Forest Item) → code_rest_at text (path_of old) next ≡ None → IfSome kept.last (λ child. new ≡ with_end_at (kept_after now child) child kept.«end») → AppendsIndented text options names p old new kept.«end» next blank
+  pub so_far_stop : (new : Forest Item) → code_rest_at text (path_of options old) next ≡ None → IfSome kept.last (λ child. new ≡ with_end_at (kept_after now child) child kept.«end») → AppendsIndented text options names p old new kept.«end» next blank
   so_far_stop new stops cut =
-      let behind : code_behind text (path_of old) (offset p) ≡ (s.read, lines_from text next) =
-      s.behind ∙ ap (put_before s.read) (lines_stop text (path_of old) next stops) ∙ ap (λ ps. (ps, lines_from text next)) (append-nil s.read) in
-      let read : s.read ≡ (code_behind text (path_of old) (offset p)).0 = sym (ap (λ (l : List Place × List Place). l.0) behind) in
+      let behind : code_behind text (path_of options old) (offset p) ≡ (s.read, lines_from text next) =
+      s.behind ∙ ap (put_before s.read) (lines_stop text (path_of options old) next stops) ∙ ap (λ ps. (ps, lines_from text next)) (append-nil s.read) in
+      let read : s.read ≡ (code_behind text (path_of options old) (offset p)).0 = sym (ap (λ (l : List Place × List Place). l.0) behind) in
       record {
         chain = s.chain;
         tree_is = cut_is new cut;
@@ -537,10 +537,10 @@ module _ (text : List ℕ) (options : Options) (names : Names) (p : Place) (old 
   -- it is closed
   pub code_added : (new : Forest Item) → IsForest old → offset p ≡ start → new ≡ closed_by now «end» now.spine → AddsIndented (document text options names) p old new next blank
   code_added new f at closed =
-      let path : path_of opened ≡ path_of old = ap path_of opened_is ∙ path_of-opened old (code_item start) (place_in (length old.nodes)) refl (open_are_in old.nodes old.spine f.opened) in
+      let path : path_of options opened ≡ path_of options old = ap (path_of options) opened_is ∙ path_of-opened options old (code_item start) (place_in (length old.nodes)) refl (open_are_in old.nodes old.spine f.opened) in
       let same = ap (λ c. code_behind text c (offset p)) path in
       let further = ap (λ (l : List Place × List Place). l.0) same in
-      let ends : «end» ≡ last_end (offset p) (without_blanks (p ∷ (code_behind text (path_of old) (offset p)).0)) = a.end_is ∙ ap (λ ps. last_end (offset p) (without_blanks (p ∷ ps))) further in
+      let ends : «end» ≡ last_end (offset p) (without_blanks (p ∷ (code_behind text (path_of options old) (offset p)).0)) = a.end_is ∙ ap (λ ps. last_end (offset p) (without_blanks (p ∷ ps))) further in
       record {
         items = block_with start «end» IndentCodeBlock a.chain;
         tree_is = block_closed old now (code_item start) a.chain (place_in (length old.nodes)) refl block_filled new «end» closed;

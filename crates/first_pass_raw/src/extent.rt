@@ -58,7 +58,8 @@ pub fn read_lines<'a, J: JudgesLines>(
     requires boundary { IsCharBoundary text.now start }
     requires apart { JoinsNone tree.old }
     ensures lines { IfOk result (λ lines. AppendsLines (range_of kind) (document text.now options (names_of allocs.new))
-        (extent (in_containers (path_of tree.old) (J.judges judge.now)) (length text.now) (lines_from text.now start))
+        (extent (in_containers (path_of options tree.old) (J.judges judge.now)) (length text.now)
+        (lines_from text.now start))
         tree.old tree.new lines.«end» lines.next) }
     ensures boundary { IfOk result (λ lines. (start ≤ lines.next) × IsCharBoundary text.now lines.next) }
     ensures names { OnOk result (Extends (names_of allocs.new) (names_of allocs.old)) }

@@ -50,7 +50,7 @@ pub fn parse_fenced_code_block<'a>(
     requires boundary { IsCharBoundary text.now start_ix }
     requires fence { code_fence (drop start_ix text.now) ≡ Some (fence.count, fence.byte) }
     ensures block { IfOk result (λ next.
-        let e = fenced_behind text.now (path_of tree.old) fence.indent fence.byte fence.count start_ix in
+        let e = fenced_behind text.now (path_of options tree.old) fence.indent fence.byte fence.count start_ix in
         AddsRaw (document text.now options (names_of allocs.new)) (λ d.
         IsFencedCode d start_ix fence.count e.places e.«end») e.left tree.old tree.new next) }
     ensures boundary { IfOk result (λ next. (behind_line_at text.now start_ix ≤ next) × IsCharBoundary text.now next) }

@@ -41,7 +41,7 @@ pub fn parse_html_block_type_1_to_5<'a>(
     requires boundary { IsCharBoundary text.now start_ix }
     requires columns { columns ≤ 3 }
     ensures block { IfOk result (λ next. (p : Place) → IsPlaceAt text.now start_ix p
-        → let e = html_to_end text.now (path_of tree.old) html_end_tag.now p in
+        → let e = html_to_end text.now (path_of options tree.old) html_end_tag.now p in
         AddsRaw (document text.now options (names_of allocs.new)) (λ d.
         IsHtml d start_ix columns e.places e.«end») e.left tree.old tree.new next) }
     ensures boundary { IfOk result (λ next. (behind_line_at text.now start_ix ≤ next) × IsCharBoundary text.now next) }
@@ -75,7 +75,7 @@ pub fn parse_html_block_type_6_or_7<'a>(
     requires boundary { IsCharBoundary text.now start_ix }
     requires columns { columns ≤ 3 }
     ensures block { IfOk result (λ next. (p : Place) → IsPlaceAt text.now start_ix p
-        → let e = html_to_blank text.now (path_of tree.old) p in
+        → let e = html_to_blank text.now (path_of options tree.old) p in
         AddsRaw (document text.now options (names_of allocs.new)) (λ d.
         IsHtml d start_ix columns e.places e.«end») e.left tree.old tree.new next) }
     ensures boundary { IfOk result (λ next. (behind_line_at text.now start_ix ≤ next) × IsCharBoundary text.now next) }
@@ -104,7 +104,7 @@ fn open_html_block<'a>(
     ensures next { IfOk result (λ next. (next ≡ behind_line_at text.now start) × IsCharBoundary text.now next) }
     ensures line { IfOk result (λ next. AppendsRaw range_html text.now (names_of allocs.new) columns start next
         (opened_block tree.old start HtmlBlock) tree.new) }
-    ensures path { OnOk result (path_of tree.new ≡ path_of tree.old) }
+    ensures path { OnOk result ((options : Options) → path_of options tree.new ≡ path_of options tree.old) }
     ensures apart { OnOk result (JoinsNone tree.new) }
     ensures names { OnOk result (Extends (names_of allocs.new) (names_of allocs.old)) }
     ensures tables { OnOk result (tables allocs.new ≡ tables allocs.old) }

@@ -127,7 +127,7 @@ fn indented_line<'a>(
     options: Options,
 ) -> Option<LineStart<'a>>
     requires { IsCharBoundary text.now start }
-    ensures value { result ≡ code_rest_at text.now (path_of tree.now) start }
+    ensures value { result ≡ code_rest_at text.now (path_of options tree.now) start }
     ensures place { IfSome result (λ line_start. IsPlaceOf text.now (place_at start line_start)) }
 {
     if start == text.len() {

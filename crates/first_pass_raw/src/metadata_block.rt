@@ -44,7 +44,7 @@ pub fn parse_metadata_block<'a>(
 ) -> Result<usize, AllocError>
     requires boundary { IsCharBoundary text.now start_ix }
     ensures block { IfOk result (λ next.
-        let e = metadata_behind text.now (path_of tree.old) metadata_block_ch start_ix in
+        let e = metadata_behind text.now (path_of options tree.old) metadata_block_ch start_ix in
         AddsRaw (document text.now options (names_of allocs.new)) (λ d.
         IsMetadata d start_ix metadata_block_ch e.places e.«end») e.left tree.old tree.new next) }
     ensures boundary { IfOk result (λ next. (behind_line_at text.now start_ix ≤ next) × IsCharBoundary text.now next) }

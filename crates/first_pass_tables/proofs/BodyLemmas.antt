@@ -26,6 +26,7 @@ use Rattle.first_pass_open.proofs.PlaceLemmas.{line_start_end}
 use Rattle.first_pass_tables.specs.Appends.{with_below, AddsHead, keeps_row, OpenTable, open_table, ReadsRow, ReadsRowLine, AppendsRows}
 use Rattle.first_pass_tables.specs.RowsRead.{AppendsBody, BodySoFar}
 use Rattle.first_pass_tables.proofs.RowPlaces.{begins_row, in_table-append, row_within}
+use Rattle.first_pass_items.specs.declared.option_set.Options.{Options}
 
 -- a row ends where its line ends
 row_line : (d : Document) (path : List Container) (n start : ℕ) (cells : List (List (ℕ × Item))) (stop : ℕ) → IsUtf8 d.text → IsCharBoundary d.text n → row_text path (line_place n (drop n d.text)) ≡ Some start → AreCells d start cells stop
@@ -35,8 +36,8 @@ row_line d path n start cells stop utf8 boundary h are =
     row_ends_at_place d b.place cells stop b.stands (subst (λ k. AreCells d k cells stop) b.start_is are) ∙ b.ends ∙ line_start_end d.text n
 
 -- more nodes behind an open node's own open and close nothing
-pub same_path : (f g : Forest Item) (more : List (ℕ × Item)) → g.nodes ≡ f.nodes ++ more → g.spine ≡ f.spine → AreIn (length f.nodes) f.spine → path_of g ≡ path_of f
-same_path f g more nodes spine there = ap (path_in g.nodes) spine ∙ ap (λ ns. path_in ns f.spine) nodes ∙ path_in-append f.nodes more f.spine there
+pub same_path : (options : Options) (f g : Forest Item) (more : List (ℕ × Item)) → g.nodes ≡ f.nodes ++ more → g.spine ≡ f.spine → AreIn (length f.nodes) f.spine → path_of options g ≡ path_of options f
+same_path options f g more nodes spine there = ap (path_in options g.nodes) spine ∙ ap (λ ns. path_in options ns f.spine) nodes ∙ path_in-append options f.nodes more f.spine there
 
 pub same_table : (f g : Forest Item) (more : List (ℕ × Item)) → g.nodes ≡ f.nodes ++ more → g.spine ≡ f.spine → AreIn (length f.nodes) f.spine → in_table f.nodes f.spine ≡ true → in_table g.nodes g.spine ≡ true
 same_table f g more nodes spine there h = ap (in_table g.nodes) spine ∙ ap (λ ns. in_table ns f.spine) nodes ∙ in_table-append f.nodes more f.spine there ∙ h
@@ -95,21 +96,21 @@ left_by d path columns most at h =
 
 module _ (d : Document) (columns start : ℕ) (old now new : OpenTable) (at : ℕ) (utf8 : IsUtf8 d.text) (there : AreIn (length old.tree.nodes) old.tree.spine)
     (s : BodySoFar d columns start old now at) where
-  path_is : path_of now.tree ≡ path_of old.tree
-  path_is = same_path old.tree now.tree (at_depth (length old.tree.spine + 1) s.body) s.nodes s.spine there
+  path_is : path_of d.options now.tree ≡ path_of d.options old.tree
+  path_is = same_path d.options old.tree now.tree (at_depth (length old.tree.spine + 1) s.body) s.nodes s.spine there
 
-  begins : (begin : ℕ) → row_text (path_of now.tree) (line_place at (drop at d.text)) ≡ Some begin → row_text (path_of old.tree) (line_place at (drop at d.text)) ≡ Some begin
+  begins : (begin : ℕ) → row_text (path_of d.options now.tree) (line_place at (drop at d.text)) ≡ Some begin → row_text (path_of d.options old.tree) (line_place at (drop at d.text)) ≡ Some begin
   begins begin h = subst (λ path. row_text path (line_place at (drop at d.text)) ≡ Some begin) path_is h
 
   -- behind a row
-  more_by : (next begin : ℕ) (ix : TreeIndex) → row_text (path_of now.tree) (line_place at (drop at d.text)) ≡ Some begin → ReadsRow d columns begin now new (Some (next, ix))
+  more_by : (next begin : ℕ) (ix : TreeIndex) → row_text (path_of d.options now.tree) (line_place at (drop at d.text)) ≡ Some begin → ReadsRow d columns begin now new (Some (next, ix))
       → BodySoFar d columns start old new next × (at < next)
   more_by next begin ix h r =
       let a = r.adds in
       let here = begins begin h in
-      let within : at < length d.text = row_within d.text (path_of old.tree) at begin here in
+      let within : at < length d.text = row_within d.text (path_of d.options old.tree) at begin here in
       let stop_is : next ≡ r.row_end = a.3 in
-      let line : r.row_end ≡ at + line_len (drop at d.text) = row_line d (path_of old.tree) at begin r.cells r.row_end utf8 s.boundary here r.are_cells in
+      let line : r.row_end ≡ at + line_len (drop at d.text) = row_line d (path_of d.options old.tree) at begin r.cells r.row_end utf8 s.boundary here r.are_cells in
       let next_is : next ≡ at + line_len (drop at d.text) = stop_is ∙ line in
       let block : List (ℕ × Item) = row_block TableRow columns begin r.cells next in
       let are : AreCells d begin r.cells next = subst (AreCells d begin r.cells) (sym stop_is) r.are_cells in
@@ -130,10 +131,10 @@ module _ (d : Document) (columns start : ℕ) (old now new : OpenTable) (at : �
           later = omega arith;
           boundary = subst (IsCharBoundary d.text) (sym next_is) (line_end_boundary d.text at utf8 s.boundary within);
           goes_on = λ t rows.
-              subst (λ items. AreRows d (path_of old.tree) columns (most_filled - old.filled_in) (lines_from d.text start) (taking items t.left)) (sym (append_assoc s.body block t.items))
+              subst (λ items. AreRows d (path_of d.options old.tree) columns (most_filled - old.filled_in) (lines_from d.text start) (taking items t.left)) (sym (append_assoc s.body block t.items))
               (s.goes_on (taking (block ++ t.items) t.left)
-              (row_more d (path_of old.tree) columns (most_filled - now.filled_in) at next begin r.cells t within next_is here are is
-              (subst (λ most. AreRows d (path_of old.tree) columns most (lines_from d.text next) t) left rows)));
+              (row_more d (path_of d.options old.tree) columns (most_filled - now.filled_in) at next begin r.cells t within next_is here are is
+              (subst (λ most. AreRows d (path_of d.options old.tree) columns most (lines_from d.text next) t) left rows)));
         },
         omega arith,
       )
@@ -146,10 +147,10 @@ module _ (d : Document) (columns start : ℕ) (old now new : OpenTable) (at : �
   body_more next ix (inr (begin, h, r)) = more_by next begin ix h r
 
   -- before what is no row
-  over_by : new ≡ now → AreRows d (path_of old.tree) columns (most_filled - now.filled_in) (lines_from d.text at) (taking [] (lines_from d.text at)) → AppendsBody d columns start old new.tree at
+  over_by : new ≡ now → AreRows d (path_of d.options old.tree) columns (most_filled - now.filled_in) (lines_from d.text at) (taking [] (lines_from d.text at)) → AppendsBody d columns start old new.tree at
   over_by same rows = record {
     body = s.body;
-    are_rows = subst (λ items. AreRows d (path_of old.tree) columns (most_filled - old.filled_in) (lines_from d.text start) (taking items (lines_from d.text at))) (append-nil s.body) (s.goes_on (taking [] (lines_from d.text at)) rows);
+    are_rows = subst (λ items. AreRows d (path_of d.options old.tree) columns (most_filled - old.filled_in) (lines_from d.text start) (taking items (lines_from d.text at))) (append-nil s.body) (s.goes_on (taking [] (lines_from d.text at)) rows);
     nodes = ap (λ (t : OpenTable). t.tree.nodes) same ∙ s.nodes;
     spine = ap (λ (t : OpenTable). t.tree.spine) same ∙ s.spine;
     later = s.later;
@@ -158,12 +159,12 @@ module _ (d : Document) (columns start : ℕ) (old now new : OpenTable) (at : �
 
   pub body_over : ReadsRowLine d columns at now new None → AppendsBody d columns start old new.tree at
   body_over (inl (none, answer, same)) =
-      over_by same (left_by d (path_of old.tree) columns (most_filled - now.filled_in) at
-      (row_none_by d (path_of old.tree) columns (most_filled - now.filled_in) (line_place at (drop at d.text)) (lines_from d.text (at + line_len (drop at d.text))) (subst (λ path. row_text path (line_place at (drop at d.text)) ≡ None) path_is none)))
+      over_by same (left_by d (path_of d.options old.tree) columns (most_filled - now.filled_in) at
+      (row_none_by d (path_of d.options old.tree) columns (most_filled - now.filled_in) (line_place at (drop at d.text)) (lines_from d.text (at + line_len (drop at d.text))) (subst (λ path. row_text path (line_place at (drop at d.text)) ≡ None) path_is none)))
   body_over (inr (begin, h, r)) =
       let a = r.adds in
-      over_by a.1 (left_by d (path_of old.tree) columns (most_filled - now.filled_in) at
-      (row_over_by d (path_of old.tree) columns (most_filled - now.filled_in) begin r.row_end r.cells (line_place at (drop at d.text)) (lines_from d.text (at + line_len (drop at d.text))) (begins begin h) r.are_cells
+      over_by a.1 (left_by d (path_of d.options old.tree) columns (most_filled - now.filled_in) at
+      (row_over_by d (path_of d.options old.tree) columns (most_filled - now.filled_in) begin r.row_end r.cells (line_place at (drop at d.text)) (lines_from d.text (at + line_len (drop at d.text))) (begins begin h) r.are_cells
       (is_row_of (is_some now.tree.current) false columns (most_filled - now.filled_in) r.cells (some_by now.tree.current s.some) a.0)))
 
 -- what is left of the cells that may be filled in, behind those of a header row or as many as may be
@@ -187,7 +188,7 @@ rows_closed d columns head_start body_start missing some next old headed bodied 
     let row : List (ℕ × Item) = row_block TableHead columns head_start head.cells head.row_end in
     let nodes : headed.nodes ≡ old.nodes ++ at_depth (length old.spine + 1) row = ap (λ (f : Forest Item). f.nodes) head.tree_is in
     let spine : headed.spine ≡ old.spine = ap (λ (f : Forest Item). f.spine) head.tree_is in
-    let path : path_of headed ≡ path_of old = same_path old headed (at_depth (length old.spine + 1) row) nodes spine there in
+    let path : path_of d.options headed ≡ path_of d.options old = same_path d.options old headed (at_depth (length old.spine + 1) row) nodes spine there in
     let budget : most_filled - some ≡ most_filled - filled columns head.cells = left ∙ ap (λ n. most_filled - n) head.missing_is in
     let all : bodied.nodes ≡ old.nodes ++ at_depth (length old.spine + 1) (row ++ body.body) =
     body.nodes ∙ ap (λ (s : List TreeIndex). headed.nodes ++ at_depth (length s + 1) body.body) spine ∙ ap (λ ns. ns ++ at_depth (length old.spine + 1) body.body) nodes
@@ -198,7 +199,7 @@ rows_closed d columns head_start body_start missing some next old headed bodied 
       head_end = head.row_end;
       are_cells = head.are_cells;
       body = body.body;
-      are_rows = subst (λ most. AreRows d (path_of old) columns most (lines_from d.text body_start) (taking body.body (lines_from d.text next))) budget
+      are_rows = subst (λ most. AreRows d (path_of d.options old) columns most (lines_from d.text body_start) (taking body.body (lines_from d.text next))) budget
           (subst (λ path. AreRows d path columns (most_filled - some) (lines_from d.text body_start) (taking body.body (lines_from d.text next))) path body.are_rows);
       tree_is = new_is ∙ ap (closed_by bodied next) (body.spine ∙ spine) ∙ closed_as bodied (with_below old (row ++ body.body)) next ix pushed.rest old.spine all pushed.innermost;
       later = body.later;

@@ -73,7 +73,7 @@ pub line_row_ends : (d : Document) (columns n : ℕ) (old new : OpenTable) (answ
 line_row_ends d columns n old new answer utf8 boundary (inl (none, is, same)) =
     subst (λ (o : Option (ℕ × TreeIndex)). IfSome o (λ r. r.0 ≤ length d.text)) (sym is) tt
 line_row_ends d columns n old new answer utf8 boundary (inr (start, begins, r)) =
-    let p = row_place d.text (path_of old.tree) n start utf8 boundary begins in
+    let p = row_place d.text (path_of d.options old.tree) n start utf8 boundary begins in
     row_ends d columns start old new answer (subst (λ (k : ℕ). k ≤ length d.text) (sym p.start_is) p.is.within) r
 
 pub line_row_none : (d : Document) (columns n : ℕ) (old new : OpenTable) (answer : Option (ℕ × TreeIndex))
@@ -105,7 +105,7 @@ rows_between d columns head_start body_start next from old new utf8 head_begins 
     let row = row_fits d TableHead columns head_start r.cells r.head_end utf8 head_begins r.are_cells in
     let stop : start_of (length text) (lines_from text next) ≡ next = start_of-lines text next r.boundary.0 in
     let rows = subst (λ (k : ℕ). RowsBetween text body_start k r.body) stop
-    (rows_fit d (path_of old) columns (most_filled - filled columns r.cells) (lines_from text body_start) body_start (taking r.body (lines_from text next)) utf8 body_begins
+    (rows_fit d (path_of d.options old) columns (most_filled - filled columns r.cells) (lines_from text body_start) body_start (taking r.body (lines_from text next)) utf8 body_begins
     refl r.are_rows) in
     let within = r.boundary.0 in
     let some : (head_start < r.head_end) ⊎ (next ≤ head_start) = elim (cases_lt head_start (length text)) [

@@ -73,7 +73,7 @@ plain_text_added text options names start marker old new next none a =
       items = a.items;
       is_text = λ more e p i at.
           let d = document text options more in
-          let path = path_of old in
+          let path = path_of options old in
           let here : IsPlainText d path (offset p) marker (lines_from text (line_end p)) t =
           subst (λ k. IsPlainText d path k marker (lines_from text (line_end p)) t) (sym at)
           (subst (λ k. IsPlainText d path start marker (lines_from text k) t) (there_ends text p start i at) (a.is more e)) in
@@ -126,12 +126,12 @@ module _ (text : List ℕ) (options : Options) (names : Names) (start body next 
 
   table_is : AreIn (length old.nodes) old.spine → ((more : Names) → Extends more names → NamesAlignments more ix alignments) → body ≡ line_end_at text (line_end_at text start)
       → (more : Names) → Extends more names → (p : Place) → IsPlaceOf text p → offset p ≡ start
-      → IsTable (document text options more) (path_of old) p alignments (lines_from text (line_end p)) (taking table_items (lines_from text next))
+      → IsTable (document text options more) (path_of options old) p alignments (lines_from text (line_end p)) (taking table_items (lines_from text next))
   table_is there named body_is more e p i at =
       let d = document text options more in
       let columns : ℕ = length alignments in
       let left : List Place = lines_from text next in
-      let path = path_of-opened old (begun_item start (Table ix)) (record { 0 = length old.nodes }) refl there in
+      let path = path_of-opened options old (begun_item start (Table ix)) (record { 0 = length old.nodes }) refl there in
       let ends : start_of (length text) left ≡ next = start_of-lines text next r.boundary.0 in
       let lines : lines_from text body ≡ drop 1 (lines_from text (line_end p)) =
       ap (lines_from text) body_is ∙ sym (body_lines text (line_end_at text start)) ∙ ap (λ k. drop 1 (lines_from text k)) (there_ends text p start i at) in
@@ -142,9 +142,9 @@ module _ (text : List ℕ) (options : Options) (names : Names) (start body next 
         head_end = r.head_end;
         are_cells = subst (λ k. AreCells d k r.cells r.head_end) (sym at) (cells_renamed text options no_names more start r.cells r.head_end r.are_cells);
         body = r.body;
-        are_rows = subst (λ ls. AreRows d (path_of old) columns (most_filled - filled columns r.cells) ls (taking r.body left)) lines
+        are_rows = subst (λ ls. AreRows d (path_of options old) columns (most_filled - filled columns r.cells) ls (taking r.body left)) lines
             (subst (λ c. AreRows d c columns (most_filled - filled columns r.cells) (lines_from text body) (taking r.body left)) path
-            (rows_renamed text options no_names more (path_of (opened_block old start (Table ix))) columns (most_filled - filled columns r.cells) (lines_from text body) (taking r.body left) r.are_rows));
+            (rows_renamed text options no_names more (path_of options (opened_block old start (Table ix))) columns (most_filled - filled columns r.cells) (lines_from text body) (taking r.body left) r.are_rows));
         items_are = ap (λ k. block_of (record { start = start; «end» = k; body = Table ix }) (row_block TableHead columns start r.cells r.head_end ++ r.body)) (sym ends)
             ∙ ap (λ k. block_of (record { start = k; «end» = start_of (length text) left; body = Table ix }) (row_block TableHead columns k r.cells r.head_end ++ r.body)) (sym at);
       }
@@ -154,8 +154,8 @@ module _ (text : List ℕ) (options : Options) (names : Names) (start body next 
   table_text there named body_is headed marker = record {
     items = table_items;
     is_text = λ more e p i at.
-        text_by (document text options more) (path_of old) p marker (lines_from text (line_end p)) (taking table_items (lines_from text next)) (Some alignments)
-        (headed_at (context options (path_of old)) text p start (Some alignments) i at headed) (table_is there named body_is more e p i at);
+        text_by (document text options more) (path_of options old) p marker (lines_from text (line_end p)) (taking table_items (lines_from text next)) (Some alignments)
+        (headed_at (context options (path_of options old)) text p start (Some alignments) i at headed) (table_is there named body_is more e p i at);
     tree_is = table_tree;
     later = let low = r.later in omega arith;
     boundary = r.boundary;
@@ -171,10 +171,10 @@ module _ (text : List ℕ) (options : Options) (names : Names) (start body next 
       let ends = there_ends text p start i at in
       let line : line_end p ≡ line_end_at text (offset p) = ap (λ bs. offset p + line_len bs) i.left in
       let table = table_is there named body_is names e p i at in
-      let h = headed_has_line text (context options (path_of old)) p alignments i headed in
+      let h = headed_has_line text (context options (path_of options old)) p alignments i headed in
       record {
         items = table_items;
         tree_is = table_tree;
-        fits = table_fits (document text options names) (path_of old) p alignments next table_items (within_top old) from utf8 i h r.boundary
-            (subst (λ k. IsTable (document text options names) (path_of old) p alignments (lines_from text k) (taking table_items (lines_from text next))) line table) (omega arith);
+        fits = table_fits (document text options names) (path_of options old) p alignments next table_items (within_top old) from utf8 i h r.boundary
+            (subst (λ k. IsTable (document text options names) (path_of options old) p alignments (lines_from text k) (taking table_items (lines_from text next))) line table) (omega arith);
       }

@@ -36,11 +36,11 @@ added_whole d columns head_start body_start old new next r =
     let head : List (ℕ × Item) = row_block TableHead columns head_start r.cells r.head_end in
     let most : ℕ = most_filled - filled columns r.cells in
     let (starts, show, size, often) = row_shows d TableHead columns head_start head_start r.cells r.head_end refl r.are_cells in
-    let (rows, these, have, few) = rows_show d (path_of old) columns most (lines_from d.text body_start) (taking r.body (lines_from d.text next)) r.are_rows in
+    let (rows, these, have, few) = rows_show d (path_of d.options old) columns most (lines_from d.text body_start) (taking r.body (lines_from d.text next)) r.are_rows in
     let first : RowCells = record { «end» = r.head_end; starts = starts } in
     let free = both_nodes_free head r.body
     (row_free TableHead columns head_start r.cells r.head_end refl (cells_free d head_start r.cells r.head_end r.are_cells))
-    (rows_free d (path_of old) columns most (lines_from d.text body_start) (taking r.body (lines_from d.text next)) r.are_rows) in
+    (rows_free d (path_of d.options old) columns most (lines_from d.text body_start) (taking r.body (lines_from d.text next)) r.are_rows) in
     record {
       items = head ++ r.body;
       tree_is = r.tree_is;

@@ -104,8 +104,8 @@ pub record ReadsRow (d : Document) (columns start : ℕ) (old new : OpenTable) (
 -- the line that begins at an offset is read as a row: it is none, or the row that begins in it is read (GFM 4.10)
 abbrev pub ReadsRowLine : Document → ℕ → ℕ → OpenTable → OpenTable → Option (ℕ × TreeIndex) → Type 0
 ReadsRowLine d columns ix old new answer =
-    ((row_text (path_of old.tree) (line_place ix (drop ix d.text)) ≡ None) × (answer ≡ None) × (new ≡ old))
-    ⊎ ((start : ℕ) × (row_text (path_of old.tree) (line_place ix (drop ix d.text)) ≡ Some start) × ReadsRow d columns start old new answer)
+    ((row_text (path_of d.options old.tree) (line_place ix (drop ix d.text)) ≡ None) × (answer ≡ None) × (new ≡ old))
+    ⊎ ((start : ℕ) × (row_text (path_of d.options old.tree) (line_place ix (drop ix d.text)) ≡ Some start) × ReadsRow d columns start old new answer)
 
 -- The rows of a table stand in the innermost open node, which is closed behind them: the header row, which begins at an offset, and those among the lines from another on (GFM 4.10).
 pub record AppendsRows (d : Document) (columns head_start body_start : ℕ) (old new : Forest Item) (next : ℕ) : Type 0 where
@@ -113,7 +113,7 @@ pub record AppendsRows (d : Document) (columns head_start body_start : ℕ) (old
   pub head_end : ℕ
   pub are_cells : AreCells d head_start cells head_end
   pub body : List (ℕ × Item)
-  pub are_rows : AreRows d (path_of old) columns (most_filled - filled columns cells) (lines_from d.text body_start) (taking body (lines_from d.text next))
+  pub are_rows : AreRows d (path_of d.options old) columns (most_filled - filled columns cells) (lines_from d.text body_start) (taking body (lines_from d.text next))
   pub tree_is : new ≡ closed_by (with_below old (row_block TableHead columns head_start cells head_end ++ body)) next old.spine
   pub later : body_start ≤ next
   pub boundary : IsCharBoundary d.text next

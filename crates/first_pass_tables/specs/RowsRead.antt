@@ -11,7 +11,7 @@ use Rattle.first_pass_tables.specs.Appends.{OpenTable}
 -- The rows among the lines from an offset on stand in the open table, behind which another row may stand.
 pub record AppendsBody (d : Document) (columns start : ℕ) (old : OpenTable) (new : Forest Item) (next : ℕ) : Type 0 where
   pub body : List (ℕ × Item)
-  pub are_rows : AreRows d (path_of old.tree) columns (most_filled - old.filled_in) (lines_from d.text start) (taking body (lines_from d.text next))
+  pub are_rows : AreRows d (path_of d.options old.tree) columns (most_filled - old.filled_in) (lines_from d.text start) (taking body (lines_from d.text next))
   pub nodes : new.nodes ≡ old.tree.nodes ++ at_depth (length old.tree.spine + 1) body
   pub spine : new.spine ≡ old.tree.spine
   pub later : start ≤ next
@@ -26,5 +26,5 @@ pub record BodySoFar (d : Document) (columns start : ℕ) (old now : OpenTable) 
   pub few : now.filled_in ≤ most_filled
   pub later : start ≤ at
   pub boundary : IsCharBoundary d.text at
-  pub goes_on : (t : Taken) → AreRows d (path_of old.tree) columns (most_filled - now.filled_in) (lines_from d.text at) t
-      → AreRows d (path_of old.tree) columns (most_filled - old.filled_in) (lines_from d.text start) (taking (body ++ t.items) t.left)
+  pub goes_on : (t : Taken) → AreRows d (path_of d.options old.tree) columns (most_filled - now.filled_in) (lines_from d.text at) t
+      → AreRows d (path_of d.options old.tree) columns (most_filled - old.filled_in) (lines_from d.text start) (taking (body ++ t.items) t.left)

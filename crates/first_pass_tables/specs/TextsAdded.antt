@@ -20,7 +20,7 @@ IsTextAt d path start marker items next =
 -- What stands for such a text, whatever more is named, is a last child of the innermost open node (CommonMark 4.8, GFM 4.10).
 pub record AddsText (d : Document) (start : ℕ) (marker : Option Item) (old new : Forest Item) (next : ℕ) : Type 0 where
   pub items : List (ℕ × Item)
-  pub is_text : (more : Names) → Extends more d.names → IsTextAt (document d.text d.options more) (path_of old) start marker items next
+  pub is_text : (more : Names) → Extends more d.names → IsTextAt (document d.text d.options more) (path_of d.options old) start marker items next
   pub tree_is : new ≡ added old items
   pub later : line_end_at d.text start ≤ next
   pub boundary : IsCharBoundary d.text next

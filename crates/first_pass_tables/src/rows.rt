@@ -37,7 +37,7 @@ fn scan_row_text(
     requires boundary { IsCharBoundary source.text.now start }
     requires table { in_table tree.now.nodes tree.now.spine ≡ true }
     ensures value { IfOk result (λ at. at
-        ≡ row_text (path_of tree.now) (line_place start (drop start source.entry.text.now))) }
+        ≡ row_text (path_of source.entry.options tree.now) (line_place start (drop start source.entry.text.now))) }
     ensures place { IfOk result (λ at. IfSome at (λ n. IsCharBoundary source.entry.text.now n)) }
     ensures utf8 { OnOk result (IsUtf8 source.entry.text.now) }
 {

@@ -297,14 +297,14 @@ pub plain_fits : (text : List ℕ) (options : Options) (names : Names) (start : 
 plain_fits text options names start marker old new next adds utf8 boundary inside from stands =
     let d : Document = document text options names in
     let (l, are, ended) = adds.is names (extends_none names) in
-    let h = text_is_in_order d (path_of old) start l utf8 boundary are in
+    let h = text_is_in_order d (path_of options old) start l utf8 boundary are in
     let w : Within = within_top old in
     let within = top_stands old marker inside in
     let low = low_start text from start marker stands in
     record {
       items = adds.items;
       tree_is = adds.tree_is;
-      fits = ended_between d w from start marker l adds.items next (underline_first (path_of old) l.left) boundary adds.boundary (text_later text l.left h.left_at h.left_is h.left_within)
+      fits = ended_between d w from start marker l adds.items next (underline_first (path_of options old) l.left) boundary adds.boundary (text_later text l.left h.left_at h.left_is h.left_within)
           (text_stand d w from start l h low marker stands within)
           (heading_stand d w from start l h low marker (heading_braces options (heading_bytes d start marker l)) refl boundary stands within)
           ended;

@@ -178,12 +178,12 @@ next_boundary d ix n line_break utf8 boundary ends =
 
 -- The tokens of a line open and close nothing.
 read_path : (d : Document) (start ix : ℕ) (old now read : Forest Item) (answer : ℕ × Option Item) → LinesSoFar d start old now ix → JoinsNone old
-    → AppendsLine (content_at d ix) now read answer → AreIn (length old.nodes) old.spine → path_of read ≡ path_of old
+    → AppendsLine (content_at d ix) now read answer → AreIn (length old.nodes) old.spine → path_of d.options read ≡ path_of d.options old
 read_path d start ix old now read answer s apart line there =
-    ap path_of (line.tree_is ∙ ap (λ f. with_tokens f line.tokens) s.tree_is ∙ with_tokens-chained old s.chain line.tokens apart) ∙ path_of-chained old (add_tokens s.chain line.tokens) there
+    ap (path_of d.options) (line.tree_is ∙ ap (λ f. with_tokens f line.tokens) s.tree_is ∙ with_tokens-chained old s.chain line.tokens apart) ∙ path_of-chained d.options old (add_tokens s.chain line.tokens) there
 
 -- behind a line, where the text goes on
-pub so_far_more : (path : List Container) (d : Document) (start ix n at : ℕ) (old now read new : Forest Item) (line_break : Option Item) → path ≡ path_of old → IsUtf8 d.text → LinesSoFar d start old now ix → JoinsNone old
+pub so_far_more : (path : List Container) (d : Document) (start ix n at : ℕ) (old now read new : Forest Item) (line_break : Option Item) → path ≡ path_of d.options old → IsUtf8 d.text → LinesSoFar d start old now ix → JoinsNone old
     → AppendsLine (content_at d ix) now read (n, line_break) → EndsLine (content_at d ix) (n, line_break)
     → ends_text (around d path) (line_rest (drop n d.text)) ≡ false → at ≡ offset (unindented (place_at n (front path (line_rest (drop n d.text))))) → IsPlaceOf d.text (unindented (place_at n (front path (line_rest (drop n d.text)))))
     → new ≡ with_child read line_break → (LinesSoFar d start old new at) × (ix < at)
@@ -208,7 +208,7 @@ so_far_more path d start ix n at old now read new line_break path_is u s apart l
     )
 
 -- behind the last line
-pub so_far_end : (path : List Container) (d : Document) (start ix n : ℕ) (old now read : Forest Item) (line_break : Option Item) (underline : Option HeadingLevel) → path ≡ path_of old → LinesSoFar d start old now ix → JoinsNone old
+pub so_far_end : (path : List Container) (d : Document) (start ix n : ℕ) (old now read : Forest Item) (line_break : Option Item) (underline : Option HeadingLevel) → path ≡ path_of d.options old → LinesSoFar d start old now ix → JoinsNone old
     → AppendsLine (content_at d ix) now read (n, line_break) → EndsLine (content_at d ix) (n, line_break)
     → ends_text (around d path) (line_rest (drop n d.text)) ≡ true → IsCharBoundary d.text n → IfSome line_break (λ x. x.start < 2 ^ 63)
     → underline ≡ option_map (λ (found : ℕ × HeadingLevel). found.1) (underline_of path (line_rest (drop n d.text)))
@@ -272,7 +272,7 @@ same_end t u o w ix answer e f ends =
 
 -- the two steps, of a text that is held by other names before and after the line is read
 pub so_far_next : (first text now_text : List ℕ) (o w : Options) (start ix n at : ℕ) (old now read new : Forest Item) (line_break : Option Item) (found : NextLine) (path : List Container)
-    → text ≡ first → o ≡ w → now_text ≡ text → path ≡ path_of read → AreIn (length old.nodes) old.spine → IsUtf8 first → LinesSoFar (document first w no_names) start old now ix → JoinsNone old
+    → text ≡ first → o ≡ w → now_text ≡ text → path ≡ path_of w read → AreIn (length old.nodes) old.spine → IsUtf8 first → LinesSoFar (document first w no_names) start old now ix → JoinsNone old
     → AppendsLine (line_source o text ix) now read (n, line_break) → EndsLine (line_source o text ix) (n, line_break)
     → found ≡ next_line_of (context w path) n (line_rest (drop n now_text)) → found ≡ More at
     → IsPlaceOf now_text (unindented (place_at n (front path (line_rest (drop n now_text))))) → new ≡ with_child read line_break
@@ -284,7 +284,7 @@ so_far_next first text now_text o w start ix n at old now read new line_break fo
     (same_end text first o w ix (n, line_break) same same_options ends) goes.0 goes.1 (subst (λ t. IsPlaceOf t (unindented (place_at n (front path (line_rest (drop n t)))))) e place) new_is
 
 pub so_far_stop : (first text now_text : List ℕ) (o w : Options) (start ix n : ℕ) (old now read : Forest Item) (line_break : Option Item) (underline : Option HeadingLevel) (path : List Container)
-    → text ≡ first → o ≡ w → now_text ≡ text → path ≡ path_of read → AreIn (length old.nodes) old.spine → IsUtf8 first → LinesSoFar (document first w no_names) start old now ix → JoinsNone old
+    → text ≡ first → o ≡ w → now_text ≡ text → path ≡ path_of w read → AreIn (length old.nodes) old.spine → IsUtf8 first → LinesSoFar (document first w no_names) start old now ix → JoinsNone old
     → AppendsLine (line_source o text ix) now read (n, line_break) → EndsLine (line_source o text ix) (n, line_break) → length first < 2 ^ 63
     → (ends_text (context w path) (line_rest (drop n now_text)) ≡ true) × (underline ≡ option_map (λ (u : ℕ × HeadingLevel). u.1) (underline_of path (line_rest (drop n now_text))))
     → IsCharBoundary text n
@@ -297,9 +297,9 @@ so_far_stop first text now_text o w start ix n old now read line_break underline
     ended stops.0 (subst (λ t. IsCharBoundary t n) same boundary) (break_fits (document first w no_names) ix n line_break small ended) stops.1
 
 -- a paragraph just opened, with the marker of its task list item
-pub path_of-paragraph : (g p m : Forest Item) (x : Item) (ix : TreeIndex) (marker : Option Item) → container_of x.body ≡ None → p ≡ pushed (appended g x) ix → m ≡ with_child p marker → ix.0 ≡ length g.nodes
-    → AreIn (length g.nodes) g.spine → path_of m ≡ path_of g
-path_of-paragraph g p m x ix None leaf e f at a = ap path_of (f ∙ e) ∙ path_of-opened g x ix at a ∙ ap (λ c. with_container c (path_of g)) leaf
-path_of-paragraph g p m x ix (Some y) leaf e f at a =
-    ap path_of (f ∙ ap (λ q. appended q y) e) ∙ path_in-append (g.nodes ++ (length g.spine + 1, x) ∷ []) ((length (ix ∷ g.spine) + 1, y) ∷ []) (ix ∷ g.spine) (opened_in g x ix at a)
-    ∙ path_of-opened g x ix at a ∙ ap (λ c. with_container c (path_of g)) leaf
+pub path_of-paragraph : (options : Options) (g p m : Forest Item) (x : Item) (ix : TreeIndex) (marker : Option Item) → container_of options x.body ≡ None → p ≡ pushed (appended g x) ix → m ≡ with_child p marker → ix.0 ≡ length g.nodes
+    → AreIn (length g.nodes) g.spine → path_of options m ≡ path_of options g
+path_of-paragraph options g p m x ix None leaf e f at a = ap (path_of options) (f ∙ e) ∙ path_of-opened options g x ix at a ∙ ap (λ c. with_container c (path_of options g)) leaf
+path_of-paragraph options g p m x ix (Some y) leaf e f at a =
+    ap (path_of options) (f ∙ ap (λ q. appended q y) e) ∙ path_in-append options (g.nodes ++ (length g.spine + 1, x) ∷ []) ((length (ix ∷ g.spine) + 1, y) ∷ []) (ix ∷ g.spine) (opened_in g x ix at a)
+    ∙ path_of-opened options g x ix at a ∙ ap (λ c. with_container c (path_of options g)) leaf

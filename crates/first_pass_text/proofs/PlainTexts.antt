@@ -82,19 +82,19 @@ abbrev given : List ℕ → ℕ → List Item → Option Item → TextLines
 given text next chain line_break = text_lines chain line_break (lines_from text next)
 
 module _ (text : List ℕ) (options : Options) (names : Names) (start n : ℕ) (marker : Option Item) (old new : Forest Item) (chain : List Item) (line_break : Option Item)
-    (are : AreTextLines (document text options no_names) (path_of old) start [] (lines_from text (line_end_at text start)) (given text n chain line_break))
+    (are : AreTextLines (document text options no_names) (path_of options old) start [] (lines_from text (line_end_at text start)) (given text n chain line_break))
     (later : line_end_at text start ≤ n) (boundary : IsCharBoundary text n) where
   abbrev lines : TextLines
   lines = given text n chain line_break
 
-  these_lines : (more : Names) → AreTextLines (document text options more) (path_of old) start [] (lines_from text (line_end_at text start)) lines
-  these_lines more = renamed_lines text options no_names more (path_of old) start [] (lines_from text (line_end_at text start)) lines are
+  these_lines : (more : Names) → AreTextLines (document text options more) (path_of options old) start [] (lines_from text (line_end_at text start)) lines
+  these_lines more = renamed_lines text options no_names more (path_of options old) start [] (lines_from text (line_end_at text start)) lines are
 
   -- where no underline follows
-  pub paragraph_added : None ≡ option_map (λ (found : ℕ × HeadingLevel). found.1) (underline_first (path_of old) (lines_from text n))
+  pub paragraph_added : None ≡ option_map (λ (found : ℕ × HeadingLevel). found.1) (underline_first (path_of options old) (lines_from text n))
       → new ≡ added old (paragraph_block start n (text_children marker lines)) → AddsPlainText (document text options names) start marker old new n
   paragraph_added said tree_is =
-      let none = no_underline (underline_first (path_of old) (lines_from text n)) said in
+      let none = no_underline (underline_first (path_of options old) (lines_from text n)) said in
       let t : Taken = taking (paragraph_block start n (text_children marker lines)) (lines_from text n) in
       record {
         items = t.items;
@@ -113,13 +113,13 @@ module _ (text : List ℕ) (options : Options) (names : Names) (start n : ℕ) (
 
   -- where one follows
   pub heading_added : (level : HeadingLevel) (index : Option HeadingIndex) (next : ℕ)
-      → Some level ≡ option_map (λ (found : ℕ × HeadingLevel). found.1) (underline_first (path_of old) (lines_from text n))
+      → Some level ≡ option_map (λ (found : ℕ × HeadingLevel). found.1) (underline_first (path_of options old) (lines_from text n))
       → next ≡ line_end_at text n → IsCharBoundary text next
       → ((more : Names) → Extends more names → NamesAttributes more index (heading_attributes_of options (chain_bytes text start (marker_items marker ++ chain))))
       → new ≡ added old (heading_block start next level index (heading_children (document text options no_names) start marker lines)) → AddsPlainText (document text options names) start marker old new next
   heading_added level index next said next_is ends named tree_is =
-      let (size, some) = some_underline level (underline_first (path_of old) (lines_from text n)) said in
-      let within = underline_within (path_of old) text n (size, level) (sym (underline_there (path_of old) text n) ∙ some) in
+      let (size, some) = some_underline level (underline_first (path_of options old) (lines_from text n)) said in
+      let within = underline_within (path_of options old) text n (size, level) (sym (underline_there (path_of options old) text n) ∙ some) in
       let behind : drop 1 (lines_from text n) ≡ lines_from text next = ap (λ (ls : List Place). drop 1 ls) (lines_at-line text n within) ∙ ap (lines_from text) (sym next_is) in
       let kids : List Item = heading_children (document text options no_names) start marker lines in
       let t : Taken = taking (heading_block start next level index kids) (lines_from text next) in
@@ -152,8 +152,8 @@ pub record StandsOpen (text : List ℕ) (options : Options) (start : ℕ) (marke
   pub at : ix.0 ≡ length g.nodes
   pub tree_is : r ≡ chained (pushed (appended g (opened_item start)) ix) (marker_items marker ++ chain)
   pub plain : IfSome marker (λ y. is_text y.body ≡ false)
-  pub are : AreTextLines (document text options no_names) (path_of g) start [] (lines_from text (line_end_at text start)) (given text end.next chain end.line_break)
-  pub said : end.underline ≡ option_map (λ (found : ℕ × HeadingLevel). found.1) (underline_first (path_of g) (lines_from text end.next))
+  pub are : AreTextLines (document text options no_names) (path_of options g) start [] (lines_from text (line_end_at text start)) (given text end.next chain end.line_break)
+  pub said : end.underline ≡ option_map (λ (found : ℕ × HeadingLevel). found.1) (underline_first (path_of options g) (lines_from text end.next))
   pub later : line_end_at text start ≤ end.next
   pub boundary : IsCharBoundary text end.next
 
@@ -165,7 +165,7 @@ stands_open text options start marker g a p m r ix end forest a_is current p_is 
     let at = opened_at g a x ix a_is current in
     let opened = opened_is g a p x ix a_is p_is in
     let there : m ≡ with_child (pushed (appended g x) ix) marker = m_is ∙ ap (λ f. with_child f marker) opened in
-    let same : path_of m ≡ path_of g = path_of-paragraph g p m x ix marker refl opened m_is at (open_are_in g.nodes g.spine forest.opened) in
+    let same : path_of options m ≡ path_of options g = path_of-paragraph options g p m x ix marker refl opened m_is at (open_are_in g.nodes g.spine forest.opened) in
     record {
       chain = read.chain;
       at = at;

@@ -36,9 +36,9 @@ line_end_at text at = at + line_len (drop at text)
 -- from another offset on, the first of which is an underline or none (CommonMark 4.3, 4.8).
 pub record AppendsLines (d : Document) (start : ℕ) (old new : Forest Item) (end : TextEnd) : Type 0 where
   pub chain : List Item
-  pub are : AreTextLines d (path_of old) start [] (lines_from d.text (line_end_at d.text start)) (text_lines chain end.line_break (lines_from d.text end.next))
+  pub are : AreTextLines d (path_of d.options old) start [] (lines_from d.text (line_end_at d.text start)) (text_lines chain end.line_break (lines_from d.text end.next))
   pub tree_is : new ≡ chained old chain
-  pub underline : end.underline ≡ option_map (λ found. found.1) (underline_first (path_of old) (lines_from d.text end.next))
+  pub underline : end.underline ≡ option_map (λ found. found.1) (underline_first (path_of d.options old) (lines_from d.text end.next))
   pub later : line_end_at d.text start ≤ end.next
   pub boundary : IsCharBoundary d.text end.next
   pub short : IfSome end.line_break (λ x. x.start < 2 ^ 63)
@@ -55,7 +55,7 @@ pub record AppendsHeading (s : Source) (content : List ℕ) (old new : Forest It
 pub record AddsPlainText (d : Document) (start : ℕ) (marker : Option Item) (old new : Forest Item) (next : ℕ) : Type 0 where
   pub items : List (ℕ × Item)
   pub is : (more : Names) → Extends more d.names
-      → IsPlainText (document d.text d.options more) (path_of old) start marker (lines_from d.text (line_end_at d.text start)) (taking items (lines_from d.text next))
+      → IsPlainText (document d.text d.options more) (path_of d.options old) start marker (lines_from d.text (line_end_at d.text start)) (taking items (lines_from d.text next))
   pub tree_is : new ≡ added old items
   pub later : line_end_at d.text start ≤ next
   pub boundary : IsCharBoundary d.text next

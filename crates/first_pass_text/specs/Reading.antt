@@ -21,8 +21,8 @@ pub record LinesSoFar (d : Document) (start : ℕ) (old now : Forest Item) (at :
   pub tree_is : now ≡ chained old chain
   pub boundary : IsCharBoundary d.text at
   pub from : (at ≡ start) ⊎ (line_end_at d.text start ≤ at)
-  pub goes_on : (t : TextLines) → AreTextLines d (path_of old) at chain (lines_from d.text (line_end_at d.text at)) t
-      → AreTextLines d (path_of old) start [] (lines_from d.text (line_end_at d.text start)) t
+  pub goes_on : (t : TextLines) → AreTextLines d (path_of d.options old) at chain (lines_from d.text (line_end_at d.text at)) t
+      → AreTextLines d (path_of d.options old) start [] (lines_from d.text (line_end_at d.text start)) t
 
 -- what the line that begins at an offset, and of which this is left, is to a text before it (CommonMark 4.3, 4.8)
 abbrev pub next_by : Option (ℕ × HeadingLevel) → Bool → ℕ → NextLine

@@ -121,13 +121,16 @@ fn scan_prefixes<'b>(
     requires utf8 { IsUtf8 source.text.now }
     requires start { IsCharBoundary source.text.now start }
     requires bytes { bytes.now ≡ drop start source.text.now }
-    ensures whole { result.0 ≡ is_some (after (path_of tree.now) (line_rest (drop start source.entry.text.now))) }
+    ensures whole { result.0
+        ≡ is_some (after (path_of source.entry.options tree.now) (line_rest (drop start source.entry.text.now))) }
     ensures columns { result.1
-        ≡ min 4 (indent (front (path_of tree.now) (line_rest (drop start source.entry.text.now)))) }
-    ensures behind { result.2 ≡ unindented (place_at start (front (path_of tree.now)
+        ≡ min 4 (indent (front (path_of source.entry.options tree.now)
+        (line_rest (drop start source.entry.text.now)))) }
+    ensures behind { result.2 ≡ unindented (place_at start (front (path_of source.entry.options tree.now)
         (line_rest (drop start source.entry.text.now)))) }
     ensures place { IsPlaceOf source.entry.text.now
-        (unindented (place_at start (front (path_of tree.now) (line_rest (drop start source.entry.text.now))))) }
+        (unindented (place_at start (front (path_of source.entry.options tree.now)
+        (line_rest (drop start source.entry.text.now))))) }
 {
     let mut line_start = LineStart::new(bytes);
     let kept = scan_containers(tree, &mut line_start, source.options, false);
@@ -179,7 +182,8 @@ pub fn scan_next_line(
         ≡ next_line_of (context_of source.entry.options tree.now) start
         (line_rest (drop start source.entry.text.now))) }
     ensures place { OnOk result (IsPlaceOf source.entry.text.now
-        (unindented (place_at start (front (path_of tree.now) (line_rest (drop start source.entry.text.now)))))) }
+        (unindented (place_at start (front (path_of source.entry.options tree.now)
+        (line_rest (drop start source.entry.text.now)))))) }
     ensures utf8 { IsUtf8 source.entry.text.now }
 {
     source.is_short();
@@ -209,7 +213,7 @@ pub fn scan_line_behind_tag<'b>(
     ensures value { IfOk result (λ rest.
         rest ≡ (if ends_tag (context_of source.entry.options tree.now) (line_rest bytes.now)
         then None
-        else Some (all_taken (front (path_of tree.now) (line_rest bytes.now))))) }
+        else Some (all_taken (front (path_of source.entry.options tree.now) (line_rest bytes.now))))) }
     ensures utf8 { IsUtf8 source.entry.text.now }
 {
     source.is_short();
@@ -256,8 +260,10 @@ fn scan_paragraph_end(
 // what it takes for them.
 fn scan_front<'a>(source: Source<'a>, tree: &Tree<Item>, start: usize) -> (bool, LineStart<'a>)
     requires { IsCharBoundary source.text.now start }
-    ensures whole { result.0 ≡ is_some (after (path_of tree.now) (line_rest (drop start source.entry.text.now))) }
-    ensures front { result.1 ≡ front (path_of tree.now) (line_rest (drop start source.entry.text.now)) }
+    ensures whole { result.0
+        ≡ is_some (after (path_of source.entry.options tree.now) (line_rest (drop start source.entry.text.now))) }
+    ensures front { result.1
+        ≡ front (path_of source.entry.options tree.now) (line_rest (drop start source.entry.text.now)) }
     ensures place { IsPlaceOf source.entry.text.now (place_at start result.1) }
     ensures utf8 { IsUtf8 source.entry.text.now }
 {

@@ -29,7 +29,7 @@ fn scan_table_at(
     tree: &Tree<Item>,
     bytes: &[u8],
 ) -> Result<Option<Vec<Alignment>>, AllocError>
-    ensures { IfOk result (λ found. option_map (λ v. v.items) found ≡ table_at (path_of tree.now) bytes.now) }
+    ensures { IfOk result (λ found. option_map (λ v. v.items) found ≡ table_at (path_of options tree.now) bytes.now) }
 {
     let columns = scan_head_columns(bytes);
     if columns == 0 {

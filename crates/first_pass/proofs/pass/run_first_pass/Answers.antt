@@ -47,15 +47,15 @@ loop-ix-preserved c =
       ready = λ names more.
           subst (λ (z : List ℕ × Options). Ready (document z.0 z.1 names) (tables pass.allocs) before (lines_from z.0 c.loop-ix.ix) → Ready (document z.0 z.1 names) (tables new.allocs) behind (lines_from z.0 next)) (both_same i.same_text i.same_options) (e.ready names more)
           (i.ready names (extends_both names (names_of new.allocs) (names_of pass.allocs) more e.names));
-      order = subst (λ t. IsOrderedFrom t before c.loop-ix.ix → IsOrderedFrom t behind next) i.same_text e.order i.order;
+      order = subst (λ (z : List ℕ × Options). IsOrderedFrom z.1 z.0 before c.loop-ix.ix → IsOrderedFrom z.1 z.0 behind next) (both_same i.same_text i.same_options) e.order i.order;
       named = e.named i.named;
       few = (let read = i.few in let grows = e.few in let later = e.later.0 in omega arith);
     }
 
 -- At the end of the text no line is handed on.
-at_end : (text : List ℕ) (r : Reading) (at : ℕ) → length text ≤ at → IsOrderedFrom text r at → IsOrderedAt text r at
-at_end text r at past (inl o) = o
-at_end text r at past (inr h) = (let within = h.within in absurd (omega arith))
+at_end : (options : Options) (text : List ℕ) (r : Reading) (at : ℕ) → length text ≤ at → IsOrderedFrom options text r at → IsOrderedAt text r at
+at_end options text r at past (inl o) = o
+at_end options text r at past (inr h) = (let within = h.within in absurd (omega arith))
 
 -- At the end of the text all containers are closed.
 all_closed : (c : goal.After-close_containers) → c.close_containers.new.reading.tree.spine ≡ []
@@ -89,7 +89,7 @@ returns-clause-order c =
     let now : Reading = c.close_containers.new.reading in
     let read : Reading = c.loop-ix.pass.reading in
     let past = c.loop-ix-test.false in
-    let order = at_end text read c.loop-ix.ix (omega arith) i.order in
+    let order = at_end c.args.options text read c.loop-ix.ix (omega arith) i.order in
     let within = order.within in
     let same : c.loop-ix.ix ≡ n = omega arith in
     let closes = c.close_containers.ensures.order text in

@@ -15,7 +15,7 @@ invariant-loop-ix l = record {
   same_options : l.pass.source.options ≡ l.fn.options;
   boundary : IsCharBoundary l.text l.ix;
   ready : (names : Names) → Extends names (names_of l.pass.allocs) → Ready (document l.text l.fn.options names) (tables l.pass.allocs) l.pass.reading (lines_from l.text l.ix);
-  order : IsOrderedFrom l.text l.pass.reading l.ix;
+  order : IsOrderedFrom l.fn.options l.text l.pass.reading l.ix;
   named : AreNamed (names_of l.pass.allocs) l.pass.reading.tree.nodes;
   few : own_nodes l.pass.reading.tree.nodes ≤ 1 + 4 * l.ix;
 }

@@ -6,6 +6,7 @@ use Rattle.first_pass_names.proofs.NameLemmas.{extends_none, extends_both}
 use Rattle.first_pass_raw.specs.RawBlocks.{range_of}
 use Rattle.first_pass_raw.proofs.ExtentLemmas.{lines_start, line_read, behind_path, within_line, extent_from, goes_by, read_end, read_left, read_stops, read_closes, read_last, read_more}
 use Rattle.first_pass_raw.proofs.extent.read_lines.Goals as goal
+use Rattle.first_pass_items.specs.declared.option_set.Options.{Options}
 
 pub loop-ix-init : goal.loop-ix-init
 loop-ix-init g c = record {
@@ -13,7 +14,7 @@ loop-ix-init g c = record {
   boundary = c.requires.boundary;
   names = extends_none (names_of c.args.allocs.now);
   same_tables = refl;
-  read = lines_start (range_of c.args.kind) c.args.text.now c.args.options (names_of c.args.allocs.now) (extent_from c.args.text.now (path_of c.args.tree.now) (g.J.JudgesLines.judges c.args.judge.now) c.args.start) c.args.tree.now;
+  read = lines_start (range_of c.args.kind) c.args.text.now c.args.options (names_of c.args.allocs.now) (extent_from c.args.text.now (path_of c.args.options c.args.tree.now) (g.J.JudgesLines.judges c.args.judge.now) c.args.start) c.args.tree.now;
 }
 
 pub returns-in_default-clause-lines : goal.returns-in_default-clause-lines
@@ -25,7 +26,7 @@ returns-in_default-clause-lines g c =
 pub judge-verdict-requires-clause-next : goal.judge-verdict-requires-clause-next
 judge-verdict-requires-clause-next g c =
     let line = line_read c.args.text.now c.as_bytes.result.now c.loop-ix.ix _ c.utf8.text c.loop-ix.invariant.boundary c.loop-ix-test.true c.as_bytes.ensures.value c.next_line-next.ensures.value in
-    sym (behind_path c.args.text.now (path_of c.loop-ix.tree) c.loop-ix.ix _ c.in-Some.line_start c.utf8.text line (sym c.in-Some.ensures.value))
+    sym (behind_path c.args.text.now (path_of c.args.options c.loop-ix.tree) c.loop-ix.ix _ c.in-Some.line_start c.utf8.text line (sym c.in-Some.ensures.value))
 
 pub judge-verdict-requires-clause-boundary : goal.judge-verdict-requires-clause-boundary
 judge-verdict-requires-clause-boundary g c =

@@ -23,7 +23,7 @@ read_lines-requires-clause-boundary c = (first_read c.args.text.now c.as_bytes-b
 
 pub close_block-requires : goal.close_block-requires
 close_block-requires c =
-    block_open range_text c.args.text.now c.args.options (names_of c.read_lines.new.allocs) (extent_from c.args.text.now (path_of c.open_block.new.tree) (fence_judge c.args.fence.indent c.args.fence.byte c.args.fence.count) c.next_line-first.result) c.args.tree.now c.open_block.new.tree c.read_lines.new.tree
+    block_open range_text c.args.text.now c.args.options (names_of c.read_lines.new.allocs) (extent_from c.args.text.now (path_of c.args.options c.open_block.new.tree) (fence_judge c.args.fence.indent c.args.fence.byte c.args.fence.count) c.next_line-first.result) c.args.tree.now c.open_block.new.tree c.read_lines.new.tree
     c.args.start_ix (FencedCodeBlock c.in_ok-info_ix.info_ix) c.in_ok-lines.lines.«end» c.in_ok-lines.lines.next c.in_ok-open_block.ensures c.in_ok-lines.ensures.lines
 
 pub returns-clause-block : goal.returns-clause-block

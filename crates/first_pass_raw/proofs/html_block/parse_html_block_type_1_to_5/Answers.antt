@@ -27,6 +27,6 @@ returns-clause-block c = λ p i.
     let ends = first_end c.args.text.now c.args.options _ c.args.start_ix c.args.columns c.in_ok-end.«end» c.args.tree.now c.open_html_block.new.tree c.in_ok-end.ensures.line c.in_ok-end.ensures.next.0 p i in
     let held = held_is c.args.text.now c.args.html_end_tag.now p c.args.start_ix c.in_ok-end.«end» c.contains.result _ i ends c.range.ensures.value c.contains.ensures.cases ∙ c.if-contains.false in
     html_more c.args.text.now c.args.options _ c.args.start_ix c.args.columns c.in_ok-end.«end» c.args.tree.now c.open_html_block.new.tree c.in_ok-end.ensures.line c.in_ok-end.ensures.next.0 p i
-    _ (tag_judge c.args.html_end_tag.now) c.read_lines.new.tree _ c.in_ok-lines.lines.«end» c.in_ok-lines.lines.next c.in_ok-end.ensures.path c.in_ok-lines.ensures.lines
-    (tag_extent c.args.text.now c.args.options _ c.args.start_ix c.args.columns c.in_ok-end.«end» c.args.tree.now c.open_html_block.new.tree c.in_ok-end.ensures.line c.in_ok-end.ensures.next.0 p i (path_of c.args.tree.now) c.args.html_end_tag.now held)
+    _ (tag_judge c.args.html_end_tag.now) c.read_lines.new.tree _ c.in_ok-lines.lines.«end» c.in_ok-lines.lines.next (c.in_ok-end.ensures.path c.args.options) c.in_ok-lines.ensures.lines
+    (tag_extent c.args.text.now c.args.options _ c.args.start_ix c.args.columns c.in_ok-end.«end» c.args.tree.now c.open_html_block.new.tree c.in_ok-end.ensures.line c.in_ok-end.ensures.next.0 p i (path_of c.args.options c.args.tree.now) c.args.html_end_tag.now held)
     c.close_block-2.new.tree c.in_ok-lines.ensures.names c.close_block-2.ensures

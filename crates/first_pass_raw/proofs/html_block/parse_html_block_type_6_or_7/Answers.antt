@@ -11,6 +11,6 @@ close_block-requires c =
 pub returns-clause-block : goal.returns-clause-block
 returns-clause-block c = λ p i.
     html_more c.args.text.now c.args.options _ c.args.start_ix c.args.columns c.in_ok-next.next c.args.tree.now c.open_html_block.new.tree c.in_ok-next.ensures.line c.in_ok-next.ensures.next.0 p i
-    _ blank_judge c.read_lines.new.tree _ c.in_ok-lines.lines.«end» c.in_ok-lines.lines.next c.in_ok-next.ensures.path c.in_ok-lines.ensures.lines
-    (blank_extent c.args.text.now c.args.options _ c.args.start_ix c.args.columns c.in_ok-next.next c.args.tree.now c.open_html_block.new.tree c.in_ok-next.ensures.line c.in_ok-next.ensures.next.0 p i (path_of c.args.tree.now))
+    _ blank_judge c.read_lines.new.tree _ c.in_ok-lines.lines.«end» c.in_ok-lines.lines.next (c.in_ok-next.ensures.path c.args.options) c.in_ok-lines.ensures.lines
+    (blank_extent c.args.text.now c.args.options _ c.args.start_ix c.args.columns c.in_ok-next.next c.args.tree.now c.open_html_block.new.tree c.in_ok-next.ensures.line c.in_ok-next.ensures.next.0 p i (path_of c.args.options c.args.tree.now))
     c.close_block.new.tree c.in_ok-lines.ensures.names c.close_block.ensures

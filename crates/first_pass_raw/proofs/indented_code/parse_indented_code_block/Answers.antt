@@ -12,6 +12,7 @@ use Rattle.first_pass_raw.specs.RawBlocks.{AppendsRaw, behind_line_at}
 use Rattle.first_pass_raw.proofs.IndentedLemmas.{first_at, first_is, first_boundary, so_far_first, so_far_next, so_far_stop, kept_child, next_read, next_rest, opened_last, just_opened, code_open, code_added}
 use Rattle.first_pass_grammar.specs.RawLines.{range_text}
 use Rattle.first_pass_raw.proofs.indented_code.parse_indented_code_block.Goals as goal
+use Rattle.first_pass_items.specs.declared.option_set.Options.{Options}
 
 pub lines-init : goal.lines-init
 lines-init c =
@@ -35,7 +36,7 @@ lines-preserved c =
     let forest = subst (IsForest {T = Item}) c.in_ok-open_block.ensures c.is_forest-2.ensures in
     let first = i.read (first_at text c.args.start_ix c.args.remaining_space) (first_is text c.args.start_ix c.args.remaining_space) refl in
     let goes = sym (next_rest _ _ _ _ _ _ _ _ _ c.indented_line.result first forest c.indented_line.ensures.value) ∙ c.in-Some.is in
-    let read = next_read text (path_of opened) c.lines.next _ c.in_ok-next-2.next c.in-Some.line_start c.utf8.text i.boundary goes c.in-Some.ensures.place c.bytes_scanned.ensures c.in_ok-next-2.ensures.«end» in
+    let read = next_read text (path_of c.args.options opened) c.lines.next _ c.in_ok-next-2.next c.in-Some.line_start c.utf8.text i.boundary goes c.in-Some.ensures.place c.bytes_scanned.ensures c.in_ok-next-2.ensures.«end» in
     let later : c.lines.next < c.in_ok-next-2.next = read.1 in
     let from : behind_line_at text c.args.start_ix ≤ c.lines.next = i.from in
     record {
@@ -57,7 +58,7 @@ lines-smaller c =
     let forest = subst (IsForest {T = Item}) c.in_ok-open_block.ensures c.is_forest-2.ensures in
     let first = i.read (first_at text c.args.start_ix c.args.remaining_space) (first_is text c.args.start_ix c.args.remaining_space) refl in
     let goes = sym (next_rest _ _ _ _ _ _ _ _ _ c.indented_line.result first forest c.indented_line.ensures.value) ∙ c.in-Some.is in
-    let read = next_read text (path_of opened) c.lines.next _ c.in_ok-next-2.next c.in-Some.line_start c.utf8.text i.boundary goes c.in-Some.ensures.place c.bytes_scanned.ensures c.in_ok-next-2.ensures.«end» in
+    let read = next_read text (path_of c.args.options opened) c.lines.next _ c.in_ok-next-2.next c.in-Some.line_start c.utf8.text i.boundary goes c.in-Some.ensures.place c.bytes_scanned.ensures c.in_ok-next-2.ensures.«end» in
     let later : c.lines.next < c.in_ok-next-2.next = read.1 in
     let within : c.in_ok-next-2.next ≤ length text = c.in_ok-next-2.ensures.within in
     omega arith

@@ -13,7 +13,7 @@ read_lines-requires-clause-boundary c = (first_read c.args.text.now c.as_bytes.r
 
 pub close_block-requires : goal.close_block-requires
 close_block-requires c =
-    block_open range_text c.args.text.now c.args.options (names_of c.read_lines.new.allocs) (extent_from c.args.text.now (path_of c.open_block.new.tree) (metadata_judge c.args.metadata_block_ch) c.next_line-first.result) c.args.tree.now c.open_block.new.tree c.read_lines.new.tree
+    block_open range_text c.args.text.now c.args.options (names_of c.read_lines.new.allocs) (extent_from c.args.text.now (path_of c.args.options c.open_block.new.tree) (metadata_judge c.args.metadata_block_ch) c.next_line-first.result) c.args.tree.now c.open_block.new.tree c.read_lines.new.tree
     c.args.start_ix (MetadataBlock c.metadata_kind.result) c.in_ok-lines.lines.«end» c.in_ok-lines.lines.next c.in_ok-open_block.ensures c.in_ok-lines.ensures.lines
 
 pub returns-clause-block : goal.returns-clause-block

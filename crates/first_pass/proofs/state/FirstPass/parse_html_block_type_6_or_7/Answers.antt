@@ -29,9 +29,9 @@ returns-clause-order c = λ at low o.
     let p = first_at text c.args.start_ix 0 in
     let i = first_is text c.args.start_ix 0 in
     let block = e.block p i in
-    let path : path_of new.tree ≡ path_of old.tree = ap path_of block.tree_is ∙ path_added old.tree block.items c.is_forest.ensures in
+    let path : path_of self.source.options new.tree ≡ path_of self.source.options old.tree = ap (path_of self.source.options) block.tree_is ∙ path_added self.source.options old.tree block.items c.is_forest.ensures in
     let ends = to_blank_ends text self.source.options names old.tree new.tree c.args.start_ix c.in_ok-next.next e.utf8 c.requires.boundary e.boundary.1.0 p i in
-    ordered_stopped text new (path_of old.tree) (html_to_blank text (path_of old.tree) p) c.in_ok-next.next e.boundary.1 refl path (html_stops (length text) (path_of old.tree) p (lines_from text (behind_line_at text (offset p)))) block.left_is
+    ordered_stopped self.source.options text new (path_of self.source.options old.tree) (html_to_blank text (path_of self.source.options old.tree) p) c.in_ok-next.next e.boundary.1 refl path (html_stops (length text) (path_of self.source.options old.tree) p (lines_from text (behind_line_at text (offset p)))) block.left_is
     (block_ordered text old new at c.args.start_ix _ o low (returns-clause-fits c p i) ends.0 refl)
 
 pub returns-clause-few : goal.returns-clause-few

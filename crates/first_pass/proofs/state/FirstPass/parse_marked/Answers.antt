@@ -93,7 +93,7 @@ returns-in_ok-next-in-HtmlToEnd c =
     let i = all_keep text p.line p.rest c.requires.utf8 c.requires.place in
     let tag = c.in-HtmlToEnd.«end».now in
     let tag_is : html_end (drop 1 (all_taken p.rest).left) ≡ Some tag = subst (HasEnd (all_taken p.rest).left) c.in-HtmlToEnd.is f.«end» in
-    let lines : Extent = html_to_end text (path_of old) tag (unindented p) in
+    let lines : Extent = html_to_end text (path_of options old) tag (unindented p) in
     leaf_added self new p c.args.at next c.requires.utf8 c.requires.place f.at_is HtmlToEnd (marked_kind c.args.leaf) (ap marked_kind c.in-HtmlToEnd.is) c.requires.not_blank e.source e.names e.tables e.reading e.boundary e.fits
     (html_end_added text options (names_of new.allocs) p old new.reading.tree c.args.at next f.at_is i tag c.args.columns tag_is (columns_are _ _ f.columns_are (found_says _ _ _ _ _ _ c.in-HtmlToEnd.is f)).0
     (subst (λ k. AddsRaw (document text options (names_of new.allocs)) (λ d. IsHtml d c.args.at k lines.places lines.«end») lines.left old new.reading.tree next) (zero-max c.args.columns)
