@@ -1,18 +1,18 @@
 //! Calls of `first_pass_definitions`.
 
 use crate::answer::Answer;
+use crate::containers::{open_path, options_of};
 use crate::given::Given;
 use crate::links::append_cow;
 use bitflags::Flags;
+use first_pass_definitions::footnote::scan_footnote;
 use first_pass_definitions::reference::parse_refdef_total;
-use first_pass_items::item::{Item, ItemBody};
 use first_pass_items::option_set::Options;
 use first_pass_labels::label_table::LinkDef;
 use first_pass_open::source::Source;
-use first_pass_tree::forest::Tree;
 use std::alloc::{AllocError, Global};
 
-/// Answers a call for a definition, or tells that it is another one.
+/// Answers a call for a definition or a footnote's head, or tells that it is another one.
 pub fn answer_definitions(
     alloc: Global,
     call: &str,
@@ -22,14 +22,14 @@ pub fn answer_definitions(
 ) -> Result<bool, AllocError> {
     match call {
         "parse_refdef_total" => append_reference(alloc, text, given, answer)?,
+        "scan_footnote" => append_footnote(alloc, text, given, answer)?,
         _ => return Ok(false),
     }
     Ok(true)
 }
 
 /// How many bytes a definition has at the place that is given second, its label, destination and title. The first
-/// value is the path of the open containers, the outermost first: a digit 1 is a block quote, any other a list item
-/// of so many columns.
+/// value is the path of the open containers (see `open_path`).
 fn append_reference(
     alloc: Global,
     text: &str,
@@ -66,23 +66,28 @@ fn append_definition(definition: &LinkDef<'_>, answer: &mut Answer) -> Result<()
     answer.number(definition.span.end)
 }
 
-/// A tree in which these containers are open.
-fn open_path(alloc: Global, path: usize) -> Result<Tree<Item>, AllocError> {
-    let mut tree = Tree::with_capacity(alloc, 8)?;
-    for place in [1000, 100, 10, 1] {
-        let digit = path / place % 10;
-        if digit > 0 {
-            let body = match digit {
-                1 => ItemBody::BlockQuote(None),
-                columns => ItemBody::ListItem(columns),
-            };
-            tree.append(Item {
-                start: 0,
-                end: 0,
-                body,
-            })?;
-            tree.push()?;
-        }
+/// How many bytes the head of a footnote definition has, and its label, at the place that is given third, under the
+/// options that are given second. The first value is the path of the open containers (see `open_path`).
+fn append_footnote(
+    alloc: Global,
+    text: &str,
+    given: &Given,
+    answer: &mut Answer,
+) -> Result<(), AllocError> {
+    let start = given.number(2);
+    if !text.is_char_boundary(start) {
+        return answer.none();
     }
-    Ok(tree)
+    let source = Source {
+        text,
+        options: options_of(given.number(1)),
+    };
+    let tree = open_path(alloc, given.number(0))?;
+    match scan_footnote(alloc, source, &tree, start)? {
+        Some((size, label)) => {
+            answer.number(size)?;
+            append_cow(&label, answer)
+        }
+        None => answer.none(),
+    }
 }

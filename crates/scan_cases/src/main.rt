@@ -19,6 +19,7 @@
 
 mod answer;
 mod attributes;
+mod containers;
 mod definitions;
 mod given;
 mod html;

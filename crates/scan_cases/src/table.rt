@@ -2,6 +2,7 @@
 
 use crate::answer::Answer;
 use crate::attributes::answer_attributes;
+use crate::containers::answer_containers;
 use crate::definitions::answer_definitions;
 use crate::given::{Given, read_given};
 use crate::html::answer_html;
@@ -94,6 +95,7 @@ fn ask(alloc: Global, case: &Case<'_>, answer: &mut Answer) -> Result<bool, Allo
             || answer_html(call, text.as_bytes(), answer)?
             || answer_links(alloc, call, given, text, answer)?
             || answer_attributes(alloc, call, text, answer)?
+            || answer_containers(alloc, call, given, text, answer)?
             || answer_definitions(alloc, call, given, text, answer)?
             || answer_walks(alloc, call, given, text, answer)?
             || answer_flanks(call, given, text, answer)?,
