@@ -64,8 +64,9 @@ impl<'a> FirstPass<'a> {
         ensures root { IfOk result (λ pass. length (tree_of pass).nodes ≡ 1) }
         ensures named { IfOk result (λ pass. AreNamed (names_of (allocs_of pass)) (tree_of pass).nodes) }
     {
-        // A guess at how many nodes the text will have: pages of it that are never reached cost nothing.
-        let capacity = max(128, text.len() / 12);
+        // A guess at how many nodes the text will have: pages of it that are never reached cost nothing. It stays under
+        // 32 MiB, above which the C library maps such a block anew in each pass.
+        let capacity = max(128, (text.len() / 6).min(640_000));
         let mut tree = Tree::with_capacity(alloc, capacity)?;
         let root = tree.root();
         tree.set_end(root, text.len());

@@ -104,6 +104,7 @@ fn ends_run(byte: u8) -> bool
 
 /// How many bytes stand together at the start of `bytes`, which are not empty: a backslash escape has two, any other
 /// byte stands alone. CommonMark 2.4.
+#[inline(always)]
 pub fn unit_len(bytes: &[u8]) -> usize
     requires { 0 < length bytes.now }
     ensures value { result ≡ (if begins_escape bytes.now then 2 else 1) }

@@ -13,6 +13,7 @@ use first_pass_tree::forest::Tree;
 
 // Takes the columns of an item's indent, or fewer where the line ends behind them, and says whether they are
 // there; takes nothing where they aren't.
+#[inline(always)]
 #[tactic(auto, unfolding(first_pass_grammar::specs::Containers::prefix))]
 fn takes_columns<'a>(columns: usize, line_start: &mut LineStart<'a>) -> bool
     ensures { MatchOption (prefix (ListItem columns) line_start.old)
@@ -53,6 +54,7 @@ fn takes_prefix<'a>(body: ItemBody, line_start: &mut LineStart<'a>, options: Opt
 /// doesn't; the line start is then behind what they take (CommonMark 5). A footnote definition takes four columns,
 /// or fewer and then the end of the line, where the options have footnotes as GitHub does, and else nothing; what is
 /// no container goes on with every line. The flag makes no difference.
+#[inline(always)]
 pub fn scan_containers<'a>(
     tree: &Tree<Item>,
     line_start: &mut LineStart<'a>,

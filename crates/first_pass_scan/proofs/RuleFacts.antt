@@ -1,9 +1,11 @@
 -- Facts on thematic breaks: where one can't begin, as none begins before.
-use Rattle.std.proofs.Common.{◌≡◌, ℕ, zero, suc, ◌+◌, ◌-◌, ◌<◌, ◌≤◌, Bool, true, false, ◌==◌, nat_le, List, [], ◌∷◌, length, get_or, take, drop, count_by, Option, Some, None, refl, sym, ap, ◌∙◌, arith, drop-drop, if◌then◌else◌}
+use Rattle.std.proofs.Common.{◌≡◌, ℕ, zero, suc, ◌+◌, ◌-◌, ◌<◌, ◌≤◌, Bool, true, false, ◌==◌, nat_le, List, [], ◌∷◌, length, get_or, take, drop, count_by, Option, Some, None, refl, sym, ap, ◌∙◌, true≢false, arith, drop-drop, if◌then◌else◌}
 use Rattle.std.specs.Option.{option_map}
 use Rattle.std.specs.List.{prefix_len}
 use Rattle.std.proofs.lemmas.Bool.Decides.{nat_tests}
-use Rattle.std.proofs.lemmas.List.Sums.{sum_by-cons}
+use Rattle.std.proofs.lemmas.List.Sums.{sum_by-cons, count_by-le-length}
+use Rattle.std.proofs.lemmas.List.{length-take}
+use Rattle.first_pass_lines.specs.Plain.{is_plain, begins_plain}
 use Rattle.first_pass_lines.specs.Lines.{eol_len}
 use Rattle.first_pass_scan.specs.LeafLines.{is_rule_byte, in_rule, rule_len, hrule_len, HasNoRule}
 
@@ -61,3 +63,39 @@ none_further bs s n f =
           let d : drop (k - s) (drop s bs) ≡ drop k bs = drop-drop (k - s) s bs ∙ ap (λ j. drop j bs) e in
           ap hrule_len (sym d) ∙ f.none (k - s) (omega arith) (omega arith);
     }
+
+-- a run that ends before the third byte has two bytes at most
+prefix_two : (p : ℕ → Bool) (a b d : ℕ) (bs : List ℕ) (s t : Bool) → p a ≡ s → p b ≡ t → p d ≡ false → prefix_len p (a ∷ b ∷ d ∷ bs) ≤ 2
+prefix_two p a b d bs false t e f g = let q : prefix_len p (a ∷ b ∷ d ∷ bs) ≡ 0 = rw e refl in omega arith
+prefix_two p a b d bs true false e f g = let q : prefix_len p (a ∷ b ∷ d ∷ bs) ≡ 1 = rw e (rw f refl) in omega arith
+prefix_two p a b d bs true true e f g = let q : prefix_len p (a ∷ b ∷ d ∷ bs) ≡ 2 = rw e (rw f (rw g refl)) in omega arith
+
+-- a thematic break has three characters at least
+too_few : (n k : ℕ) (o : Option ℕ) → k ≤ 2 → (if nat_le 3 k then option_map (λ j. n + j) o else None) ≡ None
+too_few n k None h = grind (arith, nat_tests)
+too_few n k (Some j) h = grind (arith, nat_tests)
+
+rule_few : (c : ℕ) (bs : List ℕ) → prefix_len (in_rule c) bs ≤ 2 → rule_len c bs ≡ None
+rule_few c bs h =
+    let n : ℕ = prefix_len (in_rule c) bs in
+    let few : count_by (λ x. x == c) (take n bs) ≤ 2 = omega (arith, count_by-le-length (λ x. x == c) (take n bs), length-take n bs) in
+    too_few n _ (eol_len (drop n bs)) few
+
+rule_third : (t : Bool) (a : ℕ) (bs : List ℕ) → is_rule_byte a ≡ t → (is_rule_byte a ≡ true → rule_len a bs ≡ None)
+    → (if t then rule_len a bs else None) ≡ None
+rule_third false a bs e f = refl
+rule_third true a bs e f = f e
+
+plain_in_rule : (a d : ℕ) → is_rule_byte a ≡ true → is_plain d ≡ true → in_rule a d ≡ false
+unfolding is_plain
+plain_in_rule a d e h = grind (arith, nat_tests, e, h)
+
+-- none begins two bytes before a plain one
+pub none_before_plain : (bs : List ℕ) → begins_plain (drop 2 bs) ≡ true → hrule_len bs ≡ None
+unfolding hrule_len
+none_before_plain [] h = refl
+none_before_plain (a ∷ []) h = absurd (true≢false (sym h))
+none_before_plain (a ∷ b ∷ []) h = absurd (true≢false (sym h))
+none_before_plain (a ∷ b ∷ d ∷ bs) h =
+    let few = λ (e : is_rule_byte a ≡ true). prefix_two (in_rule a) a b d bs (in_rule a a) (in_rule a b) refl refl (plain_in_rule a d e h) in
+    rule_third (is_rule_byte a) a (a ∷ b ∷ d ∷ bs) refl (λ e. rule_few a (a ∷ b ∷ d ∷ bs) (few e))

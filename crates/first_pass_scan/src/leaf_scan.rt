@@ -78,6 +78,7 @@ fn scan_underline(bytes: &[u8], byte: u8) -> Option<usize>
 /// How many bytes the setext heading underline that `bytes` begins with has, its end too, and the
 /// level of the heading: a run of `=` (level 1) or `-` (level 2), then white space alone. Else `None`.
 /// CommonMark 4.3.
+#[inline(always)]
 #[tactic(auto, unfolding(crate::specs::LeafLines::setext_underline))]
 pub fn scan_setext_heading(bytes: &[u8]) -> Option<(usize, HeadingLevel)>
     ensures value { result ≡ setext_underline bytes.now }

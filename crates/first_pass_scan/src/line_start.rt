@@ -1,6 +1,6 @@
 //! What is left of a line, by columns.
 
-ghost use Rattle.std.specs.Prelude.{◌≡◌, ◌≤◌, ◌+◌, ◌<◌, ◌^◌, ◌==◌, min, nat_le, length, is_some, IfSome, MatchOption, if◌then◌else◌, true, false};
+ghost use Rattle.std.specs.Prelude.{◌≡◌, ◌≤◌, ◌+◌, ◌<◌, ◌^◌, ◌==◌, min, nat_le, length, drop, is_some, IfSome, MatchOption, if◌then◌else◌, true, false};
 ghost use Rattle.first_pass_lines.specs.Lines.{at_line_end, is_blank_line};
 ghost use Rattle.first_pass_scan.specs.LeafLines.{hrule_len};
 ghost use Rattle.first_pass_lines.specs.Rest.{next_column, after_columns, indent, past_bytes, past_quote};
@@ -55,6 +55,17 @@ impl Drop for LineStart<'_> {
             owed: _,
             rule_free: _,
         } = self;
+    }
+}
+
+// Whether the third byte is a letter or one of a character past ASCII: then no thematic break begins here.
+#[inline(always)]
+fn is_plain_third(bytes: &[u8]) -> bool
+    ensures { result ≡ begins_plain (drop 2 bytes.now) }
+{
+    match bytes {
+        [_, _, rest @ ..] => is_plain_front(rest),
+        _ => false,
     }
 }
 
@@ -280,6 +291,9 @@ impl<'a> LineStart<'a> {
             return false;
         }
         let rest = rest_of(self.bytes, self.at);
+        if is_plain_third(rest) {
+            return false;
+        }
         if scan_hrule(rest).is_some() {
             return true;
         }

@@ -60,6 +60,13 @@ fn interrupts_without_table(bytes: &[u8], current_container: bool) -> bool
     if is_plain_front(bytes) {
         return false;
     }
+    interrupts_by_mark(bytes, current_container)
+}
+
+// The same, where the first byte is looked at already.
+fn interrupts_by_mark(bytes: &[u8], current_container: bool) -> bool
+    ensures { result ≡ interrupts_with current_container bytes.now }
+{
     scan_eol(bytes).is_some()
         || scan_hrule(bytes).is_some()
         || scan_atx_heading(bytes).is_some()
@@ -93,6 +100,7 @@ pub fn scan_paragraph_interrupt_no_table(
 /// Whether `bytes`, what is left of a line behind its indentation of under four columns and all that the text has
 /// behind it, interrupt a paragraph that is read inside the open containers: as above, in a line that goes on with all
 /// of them or not, or as a table does that the line heads (CommonMark 4.8, GFM 4.10).
+#[inline(always)]
 pub fn scan_interruption(
     alloc: Global,
     source: Source<'_>,
@@ -112,6 +120,7 @@ pub fn scan_interruption(
 // Whether the line that begins at the offset `start`, where the text goes on with `bytes`, goes on with all open
 // containers; the columns of indentation, but 4 where there are more, behind what it takes for them; and the place
 // behind those columns.
+#[inline(always)]
 fn scan_prefixes<'b>(
     source: Source<'_>,
     start: usize,

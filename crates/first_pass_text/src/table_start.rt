@@ -51,6 +51,7 @@ fn scan_table_at(
 
 /// Whether a paragraph is interrupted by the table that the line heads with which `bytes` begin, all that the text has
 /// from there on: with tables, a line that begins with a pipe (GFM 4.10).
+#[inline(always)]
 pub fn interrupts_as_table(
     alloc: Global,
     options: Options,

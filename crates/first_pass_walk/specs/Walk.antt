@@ -1,5 +1,5 @@
 -- The bytes at which a token may begin, the next of them, and a walk over them.
-use Rattle.std.specs.Prelude.{◌≡◌, ℕ, ◌+◌, ◌<◌, ◌≤◌, ◌==◌, ◌&&◌, ◌||◌, ◌⊎◌, Bool, true, false, List, [], ◌∷◌, length, slice_index, Option, None}
+use Rattle.std.specs.Prelude.{◌≡◌, ℕ, ◌+◌, ◌<◌, ◌≤◌, ◌==◌, ◌&&◌, ◌||◌, ◌⊎◌, Bool, true, false, nat_lt, List, [], ◌∷◌, length, slice_index, Option, None}
 use Rattle.std.specs.List.{slice_index_or, list_any}
 use Rattle.std.specs.Char.{is_ascii_alphabetic}
 use Rattle.first_pass_items.specs.Bytes.{line_feed, carriage_return, space, exclamation_mark, quotation_mark, dollar_sign, ampersand, apostrophe, asterisk, hyphen, full_stop, less_than, left_bracket, backslash, right_bracket, circumflex, underscore, backquote, left_brace, pipe, right_brace, tilde}
@@ -58,11 +58,11 @@ pub record IsNextMarked (lut : List Bool) (bytes : List ℕ) (ix j : ℕ) : Type
 abbrev pub NoneMarkedFrom : List Bool → List ℕ → ℕ → Type 0
 NoneMarkedFrom lut bytes ix = (k : ℕ) → ix ≤ k → k < length bytes → is_marked lut bytes k ≡ false
 
--- a letter or a space (this project)
+-- a letter, a space or a byte of a character past ASCII (this project)
 abbrev pub is_word_byte : ℕ → Bool
-is_word_byte b = is_ascii_alphabetic b || b == space
+is_word_byte b = (is_ascii_alphabetic b || b == space) || (nat_lt 127 b && nat_lt b 256)
 
--- the table marks no letter and no space (this project)
+-- the table marks no letter, no space and no byte of a character past ASCII (this project)
 abbrev pub SparesWords : List Bool → Type 0
 SparesWords lut = (b : ℕ) → is_word_byte b ≡ true → slice_index_or lut b false ≡ false
 

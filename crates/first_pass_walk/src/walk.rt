@@ -44,7 +44,8 @@ pub fn next_special(lut: &[bool; 256], bytes: &[u8], ix: usize) -> Option<usize>
     None
 }
 
-/// As `next_special`, 16 bytes at a time, where the table marks no letter and no space.
+/// As `next_special`, 16 bytes at a time, where the table marks no letter, no space and no byte of a character past
+/// ASCII.
 pub fn next_special_in_words(lut: &[bool; 256], bytes: &[u8], ix: usize) -> Option<usize>
     requires { SparesWords lut.now }
     ensures found { IfSome result (λ j. IsNextMarked lut.now bytes.now ix j) }
@@ -72,7 +73,8 @@ fn word_run(bytes: &[u8], at: usize) -> usize
 {
     let lanes = u8x16::from_slice(&bytes[at..]);
     let from_a = (lanes | u8x16::splat(0x20)) - u8x16::splat(b'a');
-    let stops = from_a.simd_ge(u8x16::splat(26)) & lanes.simd_ne(u8x16::splat(b' '));
+    let ascii = from_a.simd_ge(u8x16::splat(26)) & lanes.simd_ne(u8x16::splat(b' '));
+    let stops = ascii & lanes.simd_lt(u8x16::splat(128));
     first_set(stops.to_bitmask())
 }
 
