@@ -79,6 +79,7 @@ impl<'a> FirstPass<'a> {
             (λ underline. BecomesHeading
             (document (source_text self.old) (source_options self.old) (names_of (allocs_of self.new))) underline.1
             has_trailing_content node_ix (tree_of self.old) (tree_of self.new))) }
+        ensures few { OnOk result (length (tree_of self.new).nodes ≤ length (tree_of self.old).nodes) }
         ensures order { OnOk result ((l : TextLines) → has_trailing_content ≡ by_backslash l.break
             → HoldsText (document (source_text self.old) (source_options self.old) no_names) (tree_of self.old)
             node_ix l

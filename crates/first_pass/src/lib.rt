@@ -15,6 +15,7 @@ mod raw;
 mod state;
 mod table;
 
+pub use first_pass_attributes::attrs;
 pub use first_pass_below::{below, flank, walk};
 pub use first_pass_names::items;
 pub use laws::ready_is_completed;

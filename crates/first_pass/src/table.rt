@@ -1,6 +1,6 @@
 //! Tables, as calls of the pass (GFM 4.10).
 
-ghost use Rattle.std.specs.Prelude.{◌≡◌, ◌<◌, ◌≤◌, true, ℕ, length, IfOk, OnOk, IsCharBoundary};
+ghost use Rattle.std.specs.Prelude.{◌≡◌, ◌<◌, ◌≤◌, true, ℕ, length, IfOk, IsSomeAnd, OnOk, IsCharBoundary};
 ghost use Rattle.first_pass_tree.specs.declared.tree_index.TreeIndex.{TreeIndex};
 ghost use Rattle.first_pass_tree.specs.Forest.{in_table};
 ghost use Rattle.first_pass_names.specs.TableEntries.{no_names};
@@ -23,7 +23,7 @@ impl<'a> FirstPass<'a> {
     /// Appends the rows of a table of `table_cols` columns to the table, the innermost open node, which was just
     /// opened, and closes it behind them: the header row, which begins at the offset `head_start` into the text, and
     /// the rows among the lines from the offset `body_start` on, up to the first line that is none. Answers the offset
-    /// at which that line begins, or the text's length (GFM 4.10).
+    /// at which that line begins, or the text's length, and never `None` (GFM 4.10).
     ///
     /// Each row has `table_cols` cells then. Where the line at `head_start` has as many columns as a header row, at
     /// most 262,144 of them are filled in (this project).
@@ -32,7 +32,7 @@ impl<'a> FirstPass<'a> {
         table_cols: usize,
         head_start: usize,
         body_start: usize,
-    ) -> Result<usize, AllocError>
+    ) -> Result<Option<usize>, AllocError>
         requires head { IsCharBoundary (source_text self.old) head_start }
         requires body { IsCharBoundary (source_text self.old) body_start }
         requires open { (ix : TreeIndex) × IsJustPushed (tree_of self.old) ix }
@@ -40,19 +40,19 @@ impl<'a> FirstPass<'a> {
         ensures source { OnOk result (source_of self.new ≡ source_of self.old) }
         ensures allocs { OnOk result (allocs_of self.new ≡ allocs_of self.old) }
         ensures reading { OnOk result (reading_of self.new ≡ with_tree (reading_of self.old) (tree_of self.new)) }
-        ensures rows { IfOk result (λ next.
+        ensures rows { IfOk result (λ answer. IsSomeAnd answer (λ next.
             AppendsRows (document (source_text self.old) (source_options self.old) no_names) table_cols head_start
-            body_start (tree_of self.old) (tree_of self.new) next) }
-        ensures order { IfOk result (λ next. (at : ℕ) → at ≤ head_start
+            body_start (tree_of self.old) (tree_of self.new) next)) }
+        ensures order { IfOk result (λ answer. IsSomeAnd answer (λ next. (at : ℕ) → at ≤ head_start
             → line_end_at (source_text self.old) head_start ≤ body_start
             → IsOrderedTo (source_text self.old) (tree_of self.old) at
-            → IsOrderedTo (source_text self.old) (tree_of self.new) next) }
-        ensures few { IfOk result (λ next. (from : ℕ) → from ≤ head_start
+            → IsOrderedTo (source_text self.old) (tree_of self.new) next)) }
+        ensures few { IfOk result (λ answer. IsSomeAnd answer (λ next. (from : ℕ) → from ≤ head_start
             → line_end_at (source_text self.old) head_start ≤ body_start → from < next
-            → GrowsBy from next (tree_of self.old).nodes (tree_of self.new).nodes) }
-        ensures whole { IfOk result (λ next.
+            → GrowsBy from next (tree_of self.old).nodes (tree_of self.new).nodes)) }
+        ensures whole { IfOk result (λ answer. IsSomeAnd answer (λ next.
             AddsWholeRows (document (source_text self.old) (source_options self.old) no_names) table_cols head_start
-            (tree_of self.old) (tree_of self.new) next) }
+            (tree_of self.old) (tree_of self.new) next)) }
     {
         let next = rows::parse_table(
             self.alloc,
@@ -63,7 +63,7 @@ impl<'a> FirstPass<'a> {
             head_start,
             body_start,
         )?;
-        Ok(next)
+        Ok(Some(next))
     }
 
     /// Appends the row of a table of `row_cells` columns that is in the line which begins at the offset `ix` into the

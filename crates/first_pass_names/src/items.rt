@@ -9,10 +9,10 @@ ghost use Rattle.first_pass_names.specs.TableEntries.{tables, names_of, no_names
 ghost use Rattle.first_pass_grammar.specs.Names.{text_named, alignments_named};
 ghost use Rattle.first_pass_grammar.specs.Derivation.{no_tables, told};
 
-use first_pass_attributes::attrs::HeadingAttributes;
+pub use first_pass_attributes::attrs::HeadingAttributes;
 use first_pass_items::cow_str::CowStr;
 use first_pass_items::item::{Alignment, AlignmentIndex, CowIndex, HeadingIndex};
-use first_pass_labels::label_key::LabelKey;
+pub use first_pass_labels::label_key::LabelKey;
 use first_pass_labels::label_table::LabelTable;
 pub use first_pass_labels::label_table::{FootDefs, FootnoteDef, LinkDef, RefDefs};
 use std::alloc::{AllocError, Global};

@@ -21,7 +21,8 @@ use Rattle.first_pass_open.proofs.PathLemmas.{get_last}
 use Rattle.first_pass_text.specs.CutTexts.{cut_chain}
 use Rattle.first_pass_tokens.specs.Chains.{cut}
 use Rattle.first_pass_tokens.specs.TreeTokens.{chained}
-use Rattle.first_pass_tree.specs.Forest.{Forest, appended, item_at}
+use Rattle.first_pass_items.specs.declared.item.ItemBody.TheVariants.{Text}
+use Rattle.first_pass_tree.specs.Forest.{Forest, appended, item_at, open_place, cut_item, cut_tokens, cut_siblings, is_escaped}
 use Rattle.first_pass_tree.specs.declared.tree_index.TreeIndex.{TreeIndex}
 
 -- a text whose end is not behind its start is empty
@@ -292,3 +293,27 @@ pub content_read : (options : Options) (text : List ℕ) (start size content_end
 content_read options text start size content_end fits ends =
     let n : content_end - start ≡ length (before_attributes options (take size (drop start text))) = omega arith in
     ap (λ k. take k (drop start text)) n ∙ content_by options (drop start text) size (heading_braces options (take size (drop start text))) refl fits
+
+-- cut tokens are no more than before, whatever each of them comes to
+fewer_by : (t u v : Bool) (n m k : ℕ × Item) (cs ns : List (ℕ × Item)) → length cs ≤ length ns
+    → length (if t then n ∷ cs else (if u then m ∷ cs else (if v then k ∷ [] else []))) ≤ length (n ∷ ns)
+fewer_by true u v n m k cs ns h = omega arith
+fewer_by false true v n m k cs ns h = omega arith
+fewer_by false false true n m k cs ns h = omega arith
+fewer_by false false false n m k cs ns h = omega arith
+
+cut_fewer : (e d : ℕ) (nodes : List (ℕ × Item)) → length (cut_tokens e d nodes) ≤ length nodes
+cut_fewer e d [] = omega arith
+cut_fewer e d (n ∷ ns) =
+    fewer_by (nat_lt d n.0) (nat_lt n.1.start e) (is_escaped n.1.body && (n.1.start == e)) n (n.0, cut_item e n.1) (n.0, record { start = e - 1; «end» = e; body = Text false })
+    (cut_tokens e d ns) ns (cut_fewer e d ns)
+
+-- a tree whose innermost open node's children are cut has no more nodes than before
+pub siblings_fewer : (f : Forest Item) (e : ℕ) → length (cut_siblings f e).nodes ≤ length f.nodes
+siblings_fewer f e =
+    let n : ℕ = open_place f.spine + 1 in
+    let more = cut_fewer e (length f.spine + 1) (drop n f.nodes) in
+    let both = length-append (take n f.nodes) (cut_tokens e (length f.spine + 1) (drop n f.nodes)) in
+    let front = length-take n f.nodes in
+    let rest = length-drop n f.nodes in
+    omega arith

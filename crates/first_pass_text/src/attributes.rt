@@ -115,7 +115,7 @@ fn white_at_cut(content: &[u8], broken: bool) -> usize
 /// Cuts the attribute block of an underlined heading off its chain, which stands in the innermost open node: that of
 /// the text that begins at the offset `start`, whose last line a backslash breaks (`broken`) or doesn't. The
 /// attributes are put among `allocs`, and the answer is their index; `None` where the text ends with no such block.
-/// The error is want of memory (CommonMark 4.3, and this project).
+/// No node is added. The error is want of memory (CommonMark 4.3, and this project).
 pub fn cut_attributes<'a>(
     alloc: Global,
     source: Source<'a>,
@@ -131,6 +131,7 @@ pub fn cut_attributes<'a>(
         CutsBlock (document source.entry.text.now source.entry.options (names_of allocs.new)) start broken tree.old
         tree.new index) }
     ensures open { OnOk result (tree.new.spine ≡ tree.old.spine) }
+    ensures few { OnOk result (length tree.new.nodes ≤ length tree.old.nodes) }
 {
     // A marker before the text ends before it; no token ends behind the whole text.
     let end = chain_end(tree, start).min(source.text.len());
@@ -147,7 +148,7 @@ pub fn cut_attributes<'a>(
 
 /// Makes the block `node_ix`, the innermost open node, in which the chain of its text stands, a heading of this level:
 /// the attribute block is cut off the chain, and the attributes are put among `allocs`. A backslash breaks the text's
-/// last line (`broken`) or doesn't. The error is want of memory (CommonMark 4.3, and this project).
+/// last line (`broken`) or doesn't. No node is added. The error is want of memory (CommonMark 4.3, and this project).
 pub fn make_heading<'a>(
     alloc: Global,
     source: Source<'a>,
@@ -164,6 +165,7 @@ pub fn make_heading<'a>(
     ensures heading { OnOk result (
         BecomesHeading (document source.entry.text.now source.entry.options (names_of allocs.new)) level broken node_ix
         tree.old tree.new) }
+    ensures few { OnOk result (length tree.new.nodes ≤ length tree.old.nodes) }
 {
     tree.is_forest();
     let start = tree[node_ix].start;
