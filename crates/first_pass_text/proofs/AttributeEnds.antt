@@ -1,5 +1,5 @@
 -- The attribute block that the text of a heading ends with.
-use Rattle.std.proofs.Common.{◌≡◌, inl, inr, ℕ, ◌+◌, ◌-◌, ◌≤◌, ◌<◌, Bool, true, false, List, [], ◌∷◌, ◌++◌, length, take, drop, get_or, slice_index, Option, Some, None, is_some, IsSomeAnd, min, IsUtf8, IsCharBoundary, refl, sym, ap, subst, ◌∙◌, arith, length-append, length-drop, length-take, length-take-le, get_or-drop, if◌then◌else◌}
+use Rattle.std.proofs.Common.{◌≡◌, inl, inr, ℕ, ◌+◌, ◌-◌, ◌≤◌, ◌<◌, ◌==◌, ◌&&◌, nat_lt, Bool, true, false, List, [], ◌∷◌, ◌++◌, length, take, drop, get_or, slice_index, Option, Some, None, is_some, IsSomeAnd, min, IsUtf8, IsCharBoundary, refl, sym, ap, subst, ◌∙◌, arith, length-append, length-drop, length-take, length-take-le, get_or-drop, if◌then◌else◌}
 use Rattle.std.specs.List.{slice_range, suffix_len}
 use Rattle.std.specs.Option.{option_map, option_map_or}
 use Rattle.std.proofs.lemmas.Bool.{cond_both, cases_lt}

@@ -1,4 +1,4 @@
-use Rattle.std.proofs.Common.{◌≡◌, ◌+◌, ◌-◌, ℕ, List, length, is_some, true, min, sym, ap, subst, ◌∙◌}
+use Rattle.std.proofs.Common.{◌≡◌, ◌+◌, ◌-◌, ◌≤◌, ℕ, arith, List, length, is_some, true, min, sym, ap, subst, ◌∙◌}
 use Rattle.std.specs.List.{slice_range}
 use Rattle.std.specs.Option.{option_map}
 use Rattle.first_pass_items.specs.declared.item.Item.{Item}
@@ -9,7 +9,7 @@ use Rattle.first_pass_attributes.specs.Attributes.{attributes_in}
 use Rattle.first_pass_grammar.specs.Headings.{before_attributes, heading_attributes_of, chain_end, chain_bytes}
 use Rattle.first_pass_grammar.specs.Names.{Names, Extends, NamesAttributes}
 use Rattle.first_pass_names.specs.TableEntries.{names_of}
-use Rattle.first_pass_text.proofs.AttributeEnds.{clipped, block_given, none_given, cut_by, cut_none}
+use Rattle.first_pass_text.proofs.AttributeEnds.{clipped, block_given, none_given, cut_by, cut_none, siblings_fewer}
 use Rattle.first_pass_text.proofs.attributes.cut_attributes.Goals.{then-is_some, else-is_some}
 use Rattle.first_pass_text.proofs.attributes.cut_attributes.Goals as goal
 
@@ -37,4 +37,13 @@ returns-clause-cut c f chain bare is =
       | else-is_some w ↦
           let none = none_given options bs c.in_ok-content_end.attributes given (sym c.is_some.ensures ∙ w.if-is_some.false) in
           (w.tree-is ∙ is ∙ ap (chained f) (sym (cut_none text options start c.args.broken chain none)), named)
+    ]
+
+pub returns-clause-few : goal.returns-clause-few
+returns-clause-few c =
+    let old : Forest Item = c.args.tree.now in
+    let few = λ (f : Forest Item). length f.nodes ≤ length old.nodes in
+    elim c.if-is_some.branch [
+      | then-is_some w ↦ subst few (sym (w.tree-is ∙ w.truncate_siblings.ensures)) (siblings_fewer old (c.in_ok-content_end.content_end - w.white_at_cut.result))
+      | else-is_some w ↦ subst few (sym w.tree-is) (omega arith)
     ]

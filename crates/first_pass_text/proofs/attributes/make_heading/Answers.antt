@@ -1,6 +1,9 @@
-use Rattle.std.proofs.Common.{sym, ap, ◌∙◌, slice_get, subst, Option, IfSome}
+use Rattle.std.proofs.Common.{◌≤◌, sym, ap, ◌∙◌, slice_get, subst, length, Option, IfSome}
 use Rattle.first_pass_items.specs.declared.item.Item.{Item}
+use Rattle.first_pass_grammar.proofs.Tightening.{length-modify}
+use Rattle.first_pass_items.specs.declared.item.ItemBody.TheVariants.{Heading}
 use Rattle.first_pass_open.proofs.BlockLemmas.{open_node_in}
+use Rattle.first_pass_tree.specs.Forest.{Forest}
 use Rattle.first_pass_names.specs.TableEntries.{names_of}
 use Rattle.first_pass_grammar.specs.Leaves.{document}
 use Rattle.first_pass_text.specs.CutTexts.{CutsBlock}
@@ -21,3 +24,9 @@ returns-clause-heading c =
       cuts = subst (λ (o : Option Item). IfSome o (λ x. CutsBlock d x.start c.args.broken c.args.tree.now c.cut_attributes.new.tree c.in_ok-index.index)) (sym c.index.ensures) c.in_ok-index.ensures.cut;
       tree_is = c.set_body.ensures;
     }
+
+pub returns-clause-few : goal.returns-clause-few
+returns-clause-few c =
+    let cut : Forest Item = c.cut_attributes.new.tree in
+    let same = ap (λ (f : Forest Item). length f.nodes) c.set_body.ensures ∙ length-modify cut.nodes c.args.node_ix.0 (λ (x : Item). record x { body = Heading c.args.level c.in_ok-index.index }) in
+    subst (λ n. n ≤ length c.args.tree.now.nodes) (sym same) c.in_ok-index.ensures.few
