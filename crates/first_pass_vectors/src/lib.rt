@@ -11,5 +11,6 @@ mod deep;
 mod fakes;
 #[cfg(test)]
 mod faults;
+pub mod surface;
 #[cfg(test)]
 mod table_lines;

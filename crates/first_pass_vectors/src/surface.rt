@@ -1,0 +1,33 @@
+//! Every public name of the two library crates, by the module that hands it out: one that is missing is an error of the
+//! compiler.
+
+pub use first_pass::attrs::{
+    extract_attribute_block_content_from_header_text, parse_inside_attribute_block,
+};
+pub use first_pass::below::{
+    Alignment, AlignmentIndex, BlockQuoteKind, CowIndex, CowStr, HeadingIndex, HeadingLevel, Item,
+    ItemBody, LineStart, ListFlags, MetadataBlockKind, Options, Tree, TreeIndex, calc_indent,
+    is_punctuation, scan_atx_heading, scan_blank_line, scan_closing_code_fence,
+    scan_closing_metadata_block, scan_code_fence, scan_entity, scan_eol, scan_hrule,
+    scan_html_type_7, scan_link_dest, scan_link_label_rest, scan_listitem, scan_metadata_block,
+    scan_nextline, scan_setext_heading, scan_table_head, starts_html_block_type_6, unescape,
+};
+pub use first_pass::containers::scan_containers;
+pub use first_pass::flank::{TableParseMode, delim_run_can_close, delim_run_can_open};
+pub use first_pass::items::{
+    Allocations, FootDefs, FootnoteDef, HeadingAttributes, LabelKey, LinkDef, RefDefs,
+};
+pub use first_pass::pass::{
+    FirstPass, count_header_cols, get_html_end_tag, run_first_pass,
+    scan_paragraph_interrupt_no_table, surgerize_tight_list,
+};
+pub use first_pass::walk::{LoopInstruction, iterate_special_bytes, next_special, special_bytes};
+
+/// The same names of the lower crate, by its own modules.
+pub mod lower {
+    pub use first_pass_below::below::{CowStr, LineStart, Options, Tree, unescape};
+    pub use first_pass_below::flank::{TableParseMode, delim_run_can_close, delim_run_can_open};
+    pub use first_pass_below::walk::{
+        LoopInstruction, iterate_special_bytes, next_special, special_bytes,
+    };
+}
