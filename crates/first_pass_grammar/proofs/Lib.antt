@@ -1,6 +1,7 @@
 pub mod Alike
 pub mod Completed
 pub mod Completions
+pub mod CountedRows
 pub mod EachToken
 pub mod Finishes
 pub mod FirstLinks

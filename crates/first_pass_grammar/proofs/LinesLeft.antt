@@ -12,9 +12,10 @@ use Rattle.first_pass_tokens.specs.Chains.{add_tokens}
 use Rattle.first_pass_grammar.specs.LinkTables.{LinkEntry}
 use Rattle.first_pass_grammar.specs.LinkRuns.{lines_beyond, Beyond, Ended, FlowsOn, IsRun}
 use Rattle.first_pass_grammar.specs.TableHeads.{headed_table}
-use Rattle.first_pass_grammar.specs.Tables.{filled, Taken, AreRows, IsTable}
+use Rattle.first_pass_grammar.specs.Tables.{filled, Taken, IsTable}
 use Rattle.first_pass_grammar.specs.Completion.{lines_from}
 use Rattle.first_pass_grammar.specs.Texts.{IsPlainText, IsText, IsUnderlined, underline_first, plain_text}
+use Rattle.first_pass_grammar.proofs.CountedRows.{CountedRows, counted}
 use Rattle.first_pass_grammar.proofs.PlacesKept.{IsAt, AreAt, at_front}
 use Rattle.first_pass_items.specs.declared.item.HeadingLevel.{HeadingLevel}
 
@@ -79,8 +80,8 @@ lines_left d path start chain (line ∷ lines) t h (k, a, i, inr (goes, more)) =
 
 -- what rows leave
 pub rows_left : (d : Document) (path : List Container) (columns most : ℕ) (lines : List Place) (t : Taken) → AreAt d.text lines
-    → AreRows d path columns most lines t → AreAt d.text t.left
-unfolding AreRows
+    → CountedRows d path columns most lines t → AreAt d.text t.left
+unfolding CountedRows
 rows_left d path columns most [] t h e = subst (λ (z : Taken). AreAt d.text z.left) (sym e) tt
 rows_left d path columns most (line ∷ lines) t h (inl (none, e)) = subst (λ (z : Taken). AreAt d.text z.left) (sym e) h
 rows_left d path columns most (line ∷ lines) t h (inr (start, cells, end, at, are, inl (stops, e))) = subst (λ (z : Taken). AreAt d.text z.left) (sym e) h
@@ -103,7 +104,7 @@ text_left_by : (d : Document) (path : List Container) (p : Place) (marker : Opti
 text_left_by d path p marker lines t None h (l, are, is) =
     ended_left d path (offset p) marker l t (underline_first path l.left) (lines_left d path (offset p) [] lines l h are) is
 text_left_by d path p marker lines t (Some alignments) h table =
-    rows_left d path _ _ (drop 1 lines) _ (first_left d.text lines h) table.are_rows
+    rows_left d path _ _ (drop 1 lines) _ (first_left d.text lines h) (counted _ _ _ _ _ _ table.are_rows)
 
 pub text_left : (d : Document) (path : List Container) (p : Place) (marker : Option Item) (lines : List Place) (t : Taken) → AreAt d.text lines
     → IsText d path p marker lines t → AreAt d.text t.left

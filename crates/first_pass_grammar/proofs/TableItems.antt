@@ -12,6 +12,7 @@ use Rattle.first_pass_grammar.specs.declared.kind.Container.{Container}
 use Rattle.first_pass_grammar.specs.Names.{Names, index_of, read, read_nodes, AreNamed}
 use Rattle.first_pass_grammar.specs.Leaves.{Document}
 use Rattle.first_pass_grammar.specs.Tables.{cell_content, cell_start, cell_text, cell_block, AreCells, filled, side_by_side, row_cells, row_block, Taken, AreRows}
+use Rattle.first_pass_grammar.proofs.CountedRows.{CountedRows, counted}
 use Rattle.first_pass_grammar.proofs.NoIndex.{IsWithoutIndex, HasNoIndex, HaveNoIndex, reads_alone, tokens_free}
 use Rattle.first_pass_grammar.proofs.EachToken.{cell_each}
 use Rattle.first_pass_grammar.proofs.NamedItems.{free_entry}
@@ -95,13 +96,17 @@ row_free body columns start cells end none h =
     (copies_free (filled columns cells) (cell_block end end []) (refl, tt))))
 
 -- nor have the rows of a body
-pub rows_free : (d : Document) (path : List Container) (columns most : ℕ) (lines : List Place) (t : Taken) → AreRows d path columns most lines t
+counted_free : (d : Document) (path : List Container) (columns most : ℕ) (lines : List Place) (t : Taken) → CountedRows d path columns most lines t
     → AreFreeNodes t.items
-unfolding AreRows
-rows_free d path columns most [] t e = subst (λ (z : Taken). AreFreeNodes z.items) (sym e) tt
-rows_free d path columns most (line ∷ lines) t (inl (none, e)) = subst (λ (z : Taken). AreFreeNodes z.items) (sym e) tt
-rows_free d path columns most (line ∷ lines) t (inr (start, cells, end, at, are, inl (stops, e))) = subst (λ (z : Taken). AreFreeNodes z.items) (sym e) tt
-rows_free d path columns most (line ∷ lines) t (inr (start, cells, end, at, are, inr (is, more, rest, e))) =
+unfolding CountedRows
+counted_free d path columns most [] t e = subst (λ (z : Taken). AreFreeNodes z.items) (sym e) tt
+counted_free d path columns most (line ∷ lines) t (inl (none, e)) = subst (λ (z : Taken). AreFreeNodes z.items) (sym e) tt
+counted_free d path columns most (line ∷ lines) t (inr (start, cells, end, at, are, inl (stops, e))) = subst (λ (z : Taken). AreFreeNodes z.items) (sym e) tt
+counted_free d path columns most (line ∷ lines) t (inr (start, cells, end, at, are, inr (is, more, rest, e))) =
     subst (λ (z : Taken). AreFreeNodes z.items) (sym e)
     (both_nodes_free (row_block TableRow columns start cells end) more.items (row_free TableRow columns start cells end refl (cells_free d start cells end are))
-    (rows_free d path columns (most - filled columns cells) lines more rest))
+    (counted_free d path columns (most - filled columns cells) lines more rest))
+
+pub rows_free : (d : Document) (path : List Container) (columns most : ℕ) (lines : List Place) (t : Taken) → AreRows d path columns most lines t
+    → AreFreeNodes t.items
+rows_free d path columns most lines t h = counted_free d path columns most lines t (counted d path columns most lines t h)

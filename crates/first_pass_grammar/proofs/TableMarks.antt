@@ -18,6 +18,7 @@ use Rattle.first_pass_grammar.specs.Names.{Names}
 use Rattle.first_pass_grammar.specs.Leaves.{Document}
 use Rattle.first_pass_grammar.specs.Tables.{cell_content, cell_start, cell_text, cell_block, AreCells, filled, side_by_side, row_cells, row_block, Taken, AreRows, most_filled, IsTable}
 use Rattle.first_pass_grammar.specs.WholeTables.{Mark, ATable, ARow, ACell, shown, marks, RowCells, row_marks, table_marks, how_often, filled_in, HaveCells, AreFull, AreWholeTables}
+use Rattle.first_pass_grammar.proofs.CountedRows.{CountedRows, counted}
 use Rattle.first_pass_grammar.proofs.EachToken.{AreEach, HoldsOfTokens, HoldsOfRaw, cell_each}
 use Rattle.first_pass_grammar.proofs.RowEnds.{row_ends_its_line}
 use Rattle.first_pass_grammar.proofs.TableRows.{as_many_cells}
@@ -232,19 +233,23 @@ one_over d columns most first more items row rows e show size these have few = (
   few,
 )
 
-pub rows_show : (d : Document) (path : List Container) (columns most : ℕ) (lines : List Place) (t : Taken) → AreRows d path columns most lines t
+counted_show : (d : Document) (path : List Container) (columns most : ℕ) (lines : List Place) (t : Taken) → CountedRows d path columns most lines t
     → (rows : List RowCells) × (marks d.names t.items ≡ row_marks rows) × HaveCells columns rows × (filled_in rows ≤ most)
-unfolding AreRows
-rows_show d path columns most [] t e = none_over d columns t.items (ap (λ (z : Taken). z.items) e) most
-rows_show d path columns most (line ∷ lines) t (inl (none, e)) = none_over d columns t.items (ap (λ (z : Taken). z.items) e) most
-rows_show d path columns most (line ∷ lines) t (inr (start, cells, end, at, are, inl (stops, e))) =
+unfolding CountedRows
+counted_show d path columns most [] t e = none_over d columns t.items (ap (λ (z : Taken). z.items) e) most
+counted_show d path columns most (line ∷ lines) t (inl (none, e)) = none_over d columns t.items (ap (λ (z : Taken). z.items) e) most
+counted_show d path columns most (line ∷ lines) t (inr (start, cells, end, at, are, inl (stops, e))) =
     none_over d columns t.items (ap (λ (z : Taken). z.items) e) most
-rows_show d path columns most (line ∷ lines) t (inr (start, cells, end, at, are, inr (is, more, rest, e))) =
+counted_show d path columns most (line ∷ lines) t (inr (start, cells, end, at, are, inr (is, more, rest, e))) =
     let (starts, show, size, often) = row_shows d TableRow columns start start cells end refl are in
-    let (rows, these, have, few) = rows_show d path columns (most - filled columns cells) lines more rest in
+    let (rows, these, have, few) = counted_show d path columns (most - filled columns cells) lines more rest in
     let fits = leb-true (filled columns cells) most (and_parts (nat_lt 0 (length cells)) (nat_le (filled columns cells) most) is).1 in
     one_over d columns most (row_block TableRow columns start cells end) more.items t.items (record { «end» = end; starts = starts }) rows
     (ap (λ (z : Taken). z.items) e) show size these have (omega arith)
+
+pub rows_show : (d : Document) (path : List Container) (columns most : ℕ) (lines : List Place) (t : Taken) → AreRows d path columns most lines t
+    → (rows : List RowCells) × (marks d.names t.items ≡ row_marks rows) × HaveCells columns rows × (filled_in rows ≤ most)
+rows_show d path columns most lines t h = counted_show d path columns most lines t (counted d path columns most lines t h)
 
 -- What a table shows is one table, whole where no more cells are filled into its header row than may be.
 pub table_shows : (d : Document) (path : List Container) (p : Place) (alignments : List Alignment) (lines : List Place) (t : Taken)

@@ -13,9 +13,10 @@ use Rattle.first_pass_grammar.specs.Names.{Names, read, read_nodes}
 use Rattle.first_pass_grammar.specs.Leaves.{Document, around, TextLines}
 use Rattle.first_pass_grammar.specs.TableHeads.{headed_table}
 use Rattle.first_pass_grammar.specs.Derivation.{node_of}
-use Rattle.first_pass_grammar.specs.Tables.{cell_start, cell_text, cell_block, AreCells, filled, row_block, is_row, Taken, taking, AreRows, most_filled, IsTable}
+use Rattle.first_pass_grammar.specs.Tables.{cell_start, cell_text, cell_block, AreCells, filled, row_block, Taken, taking, AreRows, most_filled, IsTable}
 use Rattle.first_pass_grammar.specs.Headings.{heading_attributes_of}
 use Rattle.first_pass_grammar.specs.Texts.{IsPlainText, IsText, IsUnderlined, text_children, heading_bytes, heading_children, plain_text, underlined_text, underline_first, IsEnded}
+use Rattle.first_pass_grammar.proofs.CountedRows.{is_row, CountedRows, counted}
 use Rattle.first_pass_grammar.proofs.NoIndex.{IsWithoutIndex, HasNoIndex, HaveNoIndex, read_alone, tokens_free}
 use Rattle.first_pass_grammar.proofs.EachToken.{children_each, heading_children_each, lines_each}
 use Rattle.first_pass_grammar.proofs.Alike.{with_names, AlikeNodes, block_alike, heading_alike, table_alike}
@@ -42,12 +43,12 @@ abbrev BehindRow : Document → List Container → ℕ → ℕ → Place → Lis
 BehindRow d path columns most line lines t start cells stop =
     ((is_row columns most cells ≡ false) × (t ≡ taking [] (line ∷ lines)))
     ⊎ ((is_row columns most cells ≡ true)
-    × (more : Taken) × AreRows d path columns (most - filled columns cells) lines more
+    × (more : Taken) × CountedRows d path columns (most - filled columns cells) lines more
     × (t ≡ taking (row_block TableRow columns start cells stop ++ more.items) more.left))
 
 one_row : (d : Document) (n : Names) (path : List Container) (columns most : ℕ) (line : Place) (lines : List Place) (t u : Taken) (start : ℕ)
     (cells : List (List (ℕ × Item))) (stop : ℕ)
-    → ((fewer : ℕ) (a b : Taken) → AreRows d path columns fewer lines a → AreRows (with_names d n) path columns fewer lines b → a ≡ b)
+    → ((fewer : ℕ) (a b : Taken) → CountedRows d path columns fewer lines a → CountedRows (with_names d n) path columns fewer lines b → a ≡ b)
     → BehindRow d path columns most line lines t start cells stop → BehindRow (with_names d n) path columns most line lines u start cells stop → t ≡ u
 one_row d n path columns most line lines t u start cells stop f (inl (h, e)) (inl (k, g)) = e ∙ sym g
 one_row d n path columns most line lines t u start cells stop f (inl (h, e)) (inr (k, more, is, g)) = absurd (true≢false (sym k ∙ h))
@@ -57,20 +58,25 @@ one_row d n path columns most line lines t u start cells stop f (inr (h, a, is, 
     e ∙ ap (λ (z : Taken). taking (row_block TableRow columns start cells stop ++ z.items) z.left) same ∙ sym g
 
 -- lines have one body of rows
-pub one_rows : (d : Document) (n : Names) (path : List Container) (columns : ℕ) (lines : List Place) (most : ℕ) (t u : Taken)
-    → AreRows d path columns most lines t → AreRows (with_names d n) path columns most lines u → t ≡ u
-unfolding AreRows
-one_rows d n path columns [] most t u e f = e ∙ sym f
-one_rows d n path columns (line ∷ lines) most t u (inl (h, e)) (inl (k, f)) = e ∙ sym f
-one_rows d n path columns (line ∷ lines) most t u (inl (h, e)) (inr (start, cells, stop, at, are, rest)) = absurd (none-some start (sym h ∙ at))
-one_rows d n path columns (line ∷ lines) most t u (inr (start, cells, stop, at, are, rest)) (inl (k, f)) = absurd (none-some start (sym k ∙ at))
-one_rows d n path columns (line ∷ lines) most t u (inr (start, cells, stop, at, are, rest)) (inr (start', cells', stop', at', are', rest')) =
+one_counted : (d : Document) (n : Names) (path : List Container) (columns : ℕ) (lines : List Place) (most : ℕ) (t u : Taken)
+    → CountedRows d path columns most lines t → CountedRows (with_names d n) path columns most lines u → t ≡ u
+unfolding CountedRows
+one_counted d n path columns [] most t u e f = e ∙ sym f
+one_counted d n path columns (line ∷ lines) most t u (inl (h, e)) (inl (k, f)) = e ∙ sym f
+one_counted d n path columns (line ∷ lines) most t u (inl (h, e)) (inr (start, cells, stop, at, are, rest)) = absurd (none-some start (sym h ∙ at))
+one_counted d n path columns (line ∷ lines) most t u (inr (start, cells, stop, at, are, rest)) (inl (k, f)) = absurd (none-some start (sym k ∙ at))
+one_counted d n path columns (line ∷ lines) most t u (inr (start, cells, stop, at, are, rest)) (inr (start', cells', stop', at', are', rest')) =
     let begins : start' ≡ start = same_Some start' start (sym at' ∙ at) in
     let c = one_cells d n start cells cells' stop stop' are (subst (λ z. AreCells (with_names d n) z cells' stop') begins are') in
-    one_row d n path columns most line lines t u start cells stop (λ fewer a b x y. one_rows d n path columns lines fewer a b x y) rest
+    one_row d n path columns most line lines t u start cells stop (λ fewer a b x y. one_counted d n path columns lines fewer a b x y) rest
     (subst (λ z. BehindRow (with_names d n) path columns most line lines u z cells stop) begins
     (subst (λ z. BehindRow (with_names d n) path columns most line lines u start' z stop) (sym c.0)
     (subst (λ z. BehindRow (with_names d n) path columns most line lines u start' cells' z) (sym c.1) rest')))
+
+pub one_rows : (d : Document) (n : Names) (path : List Container) (columns : ℕ) (lines : List Place) (most : ℕ) (t u : Taken)
+    → AreRows d path columns most lines t → AreRows (with_names d n) path columns most lines u → t ≡ u
+one_rows d n path columns lines most t u h k =
+    one_counted d n path columns lines most t u (counted d path columns most lines t h) (counted (with_names d n) path columns most lines u k)
 
 -- what is taken reads alike, and leaves the same lines
 abbrev pub AlikeTaken : Names → Names → Taken → Taken → Type 0

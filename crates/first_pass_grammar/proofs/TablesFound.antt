@@ -21,9 +21,10 @@ use Rattle.first_pass_grammar.specs.Names.{Names, Extends}
 use Rattle.first_pass_grammar.specs.Containers.{context}
 use Rattle.first_pass_grammar.specs.Leaves.{document, Document, TextLines}
 use Rattle.first_pass_grammar.specs.TableHeads.{headed_table}
-use Rattle.first_pass_grammar.specs.Tables.{cell_start, cell_text, cell_block, AreCells, filled, row_block, row_text, is_row, Taken, taking, AreRows, most_filled, IsTable}
+use Rattle.first_pass_grammar.specs.Tables.{cell_start, cell_text, cell_block, AreCells, filled, row_block, row_text, Taken, taking, most_filled, IsTable}
 use Rattle.first_pass_grammar.specs.Headings.{heading_attributes_of}
 use Rattle.first_pass_grammar.specs.Texts.{IsPlainText, IsText, IsUnderlined, heading_bytes, heading_children, plain_text, underlined_text, underline_first}
+use Rattle.first_pass_grammar.proofs.CountedRows.{is_row, CountedRows, are_rows}
 use Rattle.first_pass_grammar.proofs.Found.{named_alignments, named_attributes}
 use Rattle.first_pass_grammar.proofs.MoreNames.{extends_none}
 use Rattle.first_pass_grammar.proofs.LinesFound.{lines_found}
@@ -122,13 +123,13 @@ cells_found text options at = cells_at text options (length text) at (omega arit
 -- the rows of a body, whatever is named
 pub record RowsFrom (text : List ℕ) (options : Options) (path : List Container) (columns most : ℕ) (lines : List Place) : Type 0 where
   pub rows : Taken
-  pub are : (names : Names) → AreRows (document text options names) path columns most lines rows
+  pub are : (names : Names) → CountedRows (document text options names) path columns most lines rows
   pub shorter : length rows.left ≤ length lines
 
 row_by : (text : List ℕ) (options : Options) (path : List Container) (columns most : ℕ) (line : Place) (lines : List Place) (start : ℕ)
     → row_text path line ≡ Some start → (row : CellsFrom text options start) (t : Bool) → is_row columns most row.cells ≡ t
     → RowsFrom text options path columns (most - filled columns row.cells) lines → RowsFrom text options path columns most (line ∷ lines)
-unfolding AreRows
+unfolding CountedRows
 row_by text options path columns most line lines start e row true h more = record {
   rows = taking (row_block TableRow columns start row.cells row.stop ++ more.rows.items) more.rows.left;
   are = λ names. inr (start, row.cells, row.stop, e, row.are names, inr (h, more.rows, more.are names, refl));
@@ -142,7 +143,7 @@ row_by text options path columns most line lines start e row false h more = reco
 
 rows_by : (text : List ℕ) (options : Options) (path : List Container) (columns most : ℕ) (line : Place) (lines : List Place) (o : Option ℕ)
     → row_text path line ≡ o → ((fewer : ℕ) → RowsFrom text options path columns fewer lines) → RowsFrom text options path columns most (line ∷ lines)
-unfolding AreRows
+unfolding CountedRows
 rows_by text options path columns most line lines None e f = record { rows = taking [] (line ∷ lines); are = λ names. inl (e, refl); shorter = omega arith }
 rows_by text options path columns most line lines (Some start) e f =
     let row = cells_found text options start in
@@ -150,7 +151,7 @@ rows_by text options path columns most line lines (Some start) e f =
 
 pub rows_found : (text : List ℕ) (options : Options) (path : List Container) (columns : ℕ) (lines : List Place) (most : ℕ)
     → RowsFrom text options path columns most lines
-unfolding AreRows
+unfolding CountedRows
 rows_found text options path columns [] most = record { rows = taking [] []; are = λ names. refl; shorter = omega arith }
 rows_found text options path columns (line ∷ lines) most =
     rows_by text options path columns most line lines (row_text path line) refl (λ fewer. rows_found text options path columns lines fewer)
@@ -182,7 +183,7 @@ table_found names text options path p alignments lines =
         head_end = head.stop;
         are_cells = head.are later;
         body = body.rows.items;
-        are_rows = body.are later;
+        are_rows = are_rows _ _ _ _ _ _ (body.are later);
         items_are = refl;
       };
       shorter = let less = body.shorter in let behind = length-drop 1 lines in omega arith;

@@ -1,5 +1,5 @@
 -- Tables (GFM 4.10): the cells of a row, the rows of a table, and the table.
-use Rattle.std.specs.Prelude.{◌≡◌, ◌⊎◌, ℕ, ◌+◌, ◌-◌, ◌==◌, ◌&&◌, Bool, true, false, nat_lt, nat_le, List, [], ◌∷◌, ◌++◌, length, take, drop, slice_index, replicate, Option, Some, None, if◌then◌else◌}
+use Rattle.std.specs.Prelude.{◌≡◌, ◌⊎◌, ℕ, ◌+◌, ◌-◌, ◌<◌, ◌≤◌, ◌==◌, true, false, List, [], ◌∷◌, ◌++◌, length, map, take, drop, slice_index, replicate, Option, Some, None, if◌then◌else◌}
 use Rattle.std.specs.Option.{option_and_then}
 use Rattle.std.specs.List.{prefix_len}
 use Rattle.first_pass_items.specs.Bytes.{pipe}
@@ -66,10 +66,6 @@ row_block body columns start cells «end» = block_of (record { start = start; �
 abbrev pub row_text : List Container → Place → Option ℕ
 row_text path line = option_and_then (λ p. if interrupts_with false (unindented p).rest.left then None else Some (offset (unindented p))) (taken path line)
 
--- a line with these cells is a row where it has one, and no more are to be filled in than may be (GFM 4.10, and this project)
-abbrev pub is_row : ℕ → ℕ → List (List (ℕ × Item)) → Bool
-is_row columns most cells = nat_lt 0 (length cells) && nat_le (filled columns cells) most
-
 -- what is taken of a text by a block: its items, and the lines that it leaves
 pub record Taken : Type 0 where
   pub items : List (ℕ × Item)
@@ -78,17 +74,47 @@ pub record Taken : Type 0 where
 abbrev pub taking : List (ℕ × Item) → List Place → Taken
 taking items left = record { items = items; left = left }
 
--- These are the rows of so many columns among lines, each up to the first that is no row, where no more cells than may be are filled into all of them
--- (GFM 4.10, and this project).
-unfoldable pub AreRows : Document → List Container → ℕ → ℕ → List Place → Taken → Type 0
-AreRows d path columns most [] t = t ≡ taking [] []
-AreRows d path columns most (line ∷ lines) t =
-    ((row_text path line ≡ None) × (t ≡ taking [] (line ∷ lines)))
-    ⊎ ((start : ℕ) × (cells : List (List (ℕ × Item))) × («end» : ℕ) × (row_text path line ≡ Some start) × AreCells d start cells «end»
-    × (((is_row columns most cells ≡ false) × (t ≡ taking [] (line ∷ lines)))
-    ⊎ ((is_row columns most cells ≡ true)
-    × (more : Taken) × AreRows d path columns (most - filled columns cells) lines more
-    × (t ≡ taking (row_block TableRow columns start cells «end» ++ more.items) more.left))))
+-- a row as it is found in a text: where its text begins, its cells, and where it ends (GFM 4.10)
+pub record FoundRow : Type 0 where
+  pub start : ℕ
+  pub cells : List (List (ℕ × Item))
+  pub row_end : ℕ
+
+-- the text of a line has the cells of this row, if any (GFM 4.10)
+pub record HasCells (d : Document) (path : List Container) (line : Place) (row : FoundRow) : Type 0 where
+  pub begins : row_text path line ≡ Some row.start
+  pub are_cells : AreCells d row.start row.cells row.row_end
+
+-- The first of these lines are these rows, one after the other and each with a cell, and the other lines are left (GFM 4.10).
+unfoldable pub TakesRows : Document → List Container → List FoundRow → List Place → List Place → Type 0
+TakesRows d path [] lines left = left ≡ lines
+TakesRows d path (row ∷ rows) [] left = ⊥
+TakesRows d path (row ∷ rows) (line ∷ lines) left = HasCells d path line row × (0 < length row.cells) × TakesRows d path rows lines left
+
+-- how many cells are filled into rows of so many columns, all together (GFM 4.10)
+abbrev pub all_filled : ℕ → List FoundRow → ℕ
+all_filled columns [] = 0
+all_filled columns (row ∷ rows) = filled columns row.cells + all_filled columns rows
+
+-- Rows into which so many cells are filled end before these lines: there is no line, or the first is no row, or has no cell, or is a row with which more than
+-- the most would be filled in (GFM 4.10, and this project).
+unfoldable pub EndRows : Document → List Container → ℕ → ℕ → ℕ → List Place → Type 0
+EndRows d path columns before most [] = Unit {0}
+EndRows d path columns before most (line ∷ lines) =
+    (row_text path line ≡ None)
+    ⊎ ((row : FoundRow) × HasCells d path line row × ((row.cells ≡ []) ⊎ (most < before + filled columns row.cells)))
+
+-- the items of rows of so many columns, one after the other (GFM 4.10)
+abbrev pub row_blocks : ℕ → List FoundRow → List (ℕ × Item)
+row_blocks columns rows = side_by_side (map (λ (row : FoundRow). row_block TableRow columns row.start row.cells row.row_end) rows)
+
+-- The longest run of rows among these lines, from the first on, into which all together no more than so many cells are filled (GFM 4.10, and this project).
+pub record AreRows (d : Document) (path : List Container) (columns most : ℕ) (lines : List Place) (t : Taken) : Type 0 where
+  pub rows : List FoundRow
+  pub takes : TakesRows d path rows lines t.left
+  pub fits : all_filled columns rows ≤ most
+  pub ends : EndRows d path columns (all_filled columns rows) most t.left
+  pub items_are : t.items ≡ row_blocks columns rows
 
 -- how many cells are filled into one table at the most (this project)
 abbrev pub most_filled : ℕ

@@ -17,7 +17,8 @@ use Rattle.first_pass_lines.proofs.PlaceFacts.{line_end_boundary}
 use Rattle.first_pass_grammar.specs.declared.kind.Container.{Container}
 use Rattle.first_pass_grammar.specs.Leaves.{Document}
 use Rattle.first_pass_grammar.specs.Completion.{lines_from}
-use Rattle.first_pass_grammar.specs.Tables.{AreCells, filled, row_block, row_text, is_row, Taken, taking, AreRows, most_filled}
+use Rattle.first_pass_grammar.specs.Tables.{AreCells, filled, row_block, row_text, Taken, taking, AreRows, most_filled}
+use Rattle.first_pass_grammar.proofs.CountedRows.{is_row, CountedRows, counted, are_rows}
 use Rattle.first_pass_grammar.proofs.RowEnds.{row_ends_at_place}
 use Rattle.first_pass_open.specs.OpenBlock.{IsJustPushed, closed_by}
 use Rattle.first_pass_open.specs.Path.{path_of, path_in}
@@ -65,25 +66,29 @@ row_more : (d : Document) (path : List Container) (columns most at next start : 
     → row_text path (line_place at (drop at d.text)) ≡ Some start → AreCells d start cells next → is_row columns most cells ≡ true
     → AreRows d path columns (most - filled columns cells) (lines_from d.text next) more
     → AreRows d path columns most (lines_from d.text at) (taking (row_block TableRow columns start cells next ++ more.items) more.left)
-unfolding AreRows
+unfolding CountedRows
 row_more d path columns most at next start cells more within next_is begins are is rest =
     let t : Taken = taking (row_block TableRow columns start cells next ++ more.items) more.left in
-    let all : AreRows d path columns most (line_place at (drop at d.text) ∷ lines_from d.text next) t = inr (start, cells, next, begins, are, inr (is, more, rest, refl)) in
+    let lines : List Place = line_place at (drop at d.text) ∷ lines_from d.text next in
+    let behind = counted d path columns (most - filled columns cells) (lines_from d.text next) more rest in
+    let all : AreRows d path columns most lines t =
+    are_rows d path columns most lines t (inr (start, cells, next, begins, are, inr (is, more, behind, refl))) in
     subst (λ lines. AreRows d path columns most lines t) (sym (lines_at-line d.text at within ∙ ap (λ n. line_place at (drop at d.text) ∷ lines_from d.text n) (sym next_is))) all
 
 -- no row, before lines that are left
 row_none_by : (d : Document) (path : List Container) (columns most : ℕ) (line : Place) (lines : List Place) → row_text path line ≡ None → AreRows d path columns most (line ∷ lines) (taking [] (line ∷ lines))
-unfolding AreRows
-row_none_by d path columns most line lines h = inl (h, refl)
+unfolding CountedRows
+row_none_by d path columns most line lines h = are_rows d path columns most (line ∷ lines) (taking [] (line ∷ lines)) (inl (h, refl))
 
 row_over_by : (d : Document) (path : List Container) (columns most start stop : ℕ) (cells : List (List (ℕ × Item))) (line : Place) (lines : List Place) → row_text path line ≡ Some start → AreCells d start cells stop
     → is_row columns most cells ≡ false → AreRows d path columns most (line ∷ lines) (taking [] (line ∷ lines))
-unfolding AreRows
-row_over_by d path columns most start stop cells line lines h are is = inr (start, cells, stop, h, are, inl (is, refl))
+unfolding CountedRows
+row_over_by d path columns most start stop cells line lines h are is =
+    are_rows d path columns most (line ∷ lines) (taking [] (line ∷ lines)) (inr (start, cells, stop, h, are, inl (is, refl)))
 
 rows_none : (d : Document) (path : List Container) (columns most : ℕ) → AreRows d path columns most [] (taking [] [])
-unfolding AreRows
-rows_none d path columns most = refl
+unfolding CountedRows
+rows_none d path columns most = are_rows d path columns most [] (taking [] []) refl
 
 -- no line is left, or one is
 left_by : (d : Document) (path : List Container) (columns most at : ℕ) → AreRows d path columns most (line_place at (drop at d.text) ∷ lines_from d.text (at + line_len (drop at d.text))) (taking [] (line_place at (drop at d.text) ∷ lines_from d.text (at + line_len (drop at d.text))))

@@ -11,9 +11,9 @@ use Rattle.first_pass_tree.proofs.Blocks.{at_depth-append, block-built}
 use Rattle.first_pass_tokens.specs.TreeTokens.{chained, leaves}
 use Rattle.first_pass_tokens.proofs.ChainLemmas.{chained-spine, chained-nodes}
 use Rattle.first_pass_grammar.specs.Leaves.{Document}
-use Rattle.first_pass_grammar.specs.Tables.{cell_block, AreCells, filled, side_by_side, row_cells, row_block, most_filled}
+use Rattle.first_pass_grammar.specs.Tables.{cell_block, AreCells, filled, side_by_side, row_cells, row_block, FoundRow, most_filled}
 use Rattle.first_pass_open.specs.OpenBlock.{IsJustPushed, opened_block, begun_item, closed_by}
-use Rattle.first_pass_tables.specs.Appends.{AppendsCells, empty_cell, keeps_row, FoundRow, OpenTable, AddsRow, ReadsRow}
+use Rattle.first_pass_tables.specs.Appends.{AppendsCells, empty_cell, keeps_row, OpenTable, AddsRow, ReadsRow}
 use Rattle.first_pass_tables.proofs.RowCells.{side_more}
 use Rattle.first_pass_tables.proofs.RowDrops.{HasMore}
 

@@ -17,6 +17,7 @@ use Rattle.first_pass_grammar.specs.Counting.{own_nodes}
 use Rattle.first_pass_grammar.specs.Kinds.{unindented, interrupts_with}
 use Rattle.first_pass_grammar.specs.Leaves.{Document}
 use Rattle.first_pass_grammar.specs.Tables.{AreCells, filled, row_block, row_text, Taken, taking, AreRows}
+use Rattle.first_pass_grammar.proofs.CountedRows.{CountedRows, counted}
 use Rattle.first_pass_grammar.proofs.OwnNodes.{own_at_most, own_join}
 use Rattle.first_pass_grammar.proofs.RowEnds.{row_ends_at_place}
 use Rattle.first_pass_open.proofs.PlaceLemmas.{all_keep, after_keeps, line_start_end}
@@ -96,22 +97,28 @@ one_more_row d columns n start cells stop to more utf8 boundary are behind some 
     }
 
 -- The rows of a table's body lie so between the first of its lines and the first line that is no row of it.
-pub rows_fit : (d : Document) (path : List Container) (columns most : ℕ) (lines : List Place) (n : ℕ) (t : Taken) → IsUtf8 d.text
-    → IsCharBoundary d.text n → lines ≡ lines_from d.text n → AreRows d path columns most lines t
+counted_fit : (d : Document) (path : List Container) (columns most : ℕ) (lines : List Place) (n : ℕ) (t : Taken) → IsUtf8 d.text
+    → IsCharBoundary d.text n → lines ≡ lines_from d.text n → CountedRows d path columns most lines t
     → RowsBetween d.text n (start_of (length d.text) t.left) t.items
-unfolding AreRows
-rows_fit d path columns most [] n t utf8 boundary is e = no_rows d.text n [] t boundary.0 is e
-rows_fit d path columns most (line ∷ lines) n t utf8 boundary is (inl (none, e)) = no_rows d.text n (line ∷ lines) t boundary.0 is e
-rows_fit d path columns most (line ∷ lines) n t utf8 boundary is (inr (start, cells, stop, at, are, inl (stops, e))) =
+unfolding CountedRows
+counted_fit d path columns most [] n t utf8 boundary is e = no_rows d.text n [] t boundary.0 is e
+counted_fit d path columns most (line ∷ lines) n t utf8 boundary is (inl (none, e)) = no_rows d.text n (line ∷ lines) t boundary.0 is e
+counted_fit d path columns most (line ∷ lines) n t utf8 boundary is (inr (start, cells, stop, at, are, inl (stops, e))) =
     no_rows d.text n (line ∷ lines) t boundary.0 is e
-rows_fit d path columns most (line ∷ lines) n t utf8 boundary is (inr (start, cells, stop, at, are, inr (row, more, rest, e))) =
+counted_fit d path columns most (line ∷ lines) n t utf8 boundary is (inr (start, cells, stop, at, are, inr (row, more, rest, e))) =
     let first = first_line d.text n line lines is in
     let p = row_place d.text path n start utf8 boundary (ap (row_text path) (sym first.0) ∙ at) in
     let starts : IsCharBoundary d.text start = subst (IsCharBoundary d.text) (sym p.start_is) p.is.boundary in
     let ends : stop ≡ n + line_len (drop n d.text) =
     row_ends_at_place d p.place cells stop p.is (subst (λ (k : ℕ). AreCells d k cells stop) p.start_is are) ∙ p.ends in
-    let further = rows_fit d path columns (most - filled columns cells) lines stop more utf8 (row_boundary d start cells stop utf8 starts are)
+    let further = counted_fit d path columns (most - filled columns cells) lines stop more utf8 (row_boundary d start cells stop utf8 starts are)
     (first.1 ∙ ap (lines_from d.text) (sym ends)) rest in
     let some = ltb-true 0 (length cells) (and_parts (nat_lt 0 (length cells)) (nat_le (filled columns cells) most) row).0 in
     subst (λ (z : Taken). RowsBetween d.text n (start_of (length d.text) z.left) z.items) (sym e)
     (one_more_row d columns n start cells stop (start_of (length d.text) more.left) more.items utf8 starts are p.behind some further)
+
+pub rows_fit : (d : Document) (path : List Container) (columns most : ℕ) (lines : List Place) (n : ℕ) (t : Taken) → IsUtf8 d.text
+    → IsCharBoundary d.text n → lines ≡ lines_from d.text n → AreRows d path columns most lines t
+    → RowsBetween d.text n (start_of (length d.text) t.left) t.items
+rows_fit d path columns most lines n t utf8 boundary is h =
+    counted_fit d path columns most lines n t utf8 boundary is (counted d path columns most lines t h)

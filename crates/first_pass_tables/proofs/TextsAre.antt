@@ -23,6 +23,7 @@ use Rattle.first_pass_grammar.specs.TableHeads.{headed_table}
 use Rattle.first_pass_grammar.specs.Tables.{AreCells, filled, row_block, Taken, taking, AreRows, most_filled, IsTable}
 use Rattle.first_pass_grammar.specs.Texts.{IsPlainText, IsText}
 use Rattle.first_pass_grammar.specs.OpenOrder.{within_top}
+use Rattle.first_pass_grammar.proofs.CountedRows.{CountedRows, counted, are_rows}
 use Rattle.first_pass_grammar.proofs.HeadLines.{headed_has_line}
 use Rattle.first_pass_names.specs.TableEntries.{no_names}
 use Rattle.first_pass_open.specs.OpenBlock.{IsJustPushed, begun_item, opened_block}
@@ -42,13 +43,22 @@ unfolding AreCells
 cells_renamed text options m n at [] stop h = h
 cells_renamed text options m n at (cell ∷ cells) stop (on, tokens, next, is, same, more) = (on, tokens, next, is, same, cells_renamed text options m n next cells stop more)
 
-rows_renamed : (text : List ℕ) (options : Options) (m n : Names) (path : List Container) (columns most : ℕ) (lines : List Place) (t : Taken) → AreRows (document text options m) path columns most lines t → AreRows (document text options n) path columns most lines t
-unfolding AreRows
-rows_renamed text options m n path columns most [] t h = h
-rows_renamed text options m n path columns most (line ∷ lines) t (inl none) = inl none
-rows_renamed text options m n path columns most (line ∷ lines) t (inr (start, cells, stop, at, are, inl over)) = inr (start, cells, stop, at, cells_renamed text options m n start cells stop are, inl over)
-rows_renamed text options m n path columns most (line ∷ lines) t (inr (start, cells, stop, at, are, inr (is, more, rest, e))) =
-    inr (start, cells, stop, at, cells_renamed text options m n start cells stop are, inr (is, more, rows_renamed text options m n path columns (most - filled columns cells) lines more rest, e))
+counted_renamed : (text : List ℕ) (options : Options) (m n : Names) (path : List Container) (columns most : ℕ) (lines : List Place) (t : Taken)
+    → CountedRows (document text options m) path columns most lines t → CountedRows (document text options n) path columns most lines t
+unfolding CountedRows
+counted_renamed text options m n path columns most [] t h = h
+counted_renamed text options m n path columns most (line ∷ lines) t (inl none) = inl none
+counted_renamed text options m n path columns most (line ∷ lines) t (inr (start, cells, stop, at, are, inl over)) =
+    inr (start, cells, stop, at, cells_renamed text options m n start cells stop are, inl over)
+counted_renamed text options m n path columns most (line ∷ lines) t (inr (start, cells, stop, at, are, inr (is, more, rest, e))) =
+    let further = counted_renamed text options m n path columns (most - filled columns cells) lines more rest in
+    inr (start, cells, stop, at, cells_renamed text options m n start cells stop are, inr (is, more, further, e))
+
+rows_renamed : (text : List ℕ) (options : Options) (m n : Names) (path : List Container) (columns most : ℕ) (lines : List Place) (t : Taken)
+    → AreRows (document text options m) path columns most lines t → AreRows (document text options n) path columns most lines t
+rows_renamed text options m n path columns most lines t h =
+    are_rows (document text options n) path columns most lines t
+    (counted_renamed text options m n path columns most lines t (counted (document text options m) path columns most lines t h))
 
 -- what a text is whose first line heads a table, or none
 text_by : (d : Document) (path : List Container) (p : Place) (marker : Option Item) (lines : List Place) (t : Taken) (o : Option (List Alignment)) → headed_table (context d.options path) p.rest.left ≡ o

@@ -13,7 +13,7 @@ use Rattle.first_pass_grammar.specs.Leaves.{Document}
 use Rattle.first_pass_grammar.specs.Completion.{lines_from}
 use Rattle.first_pass_grammar.specs.OpenOrder.{within_top}
 use Rattle.first_pass_grammar.specs.Order.{FitsBetween}
-use Rattle.first_pass_grammar.specs.Tables.{cell_content, cell_block, AreCells, filled, side_by_side, row_block, row_text, taking, AreRows, most_filled}
+use Rattle.first_pass_grammar.specs.Tables.{cell_content, cell_block, AreCells, filled, side_by_side, row_block, row_text, taking, FoundRow, AreRows, most_filled}
 use Rattle.first_pass_grammar.specs.WholeTables.{marks, RowCells, row_marks, filled_in, HaveCells}
 use Rattle.first_pass_open.specs.OpenBlock.{closed_by}
 use Rattle.first_pass_open.specs.Path.{path_of}
@@ -68,12 +68,6 @@ pub record IsOpenNode (f : Forest Item) : Type 0 where
 -- A row with these cells is kept where it has one, or stands first in its table, and no more are to be filled in than may be (GFM 4.10, and this project).
 abbrev pub keeps_row : Bool → ℕ → ℕ → List (List (ℕ × Item)) → Bool
 keeps_row behind columns most cells = (not behind || nat_lt 0 (length cells)) && nat_le (filled columns cells) most
-
--- a row as it is found in a text: where it begins, its cells, and where it ends (GFM 4.10)
-pub record FoundRow : Type 0 where
-  pub start : ℕ
-  pub cells : List (List (ℕ × Item))
-  pub row_end : ℕ
 
 -- a tree in which a table is open, and how many cells are filled into the rows of that table so far (this project)
 pub record OpenTable : Type 0 where
