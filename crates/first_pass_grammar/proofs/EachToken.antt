@@ -19,11 +19,10 @@ use Rattle.first_pass_grammar.specs.Containers.{at_rest, front}
 use Rattle.first_pass_grammar.specs.Kinds.{unindented}
 use Rattle.first_pass_grammar.specs.Leaves.{Document, content_at, add_break, heading_content, heading_chain, IsHeading, marker_items, TextLines, AreTextLines}
 use Rattle.first_pass_grammar.specs.RawLines.{AreColumns, Ranges, range_text, range_html, ends_with_both, raw_items, IsRawLine, AreRawLines}
-use Rattle.first_pass_grammar.specs.Texts.{text_children, by_backslash, heading_bytes, heading_children}
+use Rattle.first_pass_grammar.specs.Texts.{text_children, by_backslash, heading_bytes, children_without, heading_children}
 use Rattle.first_pass_grammar.specs.Headings.{kept_before, heading_braces}
 use Rattle.first_pass_attributes.specs.AttributeBlocks.{Braces}
 use Rattle.first_pass_items.specs.declared.item.HeadingIndex.{HeadingIndex}
-use Rattle.std.specs.Option.{option_map_or}
 
 -- each of these items is one of which this holds
 abbrev pub AreEach : (ItemBody → Type 0) → List Item → Type 0
@@ -172,8 +171,7 @@ module _ (P : ItemBody → Type 0) (holds : HoldsOfTokens P) where
   -- the children of a heading that is underlined
   cut_children_each : (d : Document) (start : ℕ) (marker : Option Item) (t : TextLines) (o : Option Braces) → AreEach P (marker_items marker ++ t.chain)
       → AreEach P (text_children marker t)
-      → AreEach P (option_map_or (λ (block : Braces). close_break t.break (cut (start + kept_before (by_backslash t.break) block.opening (heading_bytes d start marker t)) (marker_items marker ++ t.chain)))
-      o (text_children marker t))
+      → AreEach P (children_without d start marker t o)
   cut_children_each d start marker t None h k = k
   cut_children_each d start marker t (Some block) h k =
       closed_each t.break _ (cut_each (start + kept_before (by_backslash t.break) block.opening (heading_bytes d start marker t)) (marker_items marker ++ t.chain) h)

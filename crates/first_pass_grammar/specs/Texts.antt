@@ -1,11 +1,12 @@
 -- What stands for a text that begins where no other block does: a paragraph, a heading that is underlined, or a table (CommonMark 4.8, 4.3, GFM 4.10).
-use Rattle.std.specs.Prelude.{◌≡◌, ◌+◌, ◌++◌, List, [], ◌∷◌, length, drop, ℕ, Bool, false, Option, None, MatchOption}
+use Rattle.std.specs.Prelude.{◌≡◌, ◌+◌, ◌++◌, List, [], ◌∷◌, length, drop, ℕ, Bool, false, Option, Some, None, MatchOption}
 use Rattle.std.specs.Option.{option_map_or}
 use Rattle.first_pass_items.specs.declared.item.HeadingIndex.{HeadingIndex}
 use Rattle.first_pass_items.specs.declared.item.HeadingLevel.{HeadingLevel}
 use Rattle.first_pass_items.specs.declared.item.Item.{Item}
 use Rattle.first_pass_lines.specs.Places.{Place, offset, start_of}
 use Rattle.first_pass_tokens.specs.Chains.{is_backslash_break, close_break, cut}
+use Rattle.first_pass_attributes.specs.AttributeBlocks.{Braces}
 use Rattle.first_pass_grammar.specs.declared.kind.Container.{Container}
 use Rattle.first_pass_grammar.specs.Headings.{heading_braces, heading_attributes_of, chain_bytes, kept_before}
 use Rattle.first_pass_grammar.specs.Kinds.{underline_of}
@@ -35,13 +36,21 @@ by_backslash break = option_map_or (λ x. is_backslash_break x.body) break false
 abbrev pub heading_bytes : Document → ℕ → Option Item → TextLines → List ℕ
 heading_bytes d start marker l = chain_bytes d.text start (marker_items marker ++ l.chain)
 
--- the children of a heading that is underlined: its attribute block is cut off, and then a backslash at the end of the last line is text (CommonMark 4.3, 6.7,
--- and this project)
+-- what of a heading's chain stands before the attribute block that its text ends with, and before white space directly before that, unless a backslash breaks
+-- the text's last line (CommonMark 4.3, and this project)
+abbrev pub before_block : Document → ℕ → Option Item → TextLines → Braces → List Item
+before_block d start marker l block =
+    cut (start + kept_before (by_backslash l.break) block.opening (heading_bytes d start marker l)) (marker_items marker ++ l.chain)
+
+-- the children of a heading: those of its lines where its text ends with no attribute block; else what stands before that block, after which a backslash at the
+-- end of the last line is text (CommonMark 4.3, 6.7, and this project)
+abbrev pub children_without : Document → ℕ → Option Item → TextLines → Option Braces → List Item
+children_without d start marker l None = text_children marker l
+children_without d start marker l (Some block) = close_break l.break (before_block d start marker l block)
+
+-- the children of a heading that is underlined, without its attribute block (CommonMark 4.3, and this project)
 unfoldable pub heading_children : Document → ℕ → Option Item → TextLines → List Item
-heading_children d start marker l =
-    let bs = heading_bytes d start marker l in
-    option_map_or (λ block. close_break l.break (cut (start + kept_before (by_backslash l.break) block.opening bs) (marker_items marker ++ l.chain)))
-    (heading_braces d.options bs) (text_children marker l)
+heading_children d start marker l = children_without d start marker l (heading_braces d.options (heading_bytes d start marker l))
 
 -- a heading of a level that begins at an offset and has these lines, and the index of its attributes; it takes the first of those that they leave, its underline
 -- (CommonMark 4.3)

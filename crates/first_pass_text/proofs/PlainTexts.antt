@@ -17,7 +17,7 @@ use Rattle.first_pass_names.specs.TableEntries.{no_names}
 use Rattle.first_pass_items.specs.declared.option_set.Options.{Options}
 use Rattle.first_pass_items.specs.declared.item.HeadingIndex.{HeadingIndex}
 use Rattle.std.specs.Option.{option_map, option_map_or}
-use Rattle.first_pass_grammar.specs.Texts.{underline_first, text_children, plain_text, underlined_text, by_backslash, heading_bytes, heading_children, IsUnderlined}
+use Rattle.first_pass_grammar.specs.Texts.{underline_first, text_children, plain_text, underlined_text, by_backslash, heading_bytes, children_without, heading_children, IsUnderlined}
 use Rattle.first_pass_grammar.specs.Tables.{Taken, taking}
 use Rattle.first_pass_grammar.specs.Completion.{lines_from}
 use Rattle.first_pass_open.specs.Path.{path_of}
@@ -68,14 +68,9 @@ children_renamed text options m n start marker l = refl
 
 -- the children of a heading, by its attribute block, or none
 pub children_by : (d : Document) (start : ℕ) (marker : Option Item) (l : TextLines) (o : Option Braces) → heading_braces d.options (heading_bytes d start marker l) ≡ o
-    → heading_children d start marker l
-    ≡ option_map_or (λ (block : Braces). close_break l.break (cut (start + kept_before (by_backslash l.break) block.opening (heading_bytes d start marker l)) (marker_items marker ++ l.chain)))
-    o (text_children marker l)
+    → heading_children d start marker l ≡ children_without d start marker l o
 unfolding heading_children
-children_by d start marker l o e =
-    ap (λ (found : Option Braces).
-    option_map_or (λ (block : Braces). close_break l.break (cut (start + kept_before (by_backslash l.break) block.opening (heading_bytes d start marker l)) (marker_items marker ++ l.chain)))
-    found (text_children marker l)) e
+children_by d start marker l o e = ap (children_without d start marker l) e
 
 -- what the lines of a text give, those from an offset on left
 abbrev given : List ℕ → ℕ → List Item → Option Item → TextLines
