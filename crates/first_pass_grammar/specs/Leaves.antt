@@ -1,5 +1,5 @@
 -- The leaf blocks (CommonMark 4): which lines they take, and which items stand for them.
-use Rattle.std.specs.Prelude.{◌≡◌, ◌⊎◌, ℕ, ◌+◌, ◌-◌, ◌==◌, ◌||◌, Bool, true, false, nat_lt, Option, Some, None, List, [], ◌∷◌, ◌++◌, length, take, drop, if◌then◌else◌}
+use Rattle.std.specs.Prelude.{◌≡◌, ◌⊎◌, ℕ, ◌+◌, ◌-◌, ◌==◌, ◌&&◌, ◌||◌, Bool, true, false, nat_lt, Option, Some, None, List, [], ◌∷◌, ◌++◌, length, take, drop, if◌then◌else◌}
 use Rattle.std.specs.List.{prefix_len, suffix_len}
 use Rattle.first_pass_items.specs.Bytes.{line_feed, carriage_return, space, number_sign}
 use Rattle.first_pass_items.specs.declared.option_set.Options.{Options}
@@ -72,14 +72,27 @@ AreTextLines d path start chain (line ∷ lines) t =
 abbrev pub is_put_aside : ℕ → Bool
 is_put_aside b = (b == space) || ((b == line_feed) || (b == carriage_return))
 
--- How many bytes of an ATX heading's text are left without its closing sequence: spaces and line ends at the end are put aside; then number
--- signs at the end are taken off where a space stands before them, with all spaces there, or where they are the whole (CommonMark 4.2).
+-- a text without the bytes at its end that pass a test (this project)
+abbrev pub without_end : (ℕ → Bool) → List ℕ → List ℕ
+without_end passes text = take (length text - suffix_len passes text) text
+
+-- what stands in a text before the number signs at its end (CommonMark 4.2)
+abbrev pub before_signs : List ℕ → List ℕ
+before_signs text = without_end (λ b. b == number_sign) text
+
+-- a text ends with a closing sequence: number signs at its end, before which a space stands, or nothing (CommonMark 4.2)
+abbrev pub ends_closing : List ℕ → Bool
+ends_closing text =
+    nat_lt 0 (suffix_len (λ b. b == number_sign) text)
+    && ((length (before_signs text) == 0) || nat_lt 0 (suffix_len (λ b. b == space) (before_signs text)))
+
+-- a text without the closing sequence that it ends with, and without the spaces before that; all of it where it ends with none (CommonMark 4.2)
+abbrev pub without_closing : List ℕ → List ℕ
+without_closing text = if ends_closing text then without_end (λ b. b == space) (before_signs text) else text
+
+-- how many bytes are kept of an ATX heading's text: all but the spaces and line ends at its end, and the closing sequence before those (CommonMark 4.2)
 unfoldable pub kept_len : List ℕ → ℕ
-kept_len text =
-    let trimmed = length text - suffix_len is_put_aside text in
-    let opening = trimmed - suffix_len (λ b. b == number_sign) (take trimmed text) in
-    let spaces = suffix_len (λ b. b == space) (take opening text) in
-    if (opening == 0) || nat_lt 0 spaces then opening - spaces else trimmed
+kept_len text = length (without_closing (without_end is_put_aside text))
 
 -- a heading's chain, of whose text so many bytes are kept: none where nothing is kept
 unfoldable pub heading_chain : ℕ → ℕ → List Item → List Item

@@ -1,6 +1,7 @@
 pub mod AttributeEnds
 pub mod KindLemmas
 pub mod HeadingLemmas
+pub mod KeptBytes
 pub mod OrderHeading
 pub mod OrderParagraph
 pub mod OrderPlain

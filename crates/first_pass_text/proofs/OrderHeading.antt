@@ -1,10 +1,10 @@
 -- Thematic breaks and ATX headings are in order.
 use Rattle.std.proofs.Common.{◌≡◌, ◌⊎◌, inl, inr, ℕ, suc, ◌+◌, ◌-◌, ◌<◌, ◌≤◌, ◌==◌, ◌||◌, Bool, true, false, List, [], ◌∷◌, length, take, drop, get_or, slice_index, nat_lt, Option, Some, None, IsUtf8, IsCharBoundary, refl, sym, ap, subst, ◌∙◌, arith, length-drop, length-take-le, get_or-drop, drop-drop, if◌then◌else◌}
 use Rattle.std.specs.List.{prefix_len, suffix_len}
-use Rattle.std.proofs.lemmas.Bool.{cond_both, cases_Bool, cases_lt, eqb-true, eq-eqb, or_cases, ltb-true, false≢true}
+use Rattle.std.proofs.lemmas.Bool.{cond_both, cases_lt, eqb-true, eq-eqb, or_cases, ltb-true, false≢true}
 use Rattle.std.proofs.lemmas.Bool.Decides.{nat_tests}
 use Rattle.std.proofs.lemmas.List.{take_all, get_or-take, get_or_past}
-use Rattle.std.proofs.lemmas.List.Sums.{suffix_len-le-length, suffix_len-take_yes}
+use Rattle.std.proofs.lemmas.List.Sums.{suffix_len-le-length}
 use Rattle.first_pass_items.specs.declared.item.Item.{Item}
 use Rattle.first_pass_items.specs.declared.item.HeadingLevel.{HeadingLevel}
 use Rattle.first_pass_items.specs.declared.item.ItemBody.TheVariants.{Heading as HeadingBody, Rule}
@@ -30,6 +30,7 @@ use Rattle.first_pass_items.specs.declared.item.HeadingIndex.{HeadingIndex}
 use Rattle.first_pass_items.specs.declared.option_set.Options.{Options}
 use Rattle.first_pass_tokens.specs.Pieces.{Source}
 use Rattle.first_pass_tokens.specs.LineTokens.{IsLine, text_end}
+use Rattle.first_pass_text.proofs.KeptBytes.{run_none, space_aside, kept_counted}
 use Rattle.first_pass_text.proofs.AttributeEnds.{before_none, braces_within, opens_with}
 use Rattle.first_pass_text.proofs.TextFronts.{front_len, front_utf8, place_in_front, order_in_text}
 use Rattle.std.specs.Option.{option_map_or}
@@ -44,23 +45,9 @@ use Rattle.first_pass_open.proofs.PlaceLemmas.{place_end, line_start_end}
 run_first : (p : ℕ → Bool) (xs : List ℕ) (n : ℕ) → n ≤ length xs → (suffix_len p (take n xs) ≡ 0) ⊎ (p (get_or xs (n - suffix_len p (take n xs)) 0) ≡ true)
 run_first p xs n within = elim (cases_lt 0 (suffix_len p (take n xs))) [ inl some ↦ inr (suffix_first p xs n within some).1 | inr none ↦ inl (omega arith) ]
 
--- the last byte does not pass where none passes at the end
-run_none : (p : ℕ → Bool) (xs : List ℕ) → 0 < length xs → suffix_len p xs ≡ 0 → p (get_or xs (length xs - 1) 0) ≡ false
-run_none p xs some none =
-    elim (cases_Bool (p (get_or xs (length xs - 1) 0))) [
-      | inl passes ↦
-          let one = suffix_len-take_yes p xs (length xs) 0 some (omega arith) passes in
-          let all : suffix_len p (take (length xs) xs) ≡ suffix_len p xs = ap (suffix_len p) (take_all (length xs) xs (omega arith)) in
-          absurd (omega arith)
-      | inr fails ↦ fails
-    ]
-
 -- what stands behind the bytes of a heading's text that are kept: a byte that is put aside, or nothing; or no byte is kept
 KeptAt : List ℕ → ℕ → Type 0
 KeptAt text n = (n ≡ 0) ⊎ (((n < length text) × (is_put_aside (get_or text n 0) ≡ true)) ⊎ ((n ≡ length text) × (suffix_len is_put_aside text ≡ 0)))
-
-space_aside : (b : ℕ) → (b == 32) ≡ true → is_put_aside b ≡ true
-space_aside b h = grind (arith, nat_tests, h)
 
 kept_by : (text : List ℕ) (t o n : ℕ) → t ≡ length text - suffix_len is_put_aside text → o ≤ length text → n ≡ suffix_len (λ b. b == 32) (take o text)
     → KeptAt text (if (o == 0) || nat_lt 0 n then o - n else t)
@@ -92,11 +79,10 @@ kept_by text t o n e within g =
     ])
 
 kept_at : (text : List ℕ) → KeptAt text (kept_len text)
-unfolding kept_len
 kept_at text =
     let t : ℕ = length text - suffix_len is_put_aside text in
     let o : ℕ = t - suffix_len (λ b. b == 35) (take t text) in
-    kept_by text t o (suffix_len (λ b. b == 32) (take o text)) refl (omega arith) refl
+    subst (KeptAt text) (sym (kept_counted text)) (kept_by text t o (suffix_len (λ b. b == 32) (take o text)) refl (omega arith) refl)
 
 -- a line ends with a line end, or with the text
 last_step : (t : Bool) (b : ℕ) (bs : List ℕ) → ends_line b bs ≡ t → (0 < length bs → (is_line_end (slice_index bs (line_len bs - 1)) ≡ true) ⊎ (line_len bs ≡ length bs))

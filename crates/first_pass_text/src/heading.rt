@@ -64,7 +64,6 @@ fn front_of(text: &[u8], count: usize) -> &[u8]
 }
 
 // How many bytes of a heading's text are left without its closing sequence (CommonMark 4.2).
-#[tactic(auto, unfolding(first_pass_grammar::specs::Leaves::kept_len))]
 fn kept_len(text: &[u8]) -> usize
     ensures value { result ≡ kept_len_of text.now }
     ensures within { result ≤ length text.now }

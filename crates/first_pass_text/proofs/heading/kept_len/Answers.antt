@@ -2,13 +2,13 @@ use Rattle.std.proofs.Common.{◌≡◌, ◌<◌, ◌≤◌, ◌⊎◌, inl, inr
 use Rattle.std.specs.List.{suffix_len}
 use Rattle.std.proofs.lemmas.Bool.Decides.{nat_tests}
 use Rattle.first_pass_grammar.specs.Leaves.{is_put_aside, kept_len}
+use Rattle.first_pass_text.proofs.KeptBytes.{kept_counted}
 use Rattle.first_pass_text.proofs.heading.kept_len.Goals as goal
 
 -- by the counts at the end
 kept_by : (text : List ℕ) (t o n : ℕ) → t ≡ length text - suffix_len is_put_aside text → o ≡ t - suffix_len (λ b. b == 35) (take t text) → n ≡ suffix_len (λ b. b == 32) (take o text)
     → kept_len text ≡ (if (o == 0) || nat_lt 0 n then o - n else t)
-unfolding kept_len
-kept_by text t o n e f g = rw (g, f, e)
+kept_by text t o n e f g = rw (g, f, e) (kept_counted text)
 
 choose_taken : (t o n : ℕ) → (o ≡ 0) ⊎ (0 < n) → (if (o == 0) || nat_lt 0 n then o - n else t) ≡ o - n
 choose_taken t o n (inl h) = grind (arith, nat_tests, h)

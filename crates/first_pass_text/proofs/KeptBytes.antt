@@ -1,0 +1,109 @@
+-- How many bytes of an ATX heading's text are kept, as they are counted from its end.
+use Rattle.std.proofs.Common.{◌≡◌, inl, inr, ℕ, zero, suc, ◌+◌, ◌-◌, ◌<◌, ◌≤◌, ◌==◌, ◌&&◌, ◌||◌, Bool, true, false, List, length, take, get_or, nat_lt, refl, sym, ap, ◌∙◌, arith, length-take-le, if◌then◌else◌}
+use Rattle.std.specs.List.{suffix_len}
+use Rattle.std.proofs.lemmas.Bool.{cases_Bool, cases_lt, true≢false}
+use Rattle.std.proofs.lemmas.Bool.Decides.{nat_tests}
+use Rattle.std.proofs.lemmas.List.{take_all, take-take}
+use Rattle.std.proofs.lemmas.List.Sums.{suffix_len-le-length, suffix_len-take_yes, suffix_len-take_no}
+use Rattle.first_pass_grammar.specs.Leaves.{is_put_aside, without_closing, kept_len}
+
+-- the last byte does not pass where none passes at the end
+pub run_none : (p : ℕ → Bool) (xs : List ℕ) → 0 < length xs → suffix_len p xs ≡ 0 → p (get_or xs (length xs - 1) 0) ≡ false
+run_none p xs some none =
+    elim (cases_Bool (p (get_or xs (length xs - 1) 0))) [
+      | inl passes ↦
+          let one = suffix_len-take_yes p xs (length xs) 0 some (omega arith) passes in
+          let all : suffix_len p (take (length xs) xs) ≡ suffix_len p xs = ap (suffix_len p) (take_all (length xs) xs (omega arith)) in
+          absurd (omega arith)
+      | inr fails ↦ fails
+    ]
+
+-- no more of them pass before those that pass at the end
+no_more : (p : ℕ → Bool) (xs : List ℕ) (n : ℕ) → n ≤ length xs → suffix_len p (take (n - suffix_len p (take n xs)) xs) ≡ 0
+no_more p xs zero within = (let place : zero - suffix_len p (take zero xs) ≡ zero = omega arith in ap (λ (k : ℕ). suffix_len p (take k xs)) place)
+no_more p xs (suc n) within =
+    let back : suc n - 1 ≡ n = omega arith in
+    elim (cases_Bool (p (get_or xs n 0))) [
+      | inl passes ↦
+          let one : suffix_len p (take (suc n) xs) ≡ 1 + suffix_len p (take (suc n - 1) xs) =
+          suffix_len-take_yes p xs (suc n) 0 (omega arith) within (ap (λ (k : ℕ). p (get_or xs k 0)) back ∙ passes) in
+          let same : suffix_len p (take (suc n - 1) xs) ≡ suffix_len p (take n xs) = ap (λ (k : ℕ). suffix_len p (take k xs)) back in
+          let place : suc n - suffix_len p (take (suc n) xs) ≡ n - suffix_len p (take n xs) = omega arith in
+          ap (λ (k : ℕ). suffix_len p (take k xs)) place ∙ no_more p xs n (omega arith)
+      | inr fails ↦
+          let none : suffix_len p (take (suc n) xs) ≡ 0 =
+          suffix_len-take_no p xs (suc n) 0 (omega arith) within (ap (λ (k : ℕ). p (get_or xs k 0)) back ∙ fails) in
+          let place : suc n - suffix_len p (take (suc n) xs) ≡ suc n = omega arith in
+          ap (λ (k : ℕ). suffix_len p (take k xs)) place ∙ none
+    ]
+
+pub space_aside : (b : ℕ) → (b == 32) ≡ true → is_put_aside b ≡ true
+space_aside b h = grind (arith, nat_tests, h)
+
+-- no space stands at the end where nothing is put aside there
+no_spaces : (xs : List ℕ) → suffix_len is_put_aside xs ≡ 0 → suffix_len (λ b. b == 32) xs ≡ 0
+no_spaces xs none =
+    elim (cases_lt 0 (length xs)) [
+      | inl some ↦
+          let last : ℕ = get_or xs (length xs - 1) 0 in
+          elim (cases_Bool (last == 32)) [
+            | inl blank ↦ absurd (true≢false (sym (space_aside last blank) ∙ run_none is_put_aside xs some none))
+            | inr other ↦
+                ap (λ (ys : List ℕ). suffix_len (λ b. b == 32) ys) (sym (take_all (length xs) xs (omega arith)))
+                ∙ suffix_len-take_no (λ b. b == 32) xs (length xs) 0 some (omega arith) other
+          ]
+      | inr empty ↦ (let few = suffix_len-le-length (λ b. b == 32) xs in omega arith)
+    ]
+
+-- by the counts: of signs at the end, and of spaces before them
+choose_len : (t : Bool) (xs ys : List ℕ) → length (if t then ys else xs) ≡ (if t then length ys else length xs)
+choose_len true xs ys = refl
+choose_len false xs ys = refl
+
+same_either : (t : Bool) (a b : ℕ) → a ≡ b → b ≡ (if t then a else b)
+same_either true a b e = sym e
+same_either false a b e = refl
+
+by_signs : (t : Bool) (signs size before spaces : ℕ) → nat_lt 0 signs ≡ t → before ≡ size - signs → (signs ≡ 0 → spaces ≡ 0)
+    → (if t && ((before == 0) || nat_lt 0 spaces) then before - spaces else size) ≡ (if (before == 0) || nat_lt 0 spaces then before - spaces else size)
+by_signs true signs size before spaces h e none = refl
+by_signs false signs size before spaces h e none =
+    let no_sign : signs ≡ 0 = grind (arith, nat_tests, h) in
+    let no_space : spaces ≡ 0 = none no_sign in
+    let all : before - spaces ≡ size = omega arith in
+    same_either ((before == 0) || nat_lt 0 spaces) (before - spaces) size all
+
+closing_len : (xs : List ℕ) → suffix_len (λ b. b == 32) xs ≡ 0
+    → (let o : ℕ = length xs - suffix_len (λ b. b == 35) xs in let n : ℕ = suffix_len (λ b. b == 32) (take o xs) in
+    length (without_closing xs) ≡ (if (o == 0) || nat_lt 0 n then o - n else length xs))
+closing_len xs none =
+    let s : ℕ = suffix_len (λ b. b == 35) xs in
+    let o : ℕ = length xs - s in
+    let bs : List ℕ = take o xs in
+    let n : ℕ = suffix_len (λ b. b == 32) bs in
+    let size : length bs ≡ o = length-take-le o xs (omega arith) in
+    let kept : length (take (length bs - n) bs) ≡ length bs - n = length-take-le (length bs - n) bs (omega arith) in
+    choose_len (nat_lt 0 s && ((length bs == 0) || nat_lt 0 n)) xs (take (length bs - n) bs)
+    ∙ ap (λ (z : ℕ). if nat_lt 0 s && ((length bs == 0) || nat_lt 0 n) then z else length xs) kept
+    ∙ ap (λ (z : ℕ). if nat_lt 0 s && ((z == 0) || nat_lt 0 n) then z - n else length xs) size
+    ∙ by_signs (nat_lt 0 s) s (length xs) o n refl refl
+    (λ no_sign. ap (suffix_len (λ b. b == 32)) (take_all o xs (omega arith)) ∙ none)
+
+-- As many bytes are kept as are counted: what is put aside, the number signs before that, and the spaces before these.
+pub kept_counted : (text : List ℕ)
+    → (let t : ℕ = length text - suffix_len is_put_aside text in let o : ℕ = t - suffix_len (λ b. b == 35) (take t text) in
+    let n : ℕ = suffix_len (λ b. b == 32) (take o text) in kept_len text ≡ (if (o == 0) || nat_lt 0 n then o - n else t))
+unfolding kept_len
+kept_counted text =
+    let t : ℕ = length text - suffix_len is_put_aside text in
+    let xs : List ℕ = take t text in
+    let s : ℕ = suffix_len (λ b. b == 35) xs in
+    let size : length xs ≡ t = length-take-le t text (omega arith) in
+    let whole : suffix_len is_put_aside (take (length text) text) ≡ suffix_len is_put_aside text =
+    ap (suffix_len is_put_aside) (take_all (length text) text (omega arith)) in
+    let aside : suffix_len is_put_aside xs ≡ 0 =
+    ap (λ (k : ℕ). suffix_len is_put_aside (take (length text - k) text)) (sym whole) ∙ no_more is_put_aside text (length text) (omega arith) in
+    closing_len xs (no_spaces xs aside)
+    ∙ ap (λ (z : ℕ). let o : ℕ = z - s in let n : ℕ = suffix_len (λ b. b == 32) (take o xs) in if (o == 0) || nat_lt 0 n then o - n else z) size
+    ∙ ap (λ (ys : List ℕ). let o : ℕ = t - s in let n : ℕ = suffix_len (λ b. b == 32) ys in if (o == 0) || nat_lt 0 n then o - n else t)
+    (take-take (t - s) t text (omega arith))
