@@ -31,9 +31,9 @@ use Rattle.first_pass.proofs.ReadyCompleted.{ready_completed}
 
 -- an open node is a container or a list, and shows nothing
 frame_silent : (b : ItemBody) (frame : Frame) → frame_of b ≡ Some frame → ShowsNothing b
-frame_silent (BlockQuoteBody kind) frame h = λ names start end. refl
-frame_silent (ListItemBody columns) frame h = λ names start end. refl
-frame_silent (ListBody flags byte number) frame h = λ names start end. refl
+frame_silent (BlockQuoteBody kind) frame h = λ names depth start end. refl
+frame_silent (ListItemBody columns) frame h = λ names depth start end. refl
+frame_silent (ListBody flags byte number) frame h = λ names depth start end. refl
 frame_silent b frame h = absurd (none-some frame h)
 
 open_silent : (nodes : List (ℕ × Item)) (i : ℕ) (frame : Frame) → frame_at nodes i ≡ Some frame → IsSilent nodes i
@@ -67,7 +67,7 @@ module _ (d : Document) (defined : Tables) (lines : List Place) (at : AreAt d.te
       → marks names (emptied r.tree r.tree.spine).nodes ≡ marks names r.tree.nodes
   emptied_shows r e empty names =
       ap (λ s. marks names (emptied r.tree s).nodes) empty.spine
-      ∙ marks_modified names r.tree.nodes empty.place.0 (λ x. record { start = x.start; «end» = x.«end»; body = ListItemBody 0 }) (λ x k names start end. refl)
+      ∙ marks_modified names r.tree.nodes empty.place.0 (λ x. record { start = x.start; «end» = x.«end»; body = ListItemBody 0 }) (λ x k names depth start end. refl)
       (open_silent r.tree.nodes empty.place.0 _ (ap (option_and_then frame_of) empty.item))
 
   whole_before_line : (r : Reading) (e : ℕ) → ReadyEmpty d defined r e lines → (t : Bool) → CompletedBeforeLine d defined r.tree e lines t

@@ -51,14 +51,14 @@ unfolding marks
 marks_modified names [] place g stays h = absurd h
 marks_modified names (n ∷ nodes) zero g stays h =
     let now : Item = g n.1 in
-    ap (λ (z : List Mark). z ++ marks names nodes) (stays n.1 h names now.start now.«end» ∙ sym (h names n.1.start n.1.«end»))
+    ap (λ (z : List Mark). z ++ marks names nodes) (stays n.1 h names n.0 now.start now.«end» ∙ sym (h names n.0 n.1.start n.1.«end»))
 marks_modified names (n ∷ nodes) (suc place) g stays h =
-    ap (λ (z : List Mark). shown names n.1.start n.1.«end» n.1.body ++ z) (marks_modified names nodes place g stays h)
+    ap (λ (z : List Mark). shown names n.0 n.1.start n.1.«end» n.1.body ++ z) (marks_modified names nodes place g stays h)
 
 -- paragraphs made tight
 silent_tight : (t : Bool) (x : Item) → ShowsNothing x.body
     → (let y : Item = if t then record { start = x.start; «end» = x.«end»; body = tight_body x.body } else x in ShowsNothing y.body)
-silent_tight true x h = λ names start end. tight_shows names start end x.body ∙ h names start end
+silent_tight true x h = λ names depth start end. tight_shows names depth start end x.body ∙ h names depth start end
 silent_tight false x h = h
 
 silent_all : (depth : ℕ) (nodes : List (ℕ × Item)) (i : ℕ) → IsSilent nodes i → IsSilent (map (tightened depth) nodes) i
@@ -77,11 +77,11 @@ unfolding marks
 marks_from names depth zero nodes = marks-tightened names depth nodes
 marks_from names depth (suc place) [] = refl
 marks_from names depth (suc place) (n ∷ nodes) =
-    ap (λ (z : List Mark). shown names n.1.start n.1.«end» n.1.body ++ z) (marks_from names depth place nodes)
+    ap (λ (z : List Mark). shown names n.0 n.1.start n.1.«end» n.1.body ++ z) (marks_from names depth place nodes)
 
 -- a list closed
 silent_flagged : (loose : Bool) (b : ItemBody) → ShowsNothing b → ShowsNothing (flagged loose b)
-silent_flagged loose (ListBody flags byte number) h = λ names start end. refl
+silent_flagged loose (ListBody flags byte number) h = λ names depth start end. refl
 silent_flagged loose b h = h
 
 silent_closed : (nodes : List (ℕ × Item)) (place depth : ℕ) (loose : Bool) (e i : ℕ) → IsSilent nodes i → IsSilent (list_closed nodes place depth loose e) i

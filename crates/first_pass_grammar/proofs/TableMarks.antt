@@ -1,11 +1,11 @@
 -- What the nodes of a table show: as many cells in each row as columns, and no more of them filled in than may be.
 use Rattle.std.proofs.Common.{◌≡◌, inl, inr, ℕ, zero, suc, ◌+◌, ◌-◌, ◌<◌, ◌≤◌, ◌==◌, nat_lt, nat_le, Bool, true, false, List, [], ◌∷◌, ◌++◌, length, map, take, drop, replicate, refl, sym, ap, ◌∙◌, arith, if◌then◌else◌}
 use Rattle.std.proofs.lemmas.Bool.{cases_lt, and_parts, eq-eqb, ne_eqb, leb-true, true≢false}
-use Rattle.std.proofs.lemmas.List.{append_assoc, append-nil, at_drop_all}
+use Rattle.std.proofs.lemmas.List.{append_assoc, append-nil, map-append, at_drop_all}
 use Rattle.first_pass_items.specs.declared.item.Alignment.{Alignment}
 use Rattle.first_pass_items.specs.declared.item.Item.{Item}
 use Rattle.first_pass_items.specs.declared.item.ItemBody.{ItemBody}
-use Rattle.first_pass_items.specs.declared.item.ItemBody.TheVariants.{Table, TableHead, TableRow}
+use Rattle.first_pass_items.specs.declared.item.ItemBody.TheVariants.{Table, TableHead, TableRow, TableCell}
 use Rattle.first_pass_tree.specs.Forest.{at_depth, block_of}
 use Rattle.first_pass_lines.specs.Lines.{at_line_end}
 use Rattle.first_pass_lines.specs.Places.{Place, offset, start_of}
@@ -17,7 +17,7 @@ use Rattle.first_pass_grammar.specs.declared.kind.Container.{Container}
 use Rattle.first_pass_grammar.specs.Names.{Names}
 use Rattle.first_pass_grammar.specs.Leaves.{Document}
 use Rattle.first_pass_grammar.specs.Tables.{cell_content, cell_start, cell_text, cell_block, AreCells, filled, side_by_side, row_cells, row_block, Taken, AreRows, most_filled, IsTable}
-use Rattle.first_pass_grammar.specs.WholeTables.{Mark, ATable, ARow, ACell, shown, marks, RowCells, row_marks, table_marks, how_often, filled_in, HaveCells, AreFull, AreWholeTables}
+use Rattle.first_pass_grammar.specs.WholeTables.{Mark, ATable, ARow, ACell, shown, marks, RowCells, row_marks, TableRows, table_marks, how_often, filled_in, HaveCells, AreFull, AreWholeTables}
 use Rattle.first_pass_grammar.proofs.CountedRows.{CountedRows, counted}
 use Rattle.first_pass_grammar.proofs.EachToken.{AreEach, HoldsOfTokens, HoldsOfRaw, cell_each}
 use Rattle.first_pass_grammar.proofs.RowEnds.{row_ends_its_line}
@@ -30,55 +30,114 @@ pub marks-append : (names : Names) (nodes more : List (ℕ × Item)) → marks n
 unfolding marks
 marks-append names [] more = refl
 marks-append names (n ∷ nodes) more =
-    let first = shown names n.1.start n.1.«end» n.1.body in
+    let first = shown names n.0 n.1.start n.1.«end» n.1.body in
     ap (λ (z : List Mark). first ++ z) (marks-append names nodes more) ∙ sym (append_assoc first (marks names nodes) (marks names more))
 
-pub marks-at_depth : (names : Names) (depth : ℕ) (nodes : List (ℕ × Item)) → marks names (at_depth depth nodes) ≡ marks names nodes
+-- a mark so much deeper
+abbrev pub mark_deeper : ℕ → Mark → Mark
+mark_deeper d (ATable depth columns) = ATable (d + depth) columns
+mark_deeper d (ARow depth «end») = ARow (d + depth) «end»
+mark_deeper d (ACell depth start) = ACell (d + depth) start
+
+shown_deeper : (names : Names) (d depth start «end» : ℕ) (b : ItemBody)
+    → shown names (d + depth) start «end» b ≡ map (mark_deeper d) (shown names depth start «end» b)
+shown_deeper names d depth start end (Table ix) = refl
+shown_deeper names d depth start end TableHead = refl
+shown_deeper names d depth start end TableRow = refl
+shown_deeper names d depth start end TableCell = refl
+shown_deeper names d depth start end b = refl
+
+pub marks-at_depth : (names : Names) (d : ℕ) (nodes : List (ℕ × Item)) → marks names (at_depth d nodes) ≡ map (mark_deeper d) (marks names nodes)
 unfolding marks
-marks-at_depth names depth [] = refl
-marks-at_depth names depth (n ∷ nodes) = ap (λ (z : List Mark). shown names n.1.start n.1.«end» n.1.body ++ z) (marks-at_depth names depth nodes)
+marks-at_depth names d [] = refl
+marks-at_depth names d (n ∷ nodes) =
+    let first = shown names n.0 n.1.start n.1.«end» n.1.body in
+    ap (λ (z : List Mark). z ++ marks names (at_depth d nodes)) (shown_deeper names d n.0 n.1.start n.1.«end» n.1.body)
+    ∙ ap (λ (z : List Mark). map (mark_deeper d) first ++ z) (marks-at_depth names d nodes)
+    ∙ sym (map-append (mark_deeper d) first (marks names nodes))
+
+-- cells, rows and tables so much deeper
+cells_deeper : (d depth : ℕ) (starts : List ℕ) → map (mark_deeper d) (map (ACell depth) starts) ≡ map (ACell (d + depth)) starts
+cells_deeper d depth [] = refl
+cells_deeper d depth (start ∷ starts) = ap (λ (z : List Mark). ACell (d + depth) start ∷ z) (cells_deeper d depth starts)
+
+rows_deeper : (d depth : ℕ) (rows : List RowCells) → map (mark_deeper d) (row_marks depth rows) ≡ row_marks (d + depth) rows
+unfolding row_marks
+rows_deeper d depth [] = refl
+rows_deeper d depth (row ∷ rows) =
+    let one : d + suc depth ≡ suc (d + depth) = omega arith in
+    map-append (mark_deeper d) (ARow depth row.«end» ∷ map (ACell (suc depth)) row.starts) (row_marks depth rows)
+    ∙ ap (λ (z : List Mark). (ARow (d + depth) row.«end» ∷ z) ++ map (mark_deeper d) (row_marks depth rows))
+    (cells_deeper d (suc depth) row.starts ∙ ap (λ k. map (ACell k) row.starts) one)
+    ∙ ap (λ (z : List Mark). (ARow (d + depth) row.«end» ∷ map (ACell (suc (d + depth))) row.starts) ++ z) (rows_deeper d depth rows)
+
+abbrev pub table_deeper : ℕ → TableRows → TableRows
+table_deeper d table = record { depth = d + table.depth; columns = table.columns; rows = table.rows }
+
+tables_deeper : (d : ℕ) (tables : List TableRows) → map (mark_deeper d) (table_marks tables) ≡ table_marks (map (table_deeper d) tables)
+unfolding table_marks
+tables_deeper d [] = refl
+tables_deeper d (table ∷ tables) =
+    let one : d + suc table.depth ≡ suc (d + table.depth) = omega arith in
+    map-append (mark_deeper d) (ATable table.depth table.columns ∷ row_marks (suc table.depth) table.rows) (table_marks tables)
+    ∙ ap (λ (z : List Mark). (ATable (d + table.depth) table.columns ∷ z) ++ map (mark_deeper d) (table_marks tables))
+    (rows_deeper d (suc table.depth) table.rows ∙ ap (λ k. row_marks k table.rows) one)
+    ∙ ap (λ (z : List Mark). (ATable (d + table.depth) table.columns ∷ row_marks (suc (d + table.depth)) table.rows) ++ z) (tables_deeper d tables)
+
+full_deeper : (d : ℕ) (tables : List TableRows) → AreFull tables → AreFull (map (table_deeper d) tables)
+unfolding AreFull
+full_deeper d [] h = h
+full_deeper d (table ∷ tables) h = (h.0, h.1, full_deeper d tables h.2)
+
+pub whole_deeper : (names : Names) (d : ℕ) (nodes : List (ℕ × Item)) → AreWholeTables names nodes → AreWholeTables names (at_depth d nodes)
+unfolding AreWholeTables
+whole_deeper names d nodes (tables, is, full) = (
+  map (table_deeper d) tables,
+  marks-at_depth names d nodes ∙ ap (map (mark_deeper d)) is ∙ tables_deeper d tables,
+  full_deeper d tables full,
+)
 
 -- a node that shows nothing, wherever it stands and whatever indices name
 abbrev pub ShowsNothing : ItemBody → Type 0
-ShowsNothing body = (names : Names) (start «end» : ℕ) → shown names start «end» body ≡ []
+ShowsNothing body = (names : Names) (depth start «end» : ℕ) → shown names depth start «end» body ≡ []
 
 markup_shows : (body : ItemBody) → is_markup body ≡ true → ShowsNothing body
-markup_shows (MaybeCode n escaped) h = λ names start end. refl
-markup_shows MaybeHtml h = λ names start end. refl
-markup_shows MaybeLinkOpen h = λ names start end. refl
-markup_shows (MaybeLinkClose b) h = λ names start end. refl
-markup_shows MaybeImage h = λ names start end. refl
+markup_shows (MaybeCode n escaped) h = λ names depth start end. refl
+markup_shows MaybeHtml h = λ names depth start end. refl
+markup_shows MaybeLinkOpen h = λ names depth start end. refl
+markup_shows (MaybeLinkClose b) h = λ names depth start end. refl
+markup_shows MaybeImage h = λ names depth start end. refl
 markup_shows _ h = absurd (true≢false (sym h))
 
 pub tokens_show : HoldsOfTokens ShowsNothing
 tokens_show =
     record {
-      text = λ escaped names start end. refl;
-      soft = λ names start end. refl;
-      hard = λ by_backslash names start end. refl;
+      text = λ escaped names depth start end. refl;
+      soft = λ names depth start end. refl;
+      hard = λ by_backslash names depth start end. refl;
       markup = markup_shows;
     }
 
 pub raw_shows : HoldsOfRaw ShowsNothing
-raw_shows = record { html = λ names start end. refl; columns = λ ix names start end. refl }
+raw_shows = record { html = λ names depth start end. refl; columns = λ ix names depth start end. refl }
 
 pub leaves_show : (names : Names) (chain : List Item) → AreEach ShowsNothing chain → marks names (leaves chain) ≡ []
 unfolding marks
 leaves_show names [] h = refl
-leaves_show names (x ∷ chain) h = rw (h.0 names x.start x.«end», leaves_show names chain h.1) refl
+leaves_show names (x ∷ chain) h = rw (h.0 names 0 x.start x.«end», leaves_show names chain h.1) refl
 
 -- a block whose own node shows nothing, with a chain of such nodes
 pub block_shows : (names : Names) (x : Item) (chain : List Item) → ShowsNothing x.body → AreEach ShowsNothing chain
     → marks names (block_of x (leaves chain)) ≡ []
 unfolding marks
 block_shows names x chain own h =
-    ap (λ (z : List Mark). z ++ marks names (at_depth 1 (leaves chain))) (own names x.start x.«end»)
-    ∙ marks-at_depth names 1 (leaves chain) ∙ leaves_show names chain h
+    ap (λ (z : List Mark). z ++ marks names (at_depth 1 (leaves chain))) (own names 0 x.start x.«end»)
+    ∙ marks-at_depth names 1 (leaves chain) ∙ ap (map (mark_deeper 1)) (leaves_show names chain h)
 
 -- These blocks show cells that start at these offsets.
 unfoldable pub ShowCells : Names → List (List (ℕ × Item)) → List ℕ → Type 0
 ShowCells names [] [] = Unit {0}
-ShowCells names (block ∷ blocks) (start ∷ starts) = (marks names block ≡ ACell start ∷ []) × ShowCells names blocks starts
+ShowCells names (block ∷ blocks) (start ∷ starts) = (marks names block ≡ ACell 0 start ∷ []) × ShowCells names blocks starts
 ShowCells names _ _ = ⊥
 
 first_show : (names : Names) (n : ℕ) (blocks : List (List (ℕ × Item))) (starts : List ℕ) → ShowCells names blocks starts
@@ -90,7 +149,7 @@ first_show names (suc n) [] (start ∷ starts) h = absurd h
 first_show names (suc n) (block ∷ blocks) [] h = absurd h
 first_show names (suc n) (block ∷ blocks) (start ∷ starts) h = (h.0, first_show names n blocks starts h.1)
 
-copies_show : (names : Names) (n : ℕ) (block : List (ℕ × Item)) (start : ℕ) → marks names block ≡ ACell start ∷ []
+copies_show : (names : Names) (n : ℕ) (block : List (ℕ × Item)) (start : ℕ) → marks names block ≡ ACell 0 start ∷ []
     → ShowCells names (replicate n block) (replicate n start)
 unfolding ShowCells
 copies_show names zero block start h = tt
@@ -105,7 +164,7 @@ both_show names (x ∷ xs) ys [] ts h k = absurd h
 both_show names (x ∷ xs) ys (s ∷ ss) ts h k = (h.0, both_show names xs ys ss ts h.1 k)
 
 side_shows : (names : Names) (blocks : List (List (ℕ × Item))) (starts : List ℕ) → ShowCells names blocks starts
-    → (marks names (side_by_side blocks) ≡ map ACell starts) × (length starts ≡ length blocks)
+    → (marks names (side_by_side blocks) ≡ map (ACell 0) starts) × (length starts ≡ length blocks)
 unfolding ShowCells marks
 side_shows names [] [] h = (refl, refl)
 side_shows names [] (start ∷ starts) h = absurd h
@@ -114,7 +173,7 @@ side_shows names (block ∷ blocks) (start ∷ starts) h =
     let rest = side_shows names blocks starts h.1 in
     let own = h.0 in
     let both = marks-append names block (side_by_side blocks) in
-    (both ∙ ap (λ (z : List Mark). z ++ marks names (side_by_side blocks)) own ∙ ap (λ (z : List Mark). ACell start ∷ z) rest.0, ap suc rest.1)
+    (both ∙ ap (λ (z : List Mark). z ++ marks names (side_by_side blocks)) own ∙ ap (λ (z : List Mark). ACell 0 start ∷ z) rest.0, ap suc rest.1)
 
 -- each of these offsets lies before an end
 unfoldable AreBefore : ℕ → List ℕ → Type 0
@@ -172,11 +231,12 @@ written_before d at tokens stop cells end on cell more =
 
 -- the cells of a row show where they start
 cell_shows : (d : Document) (at start : ℕ) (tokens : List Item) (stop : ℕ) → IsCell (cell_content d at) tokens stop
-    → marks d.names (cell_block start stop tokens) ≡ ACell start ∷ []
+    → marks d.names (cell_block start stop tokens) ≡ ACell 0 start ∷ []
 unfolding marks
 cell_shows d at start tokens stop h =
-    ap (λ (z : List Mark). ACell start ∷ z)
-    (marks-at_depth d.names 1 (leaves tokens) ∙ leaves_show d.names tokens (cell_each ShowsNothing tokens_show (cell_content d at) tokens stop h))
+    ap (λ (z : List Mark). ACell 0 start ∷ z)
+    (marks-at_depth d.names 1 (leaves tokens)
+    ∙ ap (map (mark_deeper 1)) (leaves_show d.names tokens (cell_each ShowsNothing tokens_show (cell_content d at) tokens stop h)))
 
 cells_show : (d : Document) (at : ℕ) (cells : List (List (ℕ × Item))) («end» : ℕ) → AreCells d at cells «end»
     → (starts : List ℕ) × ShowCells d.names cells starts × AreBefore «end» starts
@@ -188,14 +248,14 @@ cells_show d at (cell ∷ cells) end (on, tokens, stop, is, e, more) =
     let own = cell_shows d (cell_text d.text at) (cell_start d.text at) tokens stop is in
     (cell_start d.text at ∷ rest.0, (ap (marks d.names) e ∙ own, rest.1), (here.0, rest.2))
 
-filled_shows : (names : Names) («end» : ℕ) → marks names (cell_block «end» «end» []) ≡ ACell «end» ∷ []
+filled_shows : (names : Names) («end» : ℕ) → marks names (cell_block «end» «end» []) ≡ ACell 0 «end» ∷ []
 unfolding marks
 filled_shows names end = refl
 
 -- what a row shows: where it ends, and as many cells as columns, of which those that are filled in start at its end
 pub row_shows : (d : Document) (body : ItemBody) (columns start at : ℕ) (cells : List (List (ℕ × Item))) («end» : ℕ)
-    → shown d.names start «end» body ≡ ARow «end» ∷ [] → AreCells d at cells «end»
-    → (starts : List ℕ) × (marks d.names (row_block body columns start cells «end») ≡ ARow «end» ∷ map ACell starts)
+    → shown d.names 0 start «end» body ≡ ARow 0 «end» ∷ [] → AreCells d at cells «end»
+    → (starts : List ℕ) × (marks d.names (row_block body columns start cells «end») ≡ ARow 0 «end» ∷ map (ACell 1) starts)
     × (length starts ≡ columns) × (how_often «end» starts ≡ filled columns cells)
 unfolding marks
 row_shows d body columns start at cells end own are =
@@ -209,32 +269,35 @@ row_shows d body columns start at cells end own are =
     let sum = often_both end (take columns starts) (replicate n end) in (
       take columns starts ++ replicate n end,
       ap (λ (z : List Mark). z ++ marks d.names (at_depth 1 (row_cells columns cells end))) own
-          ∙ ap (λ (z : List Mark). ARow end ∷ z) (marks-at_depth d.names 1 (row_cells columns cells end) ∙ all.0),
+          ∙ ap (λ (z : List Mark). ARow 0 end ∷ z)
+          (marks-at_depth d.names 1 (row_cells columns cells end) ∙ ap (map (mark_deeper 1)) all.0
+          ∙ cells_deeper 1 0 (take columns starts ++ replicate n end)),
       all.1 ∙ as_many_cells columns cells end,
       omega arith,
     )
 
 -- what the rows of a body show
 none_over : (d : Document) (columns : ℕ) (items : List (ℕ × Item)) → items ≡ [] → (most : ℕ)
-    → (rows : List RowCells) × (marks d.names items ≡ row_marks rows) × HaveCells columns rows × (filled_in rows ≤ most)
+    → (rows : List RowCells) × (marks d.names items ≡ row_marks 0 rows) × HaveCells columns rows × (filled_in rows ≤ most)
 unfolding marks row_marks HaveCells filled_in
 none_over d columns items e most = ([], ap (marks d.names) e, tt, omega arith)
 
 one_over : (d : Document) (columns most : ℕ) (first more items : List (ℕ × Item)) (row : RowCells) (rows : List RowCells) → items ≡ first ++ more
-    → marks d.names first ≡ ARow row.«end» ∷ map ACell row.starts → length row.starts ≡ columns → marks d.names more ≡ row_marks rows → HaveCells columns rows
+    → marks d.names first ≡ ARow 0 row.«end» ∷ map (ACell 1) row.starts → length row.starts ≡ columns → marks d.names more ≡ row_marks 0 rows
+    → HaveCells columns rows
     → how_often row.«end» row.starts + filled_in rows ≤ most
-    → (rows : List RowCells) × (marks d.names items ≡ row_marks rows) × HaveCells columns rows × (filled_in rows ≤ most)
+    → (rows : List RowCells) × (marks d.names items ≡ row_marks 0 rows) × HaveCells columns rows × (filled_in rows ≤ most)
 unfolding row_marks HaveCells filled_in
 one_over d columns most first more items row rows e show size these have few = (
   row ∷ rows,
   ap (marks d.names) e ∙ marks-append d.names first more ∙ ap (λ (z : List Mark). z ++ marks d.names more) show
-      ∙ ap (λ (z : List Mark). (ARow row.«end» ∷ map ACell row.starts) ++ z) these,
+      ∙ ap (λ (z : List Mark). (ARow 0 row.«end» ∷ map (ACell 1) row.starts) ++ z) these,
   (size, have),
   few,
 )
 
 counted_show : (d : Document) (path : List Container) (columns most : ℕ) (lines : List Place) (t : Taken) → CountedRows d path columns most lines t
-    → (rows : List RowCells) × (marks d.names t.items ≡ row_marks rows) × HaveCells columns rows × (filled_in rows ≤ most)
+    → (rows : List RowCells) × (marks d.names t.items ≡ row_marks 0 rows) × HaveCells columns rows × (filled_in rows ≤ most)
 unfolding CountedRows
 counted_show d path columns most [] t e = none_over d columns t.items (ap (λ (z : Taken). z.items) e) most
 counted_show d path columns most (line ∷ lines) t (inl (none, e)) = none_over d columns t.items (ap (λ (z : Taken). z.items) e) most
@@ -248,7 +311,7 @@ counted_show d path columns most (line ∷ lines) t (inr (start, cells, end, at,
     (ap (λ (z : Taken). z.items) e) show size these have (omega arith)
 
 pub rows_show : (d : Document) (path : List Container) (columns most : ℕ) (lines : List Place) (t : Taken) → AreRows d path columns most lines t
-    → (rows : List RowCells) × (marks d.names t.items ≡ row_marks rows) × HaveCells columns rows × (filled_in rows ≤ most)
+    → (rows : List RowCells) × (marks d.names t.items ≡ row_marks 0 rows) × HaveCells columns rows × (filled_in rows ≤ most)
 rows_show d path columns most lines t h = counted_show d path columns most lines t (counted d path columns most lines t h)
 
 -- What a table shows is one table, whole where no more cells are filled into its header row than may be.
@@ -261,12 +324,15 @@ table_shows d path p alignments lines t h low =
     let (rows, these, have, few) = rows_show d path columns (most_filled - filled columns h.cells) (drop 1 lines) _ h.are_rows in
     let head : List (ℕ × Item) = row_block TableHead columns (offset p) h.cells h.head_end in
     let first : RowCells = record { «end» = h.head_end; starts = starts } in
-    let count : shown d.names (offset p) (start_of (length d.text) t.left) (Table h.index) ≡ ATable columns ∷ [] = rw h.named refl in
-    let inside : marks d.names (at_depth 1 (head ++ h.body)) ≡ row_marks (first ∷ rows) =
-    marks-at_depth d.names 1 (head ++ h.body) ∙ marks-append d.names head h.body ∙ ap (λ (z : List Mark). z ++ marks d.names h.body) show
-    ∙ ap (λ (z : List Mark). (ARow h.head_end ∷ map ACell starts) ++ z) these in (
-      record { columns = columns; rows = first ∷ rows } ∷ [],
+    let count : shown d.names 0 (offset p) (start_of (length d.text) t.left) (Table h.index) ≡ ATable 0 columns ∷ [] = rw h.named refl in
+    let inside : marks d.names (at_depth 1 (head ++ h.body)) ≡ row_marks 1 (first ∷ rows) =
+    marks-at_depth d.names 1 (head ++ h.body)
+    ∙ ap (map (mark_deeper 1))
+    (marks-append d.names head h.body ∙ ap (λ (z : List Mark). z ++ marks d.names h.body) show
+    ∙ ap (λ (z : List Mark). (ARow 0 h.head_end ∷ map (ACell 1) starts) ++ z) these)
+    ∙ rows_deeper 1 0 (first ∷ rows) in (
+      record { depth = 0; columns = columns; rows = first ∷ rows } ∷ [],
       ap (marks d.names) h.items_are ∙ ap (λ (z : List Mark). z ++ marks d.names (at_depth 1 (head ++ h.body))) count
-          ∙ ap (λ (z : List Mark). ATable columns ∷ z) (inside ∙ sym (append-nil (row_marks (first ∷ rows)))),
+          ∙ ap (λ (z : List Mark). ATable 0 columns ∷ z) (inside ∙ sym (append-nil (row_marks 1 (first ∷ rows)))),
       ((size, have), omega arith, tt),
     )

@@ -72,9 +72,9 @@ module _ (d : Document) (full : HeadsAreFull d) where
 
 -- Where tables stand behind marks, and all of it is whole tables, the marks are whole tables: those in a row or a cell begin no table.
 abbrev is_table : Mark → Bool
-is_table (ATable columns) = true
-is_table (ARow «end») = false
-is_table (ACell start) = false
+is_table (ATable depth columns) = true
+is_table (ARow depth «end») = false
+is_table (ACell depth start) = false
 
 abbrev NoTables : List Mark → Type 0
 NoTables [] = Unit {0}
@@ -84,14 +84,17 @@ no_tables_both : (a b : List Mark) → NoTables a → NoTables b → NoTables (a
 no_tables_both [] b h k = k
 no_tables_both (m ∷ a) b h k = (h.0, no_tables_both a b h.1 k)
 
-cells_no_tables : (starts : List ℕ) → NoTables (map ACell starts)
-cells_no_tables [] = tt
-cells_no_tables (start ∷ starts) = (refl, cells_no_tables starts)
+cells_no_tables : (depth : ℕ) (starts : List ℕ) → NoTables (map (ACell depth) starts)
+cells_no_tables depth [] = tt
+cells_no_tables depth (start ∷ starts) = (refl, cells_no_tables depth starts)
 
-rows_no_tables : (rows : List RowCells) → NoTables (row_marks rows)
+rows_no_tables : (depth : ℕ) (rows : List RowCells) → NoTables (row_marks depth rows)
 unfolding row_marks
-rows_no_tables [] = tt
-rows_no_tables (row ∷ rows) = (refl, no_tables_both (map ACell row.starts) (row_marks rows) (cells_no_tables row.starts) (rows_no_tables rows))
+rows_no_tables depth [] = tt
+rows_no_tables depth (row ∷ rows) = (
+  refl,
+  no_tables_both (map (ACell (suc depth)) row.starts) (row_marks depth rows) (cells_no_tables (suc depth) row.starts) (rows_no_tables depth rows),
+)
 
 first_same : (m k : Mark) (ms ks : List Mark) → m ∷ ms ≡ k ∷ ks → m ≡ k
 first_same m k ms ks e = cc
@@ -105,7 +108,7 @@ unfolding table_marks
 behind_rows [] m all more none e = (m, refl, e)
 behind_rows (k ∷ rows) [] all [] none e = absurd (let n = ap length e in omega arith)
 behind_rows (k ∷ rows) [] all (t ∷ more) none e =
-    absurd (true≢false (ap is_table (first_same (ATable t.columns) k (row_marks t.rows ++ table_marks more) (rows ++ all) e) ∙ none.0))
+    absurd (true≢false (ap is_table (first_same (ATable t.depth t.columns) k (row_marks (suc t.depth) t.rows ++ table_marks more) (rows ++ all) e) ∙ none.0))
 behind_rows (k ∷ rows) (b ∷ m) all more none e =
     let first = first_same b k (m ++ table_marks more) (rows ++ all) e in
     let (behind, is, rest) = behind_rows rows m all more none.1 (rest_same b k (m ++ table_marks more) (rows ++ all) e) in
@@ -117,13 +120,14 @@ unfolding table_marks AreFull
 front_of [] more all e full = ([], refl, tt)
 front_of (b ∷ m) more [] e full = absurd (let n = ap length e in omega arith)
 front_of (b ∷ m) more (t ∷ all) e full =
-    let rest = row_marks t.rows ++ table_marks all in
-    let first = first_same b (ATable t.columns) (m ++ table_marks more) rest e in
-    let (behind, is, further) = behind_rows (row_marks t.rows) m (table_marks all) more (rows_no_tables t.rows)
-    (rest_same b (ATable t.columns) (m ++ table_marks more) rest e) in
+    let rest = row_marks (suc t.depth) t.rows ++ table_marks all in
+    let first = first_same b (ATable t.depth t.columns) (m ++ table_marks more) rest e in
+    let (behind, is, further) = behind_rows (row_marks (suc t.depth) t.rows) m (table_marks all) more (rows_no_tables (suc t.depth) t.rows)
+    (rest_same b (ATable t.depth t.columns) (m ++ table_marks more) rest e) in
     let (front, same, whole) = front_of behind more all further full.2 in (
       t ∷ front,
-      ap (λ (z : Mark). z ∷ m) first ∙ ap (λ (z : List Mark). ATable t.columns ∷ z) (is ∙ ap (λ (z : List Mark). row_marks t.rows ++ z) same),
+      ap (λ (z : Mark). z ∷ m) first
+          ∙ ap (λ (z : List Mark). ATable t.depth t.columns ∷ z) (is ∙ ap (λ (z : List Mark). row_marks (suc t.depth) t.rows ++ z) same),
       (full.0, full.1, whole),
     )
 
@@ -142,17 +146,17 @@ completed_whole d frames places w from lines plain at silent list c derives =
     (derived_whole named c.forest c.tables derives)
 
 -- What each index names, it names under more names too.
-shown_still : (more names : Names) (start «end» : ℕ) (b : ItemBody) → Extends more names → NamesEntry names (index_of b)
-    → shown more start «end» b ≡ shown names start «end» b
-shown_still more names start end (Table ix) e h = ap (λ z. ATable (length z) ∷ []) (alignments_kept more names ix e h)
-shown_still more names start end b e h = refl
+shown_still : (more names : Names) (depth start «end» : ℕ) (b : ItemBody) → Extends more names → NamesEntry names (index_of b)
+    → shown more depth start «end» b ≡ shown names depth start «end» b
+shown_still more names depth start end (Table ix) e h = ap (λ z. ATable depth (length z) ∷ []) (alignments_kept more names ix e h)
+shown_still more names depth start end b e h = refl
 
 marks_still : (more names : Names) (nodes : List (ℕ × Item)) → Extends more names → AreNamed names nodes → marks more nodes ≡ marks names nodes
 unfolding marks AreNamed
 marks_still more names [] e h = refl
 marks_still more names (n ∷ nodes) e h =
-    ap (λ (z : List Mark). z ++ marks more nodes) (shown_still more names n.1.start n.1.«end» n.1.body e h.0)
-    ∙ ap (λ (z : List Mark). shown names n.1.start n.1.«end» n.1.body ++ z) (marks_still more names nodes e h.1)
+    ap (λ (z : List Mark). z ++ marks more nodes) (shown_still more names n.0 n.1.start n.1.«end» n.1.body e h.0)
+    ∙ ap (λ (z : List Mark). shown names n.0 n.1.start n.1.«end» n.1.body ++ z) (marks_still more names nodes e h.1)
 
 pub whole_already : (more names : Names) (nodes : List (ℕ × Item)) → Extends more names → AreNamed names nodes → AreWholeTables more nodes
     → AreWholeTables names nodes

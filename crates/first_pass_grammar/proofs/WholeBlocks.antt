@@ -80,10 +80,10 @@ module _ (d : Document) (full : HeadsAreFull d) where
       → MatchOption o (t ≡ plain_text d start marker l) (λ underline. IsUnderlined d start marker l underline.1 t) → AreWholeTables d.names t.items
   ended_whole path start marker l t None plain h e =
       chain_whole d.names start (start_of (length d.text) l.left) ParagraphBody (text_children marker l) t.items (ap (λ (z : Taken). z.items) e)
-      (λ names start end. refl) (children_each ShowsNothing tokens_show marker l plain h)
+      (λ names depth start end. refl) (children_each ShowsNothing tokens_show marker l plain h)
   ended_whole path start marker l t (Some underline) plain h (index, named, e) =
       chain_whole d.names start (start_of (length d.text) (drop 1 l.left)) (HeadingBody underline.1 index) (heading_children d start marker l) t.items
-      (ap (λ (z : Taken). z.items) e) (λ names start end. refl) (heading_children_each ShowsNothing tokens_show d start marker l plain h)
+      (ap (λ (z : Taken). z.items) e) (λ names depth start end. refl) (heading_children_each ShowsNothing tokens_show d start marker l plain h)
 
   -- what stands for a text
   text_by : (path : List Container) (p : Place) (marker : Option Item) (lines : List Place) (t : Taken) (o : Option (List Alignment))
@@ -125,44 +125,44 @@ module _ (d : Document) (full : HeadsAreFull d) where
   opens_as path p lines Blank o i h e = subst (WholeOpening d) (sym e) (tt, tt, h)
   opens_as path p lines IndentedCode o i h (items, is, e) =
       subst (WholeOpening d) (sym e) (
-        chain_whole d.names _ _ IndentCodeBlock is.chain items is.items_are (λ names start end. refl)
+        chain_whole d.names _ _ IndentCodeBlock is.chain items is.items_are (λ names depth start end. refl)
             (raw_lines_each ShowsNothing raw_shows range_text d [] _ is.chain (range_text_each ShowsNothing tokens_show) tt is.lines),
         tt,
         code_at d.text path lines h,
       )
   opens_as path p lines (Metadata byte) o i h (items, is, e) =
       subst (WholeOpening d) (sym e) (
-        chain_whole d.names _ _ (MetadataBlock (metadata_kind byte)) is.chain items is.items_are (λ names start end. refl)
+        chain_whole d.names _ _ (MetadataBlock (metadata_kind byte)) is.chain items is.items_are (λ names depth start end. refl)
             (raw_lines_each ShowsNothing raw_shows range_text d [] _ is.chain (range_text_each ShowsNothing tokens_show) tt is.lines),
         tt,
         extent_at d.text (in_containers path (metadata_judge byte)) (length d.text) lines h,
       )
   opens_as path p lines HtmlToEnd o i h (text, found, (items, is, e)) =
       subst (WholeOpening d) (sym e) (
-        chain_whole d.names _ _ HtmlBlock is.chain items is.items_are (λ names start end. refl)
+        chain_whole d.names _ _ HtmlBlock is.chain items is.items_are (λ names depth start end. refl)
             (raw_lines_each ShowsNothing raw_shows range_html d [] _ is.chain (range_html_each ShowsNothing raw_shows) tt is.lines),
         tt,
         tag_left_at d.text (holds text (line_of (unindented p))) (unindented p) lines _ h (extent_at d.text (in_containers path (tag_judge text)) (length d.text) lines h),
       )
   opens_as path p lines HtmlToBlank o i h (items, is, e) =
       subst (WholeOpening d) (sym e) (
-        chain_whole d.names _ _ HtmlBlock is.chain items is.items_are (λ names start end. refl)
+        chain_whole d.names _ _ HtmlBlock is.chain items is.items_are (λ names depth start end. refl)
             (raw_lines_each ShowsNothing raw_shows range_html d [] _ is.chain (range_html_each ShowsNothing raw_shows) tt is.lines),
         tt,
         extent_at d.text (in_containers path blank_judge) (length d.text) lines h,
       )
   opens_as path p lines (ThematicBreak size) o i h e =
-      subst (WholeOpening d) (sym e) (chain_whole d.names _ _ Rule [] _ refl (λ names start end. refl) tt, tt, h)
+      subst (WholeOpening d) (sym e) (chain_whole d.names _ _ Rule [] _ refl (λ names depth start end. refl) tt, tt, h)
   opens_as path p lines (AtxHeading level) o i h (index, chain, stop, is, e) =
       subst (WholeOpening d) (sym e) (
-        chain_whole d.names _ _ (HeadingBody level index) chain _ refl (λ names start end. refl)
+        chain_whole d.names _ _ (HeadingBody level index) chain _ refl (λ names depth start end. refl)
             (heading_each ShowsNothing tokens_show d (heading_text_at d.text (offset (unindented p)) (level_number level)) index chain stop is),
         tt,
         h,
       )
   opens_as path p lines (FencedCode count byte) o i h (items, is, e) =
       subst (WholeOpening d) (sym e) (
-        chain_whole d.names _ _ (FencedCodeBlock is.info) is.chain items is.items_are (λ names start end. refl)
+        chain_whole d.names _ _ (FencedCodeBlock is.info) is.chain items is.items_are (λ names depth start end. refl)
             (raw_lines_each ShowsNothing raw_shows range_text d [] _ is.chain (range_text_each ShowsNothing tokens_show) tt is.lines),
         tt,
         extent_at d.text (in_containers path (fence_judge (indent p.rest) byte count)) (length d.text) lines h,
@@ -177,7 +177,7 @@ module _ (d : Document) (full : HeadsAreFull d) where
   -- what a list item opens
   task_plain : (line : ℕ) (r : Rest) (o : Option (Bool × Rest)) → ShownBy (task_by line r o).0
   task_plain line r None = tt
-  task_plain line r (Some task) = λ names start end. refl
+  task_plain line r (Some task) = λ names depth start end. refl
 
   behind_plain : (marker : Option Item) (p : Place) → ShownBy marker → IsAt d.text p → PlainFrom d.text (behind_task marker p)
   behind_plain None p h i = (i, tt)
@@ -249,7 +249,7 @@ module _ (d : Document) (full : HeadsAreFull d) where
   opens_if path (TextOf marker) p lines o plain i h e = opens_text path p lines (Some marker) o i h plain e
   opens_if path (MarkAlone marker blanks) p lines o plain i h e =
       subst (WholeOpening d) (sym e)
-      (whole_none d.names ((0, marker) ∷ []) (ap (λ (z : List Mark). z ++ []) (plain d.names marker.start marker.«end»)), tt, h)
+      (whole_none d.names ((0, marker) ∷ []) (ap (λ (z : List Mark). z ++ []) (plain d.names 0 marker.start marker.«end»)), tt, h)
 
   -- what opens where blocks go on
   opens_at : (path : List Container) (from : From) (lines : List Place) (p : Place) (behind : List Place) (o : Opening) → PlainFrom d.text from

@@ -14,7 +14,7 @@ use Rattle.first_pass_grammar.specs.Derivation.{tight_body, tightened, row_items
 use Rattle.first_pass_grammar.specs.WholeTables.{Mark, ATable, shown, marks, row_marks, TableRows, table_marks, AreFull, AreWholeTables}
 use Rattle.first_pass_grammar.proofs.HeadCells.{heads_are_full}
 use Rattle.first_pass_grammar.proofs.LinesLeft.{lines_are_at}
-use Rattle.first_pass_grammar.proofs.TableMarks.{marks-append, marks-at_depth}
+use Rattle.first_pass_grammar.proofs.TableMarks.{marks-append, whole_deeper}
 use Rattle.first_pass_grammar.proofs.WholeBlocks.{whole_none, WholeSkeleton, sequence_whole}
 
 -- whole tables behind each other
@@ -22,7 +22,7 @@ pub table_marks-append : (a b : List TableRows) → table_marks (a ++ b) ≡ tab
 unfolding table_marks
 table_marks-append [] b = refl
 table_marks-append (t ∷ a) b =
-    let first : List Mark = ATable t.columns ∷ row_marks t.rows in
+    let first : List Mark = ATable t.depth t.columns ∷ row_marks (suc t.depth) t.rows in
     ap (λ (z : List Mark). first ++ z) (table_marks-append a b) ∙ sym (append_assoc first (table_marks a) (table_marks b))
 
 both_full : (a b : List TableRows) → AreFull a → AreFull b → AreFull (a ++ b)
@@ -43,22 +43,22 @@ unfolding AreWholeTables
 whole_same names nodes more same (a, e, h) = (a, same ∙ e, h)
 
 -- a paragraph made tight shows nothing still
-pub tight_shows : (names : Names) (start «end» : ℕ) (b : ItemBody) → shown names start «end» (tight_body b) ≡ shown names start «end» b
-tight_shows names start end ParagraphBody = refl
-tight_shows names start end b = refl
+pub tight_shows : (names : Names) (depth start «end» : ℕ) (b : ItemBody) → shown names depth start «end» (tight_body b) ≡ shown names depth start «end» b
+tight_shows names depth start end ParagraphBody = refl
+tight_shows names depth start end b = refl
 
-tight_by : (names : Names) (t : Bool) (x : Item)
-    → (let y : Item = if t then record { start = x.start; «end» = x.«end»; body = tight_body x.body } else x in shown names y.start y.«end» y.body)
-    ≡ shown names x.start x.«end» x.body
-tight_by names true x = tight_shows names x.start x.«end» x.body
-tight_by names false x = refl
+tight_by : (names : Names) (depth : ℕ) (t : Bool) (x : Item)
+    → (let y : Item = if t then record { start = x.start; «end» = x.«end»; body = tight_body x.body } else x in shown names depth y.start y.«end» y.body)
+    ≡ shown names depth x.start x.«end» x.body
+tight_by names depth true x = tight_shows names depth x.start x.«end» x.body
+tight_by names depth false x = refl
 
 pub marks-tightened : (names : Names) (depth : ℕ) (nodes : List (ℕ × Item)) → marks names (map (tightened depth) nodes) ≡ marks names nodes
 unfolding marks
 marks-tightened names depth [] = refl
 marks-tightened names depth (n ∷ nodes) =
-    ap (λ (z : List Mark). z ++ marks names (map (tightened depth) nodes)) (tight_by names (n.0 == depth) n.1)
-    ∙ ap (λ (z : List Mark). shown names n.1.start n.1.«end» n.1.body ++ z) (marks-tightened names depth nodes)
+    ap (λ (z : List Mark). z ++ marks names (map (tightened depth) nodes)) (tight_by names n.0 (n.0 == depth) n.1)
+    ∙ ap (λ (z : List Mark). shown names n.0 n.1.start n.1.«end» n.1.body ++ z) (marks-tightened names depth nodes)
 
 -- the leaves of rows show whole tables, or nothing
 abbrev pub WholeWhat : Names → What → Type 0
@@ -116,8 +116,8 @@ row_whole : (names : Names) (depth : ℕ) (tight loose : Bool) (start : ℕ) (w 
     → AreWholeTables names (row_items depth tight loose start w)
 unfolding marks
 row_whole names depth true loose start (ALeaf block) h =
-    whole_same names block.items _ (marks-tightened names depth (at_depth depth block.items) ∙ marks-at_depth names depth block.items) h
-row_whole names depth false loose start (ALeaf block) h = whole_same names block.items (at_depth depth block.items) (marks-at_depth names depth block.items) h
+    whole_same names (at_depth depth block.items) _ (marks-tightened names depth (at_depth depth block.items)) (whole_deeper names depth block.items h)
+row_whole names depth false loose start (ALeaf block) h = whole_deeper names depth block.items h
 row_whole names depth tight loose start (AQuote kind e) h = whole_none names _ refl
 row_whole names depth tight loose start (AList byte number e) h = whole_none names _ refl
 row_whole names depth tight loose start (AnItem columns e) h = whole_none names _ refl

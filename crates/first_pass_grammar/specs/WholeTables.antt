@@ -1,50 +1,52 @@
 -- Tables as their nodes show them: as many cells in each row as columns, and no more of them filled in than may be.
-use Rattle.std.specs.Prelude.{◌≡◌, ℕ, ◌+◌, ◌≤◌, ◌==◌, List, [], ◌∷◌, ◌++◌, length, map, if◌then◌else◌}
+use Rattle.std.specs.Prelude.{◌≡◌, ℕ, ◌+◌, ◌≤◌, ◌==◌, suc, List, [], ◌∷◌, ◌++◌, length, map, if◌then◌else◌}
 use Rattle.first_pass_items.specs.declared.item.Item.{Item}
 use Rattle.first_pass_items.specs.declared.item.ItemBody.{ItemBody}
 use Rattle.first_pass_items.specs.declared.item.ItemBody.TheVariants.{Table, TableHead, TableRow, TableCell}
 use Rattle.first_pass_grammar.specs.Names.{Names, alignments_named}
 use Rattle.first_pass_grammar.specs.Tables.{most_filled}
 
--- what a node shows of tables: one of so many columns, a row or header row that ends at an offset, or a cell that starts at one (GFM 4.10)
+-- what a node shows of tables, and the depth at which it stands: one of so many columns, a row or header row that ends at an offset, or a cell that starts
+-- at one (GFM 4.10)
 pub data Mark : Type 0 where
-  ATable : ℕ → Mark
-  ARow : ℕ → Mark
-  ACell : ℕ → Mark
+  ATable : ℕ → ℕ → Mark
+  ARow : ℕ → ℕ → Mark
+  ACell : ℕ → ℕ → Mark
 
--- what a node with this range and body shows, whose index names the alignments of a table's columns; a node that is no part of a table shows nothing
--- (GFM 4.10)
-abbrev pub shown : Names → ℕ → ℕ → ItemBody → List Mark
-shown names start «end» (Table ix) = ATable (length (alignments_named names ix)) ∷ []
-shown names start «end» TableHead = ARow «end» ∷ []
-shown names start «end» TableRow = ARow «end» ∷ []
-shown names start «end» TableCell = ACell start ∷ []
-shown names start «end» _ = []
+-- what a node at this depth, with this range and body, shows, whose index names the alignments of a table's columns; a node that is no part of a table
+-- shows nothing (GFM 4.10)
+abbrev pub shown : Names → ℕ → ℕ → ℕ → ItemBody → List Mark
+shown names depth start «end» (Table ix) = ATable depth (length (alignments_named names ix)) ∷ []
+shown names depth start «end» TableHead = ARow depth «end» ∷ []
+shown names depth start «end» TableRow = ARow depth «end» ∷ []
+shown names depth start «end» TableCell = ACell depth start ∷ []
+shown names depth start «end» _ = []
 
 -- what nodes show, in reading order (this project)
 unfoldable pub marks : Names → List (ℕ × Item) → List Mark
 marks names [] = []
-marks names (n ∷ nodes) = shown names n.1.start n.1.«end» n.1.body ++ marks names nodes
+marks names (n ∷ nodes) = shown names n.0 n.1.start n.1.«end» n.1.body ++ marks names nodes
 
 -- a row as it is counted: where it ends, and where its cells start (GFM 4.10)
 pub record RowCells : Type 0 where
   pub «end» : ℕ
   pub starts : List ℕ
 
--- a table as it is counted: how many columns it has, and its rows, the header row first (GFM 4.10)
+-- a table as it is counted: at which depth it stands, how many columns it has, and its rows, the header row first (GFM 4.10)
 pub record TableRows : Type 0 where
+  pub depth : ℕ
   pub columns : ℕ
   pub rows : List RowCells
 
--- what the nodes of rows show, each before its cells (GFM 4.10)
-unfoldable pub row_marks : List RowCells → List Mark
-row_marks [] = []
-row_marks (row ∷ rows) = (ARow row.«end» ∷ map ACell row.starts) ++ row_marks rows
+-- what the nodes of rows at a depth show, each before its cells, which stand one deeper (GFM 4.10)
+unfoldable pub row_marks : ℕ → List RowCells → List Mark
+row_marks depth [] = []
+row_marks depth (row ∷ rows) = (ARow depth row.«end» ∷ map (ACell (suc depth)) row.starts) ++ row_marks depth rows
 
--- what the nodes of tables show, each before its rows (GFM 4.10)
+-- what the nodes of tables show, each before its rows, which stand one deeper (GFM 4.10)
 unfoldable pub table_marks : List TableRows → List Mark
 table_marks [] = []
-table_marks (table ∷ tables) = (ATable table.columns ∷ row_marks table.rows) ++ table_marks tables
+table_marks (table ∷ tables) = (ATable table.depth table.columns ∷ row_marks (suc table.depth) table.rows) ++ table_marks tables
 
 -- how many of these offsets are this one (this project)
 unfoldable pub how_often : ℕ → List ℕ → ℕ
@@ -66,6 +68,7 @@ unfoldable pub AreFull : List TableRows → Type 0
 AreFull [] = Unit {0}
 AreFull (table ∷ tables) = HaveCells table.columns table.rows × (filled_in table.rows ≤ most_filled) × AreFull tables
 
--- What these nodes show is such tables, one after the other, and no row or cell outside them (GFM 4.10, and this project).
+-- What these nodes show is such tables, one after the other, each with its rows one deeper and their cells two deeper, and no row or cell outside them (GFM
+-- 4.10, and this project).
 unfoldable pub AreWholeTables : Names → List (ℕ × Item) → Type 0
 AreWholeTables names nodes = (tables : List TableRows) × (marks names nodes ≡ table_marks tables) × AreFull tables

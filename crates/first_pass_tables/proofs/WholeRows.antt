@@ -17,16 +17,16 @@ use Rattle.first_pass_open.specs.Path.{path_of}
 use Rattle.first_pass_tables.specs.Appends.{AppendsRows, AddsWholeRows}
 
 -- nodes without an index show the same, whatever indices name
-shown_free : (m n : Names) (start «end» : ℕ) (b : ItemBody) → index_of b ≡ None → shown m start «end» b ≡ shown n start «end» b
-shown_free m n start end (Table ix) h = absurd (none-some _ (sym h))
-shown_free m n start end b h = refl
+shown_free : (m n : Names) (depth start «end» : ℕ) (b : ItemBody) → index_of b ≡ None → shown m depth start «end» b ≡ shown n depth start «end» b
+shown_free m n depth start end (Table ix) h = absurd (none-some _ (sym h))
+shown_free m n depth start end b h = refl
 
 marks_free : (m n : Names) (nodes : List (ℕ × Item)) → AreFreeNodes nodes → marks m nodes ≡ marks n nodes
 unfolding marks
 marks_free m n [] h = refl
 marks_free m n (x ∷ nodes) h =
-    ap (λ (z : List Mark). z ++ marks m nodes) (shown_free m n x.1.start x.1.«end» x.1.body h.0)
-    ∙ ap (λ (z : List Mark). shown n x.1.start x.1.«end» x.1.body ++ z) (marks_free m n nodes h.1)
+    ap (λ (z : List Mark). z ++ marks m nodes) (shown_free m n x.0 x.1.start x.1.«end» x.1.body h.0)
+    ∙ ap (λ (z : List Mark). shown n x.0 x.1.start x.1.«end» x.1.body ++ z) (marks_free m n nodes h.1)
 
 -- the header row and the rows behind it
 pub added_whole : (d : Document) (columns head_start body_start : ℕ) (old new : Forest Item) (next : ℕ)
@@ -47,7 +47,7 @@ added_whole d columns head_start body_start old new next r =
       rows = first ∷ rows;
       show = λ names.
           marks_free names d.names (head ++ r.body) free ∙ marks-append d.names head r.body ∙ ap (λ (z : List Mark). z ++ marks d.names r.body) show
-          ∙ ap (λ (z : List Mark). (ARow r.head_end ∷ map ACell starts) ++ z) these;
+          ∙ ap (λ (z : List Mark). (ARow 0 r.head_end ∷ map (ACell 1) starts) ++ z) these;
       have_cells = (size, have);
       few = λ on as_many. let least = head_has_cells d head_start r.cells r.head_end on r.are_cells in omega arith;
     }

@@ -124,6 +124,6 @@ pub record AddsWholeRows (d : Document) (columns head_start : ℕ) (old new : Fo
   pub items : List (ℕ × Item)
   pub tree_is : new ≡ closed_by (with_below old items) next old.spine
   pub rows : List RowCells
-  pub show : (names : Names) → marks names items ≡ row_marks rows
+  pub show : (names : Names) → marks names items ≡ row_marks 0 rows
   pub have_cells : HaveCells columns rows
   pub few : has d.options tables ≡ true → head_columns (drop head_start d.text) ≡ columns → filled_in rows ≤ most_filled
