@@ -3,6 +3,7 @@
 use crate::fakes::{Sink, Source, run};
 use first_pass_host::fault::BlocksFault;
 use std::alloc::{AllocError, Global};
+use std::process::Abort;
 use std::test::Fail;
 
 const WHOLE: usize = usize::MAX;
@@ -122,15 +123,20 @@ fn each_read_fails_in_turn(rt: HostRuntime) -> Result<(), Fail> {
     Ok(())
 }
 
-#[test]
-fn each_write_fails_in_turn(rt: HostRuntime) -> Result<(), Fail> {
-    let text = long_text(rt.alloc())?;
-    let mut whole = Sink::new(rt.alloc(), WHOLE, 0);
-    let answer = write(rt.alloc(), text.as_slice(), WHOLE, &mut whole)?;
-    assert!(rt; answer == Ok(()) && 3 < whole.writes);
+// Fails each write in turn of what a run without options writes for a text, so many bytes at a time, until a run
+// succeeds: how many writes there are.
+fn fail_each_write(
+    rt: &impl Abort,
+    alloc: Global,
+    text: &[u8],
+    step: usize,
+) -> Result<usize, Fail> {
+    let mut whole = Sink::new(alloc, step, 0);
+    let answer = write(alloc, text, WHOLE, &mut whole)?;
+    assert!(rt; answer == Ok(()));
     for fails_at in 1..100 {
-        let mut sink = Sink::new(rt.alloc(), WHOLE, fails_at);
-        let answer = write(rt.alloc(), text.as_slice(), WHOLE, &mut sink)?;
+        let mut sink = Sink::new(alloc, step, fails_at);
+        let answer = write(alloc, text, WHOLE, &mut sink)?;
         if answer == Ok(()) {
             assert!(rt; whole.writes < fails_at && sink.bytes.as_slice() == whole.bytes.as_slice());
             break;
@@ -142,6 +148,39 @@ fn each_write_fails_in_turn(rt: HostRuntime) -> Result<(), Fail> {
             "write {fails_at}"
         );
     }
+    Ok(whole.writes)
+}
+
+#[test]
+fn each_write_fails_in_turn(rt: HostRuntime) -> Result<(), Fail> {
+    let text = long_text(rt.alloc())?;
+    assert!(rt; 3 < fail_each_write(&rt, rt.alloc(), text.as_slice(), WHOLE)?);
+    Ok(())
+}
+
+/// Three definitions, the second of which is longer than what is held between two writes.
+fn long_definitions(alloc: Global) -> Result<Vec<u8>, AllocError> {
+    let mut text = Vec::new(alloc);
+    text.extend_from_slice(b"[a]: x\n[b]: ")?;
+    for _ in 0..9000 {
+        text.extend_from_slice(b"y")?;
+    }
+    text.extend_from_slice(b"\n[c]: z")?;
+    Ok(text)
+}
+
+// The lines of the definitions are written behind those of the nodes.
+#[test]
+fn each_write_of_definitions_fails_in_turn(rt: HostRuntime) -> Result<(), Fail> {
+    // The line of the root has 11 bytes, and those of the three definitions have 44.
+    let short = b"[b]: y 'c'\n[a]: x\n\n[c]: <>".as_slice();
+    assert_eq!(rt; fail_each_write(&rt, rt.alloc(), short, 5)?, 12);
+    // The line of the root; those of the first two definitions; that of the third.
+    let long = long_definitions(rt.alloc())?;
+    assert_eq!(rt;
+        fail_each_write(&rt, rt.alloc(), long.as_slice(), WHOLE)?,
+        3
+    );
     Ok(())
 }
 

@@ -13,4 +13,6 @@ mod fakes;
 mod faults;
 pub mod surface;
 #[cfg(test)]
+mod long;
+#[cfg(test)]
 mod table_lines;

@@ -1,0 +1,84 @@
+//! Long texts: each is read without an error, and has so many nodes and link definitions.
+
+use bitflags::Flags;
+use first_pass::pass::run_first_pass;
+use first_pass_items::option_set::Options;
+use std::alloc::{AllocError, Global};
+use std::test::Fail;
+
+// The pieces one after the other, each so many times.
+fn repeated(alloc: Global, pieces: &[(&str, usize)]) -> Result<String, AllocError> {
+    let mut text = String::new(alloc);
+    for (piece, times) in pieces {
+        for _ in 0..*times {
+            text.push_str(piece)?;
+        }
+    }
+    Ok(text)
+}
+
+// How many nodes such a text has, and how many link definitions.
+fn count(
+    alloc: Global,
+    pieces: &[(&str, usize)],
+    options: Options,
+) -> Result<(usize, usize), AllocError> {
+    let text = repeated(alloc, pieces)?;
+    let (tree, allocs) = run_first_pass(alloc, text.as_str(), options)?;
+    Ok((tree.node_count(), allocs.refdefs().iter().count()))
+}
+
+#[test]
+fn long_definitions(rt: HostRuntime) -> Result<(), Fail> {
+    let cases: &[(&[(&str, usize)], usize, usize)] = &[
+        // A destination of 100,000 bytes.
+        (&[("[a]: ", 1), ("b", 100_000)], 1, 1),
+        // A title of as many, on one line and on many.
+        (&[("[a]: b '", 1), ("c", 100_000), ("'", 1)], 1, 1),
+        (&[("[a]: b '", 1), ("c\n", 50_000), ("'", 1)], 1, 1),
+        // A definition of as many, with both.
+        (
+            &[
+                ("[a]: ", 1),
+                ("b", 49_992),
+                (" '", 1),
+                ("c", 50_000),
+                ("'", 1),
+            ],
+            1,
+            1,
+        ),
+        // Labels of 999 characters.
+        (&[("[", 1), ("a", 999), ("]: b", 1)], 1, 1),
+        (&[("[", 1), ("é", 999), ("]: b", 1)], 1, 1),
+        // Labels of 1,000: the root, a paragraph, the bracket, a text, the other bracket, a text.
+        (&[("[", 1), ("a", 1000), ("]: b", 1)], 6, 0),
+        (&[("[", 1), ("é", 1000), ("]: b", 1)], 6, 0),
+    ];
+    for (pieces, nodes, links) in cases {
+        let counted = count(rt.alloc(), pieces, Options::empty())?;
+        assert!(rt; counted == (*nodes, *links), "{pieces:?}");
+    }
+    Ok(())
+}
+
+#[test]
+fn long_paragraphs_and_tables(rt: HostRuntime) -> Result<(), Fail> {
+    // The root, the paragraph, a text each line, and a break between two.
+    let lines: &[(&str, usize)] = &[("a\n", 100_000)];
+    assert!(rt; count(rt.alloc(), lines, Options::empty())? == (200_001, 0));
+    // The root, the table, the head and a row, each of its cells with a text.
+    let columns: &[(&str, usize)] = &[
+        ("a|", 100_000),
+        ("\n", 1),
+        ("-|", 100_000),
+        ("\n", 1),
+        ("a|", 100_000),
+    ];
+    assert!(rt; count(rt.alloc(), columns, Options::ENABLE_TABLES)? == (400_004, 0));
+    // The root, the table, the head, its 513 cells with a text each, 512 rows of 513 cells and a text, which is all
+    // that may be filled in, and the last line as a paragraph with a text.
+    let filled: &[(&str, usize)] = &[("a|", 513), ("\n", 1), ("-|", 513), ("\n", 1), ("a\n", 513)];
+    assert!(rt; count(rt.alloc(), filled, Options::ENABLE_TABLES)? == (264_711, 0));
+    Ok(())
+}
