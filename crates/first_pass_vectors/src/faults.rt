@@ -204,3 +204,21 @@ fn a_writer_that_takes_nothing_fails(rt: HostRuntime) -> Result<(), Fail> {
     assert!(rt; answer == Err(BlocksFault::WriteFailed) && full.writes == 1);
     Ok(())
 }
+
+#[test]
+fn faults_are_told(rt: HostRuntime) -> Result<(), Fail> {
+    let told: &[(BlocksFault, &str, u8)] = &[
+        (BlocksFault::OutOfMemory, "out of memory", 1),
+        (BlocksFault::NotUtf8, "not UTF-8", 2),
+        (BlocksFault::BadOptions, "bad options", 2),
+        (BlocksFault::ReadFailed, "read failed", 2),
+        (BlocksFault::WriteFailed, "write failed", 2),
+    ];
+    for (fault, message, status) in told {
+        assert!(rt;
+            fault.message() == *message && fault.status() == *status,
+            "{message}"
+        );
+    }
+    Ok(())
+}

@@ -48,12 +48,25 @@ fn long_definitions(rt: HostRuntime) -> Result<(), Fail> {
             1,
             1,
         ),
-        // Labels of 999 characters.
+        // Labels of 999 characters; of several bytes, of the least and the greatest byte behind a first one.
         (&[("[", 1), ("a", 999), ("]: b", 1)], 1, 1),
-        (&[("[", 1), ("é", 999), ("]: b", 1)], 1, 1),
+        (&[("[", 1), ("\u{100}", 999), ("]: b", 1)], 1, 1),
+        (&[("[", 1), ("\u{bf}", 999), ("]: b", 1)], 1, 1),
+        // An escape has two characters, `\r\n` too, and white space as many as it is written with.
+        (&[("[", 1), ("\\]", 499), ("a", 1), ("]: b", 1)], 1, 1),
+        (&[("[", 1), ("a\r\n", 333), ("]: b", 1)], 1, 1),
+        (&[("[a", 1), (" ", 998), ("]: b", 1)], 1, 1),
+        // Four columns before a line are a prefix, and no part of it.
+        (&[("[", 1), ("a", 997), ("\n    b]: c", 1)], 1, 1),
         // Labels of 1,000: the root, a paragraph, the bracket, a text, the other bracket, a text.
         (&[("[", 1), ("a", 1000), ("]: b", 1)], 6, 0),
-        (&[("[", 1), ("é", 1000), ("]: b", 1)], 6, 0),
+        (&[("[", 1), ("\u{bf}", 1000), ("]: b", 1)], 6, 0),
+        (&[("[", 1), ("\u{7f}", 1000), ("]: b", 1)], 6, 0),
+        (&[("[a", 1), (" ", 999), ("]: b", 1)], 6, 0),
+        // The same with a text for each escape, and with a break and a text for each further line.
+        (&[("[", 1), ("\\]", 500), ("]: b", 1)], 505, 0),
+        (&[("[", 1), ("a\r\n", 333), ("a]: b", 1)], 672, 0),
+        (&[("[", 1), ("a", 997), ("\n     b]: c", 1)], 8, 0),
     ];
     for (pieces, nodes, links) in cases {
         let counted = count(rt.alloc(), pieces, Options::empty())?;

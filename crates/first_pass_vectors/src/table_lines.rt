@@ -1,7 +1,9 @@
-//! How the node of a table is printed, and what its index names.
+//! How the node of a table is printed, and what its index names; and how nodes are printed that no text has yet.
 
+use bitflags::Flags;
 use first_pass::below::{Alignment, AlignmentIndex, Item, ItemBody};
 use first_pass::items::Allocations;
+use first_pass_items::item::ListFlags;
 use first_pass_program::printed::append_node;
 use std::test::Fail;
 
@@ -29,5 +31,56 @@ fn tables_are_printed(rt: HostRuntime) -> Result<(), Fail> {
     assert!(rt; *lines.as_slice() == *expected);
     assert_eq!(rt; allocs.alignments_at(one).len(), 1);
     assert_eq!(rt; allocs.alignments_at(each).len(), 4);
+    Ok(())
+}
+
+#[test]
+fn other_nodes_are_printed(rt: HostRuntime) -> Result<(), Fail> {
+    let allocs = Allocations::new(rt.alloc());
+    let bodies: &[(ItemBody, &[u8])] = &[
+        (
+            ItemBody::DefinitionList(ListFlags::IS_TIGHT),
+            b"DefinitionList(tight) 1..2\n",
+        ),
+        (
+            ItemBody::DefinitionList(ListFlags::empty()),
+            b"DefinitionList(loose) 1..2\n",
+        ),
+        (
+            ItemBody::MaybeDefinitionListTitle,
+            b"MaybeDefinitionListTitle 1..2\n",
+        ),
+        (ItemBody::DefinitionListTitle, b"DefinitionListTitle 1..2\n"),
+        (
+            ItemBody::DefinitionListDefinition(4),
+            b"DefinitionListDefinition(4) 1..2\n",
+        ),
+        (
+            ItemBody::MaybeEmphasis(2, true, false),
+            b"MaybeEmphasis(2,true,false) 1..2\n",
+        ),
+        (
+            ItemBody::MaybeMath(true, false, 255),
+            b"MaybeMath(true,false,255) 1..2\n",
+        ),
+        (
+            ItemBody::MaybeSmartQuote(b'"', true, false),
+            b"MaybeSmartQuote(\",true,false) 1..2\n",
+        ),
+        (
+            ItemBody::SynthesizeChar('\u{2014}'),
+            b"SynthesizeChar(\xe2\x80\x94) 1..2\n",
+        ),
+    ];
+    for (body, want) in bodies {
+        let mut lines = Vec::new(rt.alloc());
+        let node = Item {
+            start: 1,
+            end: 2,
+            body: *body,
+        };
+        append_node(&mut lines, 0, node, &allocs)?;
+        assert!(rt; *lines.as_slice() == **want, "{want:?}");
+    }
     Ok(())
 }
