@@ -28,27 +28,18 @@ fn print_heading(
     nodes: &[(usize, Item)],
     allocs: &Allocations<'_>,
 ) -> Result<()> {
-    let Some(
-        (
-            _,
-            Item {
-                start,
-                end,
-                body: ItemBody::Heading(level, attributes),
-            },
-        ),
-    ) = nodes.first().copied()
-    else {
+    let Some((_, node)) = nodes.first() else {
         return Ok(());
     };
-    let id = attributes
-        .and_then(|ix| allocs.attributes_at(ix))
-        .and_then(|given| given.id)
-        .unwrap_or("");
+    let ItemBody::Heading(level, attributes) = node.body else {
+        return Ok(());
+    };
+    let attributes = attributes.and_then(|ix| allocs.attributes_at(ix));
+    let id = attributes.and_then(|given| given.id).unwrap_or("");
+    let content = content(text, nodes).unwrap_or("");
     println!(rt;
-        "{} {start}..{end} #{id} {}",
-        level as usize,
-        content(text, nodes).unwrap_or("")
+        "{} {}..{} #{id} {content}",
+        level as usize, node.start, node.end
     )?;
     Ok(())
 }
