@@ -1,2 +1,3 @@
+pub mod LabelsAt
 pub mod LinkLemmas
 pub mod NameLemmas

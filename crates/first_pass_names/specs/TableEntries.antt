@@ -1,12 +1,15 @@
 -- What a contract sees of the tables beside a tree.
-use Rattle.std.specs.Prelude.{List, [], map}
-use Rattle.std.specs.Option.{option_map}
+use Rattle.std.specs.Prelude.{ℕ, false, List, [], map, Option, Some}
+use Rattle.std.specs.Option.{option_map, option_and_then}
 use Rattle.first_pass_items.specs.declared.cow_str.CowStr.{CowStr}
 use Rattle.first_pass_items.specs.CowText.{text_of}
 pub use Rattle.first_pass_grammar.specs.Names.{Names, with_named, with_alignments, with_heading}
 use Rattle.first_pass_grammar.specs.LinkTables.{LinkEntry}
 use Rattle.first_pass_grammar.specs.Derivation.{Tables}
 use Rattle.first_pass_attributes.specs.Attributes.{attributes_in}
+use Rattle.first_pass_links.specs.Labels.{label_at}
+use Rattle.first_pass_labels.specs.Foldings.{folded}
+use Rattle.first_pass_labels.specs.LabelTables.{defined_under}
 use Rattle.first_pass_labels.specs.declared.label_table.LinkDef.{LinkDef}
 use Rattle.first_pass_labels.specs.declared.label_table.FootnoteDef.{FootnoteDef}
 use Rattle.first_pass_names.specs.declared.items.Allocations.{Allocations}
@@ -25,6 +28,12 @@ refdefs_of a = a.refdefs
 
 abbrev pub footdefs_of : Allocations → List (CowStr × FootnoteDef)
 footdefs_of a = a.footdefs
+
+-- The link definition that a label names which stands at the start of these bytes, those after a `[`, and how many bytes that label has with its `]`; no line of
+-- it has a prefix (CommonMark 4.7, 6.3).
+unfoldable pub link_at : List (CowStr × LinkDef) → List ℕ → Option (ℕ × LinkDef)
+link_at links bs =
+    option_and_then (λ (label : ℕ × List ℕ). option_map (λ (link : LinkDef). (label.0, link)) (defined_under (folded label.1) links)) (label_at (λ further. Some 0) false bs)
 
 -- the texts, the alignments of tables' columns, and the attributes of headings, that nodes name by an index
 abbrev pub names_of : Allocations → Names

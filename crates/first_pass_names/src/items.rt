@@ -2,10 +2,11 @@
 
 ghost use Rattle.std.specs.Option.{option_map};
 ghost use Rattle.first_pass_attributes.specs.Attributes.{attributes_in};
-ghost use Rattle.std.specs.Prelude.{◌≡◌, ◌<◌, ◌∷◌, ◌++◌, [], length, slice_get, Some, IfOk, OnOk, OnErr};
+ghost use Rattle.std.specs.Prelude.{◌≡◌, ◌<◌, ◌∷◌, ◌++◌, [], length, slice_get, None, Ok, Some, IfOk, IsSomeAnd, MatchOption, OnOk, OnErr, false};
+ghost use Rattle.first_pass_links.specs.Labels.{label_at};
 ghost use Rattle.first_pass_grammar.specs.Names.{NamesText, Extends};
 ghost use Rattle.first_pass_items.specs.CowText.{text_of};
-ghost use Rattle.first_pass_names.specs.TableEntries.{tables, names_of, no_names, with_named, with_alignments, with_heading, link_entry, refdefs_of, footdefs_of};
+ghost use Rattle.first_pass_names.specs.TableEntries.{tables, names_of, no_names, with_named, with_alignments, with_heading, link_entry, link_at as link_at_of, refdefs_of, footdefs_of};
 ghost use Rattle.first_pass_grammar.specs.Names.{text_named, alignments_named};
 ghost use Rattle.first_pass_grammar.specs.Derivation.{no_tables, told};
 
@@ -15,6 +16,7 @@ use first_pass_items::item::{Alignment, AlignmentIndex, CowIndex, HeadingIndex};
 pub use first_pass_labels::label_key::LabelKey;
 use first_pass_labels::label_table::LabelTable;
 pub use first_pass_labels::label_table::{FootDefs, FootnoteDef, LinkDef, RefDefs};
+use first_pass_links::label::scan_link_label_rest;
 use std::alloc::{AllocError, Global};
 use std::ops::{DerefStr, Index};
 
@@ -120,6 +122,27 @@ impl<'a> Allocations<'a> {
         Ok(())
     }
 
+    /// The link definition that a label names which stands at the start of `text`, the bytes after a `[`: how many bytes
+    /// the label has with its `]`, and the definition. `None` where no label stands there, or none of the definitions
+    /// has it. The label may cross line ends; on further lines nothing is left out as the prefix of a container. Fails
+    /// only if allocation fails (CommonMark 4.7, 6.3).
+    pub fn link_at(
+        &self,
+        alloc: Global,
+        text: &str,
+    ) -> Result<Option<(usize, &LinkDef<'a>)>, AllocError>
+        ensures { IfOk result (λ found. option_map (λ f. (f.0, f.1.now)) found
+            ≡ link_at_of (refdefs_of self.now) text.now) }
+    {
+        let Some((size, label)) = scan_label(alloc, text)? else {
+            return Ok(None);
+        };
+        match self.refdefs.get(label.deref())? {
+            Some(link) => Ok(Some((size, link))),
+            None => Ok(None),
+        }
+    }
+
     /// The text that a node names by this index; an empty one where the index names none.
     pub fn text_at(&self, ix: CowIndex) -> &str
         ensures { result.now ≡ text_named (names_of self.now) ix }
@@ -146,6 +169,22 @@ impl<'a> Allocations<'a> {
     {
         self.headings.get(ix.0)
     }
+}
+
+// What a further line of a label has before the label goes on: nothing.
+fn no_prefix(_line: &[u8]) -> Result<Option<usize>, AllocError>
+    ensures { result ≡ Ok (Some 0) }
+{
+    Ok(Some(0))
+}
+
+// The label that stands at the start of `text`, with how many bytes it has.
+fn scan_label<'t>(alloc: Global, text: &'t str) -> Result<Option<(usize, CowStr<'t>)>, AllocError>
+    ensures { IfOk result (λ answer. MatchOption (label_at (λ further. Some 0) false text.now)
+        (answer ≡ None)
+        (λ label. IsSomeAnd answer (λ found. (found.0 ≡ label.0) × (text_of found.1 ≡ label.1)))) }
+{
+    scan_link_label_rest(alloc, text, |line: &[u8]| no_prefix(line), false)
 }
 
 impl<'a> Index<CowIndex> for Allocations<'a> {

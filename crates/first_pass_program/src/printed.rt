@@ -339,8 +339,8 @@ fn metadata_name(kind: MetadataBlockKind) -> &'static str
     }
 }
 
-/// The name of what a node is.
-fn body_name(body: ItemBody) -> &'static str
+/// The name of what a node is, as `blocks` prints it.
+pub fn body_name(body: ItemBody) -> &'static str
     ensures { result.now ≡ name_of body }
 {
     match body {

@@ -84,7 +84,7 @@ impl Tree<Item> {
         TreeIndex(0)
     }
 
-    /// All nodes in reading order, the root first, each with its depth.
+    /// All nodes in reading order, the root first, each with its depth. `TreeIndex(i)` names the node at place `i`.
     pub fn nodes(&self) -> &[(usize, Item)]
         ensures { result.now ≡ self.now.nodes }
     {

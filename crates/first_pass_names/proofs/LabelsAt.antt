@@ -1,0 +1,31 @@
+-- The link definition that a label at the start of bytes names.
+use Rattle.std.proofs.Common.{◌≡◌, ℕ, false, List, Option, Some, None, IsSomeAnd, MatchOption, refl, ap, ◌∙◌}
+use Rattle.std.specs.Option.{option_map}
+use Rattle.first_pass_items.specs.declared.cow_str.CowStr.{CowStr}
+use Rattle.first_pass_items.specs.CowText.{text_of}
+use Rattle.first_pass_labels.specs.Foldings.{folded}
+use Rattle.first_pass_labels.specs.LabelTables.{defined_under}
+use Rattle.first_pass_labels.specs.declared.label_table.LinkDef.{LinkDef}
+use Rattle.first_pass_links.specs.Labels.{label_at}
+use Rattle.first_pass_names.specs.TableEntries.{link_at}
+
+-- the label was read as this answer says, or there is none
+abbrev pub IsReadAs : Option (ℕ × List ℕ) → Option (ℕ × CowStr) → Type 0
+IsReadAs label answer = MatchOption label (answer ≡ None) (λ l. IsSomeAnd answer (λ found. (found.0 ≡ l.0) × (text_of found.1 ≡ l.1)))
+
+-- where no label was read none stands there
+pub link_none : (links : List (CowStr × LinkDef)) (bs : List ℕ) (label : Option (ℕ × List ℕ)) → label_at (λ further. Some 0) false bs ≡ label
+    → IsReadAs label None → None ≡ link_at links bs
+unfolding link_at
+link_none links bs None e read = rw e refl
+link_none links bs (Some l) e read = absurd read
+
+-- what is defined under the label that was read
+pub link_there : (links : List (CowStr × LinkDef)) (bs : List ℕ) (label : Option (ℕ × List ℕ)) (size : ℕ) (text : CowStr) (found : Option LinkDef)
+    → label_at (λ further. Some 0) false bs ≡ label → IsReadAs label (Some (size, text)) → found ≡ defined_under (folded (text_of text)) links
+    → option_map (λ link. (size, link)) found ≡ link_at links bs
+unfolding link_at
+link_there links bs None size text found e read is = cc
+link_there links bs (Some l) size text found e read is =
+    let at : ℕ → List ℕ → Option (ℕ × LinkDef) = λ n xs. option_map (λ link. (n, link)) (defined_under (folded xs) links) in
+    ap (option_map (λ link. (size, link))) is ∙ ap (λ n. at n (text_of text)) read.0 ∙ ap (at l.0) read.1 ∙ rw e refl
