@@ -5,7 +5,7 @@ use Rattle.first_pass_lines.specs.Places.{Place, offset, line_end, IsPlaceOf}
 use Rattle.first_pass_grammar.specs.Leaves.{document}
 use Rattle.first_pass_grammar.specs.Names.{Extends}
 use Rattle.first_pass_grammar.specs.Kinds.{Kind, unindented}
-use Rattle.first_pass_names.specs.TableEntries.{tables, names_of}
+use Rattle.first_pass_names.specs.TableEntries.{entries, names_of}
 use Rattle.first_pass_raw.specs.RawBlocks.{behind_line_at}
 use Rattle.first_pass_lists.specs.Closing.{with_block}
 use Rattle.first_pass_lists.specs.declared.reading.Reading.{Reading}
@@ -38,18 +38,18 @@ module _ (old new : FirstPass) (p : Place) (at next : ℕ) (u : IsUtf8 (source_t
   pub line_read : next ≡ line_end p → (behind_line_at (source_text old) at ≤ next) × IsCharBoundary (source_text old) next
   line_read ends = let same = here in (omega arith, subst (IsCharBoundary (source_text old)) (sym ends) (place_end (source_text old) p u i))
 
-  pub leaf_added : (k kind : Kind) → kind ≡ k → (reading_of old).blank ≡ false → source_of new ≡ source_of old → Extends (names_of (allocs_of new)) (names_of (allocs_of old)) → tables (allocs_of new) ≡ tables (allocs_of old)
+  pub leaf_added : (k kind : Kind) → kind ≡ k → (reading_of old).blank ≡ false → source_of new ≡ source_of old → Extends (names_of (allocs_of new)) (names_of (allocs_of old)) → entries (allocs_of new) ≡ entries (allocs_of old)
       → reading_of new ≡ with_block (reading_of old) (tree_of new) → (behind_line_at (source_text old) at ≤ next) × IsCharBoundary (source_text old) next
       → ((from : ℕ) → from ≤ at → AddsBetween (source_text old) from next (tree_of old) (tree_of new))
       → AddsKind (document (source_text old) (source_options old) (names_of (allocs_of new))) p k false (tree_of old) (tree_of new) next → AddsLeaf old new p kind next
-  leaf_added k kind is blank source names tables reading behind fits block =
+  leaf_added k kind is blank source names entries reading behind fits block =
       let later = behind.0 in
       let same = here in
       let low = unindented_later (source_text old) p.line p.rest u i in
       record {
         source = source;
         names = names;
-        tables = tables;
+        entries = entries;
         empty_item = ap (λ (r : Reading). r.empty_item) reading;
         block = adds_so (source_text old) (source_options old) (names_of (allocs_of new)) p k kind false (reading_of new).blank (tree_of old) (tree_of new) next is (ap (λ (r : Reading). r.blank) reading ∙ blank) block;
         later = omega arith;
@@ -59,7 +59,7 @@ module _ (old new : FirstPass) (p : Place) (at next : ℕ) (u : IsUtf8 (source_t
 
   -- one that names nothing
   pub text_added : (k kind : Kind) → kind ≡ k → (reading_of old).blank ≡ false → source_of new ≡ source_of old → Extends (names_of (allocs_of new)) (names_of (allocs_of old))
-      → tables (allocs_of new) ≡ tables (allocs_of old) → reading_of new ≡ with_block (reading_of old) (tree_of new) → next ≡ line_end p
+      → entries (allocs_of new) ≡ entries (allocs_of old) → reading_of new ≡ with_block (reading_of old) (tree_of new) → next ≡ line_end p
       → ((from : ℕ) → from ≤ at → AddsBetween (source_text old) from next (tree_of old) (tree_of new))
       → AddsKind (document (source_text old) (source_options old) (names_of (allocs_of new))) p k false (tree_of old) (tree_of new) next → AddsLeaf old new p kind next
-  text_added k kind is blank source names tables reading ends fits block = leaf_added k kind is blank source names tables reading (line_read ends) fits block
+  text_added k kind is blank source names entries reading ends fits block = leaf_added k kind is blank source names entries reading (line_read ends) fits block

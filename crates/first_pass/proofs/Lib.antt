@@ -26,3 +26,4 @@ pub mod StateLemmas
 pub mod TagLemmas
 pub mod TextLemmas
 pub mod UnderlinedOrder
+pub mod WrittenLemmas

@@ -18,7 +18,8 @@ use Rattle.first_pass_grammar.specs.LinkTables.{LinkEntry}
 use Rattle.first_pass_grammar.specs.LinkRuns.{Ended, FlowsOn, IsRun}
 use Rattle.first_pass_grammar.specs.Completion.{Frame, lines_from}
 use Rattle.first_pass_grammar.specs.OpenOrder.{IsOrderedTo}
-use Rattle.first_pass_names.specs.TableEntries.{tables, names_of}
+use Rattle.first_pass_names.specs.TableEntries.{entries, tables, told_by, names_of, refdefs_of}
+use Rattle.first_pass_definitions.specs.Found.{AreWritten}
 use Rattle.first_pass_lists.specs.Closing.{list_finished}
 use Rattle.first_pass_lists.specs.declared.reading.Reading.{Reading}
 use Rattle.first_pass_text.specs.Between.{AddsBetween}
@@ -44,6 +45,7 @@ use Rattle.first_pass.proofs.NamedLemmas.{block_added, list_finished_named}
 use Rattle.first_pass.proofs.CountLemmas.{count, list_finished_count, block_count, leaf_left, left_before}
 use Rattle.first_pass.proofs.LeafLemmas.{ready_ended, ready_flows}
 use Rattle.first_pass.proofs.LeafRead.{IsLeafRead}
+use Rattle.first_pass.proofs.WrittenLemmas.{written_stay}
 
 -- Where containers and lists alone are open no table is.
 no_table_by : (b : ItemBody) (frame : Frame) (outer : Bool) → frame_of b ≡ Some frame → in_table_by outer (Some b) ≡ false
@@ -104,9 +106,10 @@ run_from text around p xs b run = subst (λ n. IsRun around (unindented p) (line
 -- link definitions with no paragraph behind them
 pub run_line : (old mid new : FirstPass) (p : Place) (nested : Bool) (line next : ℕ) → IsUtf8 (source_text old) → IsPlaceOf (source_text old) p → (reading_of old).empty_item ≡ None → IsForest (tree_of old) → IsKind (source_options old) p.rest Paragraph
     → nested ≡ in_table (tree_of old).nodes (tree_of old).spine → source_of mid ≡ source_of old → names_of (allocs_of mid) ≡ names_of (allocs_of old)
+    → (AreWritten (source_text old) (refdefs_of (allocs_of old)) → AreWritten (source_text old) (refdefs_of (allocs_of mid)))
     → ReadsRun (source_text old) (context_in old) nested (unindented p) (tables (allocs_of old)) (tables (allocs_of mid)) (NextLine line next)
     → source_of new ≡ source_of mid → allocs_of new ≡ allocs_of mid → reading_of new ≡ list_finished line (reading_of old) → IsLeafRead old new p next
-run_line old mid new p nested line next u i empty forest kind nest source names w source' allocs reading =
+run_line old mid new p nested line next u i empty forest kind nest source names written w source' allocs reading =
     let text = source_text old in
     let r : Reading = reading_of old in
     let q : Place = w.place in
@@ -135,6 +138,7 @@ run_line old mid new p nested line next u i empty forest kind nest source names 
             (subst (λ z. Ready d (told (tables (allocs_of old)) w.definitions) z (lines_from text next)) (sym behind)
             (ready_ended d (tables (allocs_of old)) r p q next w.definitions forest kind run empty ready));
         named = λ h. subst (λ (z : Reading). AreNamed (names_of (allocs_of new)) z.tree.nodes) (sym behind) (subst (λ z. AreNamed z (list_finished q.line r).tree.nodes) (sym named) (list_finished_named (names_of (allocs_of old)) q.line r h));
+        written = λ h. subst (λ z. AreWritten text (refdefs_of z)) (sym allocs) (written h);
         order = λ o. inl (subst (λ z. IsOrderedAt text z next) (sym behind)
             (ordered_none text (list_finished q.line r) next (list_finished_none q.line r) high
             (ordered_finished text r q.line (offset q) q.line next (omega arith) (omega arith) (inl (refl, later_line text p q o.0 w.later)) high last empty (later_ordered text r.tree p q further w.later w.stands o.1))));
@@ -145,11 +149,12 @@ run_line old mid new p nested line next u i empty forest kind nest source names 
 -- the paragraph that they flow into, or that stands alone
 pub run_text : (old mid new : FirstPass) (p : Place) (nested : Bool) (at next : ℕ) → IsUtf8 (source_text old) → IsPlaceOf (source_text old) p → (reading_of old).empty_item ≡ None → IsForest (tree_of old) → IsKind (source_options old) p.rest Paragraph
     → nested ≡ in_table (tree_of old).nodes (tree_of old).spine → source_of mid ≡ source_of old → names_of (allocs_of mid) ≡ names_of (allocs_of old)
+    → (AreWritten (source_text old) (refdefs_of (allocs_of old)) → AreWritten (source_text old) (refdefs_of (allocs_of mid)))
     → ReadsRun (source_text old) (context_in old) nested (unindented p) (tables (allocs_of old)) (tables (allocs_of mid)) (TextBehind at)
-    → source_of new ≡ source_of mid → Extends (names_of (allocs_of new)) (names_of (allocs_of mid)) → tables (allocs_of new) ≡ tables (allocs_of mid) → reading_of new ≡ with_block (list_finished at (reading_of old)) (tree_of new)
+    → source_of new ≡ source_of mid → Extends (names_of (allocs_of new)) (names_of (allocs_of mid)) → entries (allocs_of new) ≡ entries (allocs_of mid) → reading_of new ≡ with_block (list_finished at (reading_of old)) (tree_of new)
     → AddsText (document (source_text old) (source_options old) (names_of (allocs_of new))) at None (list_finished at (reading_of old)).tree (tree_of new) next
     → ((from : ℕ) → from ≤ at → AddsBetween (source_text old) from next (list_finished at (reading_of old)).tree (tree_of new)) → IsLeafRead old new p next
-run_text old mid new p nested at next u i empty forest kind nest source names w source' grown same_tables reading block fits =
+run_text old mid new p nested at next u i empty forest kind nest source names written w source' grown same_entries reading block fits =
     let text = source_text old in
     let options = source_options old in
     let r : Reading = reading_of old in
@@ -178,12 +183,13 @@ run_text old mid new p nested at next u i empty forest kind nest source names w 
             let d = document text options more in
             let plain = nest ∙ leaf_plain d (tables (allocs_of old)) r p (lines_from text (line_end p)) ready in
             let run = run_from text (context_in old) p w.definitions (FlowsOn q (lines_from text (line_end q))) (w.run plain) in
-            subst (λ z. Ready d z (reading_of new) (lines_from text next)) (sym (same_tables ∙ w.defined plain))
+            subst (λ z. Ready d z (reading_of new) (lines_from text next)) (sym (ap told_by same_entries ∙ w.defined plain))
             (ready_flows d (tables (allocs_of old)) r (tree_of new) p q at next w.definitions block.items forest kind w.stands at_is run
             (block.is_text more extends) block.tree_is empty ready (reading_of new).empty_item (reading_of new).blank none blank);
         named = λ h. block_added (names_of (allocs_of new)) (names_of (allocs_of old)) (list_finished at r).tree (tree_of new) block.items more_named block.tree_is
             (text_named (document text options (names_of (allocs_of new))) _ q None _ _ tt (block.is_text (names_of (allocs_of new)) (extends_none (names_of (allocs_of new))) q w.stands (sym at_is)))
             (list_finished_named (names_of (allocs_of old)) at r h);
+        written = λ h. written_stay text (allocs_of mid) (allocs_of new) same_entries (written h);
         order = λ o. inl (ordered_leaf text r (reading_of new) q.line (offset q) at at next (omega arith) (omega arith) (inr refl) (let high = begins.0 in omega arith) (subst (IsCharBoundary text) (sym at_is) begins) empty
             (later_ordered text r.tree p q further w.later w.stands o.1) (fits at (omega arith)) block.boundary.0 none);
       };

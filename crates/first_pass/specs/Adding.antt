@@ -10,7 +10,7 @@ use Rattle.first_pass_grammar.specs.Skeleton.{leaf_block, Line, OpensLeaf, Opens
 use Rattle.first_pass_grammar.specs.Completion.{lines_from}
 use Rattle.first_pass_open.specs.Path.{path_of}
 use Rattle.first_pass_text.specs.Between.{AddsBetween}
-use Rattle.first_pass_names.specs.TableEntries.{tables, names_of}
+use Rattle.first_pass_names.specs.TableEntries.{entries, names_of}
 use Rattle.first_pass.specs.declared.state.FirstPass.{FirstPass}
 use Rattle.first_pass.specs.Views.{allocs_of, reading_of, source_of, source_options, source_text, tree_of}
 
@@ -22,12 +22,12 @@ pub record AddsKind (d : Document) (p : Place) (kind : Kind) (gap : Bool) (old n
   pub opens : (more : Names) → Extends more d.names
       → OpensAs (document d.text d.options more) (path_of d.options old) p (lines_from d.text (line_end p)) kind (OpensLeaf (leaf_block kind p items gap) Line (lines_from d.text next))
 
--- A pass added such a block: it reads the same text, what was named keeps its name, no table changed, and no item is empty. The nodes of the block lie behind
--- any offset before the place, and reading goes on at an offset behind the line of the place, between characters.
+-- A pass added such a block: it reads the same text, what was named keeps its name, no entry of a table changed, and no item is empty. The nodes of the
+-- block lie behind any offset before the place, and reading goes on at an offset behind the line of the place, between characters.
 pub record AddsLeaf (old new : FirstPass) (p : Place) (kind : Kind) (next : ℕ) : Type 0 where
   pub source : source_of new ≡ source_of old
   pub names : Extends (names_of (allocs_of new)) (names_of (allocs_of old))
-  pub tables : tables (allocs_of new) ≡ tables (allocs_of old)
+  pub entries : entries (allocs_of new) ≡ entries (allocs_of old)
   pub empty_item : (reading_of new).empty_item ≡ None
   pub block : AddsKind (document (source_text old) (source_options old) (names_of (allocs_of new))) p kind (reading_of new).blank (tree_of old) (tree_of new) next
   pub later : line_end p ≤ next

@@ -12,7 +12,7 @@ ghost use Rattle.first_pass_grammar.specs.Leaves.{document, TextLines};
 ghost use Rattle.first_pass_grammar.specs.Names.{Extends};
 ghost use Rattle.first_pass_grammar.specs.OpenOrder.{IsOrderedTo};
 ghost use Rattle.first_pass_grammar.specs.Texts.{by_backslash};
-ghost use Rattle.first_pass_names.specs.TableEntries.{tables, names_of, no_names};
+ghost use Rattle.first_pass_names.specs.TableEntries.{entries, names_of, no_names};
 ghost use Rattle.first_pass_text.specs.CutTexts.{BecomesHeading};
 ghost use Rattle.first_pass.specs.Ordered.{HoldsText};
 ghost use Rattle.first_pass.specs.Views.{allocs_of, reading_of, source_of, source_options, source_text, tree_of, with_tree};
@@ -70,7 +70,7 @@ impl<'a> FirstPass<'a> {
         requires start { IfSome (item_at (tree_of self.old) node_ix) (λ x. x.start ≤ length (source_text self.old)) }
         ensures source { OnOk result (source_of self.new ≡ source_of self.old) }
         ensures names { OnOk result (Extends (names_of (allocs_of self.new)) (names_of (allocs_of self.old))) }
-        ensures tables { OnOk result (tables (allocs_of self.new) ≡ tables (allocs_of self.old)) }
+        ensures entries { OnOk result (entries (allocs_of self.new) ≡ entries (allocs_of self.old)) }
         ensures reading { OnOk result (reading_of self.new ≡ with_tree (reading_of self.old) (tree_of self.new)) }
         ensures value { IfOk result (λ next. next
             ≡ option_map (λ underline. ix + underline.0) (setext_underline (drop ix (source_text self.old)))) }

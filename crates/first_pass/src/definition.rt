@@ -10,9 +10,9 @@ ghost use Rattle.first_pass_links.specs.Labels.{label_at};
 ghost use Rattle.first_pass_links.specs.Texts.{Borrows};
 ghost use Rattle.first_pass_tree.specs.Forest.{in_table};
 ghost use Rattle.first_pass_grammar.specs.Definitions.{prefix_crossed, space_at, title_at, target_at, reference_at};
-ghost use Rattle.first_pass_names.specs.TableEntries.{tables, names_of};
+ghost use Rattle.first_pass_names.specs.TableEntries.{tables, names_of, refdefs_of};
 ghost use Rattle.first_pass_text.specs.Rests.{IsRestOf};
-ghost use Rattle.first_pass_definitions.specs.Found.{IsTarget, IsReference, IsLabelLen};
+ghost use Rattle.first_pass_definitions.specs.Found.{IsTarget, IsReference, BorrowsLabel, AreWritten};
 ghost use Rattle.first_pass.specs.Runs.{ReadsRun};
 ghost use Rattle.first_pass.specs.Views.{allocs_of, context_in, reading_of, source_of, source_text, tree_of};
 
@@ -52,11 +52,9 @@ impl<'a> FirstPass<'a> {
             (λ reference. IsSomeAnd answer (IsReference nested start reference))) }
         ensures fits { IfOk result (λ answer. IfSome answer (λ found.
             (0 < found.0) × IsCharBoundary (source_text self.old) (start + found.0))) }
-        ensures borrowed { IfOk result (λ answer. IfSome answer (λ found. (n : ℕ)
-            → IsLabelLen (context_in self.old) (in_table (tree_of self.old).nodes (tree_of self.old).spine)
-            (drop (start + 1) (source_text self.old)) n
-            → text_of found.1 ≡ take n (drop (start + 1) (source_text self.old))
-            → Borrows (take n (drop (start + 1) (source_text self.old))) found.1)) }
+        ensures borrowed { IfOk result (λ answer. IfSome answer (λ found.
+            BorrowsLabel (context_in self.old) (in_table (tree_of self.old).nodes (tree_of self.old).spine)
+            (drop (start + 1) (source_text self.old)) found.1)) }
     {
         reference::parse_refdef_total(self.alloc, self.source, &self.reading.tree, start)
     }
@@ -158,6 +156,8 @@ impl<'a> FirstPass<'a> {
         ensures source { OnOk result (source_of self.new ≡ source_of self.old) }
         ensures reading { OnOk result (reading_of self.new ≡ reading_of self.old) }
         ensures names { OnOk result (names_of (allocs_of self.new) ≡ names_of (allocs_of self.old)) }
+        ensures written { OnOk result (AreWritten (source_text self.old) (refdefs_of (allocs_of self.old))
+            → AreWritten (source_text self.old) (refdefs_of (allocs_of self.new))) }
         ensures run { IfOk result (λ behind. (p : Place) → p.line ≡ line → offset p ≡ at
             → IsPlaceOf (source_text self.old) p
             → ReadsRun (source_text self.old) (context_in self.old)

@@ -3,7 +3,7 @@
 ghost use Rattle.std.specs.Prelude.{◌≡◌, ℕ, ◌+◌, ◌≤◌, drop, Some, false, length, IfOk, IfSome, OnOk, IsCharBoundary};
 ghost use Rattle.first_pass_lines.specs.Lines.{atx_level as atx_level_of};
 ghost use Rattle.first_pass_tree.specs.Forest.{added, is_text};
-ghost use Rattle.first_pass_names.specs.TableEntries.{tables, names_of};
+ghost use Rattle.first_pass_names.specs.TableEntries.{entries, names_of};
 ghost use Rattle.first_pass_grammar.specs.Names.{Extends};
 ghost use Rattle.first_pass_grammar.specs.Leaves.{document, rule_block};
 ghost use Rattle.first_pass_lists.specs.Closing.{with_block};
@@ -33,7 +33,7 @@ impl<'a> FirstPass<'a> {
         requires marker { IfSome tasklist_marker (λ x. is_text x.body ≡ false) }
         ensures source { OnOk result (source_of self.new ≡ source_of self.old) }
         ensures names { OnOk result (Extends (names_of (allocs_of self.new)) (names_of (allocs_of self.old))) }
-        ensures tables { OnOk result (tables (allocs_of self.new) ≡ tables (allocs_of self.old)) }
+        ensures entries { OnOk result (entries (allocs_of self.new) ≡ entries (allocs_of self.old)) }
         ensures reading { OnOk result (reading_of self.new ≡ with_block (reading_of self.old) (tree_of self.new)) }
         ensures block { IfOk result (λ next.
             AddsText (document (source_text self.old) (source_options self.old) (names_of (allocs_of self.new)))
@@ -70,7 +70,7 @@ impl<'a> FirstPass<'a> {
         requires heading { atx_level_of (drop start (source_text self.old)) ≡ Some atx_level }
         ensures source { OnOk result (source_of self.new ≡ source_of self.old) }
         ensures names { OnOk result (Extends (names_of (allocs_of self.new)) (names_of (allocs_of self.old))) }
-        ensures tables { OnOk result (tables (allocs_of self.new) ≡ tables (allocs_of self.old)) }
+        ensures entries { OnOk result (entries (allocs_of self.new) ≡ entries (allocs_of self.old)) }
         ensures reading { OnOk result (reading_of self.new ≡ with_block (reading_of self.old) (tree_of self.new)) }
         ensures block { IfOk result (λ next.
             AddsHeading (document (source_text self.old) (source_options self.old) (names_of (allocs_of self.new)))

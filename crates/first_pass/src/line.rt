@@ -5,7 +5,7 @@ ghost use Rattle.std.specs.Option.{option_map};
 ghost use Rattle.first_pass_text.specs.Appends.{text_upto};
 ghost use Rattle.first_pass_lists.specs.Closing.{with_block};
 ghost use Rattle.first_pass_grammar.specs.Names.{Extends};
-ghost use Rattle.first_pass_names.specs.TableEntries.{tables, names_of};
+ghost use Rattle.first_pass_names.specs.TableEntries.{entries, names_of};
 ghost use Rattle.first_pass.specs.Ordered.{IsOrderedAt};
 ghost use Rattle.first_pass.specs.Lines.{ReadsLine, ReadsCell, ReadsPossibleHead, ReadsInMode};
 ghost use Rattle.first_pass.specs.Views.{allocs_of, reading_of, source_of, source_options, source_text, tree_of};
@@ -54,7 +54,7 @@ impl<'a> FirstPass<'a> {
         requires end { IfSome end (λ e. (start ≤ e) × (e ≤ length (source_text self.old))) }
         ensures source { OnOk result (source_of self.new ≡ source_of self.old) }
         ensures names { OnOk result (Extends (names_of (allocs_of self.new)) (names_of (allocs_of self.old))) }
-        ensures tables { OnOk result (tables (allocs_of self.new) ≡ tables (allocs_of self.old)) }
+        ensures entries { OnOk result (entries (allocs_of self.new) ≡ entries (allocs_of self.old)) }
         ensures reading { OnOk result (reading_of self.new ≡ with_block (reading_of self.old) (tree_of self.new)) }
         ensures line { IfOk result (λ answer. ReadsInMode mode self.old self.new start end answer) }
         ensures boundary { IfOk result (λ answer. end ≡ None → IsCharBoundary (source_text self.old) start
@@ -148,7 +148,7 @@ impl<'a> FirstPass<'a> {
         requires end { IfSome end (λ e. (start ≤ e) × (e ≤ length (source_text self.old))) }
         ensures source { OnOk result (source_of self.new ≡ source_of self.old) }
         ensures names { OnOk result (Extends (names_of (allocs_of self.new)) (names_of (allocs_of self.old))) }
-        ensures tables { OnOk result (tables (allocs_of self.new) ≡ tables (allocs_of self.old)) }
+        ensures entries { OnOk result (entries (allocs_of self.new) ≡ entries (allocs_of self.old)) }
         ensures reading { OnOk result (reading_of self.new ≡ with_block (reading_of self.old) (tree_of self.new)) }
         ensures line { IfOk result (λ answer. ReadsPossibleHead self.old self.new start end answer) }
         ensures boundary { IfOk result (λ answer. end ≡ None → IsCharBoundary (source_text self.old) start

@@ -25,7 +25,8 @@ ghost use Rattle.first_pass_grammar.specs.WholeTables.{AreWholeTables};
 ghost use Rattle.first_pass_grammar.specs.Order.{IsOrdered, GrowsBy, is_task_marker};
 ghost use Rattle.first_pass_grammar.specs.OpenOrder.{IsOrderedTo, is_in_item};
 ghost use Rattle.first_pass.specs.State.{Ready, ReadyAt, StaysReady};
-ghost use Rattle.first_pass_names.specs.TableEntries.{tables, names_of};
+ghost use Rattle.first_pass_names.specs.TableEntries.{tables, names_of, refdefs_of};
+ghost use Rattle.first_pass_definitions.specs.Found.{AreWritten};
 ghost use Rattle.first_pass_grammar.specs.Names.{Names, Extends, AreNamed};
 ghost use Rattle.first_pass.specs.Views.{allocs_of, reading_of, source_of, source_options, source_text, tree_of};
 
@@ -92,6 +93,9 @@ impl<'a> FirstPass<'a> {
     /// then that goes on at the answer. At most four nodes are added for each byte that is read, cells apart
     /// that rows of tables are filled with.
     ///
+    /// Where each link definition in the table is written in the text, each is so then: its label, its destination and
+    /// a title of one line are borrowed from the text where nothing in them changes (CommonMark 4.7, and this project).
+    ///
     /// Where they begin one whatever more is named, and each index that they keep names an entry, rows and cells
     /// stand in tables alone then, each row has as many cells as its table has columns, and of the cells of a table
     /// at most 262,144 are filled in (GFM 4.10, and this project).
@@ -116,6 +120,8 @@ impl<'a> FirstPass<'a> {
             (tree_of self.new).nodes) }
         ensures named { OnOk result (AreNamed (names_of (allocs_of self.old)) (tree_of self.old).nodes
             → AreNamed (names_of (allocs_of self.new)) (tree_of self.new).nodes) }
+        ensures written { OnOk result (AreWritten (source_text self.old) (refdefs_of (allocs_of self.old))
+            → AreWritten (source_text self.old) (refdefs_of (allocs_of self.new))) }
         ensures whole { IfOk result (λ next. AreNamed (names_of (allocs_of self.old)) (tree_of self.old).nodes
             → StaysReady
             (document (source_text self.old) (source_options self.old) (names_of (allocs_of self.new)))
@@ -318,7 +324,9 @@ impl<'a> FirstPass<'a> {
 /// Reads the blocks of a text: the finished tree that the block grammar derives from the text's lines
 /// under these options, and the tables of what the text defines. The tree has at most four nodes for each
 /// byte, besides its root and cells that rows of tables are filled with; each row has as many cells as its table has
-/// columns, and at most 262,144 cells are filled into a table. The one error is that a request for memory was refused.
+/// columns, and at most 262,144 cells are filled into a table. Each link definition in the tables is what stands at its
+/// range; its label, its destination and a title of one line are borrowed from the text where nothing in them changes.
+/// The one error is that a request for memory was refused.
 pub fn run_first_pass<'a>(
     alloc: Global,
     text: &'a str,
@@ -330,6 +338,7 @@ pub fn run_first_pass<'a>(
     ensures order { IfOk result (λ answer. IsOrdered text.now answer.0.nodes) }
     ensures few { IfOk result (λ answer. own_nodes answer.0.nodes ≤ 1 + 4 * length text.now) }
     ensures named { IfOk result (λ answer. AreNamed (names_of answer.1) answer.0.nodes) }
+    ensures written { IfOk result (λ answer. AreWritten text.now (refdefs_of answer.1)) }
     ensures whole { IfOk result (λ answer. AreWholeTables (names_of answer.1) answer.0.nodes) }
 {
     let mut pass = FirstPass::new(alloc, text, options)?;

@@ -11,7 +11,7 @@ ghost use Rattle.first_pass_grammar.specs.Kinds.{IndentedCode, is_blank_rest};
 ghost use Rattle.first_pass_grammar.specs.RawLines.{range_text, range_html};
 ghost use Rattle.first_pass_grammar.specs.CodeBlocks.{IsFencedCode, IsMetadata};
 ghost use Rattle.first_pass_grammar.specs.HtmlBlocks.{IsHtml};
-ghost use Rattle.first_pass_names.specs.TableEntries.{tables, names_of};
+ghost use Rattle.first_pass_names.specs.TableEntries.{entries, names_of};
 ghost use Rattle.first_pass_raw.specs.RawBlocks.{range_of, AppendsRaw, IsPlaceAt, AddsIndented, AddsRaw, behind_line_at, fenced_behind, metadata_behind, html_to_end, html_to_blank};
 ghost use Rattle.first_pass.specs.Adding.{AddsLeaf};
 ghost use Rattle.first_pass_grammar.specs.Order.{GrowsBy};
@@ -42,7 +42,7 @@ impl<'a> FirstPass<'a> {
         requires within { end ≤ length (source_text self.old) }
         ensures source { OnOk result (source_of self.new ≡ source_of self.old) }
         ensures names { OnOk result (Extends (names_of (allocs_of self.new)) (names_of (allocs_of self.old))) }
-        ensures tables { OnOk result (tables (allocs_of self.new) ≡ tables (allocs_of self.old)) }
+        ensures entries { OnOk result (entries (allocs_of self.new) ≡ entries (allocs_of self.old)) }
         ensures reading { OnOk result (reading_of self.new ≡ with_block (reading_of self.old) (tree_of self.new)) }
         ensures line { OnOk result (AppendsRaw range_text (source_text self.old) (names_of (allocs_of self.new))
             remaining_space start end (tree_of self.old) (tree_of self.new)) }
@@ -66,7 +66,7 @@ impl<'a> FirstPass<'a> {
         requires within { end ≤ length (source_text self.old) }
         ensures source { OnOk result (source_of self.new ≡ source_of self.old) }
         ensures names { OnOk result (Extends (names_of (allocs_of self.new)) (names_of (allocs_of self.old))) }
-        ensures tables { OnOk result (tables (allocs_of self.new) ≡ tables (allocs_of self.old)) }
+        ensures entries { OnOk result (entries (allocs_of self.new) ≡ entries (allocs_of self.old)) }
         ensures reading { OnOk result (reading_of self.new ≡ with_block (reading_of self.old) (tree_of self.new)) }
         ensures line { OnOk result (AppendsRaw range_html (source_text self.old) (names_of (allocs_of self.new))
             remaining_space start end (tree_of self.old) (tree_of self.new)) }
@@ -90,7 +90,7 @@ impl<'a> FirstPass<'a> {
         requires within { end ≤ length (source_text self.old) }
         ensures source { OnOk result (source_of self.new ≡ source_of self.old) }
         ensures names { OnOk result (Extends (names_of (allocs_of self.new)) (names_of (allocs_of self.old))) }
-        ensures tables { OnOk result (tables (allocs_of self.new) ≡ tables (allocs_of self.old)) }
+        ensures entries { OnOk result (entries (allocs_of self.new) ≡ entries (allocs_of self.old)) }
         ensures reading { OnOk result (reading_of self.new ≡ with_block (reading_of self.old) (tree_of self.new)) }
         ensures line { OnOk result (AppendsRaw (range_of kind) (source_text self.old) (names_of (allocs_of self.new))
             remaining_space start end (tree_of self.old) (tree_of self.new)) }
@@ -127,7 +127,7 @@ impl<'a> FirstPass<'a> {
         ensures source { OnOk result (source_of self.new ≡ source_of self.old) }
         ensures empty_item { OnOk result ((reading_of self.new).empty_item ≡ None) }
         ensures names { OnOk result (Extends (names_of (allocs_of self.new)) (names_of (allocs_of self.old))) }
-        ensures tables { OnOk result (tables (allocs_of self.new) ≡ tables (allocs_of self.old)) }
+        ensures entries { OnOk result (entries (allocs_of self.new) ≡ entries (allocs_of self.old)) }
         ensures block { IfOk result (λ next. (p : Place) → IsPlaceAt (source_text self.old) start_ix p
             → p.rest.owed ≡ remaining_space
             → AddsIndented (document (source_text self.old) (source_options self.old) (names_of (allocs_of self.new))) p
@@ -182,7 +182,7 @@ impl<'a> FirstPass<'a> {
         requires fence { code_fence (drop start_ix (source_text self.old)) ≡ Some (n_fence_char, fence_ch) }
         ensures source { OnOk result (source_of self.new ≡ source_of self.old) }
         ensures names { OnOk result (Extends (names_of (allocs_of self.new)) (names_of (allocs_of self.old))) }
-        ensures tables { OnOk result (tables (allocs_of self.new) ≡ tables (allocs_of self.old)) }
+        ensures entries { OnOk result (entries (allocs_of self.new) ≡ entries (allocs_of self.old)) }
         ensures reading { OnOk result (reading_of self.new ≡ with_block (reading_of self.old) (tree_of self.new)) }
         ensures block { IfOk result (λ next. let e = fenced_behind (source_text self.old)
             (context_in self.old).path indent fence_ch n_fence_char start_ix in
@@ -226,7 +226,7 @@ impl<'a> FirstPass<'a> {
         requires byte { is_content metadata_block_ch ≡ true }
         ensures source { OnOk result (source_of self.new ≡ source_of self.old) }
         ensures names { OnOk result (Extends (names_of (allocs_of self.new)) (names_of (allocs_of self.old))) }
-        ensures tables { OnOk result (tables (allocs_of self.new) ≡ tables (allocs_of self.old)) }
+        ensures entries { OnOk result (entries (allocs_of self.new) ≡ entries (allocs_of self.old)) }
         ensures reading { OnOk result (reading_of self.new ≡ with_block (reading_of self.old) (tree_of self.new)) }
         ensures block { IfOk result (λ next. let e = metadata_behind (source_text self.old)
             (context_in self.old).path metadata_block_ch start_ix in
@@ -268,7 +268,7 @@ impl<'a> FirstPass<'a> {
         requires indent { indent ≤ 3 }
         ensures source { OnOk result (source_of self.new ≡ source_of self.old) }
         ensures names { OnOk result (Extends (names_of (allocs_of self.new)) (names_of (allocs_of self.old))) }
-        ensures tables { OnOk result (tables (allocs_of self.new) ≡ tables (allocs_of self.old)) }
+        ensures entries { OnOk result (entries (allocs_of self.new) ≡ entries (allocs_of self.old)) }
         ensures reading { OnOk result (reading_of self.new ≡ with_block (reading_of self.old) (tree_of self.new)) }
         ensures block { IfOk result (λ next. (p : Place) → IsPlaceAt (source_text self.old) start_ix p
             → let e = html_to_end (source_text self.old) (context_in self.old).path html_end_tag.now p in
@@ -310,7 +310,7 @@ impl<'a> FirstPass<'a> {
         requires indent { indent ≤ 3 }
         ensures source { OnOk result (source_of self.new ≡ source_of self.old) }
         ensures names { OnOk result (Extends (names_of (allocs_of self.new)) (names_of (allocs_of self.old))) }
-        ensures tables { OnOk result (tables (allocs_of self.new) ≡ tables (allocs_of self.old)) }
+        ensures entries { OnOk result (entries (allocs_of self.new) ≡ entries (allocs_of self.old)) }
         ensures reading { OnOk result (reading_of self.new ≡ with_block (reading_of self.old) (tree_of self.new)) }
         ensures block { IfOk result (λ next. (p : Place) → IsPlaceAt (source_text self.old) start_ix p
             → let e = html_to_blank (source_text self.old) (context_in self.old).path p in

@@ -1,5 +1,5 @@
 -- What is found of a link reference definition (CommonMark 4.7).
-use Rattle.std.specs.Prelude.{◌≡◌, ℕ, ◌+◌, true, false, Bool, List, Option, Some, None, ⊤}
+use Rattle.std.specs.Prelude.{◌≡◌, ℕ, ◌+◌, true, false, Bool, List, All, take, drop, Option, Some, None, ⊤}
 use Rattle.std.specs.List.{list_any}
 use Rattle.first_pass_items.specs.declared.cow_str.CowStr.{CowStr}
 use Rattle.first_pass_items.specs.CowText.{text_of}
@@ -9,7 +9,7 @@ use Rattle.first_pass_links.specs.Escapes.{unescaped}
 use Rattle.first_pass_links.specs.Texts.{Borrows}
 use Rattle.first_pass_links.specs.Labels.{label_at}
 use Rattle.first_pass_grammar.specs.Containers.{Context}
-use Rattle.first_pass_grammar.specs.Definitions.{Target, LinkReference, prefix_crossed}
+use Rattle.first_pass_grammar.specs.Definitions.{Target, LinkReference, prefix_crossed, reference_at}
 
 -- The text is this one without its escapes and references, and borrowed where it has none (CommonMark 2.4, 2.5).
 pub record IsUnescaped (in_table : Bool) (text : List ℕ) (found : CowStr) : Type 0 where
@@ -49,3 +49,21 @@ pub record IsReference (in_table : Bool) (at : ℕ) (reference : LinkReference) 
 -- the label of which these bytes are the text and the `]`, and more, has so many bytes (CommonMark 4.7)
 abbrev pub IsLabelLen : Context → Bool → List ℕ → ℕ → Type 0
 IsLabelLen around in_table bs n = (label : List ℕ) × (label_at (prefix_crossed true around) in_table bs ≡ Some (n + 1, label))
+
+-- The label of which these bytes are the text and the `]`, and more, is borrowed where it has the bytes that stand there (CommonMark 4.7, and this project).
+abbrev pub BorrowsLabel : Context → Bool → List ℕ → CowStr → Type 0
+BorrowsLabel around in_table bs label = (n : ℕ) → IsLabelLen around in_table bs n → text_of label ≡ take n bs → Borrows (take n bs) label
+
+-- An entry of a table is what the definition says that stands at its range in a text, in lines of some containers, and in a table or in none. Its label, its
+-- destination and a title of one line are borrowed from the text where nothing in them changes (CommonMark 4.7, and this project).
+pub record IsWritten (text : List ℕ) (entry : CowStr × LinkDef) : Type 0 where
+  pub around : Context
+  pub nested : Bool
+  pub reference : LinkReference
+  pub here : reference_at nested around (drop entry.1.span.start text) ≡ Some reference
+  pub says : IsReference nested entry.1.span.start reference (reference.size, entry.0, entry.1)
+  pub borrowed : BorrowsLabel around nested (drop (entry.1.span.start + 1) text) entry.0
+
+-- each entry is so
+abbrev pub AreWritten : List ℕ → List (CowStr × LinkDef) → Type 0
+AreWritten text entries = All (IsWritten text) entries

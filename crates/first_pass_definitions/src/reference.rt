@@ -1,14 +1,12 @@
 //! Link reference definitions.
 
-ghost use Rattle.std.specs.Prelude.{◌≡◌, ℕ, ◌+◌, ◌<◌, take, drop, None, IfOk, IfSome, IsSomeAnd, MatchOption, IsCharBoundary, true};
+ghost use Rattle.std.specs.Prelude.{◌≡◌, ◌+◌, ◌<◌, drop, None, IfOk, IfSome, IsSomeAnd, MatchOption, IsCharBoundary, true};
 ghost use Rattle.first_pass_items.specs.Bytes.{left_bracket};
-ghost use Rattle.first_pass_items.specs.CowText.{text_of};
 ghost use Rattle.first_pass_lines.specs.Lines.{begins};
-ghost use Rattle.first_pass_links.specs.Texts.{Borrows};
 ghost use Rattle.first_pass_tree.specs.Forest.{in_table};
 ghost use Rattle.first_pass_grammar.specs.Definitions.{reference_at};
 ghost use Rattle.first_pass_open.specs.Path.{context_of};
-ghost use Rattle.first_pass_definitions.specs.Found.{IsLabelLen, IsReference};
+ghost use Rattle.first_pass_definitions.specs.Found.{BorrowsLabel, IsReference};
 
 use crate::label::parse_refdef_label;
 use crate::target::scan_refdef;
@@ -41,11 +39,9 @@ pub fn parse_refdef_total<'a>(
         (λ reference. IsSomeAnd answer (IsReference nested start reference))) }
     ensures fits { IfOk result (λ answer. IfSome answer (λ found.
         (0 < found.0) × IsCharBoundary source.entry.text.now (start + found.0))) }
-    ensures borrowed { IfOk result (λ answer. IfSome answer (λ found. (n : ℕ)
-        → IsLabelLen (context_of source.entry.options tree.now) (in_table tree.now.nodes tree.now.spine)
-        (drop (start + 1) source.entry.text.now) n
-        → text_of found.1 ≡ take n (drop (start + 1) source.entry.text.now)
-        → Borrows (take n (drop (start + 1) source.entry.text.now)) found.1)) }
+    ensures borrowed { IfOk result (λ answer. IfSome answer (λ found.
+        BorrowsLabel (context_of source.entry.options tree.now) (in_table tree.now.nodes tree.now.spine)
+        (drop (start + 1) source.entry.text.now) found.1)) }
 {
     if !begins(b'[', rest_of(source.text.as_bytes(), start)) {
         return Ok(None);
@@ -68,11 +64,9 @@ fn parse_behind_bracket<'a>(
         (λ reference. IsSomeAnd answer (IsReference nested start reference))) }
     ensures fits { IfOk result (λ answer. IfSome answer (λ found.
         (0 < found.0) × IsCharBoundary source.entry.text.now (start + found.0))) }
-    ensures borrowed { IfOk result (λ answer. IfSome answer (λ found. (n : ℕ)
-        → IsLabelLen (context_of source.entry.options tree.now) (in_table tree.now.nodes tree.now.spine)
-        (drop (start + 1) source.entry.text.now) n
-        → text_of found.1 ≡ take n (drop (start + 1) source.entry.text.now)
-        → Borrows (take n (drop (start + 1) source.entry.text.now)) found.1)) }
+    ensures borrowed { IfOk result (λ answer. IfSome answer (λ found.
+        BorrowsLabel (context_of source.entry.options tree.now) (in_table tree.now.nodes tree.now.spine)
+        (drop (start + 1) source.entry.text.now) found.1)) }
 {
     source.is_short();
     let bytes = source.text.as_bytes();

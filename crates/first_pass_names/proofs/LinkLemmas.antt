@@ -1,5 +1,7 @@
 -- A table of link definitions with one more, as its entries are seen.
-use Rattle.std.proofs.Common.{◌≡◌, Bool, true, false, cond, List, [], ◌∷◌, map, Option, None, Some, is_some, refl, sym, ap, ◌∙◌}
+use Rattle.std.proofs.Common.{◌≡◌, Bool, true, false, cond, List, [], ◌∷◌, map, All, Option, None, Some, is_some, refl, sym, ap, subst, ◌∙◌}
+use Rattle.std.proofs.lemmas.Bool.{cond_both, true≢false}
+use Rattle.std.proofs.lemmas.List.Elements.{All-cons, All-head, All-tail}
 use Rattle.std.specs.declared.cmp.Ordering.{Ordering}
 use Rattle.std.specs.declared.cmp.Ordering.TheVariants.{Less, Equal, Greater}
 use Rattle.std.specs.Ordering.{match_ordering, is_eq}
@@ -57,3 +59,24 @@ link_defined old new label x order links notes =
     let now : map link_entry new.refdefs ≡ with_link (link_entry (label, x)) (map link_entry old.refdefs) =
     ap (map link_entry) (links ∙ put_is label x old.refdefs) ∙ put_entries label x old.refdefs order in
     cc
+
+-- ---- what holds of each entry, and of one more
+
+module _ (P : CowStr × LinkDef → Type 0) (label : CowStr) (x : LinkDef) (one : P (label, x)) where
+  put_each : (e : CowStr × LinkDef) (es : List (CowStr × LinkDef)) → All P (e ∷ es) → (o : Ordering)
+      → is_some (cond (is_eq o) (Some e.1) (lookup (is_at (label_cmp label)) es)) ≡ false
+      → (is_some (lookup (is_at (label_cmp label)) es) ≡ false → All P (insert_entry label_cmp es label x))
+      → All P (match_ordering o ((label, x) ∷ e ∷ es) ((e.0, x) ∷ es) (e ∷ insert_entry label_cmp es label x))
+  put_each e es each Less none rest = All-cons P (label, x) (e ∷ es) one each
+  put_each e es each Equal none rest = absurd (true≢false none)
+  put_each e es each Greater none rest = All-cons P e (insert_entry label_cmp es label x) (All-head P e es each) (rest none)
+
+  inserted_each : (es : List (CowStr × LinkDef)) → All P es → is_some (lookup (is_at (label_cmp label)) es) ≡ false → All P (insert_entry label_cmp es label x)
+  inserted_each [] each none = All-cons P (label, x) [] one each
+  inserted_each (e ∷ es) each none = put_each e es each (label_cmp label e.0) none (λ free. inserted_each es (All-tail P e es each) free)
+
+  pub each_first : (es : List (CowStr × LinkDef)) → All P es → All P (with_first es label x)
+  each_first es each =
+      subst (All P) (sym (put_is label x es))
+      (cond_both (is_some (lookup (is_at (label_cmp label)) es)) es (insert_entry label_cmp es label x) (All P) (λ there. each)
+      (λ none. inserted_each es each none))

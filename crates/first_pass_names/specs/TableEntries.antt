@@ -9,7 +9,7 @@ use Rattle.first_pass_grammar.specs.Derivation.{Tables}
 use Rattle.first_pass_attributes.specs.Attributes.{attributes_in}
 use Rattle.first_pass_links.specs.Labels.{label_at}
 use Rattle.first_pass_labels.specs.Foldings.{folded}
-use Rattle.first_pass_labels.specs.LabelTables.{defined_under}
+use Rattle.first_pass_labels.specs.LabelTables.{defined_under, with_first}
 use Rattle.first_pass_labels.specs.declared.label_table.LinkDef.{LinkDef}
 use Rattle.first_pass_labels.specs.declared.label_table.FootnoteDef.{FootnoteDef}
 use Rattle.first_pass_names.specs.declared.items.Allocations.{Allocations}
@@ -18,11 +18,27 @@ use Rattle.first_pass_names.specs.declared.items.Allocations.{Allocations}
 abbrev pub link_entry : CowStr × LinkDef → LinkEntry
 link_entry e = record { label = text_of e.0; dest = text_of e.1.dest; title = option_map text_of e.1.title; start = e.1.span.start; «end» = e.1.span.«end» }
 
+-- The entries of the tables as they stand: each text with where it stands too (this project).
+pub record Entries : Type 0 where
+  pub links : List (CowStr × LinkDef)
+  pub footnotes : List (CowStr × FootnoteDef)
+
+abbrev pub entries : Allocations → Entries
+entries a = record { links = a.refdefs; footnotes = a.footdefs }
+
+-- these with a link definition more, where none of its label stands there (CommonMark 4.7)
+abbrev pub with_definition : Entries → CowStr → LinkDef → Entries
+with_definition es label definition = record { links = with_first es.links label definition; footnotes = es.footnotes }
+
+-- what entries define, as bytes alone
+abbrev pub told_by : Entries → Tables
+told_by es = record { links = map link_entry es.links; footnotes = map (λ (e : CowStr × FootnoteDef). text_of e.0) es.footnotes }
+
 -- what the tables define
 abbrev pub tables : Allocations → Tables
-tables a = record { links = map link_entry a.refdefs; footnotes = map (λ (e : CowStr × FootnoteDef). text_of e.0) a.footdefs }
+tables a = told_by (entries a)
 
--- these tables as they stand
+-- the definitions in these tables
 abbrev pub refdefs_of : Allocations → List (CowStr × LinkDef)
 refdefs_of a = a.refdefs
 

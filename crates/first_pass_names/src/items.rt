@@ -6,7 +6,7 @@ ghost use Rattle.std.specs.Prelude.{◌≡◌, ◌<◌, ◌∷◌, ◌++◌, [],
 ghost use Rattle.first_pass_links.specs.Labels.{label_at};
 ghost use Rattle.first_pass_grammar.specs.Names.{NamesText, Extends};
 ghost use Rattle.first_pass_items.specs.CowText.{text_of};
-ghost use Rattle.first_pass_names.specs.TableEntries.{tables, names_of, no_names, with_named, with_alignments, with_heading, link_entry, link_at as link_at_of, refdefs_of, footdefs_of};
+ghost use Rattle.first_pass_names.specs.TableEntries.{entries, with_definition, tables, names_of, no_names, with_named, with_alignments, with_heading, link_entry, link_at as link_at_of, refdefs_of, footdefs_of};
 ghost use Rattle.first_pass_grammar.specs.Names.{text_named, alignments_named};
 ghost use Rattle.first_pass_grammar.specs.Derivation.{no_tables, told};
 
@@ -65,7 +65,7 @@ impl<'a> Allocations<'a> {
     pub fn allocate_cow(&mut self, cow: CowStr<'a>) -> Result<CowIndex, AllocError>
         ensures index { IfOk result (λ ix. ix.0 ≡ length (names_of self.old).texts) }
         ensures names { OnOk result (names_of self.new ≡ with_named (names_of self.old) cow.entry) }
-        ensures tables { tables self.new ≡ tables self.old }
+        ensures entries { entries self.new ≡ entries self.old }
         ensures refused { OnErr result (names_of self.new ≡ names_of self.old) }
     {
         let ix = CowIndex(self.texts.len());
@@ -81,7 +81,7 @@ impl<'a> Allocations<'a> {
     ) -> Result<AlignmentIndex, AllocError>
         ensures index { IfOk result (λ ix. ix.0 ≡ length (names_of self.old).alignments) }
         ensures names { OnOk result (names_of self.new ≡ with_alignments (names_of self.old) alignment.items) }
-        ensures tables { tables self.new ≡ tables self.old }
+        ensures entries { entries self.new ≡ entries self.old }
         ensures refused { OnErr result (names_of self.new ≡ names_of self.old) }
     {
         let ix = AlignmentIndex(self.alignments.len());
@@ -97,7 +97,7 @@ impl<'a> Allocations<'a> {
     ) -> Result<HeadingIndex, AllocError>
         ensures index { IfOk result (λ ix. ix.0 ≡ length (names_of self.old).headings) }
         ensures names { OnOk result (names_of self.new ≡ with_heading (names_of self.old) (attributes_in attrs.entry)) }
-        ensures tables { tables self.new ≡ tables self.old }
+        ensures entries { entries self.new ≡ entries self.old }
         ensures refused { OnErr result (names_of self.new ≡ names_of self.old) }
     {
         let ix = HeadingIndex(self.headings.len());
@@ -106,17 +106,20 @@ impl<'a> Allocations<'a> {
     }
 
     /// Puts a link definition into the table of them, unless one of its label stands there: the first of several
-    /// matching definitions stays (CommonMark 4.7). The one error is that a request for memory was refused; then
+    /// matching definitions stays (CommonMark 4.7). Its label, its destination and its title stay as they are given:
+    /// what is borrowed from the text stays borrowed. The one error is that a request for memory was refused; then
     /// nothing changes.
     pub fn define_link(
         &mut self,
         label: LabelKey<'a>,
         definition: LinkDef<'a>,
     ) -> Result<(), AllocError>
+        ensures entries { OnOk result
+            (entries self.new ≡ with_definition (entries self.old) label.entry definition.entry) }
         ensures tables { OnOk result
             (tables self.new ≡ told (tables self.old) (link_entry (label.entry, definition.entry) ∷ [])) }
         ensures names { names_of self.new ≡ names_of self.old }
-        ensures refused { OnErr result (tables self.new ≡ tables self.old) }
+        ensures refused { OnErr result (entries self.new ≡ entries self.old) }
     {
         self.refdefs.insert_first(label, definition)?;
         Ok(())

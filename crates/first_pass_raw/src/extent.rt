@@ -8,7 +8,7 @@ ghost use Rattle.first_pass_grammar.specs.Names.{Extends};
 ghost use Rattle.first_pass_grammar.specs.Completion.{lines_from};
 ghost use Rattle.first_pass_grammar.specs.Extents.{Verdict as Judgement, extent, in_containers};
 ghost use Rattle.first_pass_open.specs.Path.{path_of};
-ghost use Rattle.first_pass_names.specs.TableEntries.{tables, names_of};
+ghost use Rattle.first_pass_names.specs.TableEntries.{entries, names_of};
 ghost use Rattle.first_pass_raw.specs.RawBlocks.{range_of, said, AppendsLines};
 
 use crate::raw_line::{RawKind, append_raw_line};
@@ -63,7 +63,7 @@ pub fn read_lines<'a, J: JudgesLines>(
         tree.old tree.new lines.«end» lines.next) }
     ensures boundary { IfOk result (λ lines. (start ≤ lines.next) × IsCharBoundary text.now lines.next) }
     ensures names { OnOk result (Extends (names_of allocs.new) (names_of allocs.old)) }
-    ensures tables { OnOk result (tables allocs.new ≡ tables allocs.old) }
+    ensures entries { OnOk result (entries allocs.new ≡ entries allocs.old) }
 {
     tree.is_forest();
     let mut ix = start;

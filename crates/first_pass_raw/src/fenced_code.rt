@@ -7,7 +7,7 @@ ghost use Rattle.first_pass_lines.specs.Places.{place_at, IsPlaceOf};
 ghost use Rattle.first_pass_grammar.specs.Leaves.{document};
 ghost use Rattle.first_pass_grammar.specs.Names.{Extends};
 ghost use Rattle.first_pass_open.specs.Path.{path_of};
-ghost use Rattle.first_pass_names.specs.TableEntries.{tables, names_of};
+ghost use Rattle.first_pass_names.specs.TableEntries.{entries, names_of};
 ghost use Rattle.first_pass_scan.specs.LeafLines.{code_fence};
 ghost use Rattle.first_pass_grammar.specs.CodeBlocks.{info_string, closing_fence_end, IsFencedCode};
 ghost use Rattle.first_pass_raw.specs.RawBlocks.{AddsRaw, fenced_behind, behind_line_at};
@@ -55,7 +55,7 @@ pub fn parse_fenced_code_block<'a>(
         IsFencedCode d start_ix fence.count e.places e.«end») e.left tree.old tree.new next) }
     ensures boundary { IfOk result (λ next. (behind_line_at text.now start_ix ≤ next) × IsCharBoundary text.now next) }
     ensures names { OnOk result (Extends (names_of allocs.new) (names_of allocs.old)) }
-    ensures tables { OnOk result (tables allocs.new ≡ tables allocs.old) }
+    ensures entries { OnOk result (entries allocs.new ≡ entries allocs.old) }
     ensures utf8 { IsUtf8 text.now }
 {
     tree.is_forest();

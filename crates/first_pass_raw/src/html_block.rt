@@ -5,7 +5,7 @@ ghost use Rattle.first_pass_lines.specs.Places.{Place};
 ghost use Rattle.first_pass_grammar.specs.Leaves.{document};
 ghost use Rattle.first_pass_grammar.specs.Names.{Extends};
 ghost use Rattle.first_pass_open.specs.Path.{path_of};
-ghost use Rattle.first_pass_names.specs.TableEntries.{tables, names_of};
+ghost use Rattle.first_pass_names.specs.TableEntries.{entries, names_of};
 ghost use Rattle.first_pass_items.specs.declared.item.ItemBody.TheVariants.{HtmlBlock};
 ghost use Rattle.first_pass_grammar.specs.RawLines.{range_html};
 ghost use Rattle.first_pass_grammar.specs.HtmlBlocks.{IsHtml};
@@ -46,7 +46,7 @@ pub fn parse_html_block_type_1_to_5<'a>(
         IsHtml d start_ix columns e.places e.«end») e.left tree.old tree.new next) }
     ensures boundary { IfOk result (λ next. (behind_line_at text.now start_ix ≤ next) × IsCharBoundary text.now next) }
     ensures names { OnOk result (Extends (names_of allocs.new) (names_of allocs.old)) }
-    ensures tables { OnOk result (tables allocs.new ≡ tables allocs.old) }
+    ensures entries { OnOk result (entries allocs.new ≡ entries allocs.old) }
     ensures utf8 { IsUtf8 text.now }
 {
     let end = open_html_block(tree, allocs, text, start_ix, columns)?;
@@ -80,7 +80,7 @@ pub fn parse_html_block_type_6_or_7<'a>(
         IsHtml d start_ix columns e.places e.«end») e.left tree.old tree.new next) }
     ensures boundary { IfOk result (λ next. (behind_line_at text.now start_ix ≤ next) × IsCharBoundary text.now next) }
     ensures names { OnOk result (Extends (names_of allocs.new) (names_of allocs.old)) }
-    ensures tables { OnOk result (tables allocs.new ≡ tables allocs.old) }
+    ensures entries { OnOk result (entries allocs.new ≡ entries allocs.old) }
     ensures utf8 { IsUtf8 text.now }
 {
     let next = open_html_block(tree, allocs, text, start_ix, columns)?;
@@ -107,7 +107,7 @@ fn open_html_block<'a>(
     ensures path { OnOk result ((options : Options) → path_of options tree.new ≡ path_of options tree.old) }
     ensures apart { OnOk result (JoinsNone tree.new) }
     ensures names { OnOk result (Extends (names_of allocs.new) (names_of allocs.old)) }
-    ensures tables { OnOk result (tables allocs.new ≡ tables allocs.old) }
+    ensures entries { OnOk result (entries allocs.new ≡ entries allocs.old) }
 {
     tree.is_forest();
     open_block(tree, start, ItemBody::HtmlBlock)?;

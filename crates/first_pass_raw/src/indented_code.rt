@@ -7,7 +7,7 @@ ghost use Rattle.first_pass_grammar.specs.Leaves.{document};
 ghost use Rattle.first_pass_grammar.specs.Names.{Extends};
 ghost use Rattle.first_pass_grammar.specs.RawLines.{range_text};
 ghost use Rattle.first_pass_open.specs.Path.{path_of};
-ghost use Rattle.first_pass_names.specs.TableEntries.{tables, names_of};
+ghost use Rattle.first_pass_names.specs.TableEntries.{entries, names_of};
 ghost use Rattle.first_pass_lines.specs.Lines.{is_blank_line};
 ghost use Rattle.first_pass_raw.specs.RawBlocks.{code_rest_at, IsPlaceAt, AppendsRaw, AddsIndented, behind_line_at};
 
@@ -42,7 +42,7 @@ pub fn parse_indented_code_block<'a>(
     ensures boundary { IfOk result (λ answer. (behind_line_at text.now start_ix ≤ answer.0)
         × IsCharBoundary text.now answer.0) }
     ensures names { OnOk result (Extends (names_of allocs.new) (names_of allocs.old)) }
-    ensures tables { OnOk result (tables allocs.new ≡ tables allocs.old) }
+    ensures entries { OnOk result (entries allocs.new ≡ entries allocs.old) }
     ensures utf8 { IsUtf8 text.now }
 {
     tree.is_forest();
@@ -87,7 +87,7 @@ fn append_line<'a>(
     ensures line { IfOk result (λ next. AppendsRaw range_text text.now (names_of allocs.new) owed at next tree.old
         tree.new) }
     ensures names { OnOk result (Extends (names_of allocs.new) (names_of allocs.old)) }
-    ensures tables { OnOk result (tables allocs.new ≡ tables allocs.old) }
+    ensures entries { OnOk result (entries allocs.new ≡ entries allocs.old) }
 {
     let next = next_line(text.as_bytes(), at);
     append_raw_line(tree, allocs, text, RawKind::Code, owed, at, next)?;

@@ -5,7 +5,7 @@ ghost use Rattle.first_pass_items.specs.declared.option_set.Options.{Options};
 ghost use Rattle.first_pass_grammar.specs.Names.{Names, Extends};
 ghost use Rattle.first_pass_grammar.specs.RawLines.{ends_with_both};
 ghost use Rattle.first_pass_tokens.specs.TreeTokens.{with_tokens};
-ghost use Rattle.first_pass_names.specs.TableEntries.{tables, names_of};
+ghost use Rattle.first_pass_names.specs.TableEntries.{entries, names_of};
 ghost use Rattle.first_pass_raw.specs.RawBlocks.{range_of, AppendsColumns, AppendsRaw};
 
 use first_pass_items::cow_str::CowStr;
@@ -24,7 +24,7 @@ fn append_columns<'a>(
     requires { columns ≤ 3 }
     ensures items { OnOk result (AppendsColumns (names_of allocs.new) columns at tree.old tree.new) }
     ensures names { OnOk result (Extends (names_of allocs.new) (names_of allocs.old)) }
-    ensures tables { OnOk result (tables allocs.new ≡ tables allocs.old) }
+    ensures entries { OnOk result (entries allocs.new ≡ entries allocs.old) }
 {
     if columns == 0 {
         return Ok(());
@@ -96,7 +96,7 @@ pub fn append_raw_line<'a>(
     ensures line { OnOk result (AppendsRaw (range_of kind) text.now (names_of allocs.new) remaining_space start end
         tree.old tree.new) }
     ensures names { OnOk result (Extends (names_of allocs.new) (names_of allocs.old)) }
-    ensures tables { OnOk result (tables allocs.new ≡ tables allocs.old) }
+    ensures entries { OnOk result (entries allocs.new ≡ entries allocs.old) }
 {
     append_columns(tree, allocs, remaining_space, start)?;
     if ends_with_both(text.as_bytes(), start, end) {

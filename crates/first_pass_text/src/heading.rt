@@ -4,7 +4,7 @@ ghost use Rattle.std.specs.List.{suffix_len};
 ghost use Rattle.std.specs.Prelude.{◌≡◌, ℕ, ◌==◌, ◌+◌, List, take, drop, ◌≤◌, Some, length, IfOk, OnOk, IsCharBoundary, false};
 ghost use Rattle.first_pass_walk.specs.Walk.{MarksSpecial};
 ghost use Rattle.first_pass_lines.specs.Lines.{atx_level as atx_level_of, level_number as number_of};
-ghost use Rattle.first_pass_names.specs.TableEntries.{tables, names_of};
+ghost use Rattle.first_pass_names.specs.TableEntries.{entries, names_of};
 ghost use Rattle.first_pass_grammar.specs.Names.{Extends};
 ghost use Rattle.first_pass_grammar.specs.Leaves.{document, is_put_aside, kept_len as kept_len_of, heading_text_at};
 ghost use Rattle.first_pass_text.specs.Between.{AddsBetween};
@@ -94,7 +94,7 @@ pub fn parse_atx_heading<'a>(
     requires marks { MarksSpecial lut.now source.options }
     requires heading { atx_level_of (drop start source.text.now) ≡ Some atx_level }
     ensures names { OnOk result (Extends (names_of allocs.new) (names_of allocs.old)) }
-    ensures tables { OnOk result (tables allocs.new ≡ tables allocs.old) }
+    ensures entries { OnOk result (entries allocs.new ≡ entries allocs.old) }
     ensures block { IfOk result (λ next.
         AddsHeading (document source.entry.text.now source.entry.options (names_of allocs.new)) start atx_level
         tree.old tree.new next) }

@@ -3,7 +3,7 @@
 ghost use Rattle.std.specs.Prelude.{◌≡◌, ◌<◌, ◌^◌, ℕ, false, IfOk, IfSome, OnOk, IsUtf8, IsCharBoundary};
 ghost use Rattle.first_pass_walk.specs.Walk.{MarksSpecial};
 ghost use Rattle.first_pass_tokens.specs.TreeTokens.{JoinsNone};
-ghost use Rattle.first_pass_names.specs.TableEntries.{tables, names_of, no_names};
+ghost use Rattle.first_pass_names.specs.TableEntries.{entries, names_of, no_names};
 ghost use Rattle.first_pass_grammar.specs.Names.{Extends};
 ghost use Rattle.first_pass_grammar.specs.Texts.{by_backslash};
 ghost use Rattle.first_pass_grammar.specs.Leaves.{document};
@@ -95,7 +95,7 @@ pub fn parse_paragraph<'a>(
     requires marks { MarksSpecial lut.now source.options }
     requires marker { IfSome tasklist_marker (λ x. is_text x.body ≡ false) }
     ensures names { OnOk result (Extends (names_of allocs.new) (names_of allocs.old)) }
-    ensures tables { OnOk result (tables allocs.new ≡ tables allocs.old) }
+    ensures entries { OnOk result (entries allocs.new ≡ entries allocs.old) }
     ensures block { IfOk result (λ next.
         AddsPlainText (document source.entry.text.now source.entry.options (names_of allocs.new)) start_ix
         tasklist_marker tree.old tree.new next) }

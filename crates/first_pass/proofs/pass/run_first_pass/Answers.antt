@@ -8,7 +8,9 @@ use Rattle.first_pass_lists.specs.declared.reading.Reading.{Reading}
 use Rattle.first_pass_open.specs.declared.source.Source.{Source}
 use Rattle.first_pass.specs.Ordered.{reached, IsOrderedAt, IsOrderedFrom}
 use Rattle.first_pass.specs.State.{Ready}
-use Rattle.first_pass_names.specs.TableEntries.{tables, names_of}
+use Rattle.first_pass_names.specs.TableEntries.{tables, names_of, refdefs_of}
+use Rattle.first_pass_definitions.specs.Found.{AreWritten}
+use Rattle.first_pass.proofs.WrittenLemmas.{none_written}
 use Rattle.first_pass_grammar.proofs.OwnNodes.{own_at_most}
 use Rattle.first_pass_grammar.proofs.WholeForests.{derived_whole}
 use Rattle.first_pass.proofs.OrderLemmas.{ordered_whole}
@@ -25,6 +27,7 @@ loop-ix-init c = record {
   ready = λ names more. subst (λ z. Ready (document c.args.text.now c.args.options names) z c.in_ok-pass.pass.reading (lines_from c.args.text.now 0)) (sym c.in_ok-pass.ensures.tables) (c.in_ok-pass.ensures.ready names);
   order = inl c.in_ok-pass.ensures.order;
   named = c.in_ok-pass.ensures.named;
+  written = none_written c.args.text.now c.in_ok-pass.pass.allocs c.in_ok-pass.ensures.tables;
   few = (let root = c.in_ok-pass.ensures.root in let most = own_at_most None c.in_ok-pass.pass.reading.tree.nodes in omega arith);
 }
 
@@ -49,6 +52,7 @@ loop-ix-preserved c =
           (i.ready names (extends_both names (names_of new.allocs) (names_of pass.allocs) more e.names));
       order = subst (λ (z : List ℕ × Options). IsOrderedFrom z.1 z.0 before c.loop-ix.ix → IsOrderedFrom z.1 z.0 behind next) (both_same i.same_text i.same_options) e.order i.order;
       named = e.named i.named;
+      written = subst (λ t. AreWritten t (refdefs_of pass.allocs) → AreWritten t (refdefs_of new.allocs)) i.same_text e.written i.written;
       few = (let read = i.few in let grows = e.few in let later = e.later.0 in omega arith);
     }
 
@@ -106,3 +110,6 @@ returns-clause-few c =
 
 pub returns-clause-named : goal.returns-clause-named
 returns-clause-named c = c.close_containers.ensures.named (names_of c.loop-ix.pass.allocs) c.loop-ix.invariant.named
+
+pub returns-clause-written : goal.returns-clause-written
+returns-clause-written c = c.loop-ix.invariant.written

@@ -5,7 +5,8 @@ use Rattle.first_pass_grammar.specs.Counting.{own_nodes}
 use Rattle.first_pass_grammar.specs.Completion.{lines_from}
 use Rattle.first_pass.specs.Ordered.{IsOrderedFrom}
 use Rattle.first_pass.specs.State.{Ready}
-use Rattle.first_pass_names.specs.TableEntries.{tables, names_of}
+use Rattle.first_pass_names.specs.TableEntries.{tables, names_of, refdefs_of}
+use Rattle.first_pass_definitions.specs.Found.{AreWritten}
 use Rattle.first_pass.proofs.pass.run_first_pass.Given as goal
 
 -- the blocks are read up to here
@@ -17,6 +18,7 @@ invariant-loop-ix l = record {
   ready : (names : Names) → Extends names (names_of l.pass.allocs) → Ready (document l.text l.fn.options names) (tables l.pass.allocs) l.pass.reading (lines_from l.text l.ix);
   order : IsOrderedFrom l.fn.options l.text l.pass.reading l.ix;
   named : AreNamed (names_of l.pass.allocs) l.pass.reading.tree.nodes;
+  written : AreWritten l.text (refdefs_of l.pass.allocs);
   few : own_nodes l.pass.reading.tree.nodes ≤ 1 + 4 * l.ix;
 }
 

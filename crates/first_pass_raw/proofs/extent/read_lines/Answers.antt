@@ -6,14 +6,13 @@ use Rattle.first_pass_names.proofs.NameLemmas.{extends_none, extends_both}
 use Rattle.first_pass_raw.specs.RawBlocks.{range_of}
 use Rattle.first_pass_raw.proofs.ExtentLemmas.{lines_start, line_read, behind_path, within_line, extent_from, goes_by, read_end, read_left, read_stops, read_closes, read_last, read_more}
 use Rattle.first_pass_raw.proofs.extent.read_lines.Goals as goal
-use Rattle.first_pass_items.specs.declared.option_set.Options.{Options}
 
 pub loop-ix-init : goal.loop-ix-init
 loop-ix-init g c = record {
   later = omega arith;
   boundary = c.requires.boundary;
   names = extends_none (names_of c.args.allocs.now);
-  same_tables = refl;
+  same_entries = refl;
   read = lines_start (range_of c.args.kind) c.args.text.now c.args.options (names_of c.args.allocs.now) (extent_from c.args.text.now (path_of c.args.options c.args.tree.now) (g.J.JudgesLines.judges c.args.judge.now) c.args.start) c.args.tree.now;
 }
 
@@ -47,7 +46,7 @@ returns-in-Closes g c =
           c.in-Some.line_start c.judge-verdict.new.line_start c.in-Some.ensures.value c.judge-verdict.result c.judge-verdict.ensures.verdict c.in-Closes.end c.in-Closes.is;
       boundary = (omega (arith, c.loop-ix.invariant.later, line.later), line.boundary);
       names = c.loop-ix.invariant.names;
-      tables = c.loop-ix.invariant.same_tables;
+      entries = c.loop-ix.invariant.same_entries;
     }
 
 pub append_raw_line-requires-clause-order : goal.append_raw_line-requires-clause-order
@@ -65,7 +64,7 @@ returns-in-IsLast g c =
           (ap (λ n. c.loop-ix.ix + n) c.bytes_scanned.ensures) c.judge-verdict.ensures.next c.in-IsLast.is;
       boundary = (omega (arith, c.loop-ix.invariant.later, line.later), line.boundary);
       names = extends_both _ _ _ c.in_ok-append_raw_line.ensures.names c.loop-ix.invariant.names;
-      tables = c.in_ok-append_raw_line.ensures.tables ∙ c.loop-ix.invariant.same_tables;
+      entries = c.in_ok-append_raw_line.ensures.entries ∙ c.loop-ix.invariant.same_entries;
     }
 
 pub loop-ix-preserved : goal.loop-ix-preserved
@@ -75,7 +74,7 @@ loop-ix-preserved g c =
       later = omega (arith, c.loop-ix.invariant.later, line.later);
       boundary = line.boundary;
       names = extends_both _ _ _ c.in_ok-append_raw_line.ensures.names c.loop-ix.invariant.names;
-      same_tables = c.in_ok-append_raw_line.ensures.tables ∙ c.loop-ix.invariant.same_tables;
+      same_entries = c.in_ok-append_raw_line.ensures.entries ∙ c.loop-ix.invariant.same_entries;
       read = read_more (range_of c.args.kind) c.args.text.now c.args.options (names_of c.loop-ix.allocs) (g.J.JudgesLines.judges c.args.judge.now) c.args.start c.loop-ix.ix c.args.tree.now c.loop-ix.tree c.loop-ix.invariant.read c.next_line-next.result
           (open_are_in c.args.tree.now.nodes c.args.tree.now.spine c.is_forest.ensures.opened) line
           c.in-Some.line_start c.judge-verdict.new.line_start c.in-Some.ensures.value c.judge-verdict.result c.judge-verdict.ensures.verdict

@@ -1,6 +1,6 @@
 use Rattle.std.proofs.Common.{◌≡◌, ◌≤◌, ◌-◌, length, IsCharBoundary}
 use Rattle.first_pass_grammar.specs.Names.{Extends}
-use Rattle.first_pass_names.specs.TableEntries.{tables, names_of}
+use Rattle.first_pass_names.specs.TableEntries.{entries, names_of}
 use Rattle.first_pass_raw.specs.RawBlocks.{range_of}
 use Rattle.first_pass_raw.proofs.ExtentLemmas.{ReadSoFar}
 use Rattle.first_pass_raw.proofs.extent.read_lines.Given as goal
@@ -11,7 +11,7 @@ invariant-loop-ix g l = record {
   later : l.start ≤ l.ix;
   boundary : IsCharBoundary l.text l.ix;
   names : Extends (names_of l.allocs) (names_of l.initial.allocs);
-  same_tables : tables l.allocs ≡ tables l.initial.allocs;
+  same_entries : entries l.allocs ≡ entries l.initial.allocs;
   read : ReadSoFar (range_of l.kind) l.text l.options (names_of l.allocs) (g.J.JudgesLines.judges l.judge) l.start l.ix l.initial.tree l.tree;
 }
 

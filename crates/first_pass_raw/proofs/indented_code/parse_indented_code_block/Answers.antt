@@ -12,7 +12,6 @@ use Rattle.first_pass_raw.specs.RawBlocks.{AppendsRaw, behind_line_at}
 use Rattle.first_pass_raw.proofs.IndentedLemmas.{first_at, first_is, first_boundary, so_far_first, so_far_next, so_far_stop, kept_child, next_read, next_rest, opened_last, just_opened, code_open, code_added}
 use Rattle.first_pass_grammar.specs.RawLines.{range_text}
 use Rattle.first_pass_raw.proofs.indented_code.parse_indented_code_block.Goals as goal
-use Rattle.first_pass_items.specs.declared.option_set.Options.{Options}
 
 pub lines-init : goal.lines-init
 lines-init c =
@@ -23,7 +22,7 @@ lines-init c =
       boundary = first_boundary c.args.text.now c.args.start_ix c.in_ok-next.next c.utf8.text c.requires.boundary c.requires.code e;
       from = omega arith;
       named = c.in_ok-next.ensures.names;
-      same_tables = c.in_ok-next.ensures.tables;
+      same_entries = c.in_ok-next.ensures.entries;
       read = λ p at o. so_far_first c.args.text.now c.args.options (names_of c.append_line.new.allocs) p opened c.append_line.new.tree c.args.start_ix c.args.remaining_space c.in_ok-next.next c.cur.result at o c.requires.code
           (joins_none-fresh opened refl) e line c.cur.ensures;
     }
@@ -43,7 +42,7 @@ lines-preserved c =
       boundary = read.2;
       from = omega arith;
       named = extends_both _ _ _ c.in_ok-next-2.ensures.names i.named;
-      same_tables = c.in_ok-next-2.ensures.tables ∙ i.same_tables;
+      same_entries = c.in_ok-next-2.ensures.entries ∙ i.same_entries;
       read = λ p at o. so_far_next text c.args.options (names_of c.lines.allocs) (names_of c.append_line-in-Some.new.allocs) p opened c.lines.tree c.append_line-in-Some.new.tree c.lines.next c.in_ok-next-2.next _ _ c.lines.kept
           c.lines.blank c.in-Some.line_start c.utf8.text i.boundary (joins_none-fresh opened refl) (i.read p at o) goes c.in-Some.ensures.place c.in_ok-next-2.ensures.names
           c.remaining_space.ensures.value c.bytes_scanned.ensures c.in_ok-next-2.ensures.line c.in_ok-next-2.ensures.«end» c.is_some-blank.result c.kept_line-kept.result

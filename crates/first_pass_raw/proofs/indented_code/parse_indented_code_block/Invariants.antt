@@ -3,7 +3,7 @@ use Rattle.first_pass_items.specs.declared.item.ItemBody.TheVariants.{IndentCode
 use Rattle.first_pass_lines.specs.Places.{Place}
 use Rattle.first_pass_grammar.specs.Names.{Extends}
 use Rattle.first_pass_open.specs.OpenBlock.{opened_block}
-use Rattle.first_pass_names.specs.TableEntries.{tables, names_of}
+use Rattle.first_pass_names.specs.TableEntries.{entries, names_of}
 use Rattle.first_pass_raw.specs.RawBlocks.{IsPlaceAt, behind_line_at}
 use Rattle.first_pass_raw.proofs.IndentedLemmas.{IndentedSoFar}
 use Rattle.first_pass_raw.proofs.indented_code.parse_indented_code_block.Given as goal
@@ -14,7 +14,7 @@ invariant-lines l = record {
   boundary : IsCharBoundary l.text l.next;
   from : behind_line_at l.text l.start_ix ≤ l.next;
   named : Extends (names_of l.allocs) (names_of l.fn.allocs);
-  same_tables : tables l.allocs ≡ tables l.fn.allocs;
+  same_entries : entries l.allocs ≡ entries l.fn.allocs;
   read : (p : Place) → IsPlaceAt l.text l.start_ix p → p.rest.owed ≡ l.remaining_space
       → IndentedSoFar l.text l.options (names_of l.allocs) p (opened_block l.fn.tree l.start_ix IndentCodeBlock) l.tree l.next l.kept l.blank;
 }

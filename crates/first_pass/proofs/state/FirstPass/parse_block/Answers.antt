@@ -138,6 +138,21 @@ returns-in_ok-next-in-Tag-clause-named c =
     let names = names_of c.args.self.now.allocs in
     λ h. c.in_ok-next-in-Tag.ensures.read.named (c.in_ok-open_containers.ensures.named names (c.enter_line.ensures.named names h))
 
+pub returns-in_default-clause-written : goal.returns-in_default-clause-written
+returns-in_default-clause-written c = λ h. h
+
+pub returns-in_ok-next-in-Leaf-clause-written : goal.returns-in_ok-next-in-Leaf-clause-written
+returns-in_ok-next-in-Leaf-clause-written c = c.in_ok-next-in-Leaf.ensures.read.written
+
+pub returns-in_ok-next-in-TaskText-clause-written : goal.returns-in_ok-next-in-TaskText-clause-written
+returns-in_ok-next-in-TaskText-clause-written c = c.in_ok-next-in-TaskText.ensures.read.written
+
+pub returns-in-NextLine-clause-written : goal.returns-in-NextLine-clause-written
+returns-in-NextLine-clause-written c = λ h. h
+
+pub returns-in_ok-next-in-Tag-clause-written : goal.returns-in_ok-next-in-Tag-clause-written
+returns-in_ok-next-in-Tag-clause-written c = c.in_ok-next-in-Tag.ensures.read.written
+
 -- what is behind the containers that begin in the line goes on
 opened_ready : (d : Document) (defined : Tables) (before after : Reading) («end» : ℕ) (p q : Place) (behind answer : Behind) → line_end p ≡ «end»
     → behind ≡ answer

@@ -48,7 +48,7 @@ returns c =
     record {
       source = e.source;
       names = e.names;
-      tables = e.tables;
+      entries = e.entries;
       empty_item = e.empty_item;
       block = code_added text self.source.options _ p self.reading.tree new.reading.tree c.in_ok-next.next _ i
           (e.block q (record { offset_is = sym there; left_is = i.left ∙ ap (λ n. drop n text) (sym there) }) (sym owed));

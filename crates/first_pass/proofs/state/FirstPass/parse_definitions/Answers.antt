@@ -12,7 +12,9 @@ use Rattle.first_pass_lists.specs.declared.reading.Reading.{Reading}
 use Rattle.first_pass_open.proofs.PlaceLemmas.{text_place}
 use Rattle.first_pass_text.specs.Rests.{IsRestOf}
 use Rattle.first_pass_grammar.specs.Definitions.{reference_at}
-use Rattle.first_pass_names.specs.TableEntries.{tables, names_of, link_entry}
+use Rattle.first_pass_names.specs.TableEntries.{entries, with_definition, tables, names_of, refdefs_of, link_entry}
+use Rattle.first_pass_definitions.specs.Found.{IsWritten, AreWritten}
+use Rattle.first_pass.proofs.WrittenLemmas.{one_written, written_here}
 use Rattle.first_pass_open.specs.Path.{context_of}
 use Rattle.first_pass.specs.Views.{context_in}
 use Rattle.first_pass.specs.declared.state.FirstPass.{FirstPass}
@@ -21,12 +23,14 @@ use Rattle.first_pass.specs.Runs.{RunSoFar, ReadsRun}
 use Rattle.first_pass.proofs.RunLemmas.{run_begun, run_flows, run_ends, run_goes_on, defined_none, text_at}
 use Rattle.first_pass.proofs.DefinitionLemmas.{behind_boundary, none_here, found_here, one_more, stops_by, goes_by, rest_there, stops_at, rest_at, line_is_there, answered}
 use Rattle.first_pass.proofs.state.FirstPass.parse_definitions.Goals as goal
+use Rattle.first_pass.proofs.state.FirstPass.parse_definitions.Goals.{After-rest_of}
 
 pub loop-size-init : goal.loop-size-init
 loop-size-init c = record {
   same_source = refl;
   same_reading = refl;
   same_names = refl;
+  written = λ h. h;
   boundary = c.requires.boundary;
   so_far = λ p line at i. (p, line, at, run_begun _ _ _ p _ i);
 }
@@ -64,6 +68,33 @@ scan_next_line_or_lazy_continuation-requires c =
     let ends : IsCharBoundary text (at + size) = subst (λ (z : Source). IsCharBoundary z.text.now (at + size)) inv.same_source fits.1 in
     let there : IsCharBoundary text next = subst (IsCharBoundary text) (sym next_is) (behind_boundary text (at + size) c.requires.utf8 ends) in
     subst (λ t. IsRestOf t c.rest_of.result.now) (sym text_is) (rest_there text c.rest_of.result.now next there (c.rest_of.ensures.value ∙ ap (drop next) bytes_are))
+
+pub returns-clause-written : goal.returns-clause-written
+returns-clause-written c = λ h.
+    let text = c.args.self.now.source.text.now in
+    subst (λ (z : FirstPass). AreWritten text (refdefs_of z.allocs)) (sym c.in_ok-size.ensures.unchanged) (c.loop-size.invariant.written h)
+
+-- the definition that was found is one more
+one_more_written : (c : After-rest_of) → AreWritten c.args.self.now.source.text.now (refdefs_of c.args.self.now.allocs)
+    → AreWritten c.args.self.now.source.text.now (refdefs_of c.define_link.new.self)
+one_more_written c h =
+    let text = c.args.self.now.source.text.now in
+    let now : FirstPass = c.loop-size.self in
+    let label = c.in-Some.label in
+    let definition = c.in-Some.definition in
+    let found : ℕ × CowStr × LinkDef = (c.in-Some.size, label, definition) in
+    let inv = c.loop-size.invariant in
+    let e = c.in_ok-size.ensures in
+    let one = subst (λ (z : Source). IsWritten z.text.now (label, definition)) inv.same_source
+    (written_here now c.loop-size.at c.in_ok-size.field-0 found e.value e.borrowed c.in-Some.is) in
+    let more = c.in_ok-define_link.ensures.entries ∙ ap (λ (z : FirstPass). with_definition (entries z.allocs) label definition) e.unchanged in
+    one_written text now.allocs c.define_link.new.self label definition more one (inv.written h)
+
+pub returns-in_default-rest-clause-written : goal.returns-in_default-rest-clause-written
+returns-in_default-rest-clause-written c = λ h.
+    let text = c.args.self.now.source.text.now in
+    subst (λ (z : Allocations). AreWritten text (refdefs_of z)) (ap (λ (z : FirstPass). z.allocs) (sym c.in_ok-rest.ensures.unchanged))
+    (one_more_written (goal.at.returns-in_default-rest-clause-written c).After-rest_of h)
 
 pub returns-in_default-rest-clause-run : goal.returns-in_default-rest-clause-run
 returns-in_default-rest-clause-run c = λ p line begins i.
@@ -132,6 +163,8 @@ loop-size-preserved c =
       same_source = ap (λ (z : FirstPass). z.source) f.unchanged ∙ ap (λ (z : FirstPass). z.source) e.unchanged ∙ inv.same_source;
       same_reading = ap (λ (z : FirstPass). z.reading) f.unchanged ∙ ap (λ (z : FirstPass). z.reading) e.unchanged ∙ inv.same_reading;
       same_names = ap (λ (z : FirstPass). names_of z.allocs) f.unchanged ∙ c.in_ok-define_link.ensures.names ∙ ap (λ (z : FirstPass). names_of z.allocs) e.unchanged ∙ inv.same_names;
+      written = λ h. subst (λ (z : Allocations). AreWritten text (refdefs_of z)) allocs_are
+          (one_more_written (goal.at.loop-size-preserved c).After-rest_of h);
       boundary = subst (IsCharBoundary text) here there.boundary;
       so_far = λ p line first_at i.
           let r = inv.so_far p line first_at i in

@@ -1,7 +1,8 @@
 use Rattle.std.proofs.Common.{◌≡◌, ◌-◌, length, IsCharBoundary}
 use Rattle.first_pass_lines.specs.Places.{Place, offset, IsPlaceOf}
 use Rattle.first_pass_tree.specs.Forest.{in_table}
-use Rattle.first_pass_names.specs.TableEntries.{tables, names_of}
+use Rattle.first_pass_names.specs.TableEntries.{tables, names_of, refdefs_of}
+use Rattle.first_pass_definitions.specs.Found.{AreWritten}
 use Rattle.first_pass.specs.Views.{context_in}
 use Rattle.first_pass.specs.Runs.{RunSoFar}
 use Rattle.first_pass.proofs.state.FirstPass.parse_definitions.Given as goal
@@ -12,6 +13,7 @@ invariant-loop-size l = record {
   same_source : l.self.source ≡ l.fn.self.source;
   same_reading : l.self.reading ≡ l.fn.self.reading;
   same_names : names_of l.self.allocs ≡ names_of l.fn.self.allocs;
+  written : AreWritten l.fn.self.source.text.now (refdefs_of l.fn.self.allocs) → AreWritten l.fn.self.source.text.now (refdefs_of l.self.allocs);
   boundary : IsCharBoundary l.fn.self.source.text.now l.at;
   so_far : (p : Place) → p.line ≡ l.fn.line → offset p ≡ l.fn.at → IsPlaceOf l.fn.self.source.text.now p
       → (q : Place) × (q.line ≡ l.line) × (offset q ≡ l.at)

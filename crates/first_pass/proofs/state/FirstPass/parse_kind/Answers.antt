@@ -21,7 +21,8 @@ use Rattle.first_pass.proofs.NamedLemmas.{AreReadNamed, blank_named, block_added
 use Rattle.first_pass.proofs.KindBlocks.{marked_some, marked_other, columns_are, html_blank_added, AddsHtml, ready_kind}
 use Rattle.first_pass.proofs.HandedOn.{list_finished_blank}
 use Rattle.first_pass.specs.Adding.{AddsLeaf}
-use Rattle.first_pass_names.specs.TableEntries.{names_of, tables}
+use Rattle.first_pass_names.specs.TableEntries.{names_of, tables, told_by}
+use Rattle.first_pass.proofs.WrittenLemmas.{written_stay}
 use Rattle.first_pass_raw.specs.RawBlocks.{IsPlaceAt, behind_line_at}
 use Rattle.first_pass_grammar.specs.Kinds.{HtmlToBlank, unindented, IsKind}
 use Rattle.first_pass.proofs.CountLemmas.{count, list_finished_count, blank_count, leaf_left, left_before}
@@ -62,6 +63,7 @@ returns-in-Blank c =
             subst (λ q. Ready d (tables self.allocs) q (lines_from text next)) (sym c.read_blank_line.ensures) (subst (λ n. Ready d (tables self.allocs) (blank_read old) (lines_from text n)) (sym ends)
             (ready_blank_leaf d (tables self.allocs) old p (lines_from text (line_end p)) (subst (IsKind self.source.options p.rest) (ap kind_of c.in-Blank.is) c.requires.found.kind) c.requires.no_empty ready));
         named = λ h. subst (AreReadNamed (names_of self.allocs)) (sym c.read_blank_line.ensures) (blank_named (names_of self.allocs) old h);
+        written = λ h. h;
         order = λ o. inl (subst (λ (q : Reading). IsOrderedAt text q next) (sym c.read_blank_line.ensures)
             (ordered_blank_read text old from next (omega arith) high (ordered_none text old from c.requires.no_empty (omega arith) o.1)));
       };
@@ -114,10 +116,11 @@ returns-in_ok-next-in-HtmlToBlank c =
         names = e.names;
         later = omega arith;
         boundary = e.boundary.1;
-        ready = λ names more ready. subst (λ z. Ready (document text options names) z after.reading (lines_from text next)) (sym e.tables)
+        ready = λ names more ready. subst (λ z. Ready (document text options names) z after.reading (lines_from text next)) (sym (ap told_by e.entries))
             (ready_kind text options (tables self.allocs) (names_of after.allocs) names old after.reading.tree p HtmlToBlank false next c.is_forest.ensures kind refl more block c.requires.no_empty ready after.reading.empty_item after.reading.blank none blank);
         named = λ h. block_added (names_of after.allocs) (names_of self.allocs) q.tree after.reading.tree block.items e.names block.tree_is
             (kind_named text options (names_of after.allocs) p HtmlToBlank false q.tree after.reading.tree next block) (list_finished_named (names_of self.allocs) p.line old h);
+        written = written_stay text self.allocs after.allocs e.entries;
         order = λ o. e.order at (omega arith) (subst (λ (r : Reading). IsOrderedAt text r at) (sym rem)
             (ordered_none text q at (list_finished_none p.line old) begins.0
             (ordered_finished text old p.line (offset p) p.line at (omega arith) (omega arith) (inl (refl, o.0)) begins.0 begins c.requires.no_empty o.1)));
@@ -156,7 +159,7 @@ returns-in_ok-next-in-Marked c =
     let adds : AddsLeaf (record self { reading = f }) new p (marked_kind leaf) next = record {
       source = e.source;
       names = e.names;
-      tables = e.tables;
+      entries = e.entries;
       empty_item = e.empty_item;
       block = e.block;
       later = e.later;

@@ -30,7 +30,7 @@ returns-in-NextLine c =
     let i = all_keep text p.line p.rest c.requires.utf8 c.requires.place in
     let nested = in_table r.tree.nodes r.tree.spine in
     let run = subst (ReadsRun text (context_in self) nested (unindented p) (tables self.allocs) (tables mid.allocs)) c.in-NextLine.is (e.run (unindented p) (ap (λ (q : Place). q.line) (sym c.place.view_is)) (sym c.requires.at) i) in
-    let w = run_line self mid _ p nested c.in-NextLine.line c.in-NextLine.next c.requires.utf8 c.requires.place c.requires.no_empty c.is_forest.ensures c.requires.kind refl e.source e.names run refl refl
+    let w = run_line self mid _ p nested c.in-NextLine.line c.in-NextLine.next c.requires.utf8 c.requires.place c.requires.no_empty c.is_forest.ensures c.requires.kind refl e.source e.names e.written run refl refl
     (c.finish_list.ensures ∙ ap (list_finished c.in-NextLine.line) e.reading) in
     record { read = w.read; few = w.few }
 
@@ -69,6 +69,6 @@ returns c =
     let fits : (from : ℕ) → from ≤ at → AddsBetween text from next (list_finished at r).tree new.reading.tree =
     λ from before. subst (λ (z : Reading). AddsBetween text from next z.tree new.reading.tree) done
     (subst (λ (z : Source). AddsBetween z.text.now from next c.finish_list-in-Paragraph.new.self.tree new.reading.tree) e.source (f.fits tt from before)) in
-    let w = run_text self mid new p nested at next c.requires.utf8 c.requires.place c.requires.no_empty c.is_forest.ensures c.requires.kind refl e.source e.names run f.source f.names f.tables
+    let w = run_text self mid new p nested at next c.requires.utf8 c.requires.place c.requires.no_empty c.is_forest.ensures c.requires.kind refl e.source e.names e.written run f.source f.names f.entries
     (f.reading ∙ ap (λ (z : Reading). with_block z new.reading.tree) done) block fits in
     record { read = w.read; few = w.few }
