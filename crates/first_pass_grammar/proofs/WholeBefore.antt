@@ -162,3 +162,9 @@ pub whole_already : (more names : Names) (nodes : List (ℕ × Item)) → Extend
     → AreWholeTables names nodes
 unfolding AreWholeTables
 whole_already more names nodes e named (tables, is, full) = (tables, sym (marks_still more names nodes e named) ∙ is, full)
+
+-- and so tables that are whole stay so where more is named
+pub whole_still : (more names : Names) (nodes : List (ℕ × Item)) → Extends more names → AreNamed names nodes → AreWholeTables names nodes
+    → AreWholeTables more nodes
+unfolding AreWholeTables
+whole_still more names nodes e named (tables, is, full) = (tables, marks_still more names nodes e named ∙ is, full)

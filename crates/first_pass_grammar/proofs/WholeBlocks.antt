@@ -64,7 +64,7 @@ abbrev pub WholeOpening : Document → Opening → Type 0
 WholeOpening d (OpensLeaf leaf there left) = WholeLeaf d.names leaf × PlainFrom d.text there × AreAt d.text left
 WholeOpening d (OpensNode head inside behind) = PlainFrom d.text inside × AreAt d.text behind
 
-abbrev ShownBy : Option Item → Type 0
+abbrev pub ShownBy : Option Item → Type 0
 ShownBy marker = IfSome marker (λ x. ShowsNothing x.body)
 
 -- a block with a chain shows nothing
@@ -93,7 +93,7 @@ module _ (d : Document) (full : HeadsAreFull d) where
       ended_whole path (offset p) marker l t (underline_first path l.left) plain (lines_each ShowsNothing tokens_show d path (offset p) [] lines l tt are) is
   text_by path p marker lines t (Some alignments) e i plain h = table_shows d path p alignments lines t h (full path p alignments lines t i e h)
 
-  text_whole : (path : List Container) (p : Place) (marker : Option Item) (lines : List Place) (t : Taken) → IsAt d.text p → ShownBy marker
+  pub text_whole : (path : List Container) (p : Place) (marker : Option Item) (lines : List Place) (t : Taken) → IsAt d.text p → ShownBy marker
       → IsText d path p marker lines t → AreWholeTables d.names t.items
   unfolding IsText
   text_whole path p marker lines t i plain is = text_by path p marker lines t (headed_table (around d path) p.rest.left) refl i plain is
@@ -119,7 +119,7 @@ module _ (d : Document) (full : HeadsAreFull d) where
       opens_beyond path xs b o (run_at d.text (around d path) (unindented p) lines xs b (at_unindented d.text p i) h run) opens
 
   -- what a kind opens
-  opens_as : (path : List Container) (p : Place) (lines : List Place) (kind : Kind) (o : Opening) → IsAt d.text p → AreAt d.text lines
+  pub opens_as : (path : List Container) (p : Place) (lines : List Place) (kind : Kind) (o : Opening) → IsAt d.text p → AreAt d.text lines
       → OpensAs d path p lines kind o → WholeOpening d o
   unfolding OpensAs
   opens_as path p lines Blank o i h e = subst (WholeOpening d) (sym e) (tt, tt, h)

@@ -47,7 +47,7 @@ pub tight_shows : (names : Names) (depth start «end» : ℕ) (b : ItemBody) →
 tight_shows names depth start end ParagraphBody = refl
 tight_shows names depth start end b = refl
 
-tight_by : (names : Names) (depth : ℕ) (t : Bool) (x : Item)
+pub tight_by : (names : Names) (depth : ℕ) (t : Bool) (x : Item)
     → (let y : Item = if t then record { start = x.start; «end» = x.«end»; body = tight_body x.body } else x in shown names depth y.start y.«end» y.body)
     ≡ shown names depth x.start x.«end» x.body
 tight_by names depth true x = tight_shows names depth x.start x.«end» x.body
