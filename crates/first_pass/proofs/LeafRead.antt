@@ -19,6 +19,7 @@ use Rattle.first_pass.proofs.OrderSteps.{ordered_leaf}
 use Rattle.first_pass.proofs.KindBlocks.{ready_kind}
 use Rattle.first_pass.proofs.WrittenLemmas.{written_stay}
 use Rattle.first_pass.proofs.NamedLemmas.{block_added, list_finished_named, kind_named}
+use Rattle.first_pass.proofs.WholeKept.{list_finished_whole, block_whole, kind_whole}
 use Rattle.first_pass.proofs.CountLemmas.{list_finished_count, block_count, leaf_left, left_before}
 
 -- What is said of a leaf block that was read: reading goes on behind it, and at most four nodes of the tree's own are new for each of its bytes.
@@ -51,6 +52,9 @@ leaf_read old new p kind next i empty forest is some other e =
             (kind_named text (source_options old) (names_of (allocs_of new)) p kind (reading_of new).blank (list_finished p.line r).tree (tree_of new) next e.block) (list_finished_named (names_of (allocs_of old)) p.line r h);
         written = written_stay text (allocs_of old) (allocs_of new) e.entries;
         order = λ o. inl (ordered_leaf text r (reading_of new) p.line (offset p) p.line (offset p) next (omega arith) (omega arith) (inl (refl, o.0)) i.within i.boundary empty o.1 fits e.boundary.0 none);
+        whole = λ h k. block_whole (names_of (allocs_of new)) (names_of (allocs_of old)) (list_finished p.line r).tree (tree_of new) e.block.items e.names e.block.tree_is
+            (kind_whole text (source_options old) (names_of (allocs_of new)) p kind (reading_of new).blank (list_finished p.line r).tree (tree_of new) next i e.block)
+            (list_finished_named (names_of (allocs_of old)) p.line r h) (list_finished_whole (names_of (allocs_of old)) p.line r k);
       };
       few = omega arith;
     }

@@ -26,4 +26,5 @@ pub mod StateLemmas
 pub mod TagLemmas
 pub mod TextLemmas
 pub mod UnderlinedOrder
+pub mod WholeKept
 pub mod WrittenLemmas

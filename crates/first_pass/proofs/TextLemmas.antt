@@ -42,6 +42,7 @@ use Rattle.first_pass.proofs.OrderSteps.{line_or-below, ordered_finished, ordere
 use Rattle.first_pass.proofs.LineLemmas.{list_finished_none}
 use Rattle.first_pass.proofs.HandedOn.{list_finished_blank}
 use Rattle.first_pass.proofs.NamedLemmas.{block_added, list_finished_named}
+use Rattle.first_pass.proofs.WholeKept.{IsReadWhole, list_finished_whole, block_whole, added_text_whole}
 use Rattle.first_pass.proofs.CountLemmas.{count, list_finished_count, block_count, leaf_left, left_before}
 use Rattle.first_pass.proofs.LeafLemmas.{ready_ended, ready_flows}
 use Rattle.first_pass.proofs.LeafRead.{IsLeafRead}
@@ -142,6 +143,8 @@ run_line old mid new p nested line next u i empty forest kind nest source names 
         order = λ o. inl (subst (λ z. IsOrderedAt text z next) (sym behind)
             (ordered_none text (list_finished q.line r) next (list_finished_none q.line r) high
             (ordered_finished text r q.line (offset q) q.line next (omega arith) (omega arith) (inl (refl, later_line text p q o.0 w.later)) high last empty (later_ordered text r.tree p q further w.later w.stands o.1))));
+        whole = λ h k. subst (IsReadWhole (names_of (allocs_of new))) (sym behind)
+            (subst (λ z. IsReadWhole z (list_finished q.line r)) (sym named) (list_finished_whole (names_of (allocs_of old)) q.line r k));
       };
       few = omega arith;
     }
@@ -192,6 +195,9 @@ run_text old mid new p nested at next u i empty forest kind nest source names wr
         written = λ h. written_stay text (allocs_of mid) (allocs_of new) same_entries (written h);
         order = λ o. inl (ordered_leaf text r (reading_of new) q.line (offset q) at at next (omega arith) (omega arith) (inr refl) (let high = begins.0 in omega arith) (subst (IsCharBoundary text) (sym at_is) begins) empty
             (later_ordered text r.tree p q further w.later w.stands o.1) (fits at (omega arith)) block.boundary.0 none);
+        whole = λ h k. block_whole (names_of (allocs_of new)) (names_of (allocs_of old)) (list_finished at r).tree (tree_of new) block.items more_named block.tree_is
+            (added_text_whole (document text options (names_of (allocs_of new))) _ q None _ _ w.stands tt (block.is_text (names_of (allocs_of new)) (extends_none (names_of (allocs_of new))) q w.stands (sym at_is)))
+            (list_finished_named (names_of (allocs_of old)) at r h) (list_finished_whole (names_of (allocs_of old)) at r k);
       };
       few = omega arith;
     }

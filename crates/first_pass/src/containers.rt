@@ -5,6 +5,7 @@ ghost use Rattle.first_pass_lines.specs.Rest.{after_columns};
 ghost use Rattle.first_pass_lines.specs.Places.{Place, offset, line_end, start_of, IsPlaceOf};
 ghost use Rattle.first_pass_grammar.specs.Derivation.{Tables};
 ghost use Rattle.first_pass_grammar.specs.Names.{Names, AreNamed};
+ghost use Rattle.first_pass_grammar.specs.WholeTables.{HasWholeTables};
 ghost use Rattle.first_pass_grammar.specs.Leaves.{Document, document};
 ghost use Rattle.first_pass_grammar.specs.declared.kind.Container.TheVariants.{BlockQuote, ListItem};
 ghost use Rattle.first_pass_grammar.specs.Containers.{prefix, after, at_rest, front};
@@ -64,6 +65,7 @@ pub(crate) fn close_containers(reading: &mut Reading, kept: usize, ix: usize)
         → IsOrderedAt text reading.new ix }
     ensures none_added { own_nodes reading.new.tree.nodes ≡ own_nodes reading.old.tree.nodes }
     ensures named { (names : Names) → AreNamed names reading.old.tree.nodes → AreNamed names reading.new.tree.nodes }
+    ensures whole { (names : Names) → HasWholeTables names reading.old.tree → HasWholeTables names reading.new.tree }
     ensures all_kept { kept ≡ length reading.old.tree.spine → reading.new ≡ reading.old }
 {
     while kept < reading.tree.spine_len() {
@@ -102,6 +104,7 @@ pub(crate) fn enter_line<'a>(
         (λ place. IsOrderedTo source.entry.text.now reading.new.tree start_ix) }
     ensures none_added { own_nodes reading.new.tree.nodes ≡ own_nodes reading.old.tree.nodes }
     ensures named { (names : Names) → AreNamed names reading.old.tree.nodes → AreNamed names reading.new.tree.nodes }
+    ensures whole { (names : Names) → HasWholeTables names reading.old.tree → HasWholeTables names reading.new.tree }
 {
     let mut line_start = LineStart::new(rest_of(source.text.as_bytes(), start_ix));
     let kept = scan_containers(&reading.tree, &mut line_start, source.options, false);
@@ -145,6 +148,8 @@ pub(crate) fn open_containers<'a>(
         reading.new.tree.nodes (offset place.new) answer) }
     ensures named { OnOk result ((names : Names) → AreNamed names reading.old.tree.nodes
         → AreNamed names reading.new.tree.nodes) }
+    ensures whole { OnOk result ((names : Names) → HasWholeTables names reading.old.tree
+        → HasWholeTables names reading.new.tree) }
 {
     loop {
         if let Some(behind) = open_container(reading, source, place)? {
@@ -182,6 +187,8 @@ fn open_container<'a>(
         → GrowsIn source.entry.text.now place.old.line first reading.new.tree.nodes (offset place.new) answer) }
     ensures named { OnOk result ((names : Names) → AreNamed names reading.old.tree.nodes
         → AreNamed names reading.new.tree.nodes) }
+    ensures whole { OnOk result ((names : Names) → HasWholeTables names reading.old.tree
+        → HasWholeTables names reading.new.tree) }
 {
     reading.tree.is_forest();
     source.is_short();

@@ -21,10 +21,10 @@ ghost use Rattle.first_pass.specs.Progress.{ReadsLeaf, WentOn};
 ghost use Rattle.first_pass_text.specs.Found.{IsFoundAt, marked_kind};
 ghost use Rattle.first_pass_text.specs.Between.{StandsBefore};
 ghost use Rattle.first_pass_grammar.specs.Counting.{own_nodes};
-ghost use Rattle.first_pass_grammar.specs.WholeTables.{AreWholeTables};
+ghost use Rattle.first_pass_grammar.specs.WholeTables.{AreWholeTables, HasWholeTables};
 ghost use Rattle.first_pass_grammar.specs.Order.{IsOrdered, GrowsBy, is_task_marker};
 ghost use Rattle.first_pass_grammar.specs.OpenOrder.{IsOrderedTo, is_in_item};
-ghost use Rattle.first_pass.specs.State.{Ready, ReadyAt, StaysReady};
+ghost use Rattle.first_pass.specs.State.{Ready, ReadyAt};
 ghost use Rattle.first_pass_names.specs.TableEntries.{tables, names_of, refdefs_of};
 ghost use Rattle.first_pass_definitions.specs.Found.{AreWritten};
 ghost use Rattle.first_pass_grammar.specs.Names.{Names, Extends, AreNamed};
@@ -64,6 +64,7 @@ impl<'a> FirstPass<'a> {
         ensures order { IfOk result (λ pass. IsOrderedAt text.now (reading_of pass) 0) }
         ensures root { IfOk result (λ pass. length (tree_of pass).nodes ≡ 1) }
         ensures named { IfOk result (λ pass. AreNamed (names_of (allocs_of pass)) (tree_of pass).nodes) }
+        ensures whole { IfOk result (λ pass. HasWholeTables (names_of (allocs_of pass)) (tree_of pass)) }
     {
         // A guess at how many nodes the text will have: pages of it that are never reached cost nothing. It stays under
         // 32 MiB, above which the C library maps such a block anew in each pass.
@@ -96,9 +97,9 @@ impl<'a> FirstPass<'a> {
     /// Where each link definition in the table is written in the text, each is so then: its label, its destination and
     /// a title of one line are borrowed from the text where nothing in them changes (CommonMark 4.7, and this project).
     ///
-    /// Where they begin one whatever more is named, and each index that they keep names an entry, rows and cells
-    /// stand in tables alone then, each row has as many cells as its table has columns, and of the cells of a table
-    /// at most 262,144 are filled in (GFM 4.10, and this project).
+    /// Where each index that they keep names an entry, and no row of a table is open, tables that are whole stay so:
+    /// their rows stand one deeper, the cells of these two deeper, and none elsewhere; each row has as many cells as its
+    /// table has columns, and of the cells of a table at most 262,144 are filled in (GFM 4.10, and this project).
     pub fn parse_block(&mut self, start_ix: usize) -> Result<usize, AllocError>
         requires within { start_ix < length (source_text self.old) }
         requires boundary { IsCharBoundary (source_text self.old) start_ix }
@@ -122,11 +123,9 @@ impl<'a> FirstPass<'a> {
             → AreNamed (names_of (allocs_of self.new)) (tree_of self.new).nodes) }
         ensures written { OnOk result (AreWritten (source_text self.old) (refdefs_of (allocs_of self.old))
             → AreWritten (source_text self.old) (refdefs_of (allocs_of self.new))) }
-        ensures whole { IfOk result (λ next. AreNamed (names_of (allocs_of self.old)) (tree_of self.old).nodes
-            → StaysReady
-            (document (source_text self.old) (source_options self.old) (names_of (allocs_of self.new)))
-            (tables (allocs_of self.old)) (reading_of self.old) (lines_from (source_text self.old) start_ix)
-            → AreWholeTables (names_of (allocs_of self.new)) (tree_of self.new).nodes) }
+        ensures whole { OnOk result (AreNamed (names_of (allocs_of self.old)) (tree_of self.old).nodes
+            → HasWholeTables (names_of (allocs_of self.old)) (tree_of self.old)
+            → HasWholeTables (names_of (allocs_of self.new)) (tree_of self.new)) }
     {
         let Some(mut place) = enter_line(&mut self.reading, self.source, start_ix) else {
             return Ok(next_line(self.source.text.as_bytes(), start_ix));

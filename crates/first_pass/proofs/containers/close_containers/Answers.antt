@@ -5,6 +5,7 @@ use Rattle.first_pass.proofs.NamedLemmas.{AreReadNamed, popped_named}
 use Rattle.first_pass.proofs.CountLemmas.{count, popped_count}
 use Rattle.first_pass.proofs.OrderLemmas.{ordered_popped}
 use Rattle.first_pass.proofs.StateLemmas.{closed_none, closed_one}
+use Rattle.first_pass.proofs.WholeKept.{IsReadWhole, popped_whole}
 use Rattle.first_pass.proofs.containers.close_containers.Goals as goal
 
 pub loop-reading-init : goal.loop-reading-init
@@ -13,6 +14,7 @@ loop-reading-init c = record {
   order = λ text within boundary ordered. ordered;
   none_added = refl;
   named = λ names h. h;
+  whole = λ names h. h;
   all_kept = λ all. refl;
 }
 
@@ -28,6 +30,7 @@ loop-reading-preserved c =
           (ordered_popped text _ c.args.ix c.args.ix (omega arith) within boundary (i.order text within boundary ordered));
       none_added = ap count c.pop.ensures ∙ popped_count c.args.ix _ ∙ i.none_added;
       named = λ names h. subst (AreReadNamed names) (sym c.pop.ensures) (popped_named names c.args.ix _ (i.named names h));
+      whole = λ names h. subst (IsReadWhole names) (sym c.pop.ensures) (popped_whole names c.args.ix _ (i.whole names h));
       all_kept = λ all. (let none = ap (λ (q : Reading). length q.tree.spine) (i.all_kept all) in absurd (omega arith));
     }
 
@@ -48,3 +51,6 @@ returns-clause-all_kept c = c.loop-reading.invariant.all_kept
 
 pub returns-clause-named : goal.returns-clause-named
 returns-clause-named c = c.loop-reading.invariant.named
+
+pub returns-clause-whole : goal.returns-clause-whole
+returns-clause-whole c = c.loop-reading.invariant.whole

@@ -1,5 +1,6 @@
 use Rattle.std.proofs.Common.{◌≡◌, ◌≤◌, ℕ, List, length, IsCharBoundary}
 use Rattle.first_pass_grammar.specs.Names.{Names, AreNamed}
+use Rattle.first_pass_grammar.specs.WholeTables.{HasWholeTables}
 use Rattle.first_pass_grammar.specs.Counting.{own_nodes}
 use Rattle.first_pass.specs.Ordered.{IsOrderedAt}
 use Rattle.first_pass.proofs.StateLemmas.{ClosedSoFar}
@@ -12,6 +13,7 @@ invariant-loop-reading l = record {
   order : (text : List ℕ) → l.ix ≤ length text → IsCharBoundary text l.ix → IsOrderedAt text l.initial.reading l.ix → IsOrderedAt text l.reading l.ix;
   none_added : own_nodes l.reading.tree.nodes ≡ own_nodes l.initial.reading.tree.nodes;
   named : (names : Names) → AreNamed names l.initial.reading.tree.nodes → AreNamed names l.reading.tree.nodes;
+  whole : (names : Names) → HasWholeTables names l.initial.reading.tree → HasWholeTables names l.reading.tree;
   all_kept : l.kept ≡ length l.initial.reading.tree.spine → l.reading ≡ l.initial.reading;
 }
 

@@ -8,6 +8,7 @@ use Rattle.first_pass_lists.specs.declared.reading.Reading.{Reading}
 use Rattle.first_pass.specs.Ordered.{IsOrderedAt}
 use Rattle.first_pass_grammar.specs.OpenOrder.{IsOrderedTo}
 use Rattle.first_pass.proofs.NamedLemmas.{AreReadNamed, blank_named, item_finished_named}
+use Rattle.first_pass.proofs.WholeKept.{IsReadWhole, blank_whole, item_finished_whole}
 use Rattle.first_pass.proofs.CountLemmas.{count, item_finished_count, blank_count}
 use Rattle.first_pass.proofs.HandedOn.{handed_whole, ordered_blank_line, ordered_other_line}
 use Rattle.first_pass.specs.State.{Ready, ReadyAt}
@@ -83,3 +84,11 @@ returns-then-is_some-clause-named c = λ names h. subst (AreReadNamed names) (sy
 
 pub returns-clause-named : goal.returns-clause-named
 returns-clause-named c = λ names h. subst (AreReadNamed names) (sym c.finish_empty_list_item.ensures) (item_finished_named names c.close_containers.new.reading (c.close_containers.ensures.named names h))
+
+pub returns-then-is_some-clause-whole : goal.returns-then-is_some-clause-whole
+returns-then-is_some-clause-whole c = λ names h.
+    subst (IsReadWhole names) (sym c.read_blank_line.ensures) (blank_whole names c.close_containers.new.reading (c.close_containers.ensures.whole names h))
+
+pub returns-clause-whole : goal.returns-clause-whole
+returns-clause-whole c = λ names h.
+    subst (IsReadWhole names) (sym c.finish_empty_list_item.ensures) (item_finished_whole names c.close_containers.new.reading (c.close_containers.ensures.whole names h))

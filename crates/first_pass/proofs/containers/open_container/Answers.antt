@@ -28,6 +28,8 @@ use Rattle.first_pass.proofs.OrderLemmas.{ordered_later}
 use Rattle.first_pass_grammar.specs.Names.{AreNamed}
 use Rattle.first_pass_grammar.specs.Counting.{own_nodes}
 use Rattle.first_pass.proofs.NamedLemmas.{AreReadNamed, item_named, quote_named, child_named}
+use Rattle.first_pass.proofs.WholeKept.{IsReadWhole, item_whole, quote_whole, child_whole}
+use Rattle.first_pass_grammar.specs.WholeTables.{HasWholeTables}
 use Rattle.first_pass.proofs.CountLemmas.{count, item_count, quote_count, child_count, left_before, offset_before, mark_shorter, container_count}
 use Rattle.first_pass.proofs.OrderSteps.{offset_later, ordered_on, top_begun, ordered_item, ordered_quote, mark_stands, ordered_container, ordered_empty_item, quote_stands, place_before_end}
 use Rattle.first_pass.proofs.OpenerLemmas.{item_found, item_absent, item_opened, ready_item, empty_item_read, ready_empty_item, ready_quote, ready_tagged, opened_behind, ready_behind}
@@ -438,3 +440,26 @@ returns-then-is_none-2-clause-named c = λ names h.
 pub returns-in-Some-scan_quote-clause-named : goal.returns-in-Some-scan_quote-clause-named
 returns-in-Some-scan_quote-clause-named c = λ names h.
     subst (AreReadNamed names) (sym c.in_ok-open_quote.ensures) (quote_named names c.place.inside.line (c.place.inside.line + c.in-Some-scan_quote.quote) (BlockQuoteBody c.scan_tag-tag.result) c.args.reading.now tt h)
+
+pub returns-then-is_none-clause-whole : goal.returns-then-is_none-clause-whole
+returns-then-is_none-clause-whole c = λ names h.
+    subst (IsReadWhole names) (sym (opened_is c))
+    (item_whole names (offset (place_at c.place.inside.line c.place.inside.rest)) c.in-Some.item.byte c.in-Some.item.number c.in-Some.item.indent c.args.reading.now h)
+
+pub returns-in-Some-clause-whole : goal.returns-in-Some-clause-whole
+returns-in-Some-clause-whole c = λ names h.
+    let start : ℕ = c.offset-before.result in
+    let item : Reading = c.open_item.new.self in
+    let opened = subst (IsReadWhole names) (sym c.in_ok-open_item.ensures) (item_whole names start c.in-Some.item.byte c.in-Some.item.number c.in-Some.item.indent c.args.reading.now h) in
+    subst (λ (f : Forest Item). HasWholeTables names f) (sym c.in_ok-append_item.ensures)
+    (child_whole names item.tree c.scan_task-marker.result (λ x is. mark_is_task c.args.source.options c.place.inside.line c.scan_item.new.line_start x (sym c.scan_task-marker.ensures.marker ∙ is)) opened)
+
+pub returns-then-is_none-2-clause-whole : goal.returns-then-is_none-2-clause-whole
+returns-then-is_none-2-clause-whole c = λ names h.
+    subst (IsReadWhole names) (sym c.in_ok-open_quote.ensures)
+    (quote_whole names c.place.inside.line (c.place.inside.line + c.in-Some-scan_quote.quote) (BlockQuoteBody c.scan_tag-tag.result) c.args.reading.now (λ names depth start end. refl) refl h)
+
+pub returns-in-Some-scan_quote-clause-whole : goal.returns-in-Some-scan_quote-clause-whole
+returns-in-Some-scan_quote-clause-whole c = λ names h.
+    subst (IsReadWhole names) (sym c.in_ok-open_quote.ensures)
+    (quote_whole names c.place.inside.line (c.place.inside.line + c.in-Some-scan_quote.quote) (BlockQuoteBody c.scan_tag-tag.result) c.args.reading.now (λ names depth start end. refl) refl h)

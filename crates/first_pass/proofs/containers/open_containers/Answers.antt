@@ -32,3 +32,6 @@ returns-in-Some-clause-few c =
 
 pub returns-in-Some-clause-named : goal.returns-in-Some-clause-named
 returns-in-Some-clause-named c = λ names h. c.in_ok-behind.ensures.named names (c.loop-behind.invariant.named names h)
+
+pub returns-in-Some-clause-whole : goal.returns-in-Some-clause-whole
+returns-in-Some-clause-whole c = λ names h. c.in_ok-behind.ensures.whole names (c.loop-behind.invariant.whole names h)

@@ -1,6 +1,7 @@
 use Rattle.std.proofs.Common.{◌≡◌, length, None, IsCharBoundary}
 use Rattle.first_pass_lines.specs.Places.{offset, line_end, IsPlaceOf}
 use Rattle.first_pass_grammar.specs.Names.{Names, AreNamed}
+use Rattle.first_pass_grammar.specs.WholeTables.{HasWholeTables}
 use Rattle.first_pass_grammar.specs.Leaves.{document}
 use Rattle.first_pass_grammar.specs.Derivation.{Tables}
 use Rattle.first_pass_grammar.specs.Skeleton.{Inside}
@@ -23,6 +24,7 @@ invariant-loop-behind l = record {
   order : IsCharBoundary l.source.text.now l.fn.place.line → IsOrderedTo l.source.text.now l.initial.reading.tree (line_or l.initial.reading.tree l.fn.place.line (offset l.fn.place))
       → IsOrderedTo l.source.text.now l.reading.tree (line_or l.reading.tree l.place.line (offset l.place));
   named : (names : Names) → AreNamed names l.initial.reading.tree.nodes → AreNamed names l.reading.tree.nodes;
+  whole : (names : Names) → HasWholeTables names l.initial.reading.tree → HasWholeTables names l.reading.tree;
   few : GrowsBy l.fn.place.line (offset l.place) l.initial.reading.tree.nodes l.reading.tree.nodes;
 }
 

@@ -3,6 +3,7 @@ use Rattle.first_pass_lists.specs.Closing.{remembered}
 use Rattle.first_pass_tree.specs.Forest.{with_end_at}
 use Rattle.first_pass.proofs.NamedLemmas.{first_named}
 use Rattle.first_pass.proofs.OrderLemmas.{ordered_none, ordered_first}
+use Rattle.first_pass.proofs.WholeKept.{first_whole}
 use Rattle.first_pass.proofs.StateLemmas.{ready_first}
 use Rattle.first_pass.proofs.state.FirstPass.new.Goals as goal
 
@@ -21,3 +22,7 @@ returns-clause-order c =
 pub returns-clause-named : goal.returns-clause-named
 returns-clause-named c =
     first_named _ c.set_end.new.self c.root-root.result (length c.args.text.now) (c.set_end.ensures ∙ ap (λ f. with_end_at f c.root-root.result (length c.args.text.now)) c.in_ok-tree.ensures)
+
+pub returns-clause-whole : goal.returns-clause-whole
+returns-clause-whole c =
+    first_whole _ c.set_end.new.self c.root-root.result (length c.args.text.now) (c.set_end.ensures ∙ ap (λ f. with_end_at f c.root-root.result (length c.args.text.now)) c.in_ok-tree.ensures)

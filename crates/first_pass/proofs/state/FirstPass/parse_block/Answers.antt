@@ -12,7 +12,6 @@ use Rattle.first_pass_names.proofs.NameLemmas.{extends_none}
 use Rattle.first_pass.specs.Opening.{IsBehind, ReadyText, ReadyBehind, GrowsText, GrowsBehind}
 use Rattle.first_pass.specs.State.{Ready, ReadyAt}
 use Rattle.first_pass.specs.declared.containers.Behind.{Behind}
-use Rattle.first_pass.proofs.ReadyWhole.{ready_whole}
 use Rattle.first_pass.proofs.OrderSteps.{line_later, ordered_entered, place_before_end}
 use Rattle.first_pass.proofs.state.FirstPass.parse_block.Goals as goal
 
@@ -219,41 +218,28 @@ returns-in_ok-next-in-Tag-clause-ready c =
     (c.in-Some.ensures.ready more (tables self.allocs) h) in
     c.in_ok-next-in-Tag.ensures.read.ready more x opened
 
--- so the nodes show whole tables
 pub returns-in_default-clause-whole : goal.returns-in_default-clause-whole
-returns-in_default-clause-whole c =
-    let self = c.args.self.now in
-    λ named ready.
-    ready_whole (document self.source.text.now self.source.options (names_of self.allocs)) (tables self.allocs) c.enter_line.new.reading c.next_line.result
-    (λ more x. returns-in_default-clause-ready c more x (ready more x)) (returns-in_default-clause-named c named)
+returns-in_default-clause-whole c = λ named. c.enter_line.ensures.whole (names_of c.args.self.now.allocs)
 
 pub returns-in_ok-next-in-Leaf-clause-whole : goal.returns-in_ok-next-in-Leaf-clause-whole
 returns-in_ok-next-in-Leaf-clause-whole c =
-    let source = c.args.self.now.source in
-    let now = c.parse_leaf.new.self in
-    λ named ready.
-    ready_whole (document source.text.now source.options (names_of now.allocs)) (tables now.allocs) now.reading c.in_ok-next-in-Leaf.next
-    (λ more x. returns-in_ok-next-in-Leaf-clause-ready c more x (ready more x)) (returns-in_ok-next-in-Leaf-clause-named c named)
+    let names = names_of c.args.self.now.allocs in
+    let e = c.in_ok-open_containers.ensures in
+    λ named h. c.in_ok-next-in-Leaf.ensures.read.whole (e.named names (c.enter_line.ensures.named names named)) (e.whole names (c.enter_line.ensures.whole names h))
 
 pub returns-in_ok-next-in-TaskText-clause-whole : goal.returns-in_ok-next-in-TaskText-clause-whole
 returns-in_ok-next-in-TaskText-clause-whole c =
-    let source = c.args.self.now.source in
-    let now = c.parse_task_text.new.self in
-    λ named ready.
-    ready_whole (document source.text.now source.options (names_of now.allocs)) (tables now.allocs) now.reading c.in_ok-next-in-TaskText.next
-    (λ more x. returns-in_ok-next-in-TaskText-clause-ready c more x (ready more x)) (returns-in_ok-next-in-TaskText-clause-named c named)
+    let names = names_of c.args.self.now.allocs in
+    let e = c.in_ok-open_containers.ensures in
+    λ named h. c.in_ok-next-in-TaskText.ensures.read.whole (e.named names (c.enter_line.ensures.named names named)) (e.whole names (c.enter_line.ensures.whole names h))
 
 pub returns-in-NextLine-clause-whole : goal.returns-in-NextLine-clause-whole
 returns-in-NextLine-clause-whole c =
-    let self = c.args.self.now in
-    λ named ready.
-    ready_whole (document self.source.text.now self.source.options (names_of self.allocs)) (tables self.allocs) c.open_containers.new.reading c.in-NextLine.next
-    (λ more x. returns-in-NextLine-clause-ready c more x (ready more x)) (returns-in-NextLine-clause-named c named)
+    let names = names_of c.args.self.now.allocs in
+    λ named h. c.in_ok-open_containers.ensures.whole names (c.enter_line.ensures.whole names h)
 
 pub returns-in_ok-next-in-Tag-clause-whole : goal.returns-in_ok-next-in-Tag-clause-whole
 returns-in_ok-next-in-Tag-clause-whole c =
-    let source = c.args.self.now.source in
-    let now = c.parse_tagged.new.self in
-    λ named ready.
-    ready_whole (document source.text.now source.options (names_of now.allocs)) (tables now.allocs) now.reading c.in_ok-next-in-Tag.next
-    (λ more x. returns-in_ok-next-in-Tag-clause-ready c more x (ready more x)) (returns-in_ok-next-in-Tag-clause-named c named)
+    let names = names_of c.args.self.now.allocs in
+    let e = c.in_ok-open_containers.ensures in
+    λ named h. c.in_ok-next-in-Tag.ensures.read.whole (e.named names (c.enter_line.ensures.named names named)) (e.whole names (c.enter_line.ensures.whole names h))

@@ -18,6 +18,7 @@ use Rattle.first_pass.proofs.OrderSteps.{line_or-below, ordered_finished, uninde
 use Rattle.first_pass.proofs.LeafLemmas.{ready_blank_leaf, line_end_of}
 use Rattle.first_pass_text.proofs.KindLemmas.{Says, kind_says}
 use Rattle.first_pass.proofs.NamedLemmas.{AreReadNamed, blank_named, block_added, list_finished_named, kind_named}
+use Rattle.first_pass.proofs.WholeKept.{IsReadWhole, blank_whole, list_finished_whole, block_whole, kind_whole}
 use Rattle.first_pass.proofs.KindBlocks.{marked_some, marked_other, columns_are, html_blank_added, AddsHtml, ready_kind}
 use Rattle.first_pass.proofs.HandedOn.{list_finished_blank}
 use Rattle.first_pass.specs.Adding.{AddsLeaf}
@@ -66,6 +67,7 @@ returns-in-Blank c =
         written = λ h. h;
         order = λ o. inl (subst (λ (q : Reading). IsOrderedAt text q next) (sym c.read_blank_line.ensures)
             (ordered_blank_read text old from next (omega arith) high (ordered_none text old from c.requires.no_empty (omega arith) o.1)));
+        whole = λ h k. subst (IsReadWhole (names_of self.allocs)) (sym c.read_blank_line.ensures) (blank_whole (names_of self.allocs) old k);
       };
       few = omega arith;
     }
@@ -124,6 +126,8 @@ returns-in_ok-next-in-HtmlToBlank c =
         order = λ o. e.order at (omega arith) (subst (λ (r : Reading). IsOrderedAt text r at) (sym rem)
             (ordered_none text q at (list_finished_none p.line old) begins.0
             (ordered_finished text old p.line (offset p) p.line at (omega arith) (omega arith) (inl (refl, o.0)) begins.0 begins c.requires.no_empty o.1)));
+        whole = λ h k. block_whole (names_of after.allocs) (names_of self.allocs) q.tree after.reading.tree block.items e.names block.tree_is
+            (kind_whole text options (names_of after.allocs) p HtmlToBlank false q.tree after.reading.tree next c.requires.place block) (list_finished_named (names_of self.allocs) p.line old h) (list_finished_whole (names_of self.allocs) p.line old k);
       };
       few = omega arith;
     }

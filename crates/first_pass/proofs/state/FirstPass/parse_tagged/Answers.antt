@@ -52,6 +52,7 @@ returns-in-None c =
         named = λ h. h;
         written = λ h. h;
         order = λ ordered. inl (ordered_none text self.reading at c.requires.no_empty c.requires.boundary.0 ordered);
+        whole = λ h k. k;
       };
       few = omega arith;
     }
@@ -86,6 +87,7 @@ returns-in_ok-next-in-Some c =
         named = e.read.named;
         written = e.read.written;
         order = λ ordered. e.read.order (ordered_at_place text self.reading.tree at q refl c.requires.boundary (subst (IsPlaceOf text) (sym same) here.0) ordered);
+        whole = e.read.whole;
       };
       few = omega arith;
     }

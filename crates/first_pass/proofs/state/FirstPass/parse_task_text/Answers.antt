@@ -16,6 +16,7 @@ use Rattle.first_pass.proofs.WrittenLemmas.{written_stay}
 use Rattle.first_pass_names.proofs.NameLemmas.{extends_none}
 use Rattle.first_pass_grammar.proofs.TextsNamed.{text_named}
 use Rattle.first_pass.proofs.NamedLemmas.{block_added, task_is_no_text, task_has_none}
+use Rattle.first_pass.proofs.WholeKept.{task_shows, block_whole, added_text_whole}
 use Rattle.first_pass.proofs.LeafLemmas.{line_end_of, ready_text}
 use Rattle.first_pass.proofs.state.FirstPass.parse_task_text.Goals as goal
 
@@ -71,6 +72,8 @@ returns c =
             (text_named (document text options (names_of new.allocs)) _ (unindented p) (Some c.args.marker) _ _ (task_has_none c.args.marker.body c.requires.marker) (e.block.is_text (names_of new.allocs) (extends_none (names_of new.allocs)) (unindented p) i (sym there))) h;
         written = written_stay text self.allocs new.allocs e.entries;
         order = λ o. inl (ordered_block text self.reading.tree new.reading o.from next (fits o.from o.stands) e.block.boundary.0 none o.ordered);
+        whole = λ h k. block_whole (names_of new.allocs) (names_of self.allocs) old.tree new.reading.tree e.block.items e.names e.block.tree_is
+            (added_text_whole (document text options (names_of new.allocs)) _ (unindented p) (Some c.args.marker) _ _ i (task_shows c.args.marker.body c.requires.marker) (e.block.is_text (names_of new.allocs) (extends_none (names_of new.allocs)) (unindented p) i (sym there))) h k;
       };
       few = λ from stands apart. block_count text from next self.reading.tree new.reading.tree (fits from stands) apart;
     }

@@ -21,7 +21,7 @@ returns-in-Some-2 c =
     let read = subst (IsReadAs (label_at (λ further. Some 0) false bs)) c.in-Some.is c.in_ok-size.ensures in
     let found : Option LinkDef = Some c.in-Some-2.link.now in
     let is : found ≡ defined_under (folded (text_of c.in-Some.label)) links =
-        ap option_copied (sym c.in-Some-2.is) ∙ c.in_ok-link.ensures.value ∙ ap (λ xs. defined_under (folded xs) links) c.deref.ensures in
+    ap option_copied (sym c.in-Some-2.is) ∙ c.in_ok-link.ensures.value ∙ ap (λ xs. defined_under (folded xs) links) c.deref.ensures in
     link_there links bs (label_at (λ further. Some 0) false bs) c.in-Some.size c.in-Some.label found refl read is
 
 pub returns : goal.returns
@@ -31,5 +31,5 @@ returns c =
     let read = subst (IsReadAs (label_at (λ further. Some 0) false bs)) c.in-Some.is c.in_ok-size.ensures in
     let found : Option LinkDef = None in
     let is : found ≡ defined_under (folded (text_of c.in-Some.label)) links =
-        ap option_copied (sym c.in-None.is) ∙ c.in_ok-link.ensures.value ∙ ap (λ xs. defined_under (folded xs) links) c.deref.ensures in
+    ap option_copied (sym c.in-None.is) ∙ c.in_ok-link.ensures.value ∙ ap (λ xs. defined_under (folded xs) links) c.deref.ensures in
     link_there links bs (label_at (λ further. Some 0) false bs) c.in-Some.size c.in-Some.label found refl read is
