@@ -22,7 +22,8 @@ use Rattle.first_pass_grammar.specs.Order.{is_task_marker}
 use Rattle.first_pass_grammar.specs.Skeleton.{Line, OpensLeaf, leaf_block}
 use Rattle.first_pass_grammar.specs.Tables.{Taken}
 use Rattle.first_pass_grammar.specs.Texts.{IsText}
-use Rattle.first_pass_grammar.specs.WholeTables.{Mark, shown, marks, AreWholeTables, is_row, HaveNoRows, HasWholeTables}
+use Rattle.first_pass_grammar.specs.Counting.{is_row}
+use Rattle.first_pass_grammar.specs.WholeTables.{Mark, shown, marks, AreWholeTables, HaveNoRows, HasWholeTables}
 use Rattle.first_pass_grammar.proofs.HeadCells.{heads_are_full}
 use Rattle.first_pass_grammar.proofs.LinesLeft.{lines_from_at}
 use Rattle.first_pass_grammar.proofs.SilentNodes.{IsSilent, marks_modified}

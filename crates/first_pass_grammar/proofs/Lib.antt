@@ -26,6 +26,7 @@ pub mod RowsAlike
 pub mod RunsFound
 pub mod SequencesFound
 pub mod SilentNodes
+pub mod TableDepths
 pub mod TableEnds
 pub mod TableItems
 pub mod TableMarks

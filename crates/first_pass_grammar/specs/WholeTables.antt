@@ -1,10 +1,11 @@
 -- Tables as their nodes show them: as many cells in each row as columns, and no more of them filled in than may be.
-use Rattle.std.specs.Prelude.{◌≡◌, ℕ, ◌+◌, ◌≤◌, ◌==◌, suc, Bool, true, false, IsSomeAnd, List, [], ◌∷◌, ◌++◌, length, map, if◌then◌else◌}
+use Rattle.std.specs.Prelude.{◌≡◌, ℕ, ◌+◌, ◌≤◌, ◌==◌, suc, false, IsSomeAnd, List, [], ◌∷◌, ◌++◌, length, map, if◌then◌else◌}
 use Rattle.first_pass_items.specs.declared.item.Item.{Item}
 use Rattle.first_pass_items.specs.declared.item.ItemBody.{ItemBody}
 use Rattle.first_pass_items.specs.declared.item.ItemBody.TheVariants.{Table, TableHead, TableRow, TableCell}
 use Rattle.first_pass_tree.specs.declared.tree_index.TreeIndex.{TreeIndex}
 use Rattle.first_pass_tree.specs.Forest.{Forest, body_at}
+use Rattle.first_pass_grammar.specs.Counting.{is_row}
 use Rattle.first_pass_grammar.specs.Names.{Names, alignments_named}
 use Rattle.first_pass_grammar.specs.Tables.{most_filled}
 
@@ -74,12 +75,6 @@ AreFull (table ∷ tables) = HaveCells table.columns table.rows × (filled_in ta
 -- 4.10, and this project).
 unfoldable pub AreWholeTables : Names → List (ℕ × Item) → Type 0
 AreWholeTables names nodes = (tables : List TableRows) × (marks names nodes ≡ table_marks tables) × AreFull tables
-
--- a row of a table, its header row too (GFM 4.10)
-abbrev pub is_row : ItemBody → Bool
-is_row TableHead = true
-is_row TableRow = true
-is_row _ = false
 
 -- each of these places has a node, which is no row (this project)
 abbrev pub HaveNoRows : List (ℕ × Item) → List TreeIndex → Type 0

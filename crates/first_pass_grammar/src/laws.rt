@@ -1,6 +1,8 @@
 //! Laws of the grammar.
 
-ghost use Rattle.std.specs.Prelude.{◌≡◌, [], ℕ, List, length};
+ghost use Rattle.std.specs.Prelude.{◌≡◌, ◌∷◌, [], ℕ, List, length};
+ghost use Rattle.first_pass_items.specs.declared.item.AlignmentIndex.{AlignmentIndex};
+ghost use Rattle.first_pass_items.specs.declared.item.ItemBody.TheVariants.{Table, TableHead};
 ghost use Rattle.first_pass_items.specs.declared.item.Item.{Item};
 ghost use Rattle.first_pass_items.specs.declared.option_set.Options.{Options};
 ghost use Rattle.first_pass_lines.specs.Places.{Place};
@@ -67,4 +69,11 @@ pub fn law_of_links()
 pub fn tables_are_whole()
     ensures { (text : List ℕ) (options : Options) (names : Names) (nodes : List (ℕ × Item)) (tables : Tables)
         → Derives (document text options names) nodes tables → AreWholeTables names nodes }
+{}
+
+/// Rows stand inside their table: a table is not whole with its header row beside it, at its own depth (GFM 4.10).
+pub fn rows_stand_inside()
+    ensures { (names : Names) (depth : ℕ) (table row : Item) (index : AlignmentIndex) (more : List (ℕ × Item))
+        → table.body ≡ Table index → row.body ≡ TableHead
+        → AreWholeTables names ((depth, table) ∷ (depth, row) ∷ more) → ⊥ }
 {}
