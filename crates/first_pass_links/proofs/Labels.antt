@@ -65,6 +65,11 @@ first_of : (h : List ℕ → Option ℕ) (at : ℕ) (bs : List ℕ) → (slice_i
 first_of h at [] = inr (ap (λ cs. slice_index (bytes_of cs) 0) (joined-nil h at))
 first_of h at (b ∷ bs) = first_by _ h at b bs _ refl refl
 
+-- the first of some bytes that begin it
+first_joined : (us cs : List (ℕ × ℕ)) (b : ℕ) → 0 < length us → (slice_index (bytes_of (us ++ cs)) 0 ≡ b) ⊎ (slice_index (bytes_of (us ++ cs)) 0 ≡ 0) → (slice_index (bytes_of us) 0 ≡ b) ⊎ (slice_index (bytes_of us) 0 ≡ 0)
+first_joined [] cs b l f = absurd (omega arith)
+first_joined (u ∷ us) cs b l f = f
+
 first_taken : (n : ℕ) (bs : List ℕ) → (slice_index (take n bs) 0 ≡ slice_index bs 0) ⊎ (slice_index (take n bs) 0 ≡ 0)
 first_taken zero bs = inr refl
 first_taken (suc n) [] = inr refl
@@ -93,7 +98,7 @@ any_append : (p : ℕ → Bool) (xs ys : List ℕ) → list_any p (xs ++ ys) ≡
 any_append p [] ys = refl
 any_append p (x ∷ xs) ys = rw (any_append p xs ys) (or_assoc (p x) (list_any p xs) (list_any p ys))
 
-take_past : (xs ys : List ℕ) (n m : ℕ) → n ≡ length xs + m → take n (xs ++ ys) ≡ xs ++ take m ys
+pub take_past : (xs ys : List ℕ) (n m : ℕ) → n ≡ length xs + m → take n (xs ++ ys) ≡ xs ++ take m ys
 take_past [] ys n m e = let f : n ≡ m = omega arith in rw f
 take_past (x ∷ xs) ys n m e = let f : n ≡ suc (length xs + m) = omega arith in rw f (ap (λ zs. x ∷ zs) (take_past xs ys (length xs + m) m refl))
 
@@ -186,15 +191,15 @@ space_cases b h = grind (arith, nat_tests, h)
 solid_ends_none : (b : ℕ) (bs : List ℕ) → is_ascii_white b ≡ false → ends_line b bs ≡ false
 solid_ends_none b bs h = grind (arith, nat_tests, h)
 
-single-solid : (b : ℕ) (bs : List ℕ) → is_ascii_white b ≡ false → single_spaced (b ∷ bs) ≡ b ∷ single_spaced bs
+pub single-solid : (b : ℕ) (bs : List ℕ) → is_ascii_white b ≡ false → single_spaced (b ∷ bs) ≡ b ∷ single_spaced bs
 unfolding single_spaced
 single-solid b bs h = rw h
 
-single-more : (b : ℕ) (bs : List ℕ) → is_ascii_white b ≡ true → is_ascii_white (slice_index bs 0) ≡ true → single_spaced (b ∷ bs) ≡ single_spaced bs
+pub single-more : (b : ℕ) (bs : List ℕ) → is_ascii_white b ≡ true → is_ascii_white (slice_index bs 0) ≡ true → single_spaced (b ∷ bs) ≡ single_spaced bs
 unfolding single_spaced
 single-more b bs h k = rw (h, k)
 
-single-last : (b : ℕ) (bs : List ℕ) → is_ascii_white b ≡ true → is_ascii_white (slice_index bs 0) ≡ false → single_spaced (b ∷ bs) ≡ 32 ∷ single_spaced bs
+pub single-last : (b : ℕ) (bs : List ℕ) → is_ascii_white b ≡ true → is_ascii_white (slice_index bs 0) ≡ false → single_spaced (b ∷ bs) ≡ 32 ∷ single_spaced bs
 unfolding single_spaced
 single-last b bs h k = rw (h, k)
 
@@ -217,13 +222,13 @@ shown-byte true p bs h k = elim (cases_Bool (p == 92)) [
 ]
 
 -- runs of white space
-white_parts : (b : ℕ) (bs : List ℕ) → list_all is_ascii_white (b ∷ bs) ≡ true → (is_ascii_white b ≡ true) × (list_all is_ascii_white bs ≡ true)
+pub white_parts : (b : ℕ) (bs : List ℕ) → list_all is_ascii_white (b ∷ bs) ≡ true → (is_ascii_white b ≡ true) × (list_all is_ascii_white bs ≡ true)
 white_parts b bs h = and_parts _ _ h
 
 pub white_is_ascii : (b : ℕ) → is_ascii_white b ≡ true → (b < 128) × ((b == 92) ≡ false) × (is_bracket b ≡ false) × (begins_character b ≡ true) × (is_solid b ≡ false)
 white_is_ascii b h = (grind (arith, nat_tests, h), grind (arith, nat_tests, h), grind (arith, nat_tests, h), grind (arith, nat_tests, h), rw h)
 
-upto-run : (u bs : List ℕ) → list_all is_ascii_white u ≡ true → label_len (u ++ bs) ≡ length u + label_len bs
+pub upto-run : (u bs : List ℕ) → list_all is_ascii_white u ≡ true → label_len (u ++ bs) ≡ length u + label_len bs
 upto-run [] bs h = omega arith
 upto-run (b ∷ u) bs h =
     let p = white_parts b u h in
@@ -277,10 +282,11 @@ pub unit_reads : (h : List ℕ → Option ℕ) (t : Bool) (text : List ℕ) (at 
     → count_by begins_character (bytes_of us) ≡ unit.characters
     → list_any is_solid (bytes_of us) ≡ unit.solid
     → label_len (bytes_of us ++ bytes_of (left_at h text unit.next)) ≡ length us + label_len (bytes_of (left_at h text unit.next))
+    → (unit.kept ≡ unit.resumed) ⊎ (weight (read_of text at unit) < weight (bytes_of us))
     → ((n : ℕ) → shown t (bytes_of us ++ take n (bytes_of (left_at h text unit.next))) ≡ read_of text at unit ++ shown t (take n (bytes_of (left_at h text unit.next))))
     → Reads h t text at unit
-unit_reads h t text at unit us joins count something passed reads =
-    record { run = us; joins = joins; count = count; something = something; passed = passed; reads = reads }
+unit_reads h t text at unit us joins count something passed changes reads =
+    record { run = us; joins = joins; count = count; something = something; passed = passed; changes = changes; reads = reads }
 
 -- what is known behind a unit
 abbrev pub known_behind : List ℕ → ℕ → Unit → Known → Known
@@ -306,6 +312,7 @@ byte_reads h t text at c l white bracket plain e =
     (let z : count_by begins_character (b ∷ []) ≡ (if begins_character b then 1 else 0) = omega arith in z ∙ sym e)
     (rw white)
     (upto-byte is_bracket b X (rw plain) bracket)
+    (inl refl)
     (λ n. shown-solid t b (take n X) plain white ∙ ap (λ xs. xs ++ shown t (take n X)) (sym (read-kept text at (at + 1) c true ∙ part-one text at l)))
 
 no_pipe : (b : ℕ) → is_ascii_punctuation b ≡ false → (b == 124) ≡ false
@@ -335,8 +342,50 @@ space_fields : (text : List ℕ) (at next characters : ℕ) (t : Bool) → (next
 space_fields text at next characters true h = rw h (refl, refl, refl)
 space_fields text at next characters false h = rw h (refl, refl, refl)
 
-run_reads_by : (x : Bool) (h : List ℕ → Option ℕ) (t : Bool) (text : List ℕ) (at next characters : ℕ) → (next == at + 1 && slice_index text at == 32) ≡ x → at < length text → IsWhiteRun h text at next characters → 0 < characters → is_ascii_white (slice_index text next) ≡ false → Reads h t text at (space_unit text at next characters)
-run_reads_by x h t text at next characters kind l r some e =
+eqb-same : (n : ℕ) → (n == n) ≡ true
+eqb-same n = grind (arith, nat_tests)
+
+-- a run that is no single space is heavier than one
+lone_weight : (text : List ℕ) (at next b : ℕ) → (b ≡ get_or text at 0) ⊎ (b ≡ 0) → is_ascii_white b ≡ true → (next == at + 1 && slice_index text at == 32) ≡ false → (slice_index text at ≡ 32 → next ≡ at + 1) → (b == 32) ≡ false
+lone_weight text at next b (inr z) s k f = absurd (false≢true (rw z at s))
+lone_weight text at next b (inl z) s k f = elim (cases_Bool (b == 32)) [
+  | inl e ↦ (
+      let v : get_or text at 0 ≡ 32 = sym z ∙ eqb-true b 32 e in
+      let n = f v in
+      let y : (next == at + 1) ≡ true = rw n (eqb-same (at + 1)) in
+      let q : (slice_index text at == 32) ≡ false = rw y at k in
+      absurd (false≢true (sym q ∙ rw v)))
+  | inr e ↦ e
+]
+
+run_heavier : (text : List ℕ) (at next characters : ℕ) (us : List ℕ) → length us ≡ characters → list_all is_ascii_white us ≡ true → (slice_index us 0 ≡ get_or text at 0) ⊎ (slice_index us 0 ≡ 0) → 0 < characters → (next == at + 1 && slice_index text at == 32) ≡ false → (characters ≡ 1 → slice_index text at ≡ 32 → next ≡ at + 1) → 1 < weight us
+run_heavier text at next characters [] l w f some k lone = absurd (omega arith)
+run_heavier text at next characters (b ∷ []) l w f some k lone =
+    let s = (white_parts b [] w).0 in
+    let o = weight-other b s (lone_weight text at next b f s k (lone (omega arith))) in
+    omega arith
+run_heavier text at next characters (b ∷ c ∷ us) l w f some k lone = let m = weight-length (b ∷ c ∷ us) in omega arith
+
+run_lighter : (x : Bool) (text : List ℕ) (at next characters : ℕ) (us : List ℕ) → (next == at + 1 && slice_index text at == 32) ≡ x → at < length text → (x ≡ false → 1 < weight us)
+    → ((space_unit text at next characters).kept ≡ (space_unit text at next characters).resumed) ⊎ (weight (read_of text at (space_unit text at next characters)) < weight us)
+run_lighter true text at next characters us k l f = rw k (inl refl)
+run_lighter false text at next characters us k l f =
+    let e = ap weight (read-space text at next characters false k l) in
+    let one = weight-space in
+    let more = f refl in
+    inr (omega arith)
+
+run_first : (h : List ℕ → Option ℕ) (text : List ℕ) (at next n : ℕ) (r : IsWhiteRun h text at next n) → 0 < n → at < length text → (slice_index (bytes_of r.run) 0 ≡ get_or text at 0) ⊎ (slice_index (bytes_of r.run) 0 ≡ 0)
+run_first h text at next n r some l =
+    let c = r.count in
+    let d = ap (λ xs. slice_index xs 0) (drop_more text at 0 l) in
+    first_joined r.run (left_at h text next) (get_or text at 0) (omega arith) (elim (first_of h at (drop at text)) [
+      | inl f ↦ inl (ap (λ cs. slice_index (bytes_of cs) 0) (sym r.joins) ∙ f ∙ d)
+      | inr f ↦ inr (ap (λ cs. slice_index (bytes_of cs) 0) (sym r.joins) ∙ f)
+    ])
+
+run_reads_by : (x : Bool) (h : List ℕ → Option ℕ) (t : Bool) (text : List ℕ) (at next characters : ℕ) → (next == at + 1 && slice_index text at == 32) ≡ x → at < length text → IsWhiteRun h text at next characters → 0 < characters → (characters ≡ 1 → slice_index text at ≡ 32 → next ≡ at + 1) → is_ascii_white (slice_index text next) ≡ false → Reads h t text at (space_unit text at next characters)
+run_reads_by x h t text at next characters kind l r some lone e =
     let f = space_fields text at next characters x kind in
     let X = bytes_of (left_at h text next) in
     let c = run_counts (bytes_of r.run) r.white in
@@ -351,6 +400,7 @@ run_reads_by x h t text at next characters kind l r some e =
     (c.0 ∙ len ∙ count ∙ sym f.1)
     (c.1 ∙ sym f.2)
     (ap (λ n. label_len (bytes_of r.run ++ bytes_of (left_at h text n))) f.0 ∙ upto-run (bytes_of r.run) X r.white ∙ ap (λ n. n + label_len X) len ∙ ap (λ n. length r.run + label_len (bytes_of (left_at h text n))) (sym f.0))
+    (run_lighter x text at next characters (bytes_of r.run) kind l (λ no. run_heavier text at next characters (bytes_of r.run) (len ∙ count) r.white (run_first h text at next characters r some l) some (kind ∙ no) lone))
     (λ n. ap (λ k. shown t (bytes_of r.run ++ take n (bytes_of (left_at h text k)))) f.0
     ∙ shown-run t (bytes_of r.run) (take n X) r.white (omega arith) (taken_fails is_ascii_white refl n X first')
     ∙ ap (λ xs. xs ++ shown t (take n X)) (sym (read-space text at next characters x kind l))
@@ -367,6 +417,7 @@ lone_reads h t text at l e p =
     refl
     refl
     (upto-byte is_bracket 92 X f refl)
+    (inl refl)
     (λ n. shown-backslash t (take n X) (q n) ∙ ap (λ xs. xs ++ shown t (take n X)) (sym (read-kept text at (at + 1) 1 true ∙ part-one text at l ∙ ap (λ b. b ∷ []) e)))
 
 -- a backslash that escapes a byte
@@ -391,9 +442,18 @@ pair_reads h t text at l e p no_pipe_here no_pipe_next =
     (let z : count_by begins_character (92 ∷ b ∷ []) ≡ 2 = rw f.1 in z)
     refl
     (upto-escape is_bracket 92 b X p)
+    (inl refl)
     (λ n. pair_shown t b (take n X) f.0 no_pipe_here
     (λ i j. begins_from 124 (take n X) (taken_fails (λ x. x == 124) refl n X (first_fails (λ x. x == 124) refl h text (at + 2) (no_pipe_next i j))))
     ∙ ap (λ xs. xs ++ shown t (take n X)) (sym (read-kept text at (at + 2) 2 true ∙ part-two text at l ∙ ap (λ x. x ∷ b ∷ []) e)))
+
+pipe_lighter : weight (124 ∷ []) < weight (92 ∷ 124 ∷ [])
+unfolding weight
+pipe_lighter = omega arith
+
+pipe_escape_lighter : weight (92 ∷ 124 ∷ []) < weight (92 ∷ 92 ∷ 124 ∷ [])
+unfolding weight
+pipe_escape_lighter = omega arith
 
 -- in a table, a backslash that is dropped before a pipe
 pipe_reads : (h : List ℕ → Option ℕ) (text : List ℕ) (at : ℕ) → at + 1 < length text → get_or text at 0 ≡ 92 → get_or text (at + 1) 0 ≡ 124 → Reads h true text at (dropped_unit (at + 2) 2 at)
@@ -408,6 +468,7 @@ pipe_reads h text at l e p =
     refl
     refl
     (upto-escape is_bracket 92 124 X refl)
+    (inr (let less = pipe_lighter in let e = ap weight w in omega arith))
     (λ n. shown-pipe (take n X) ∙ ap (λ xs. xs ++ shown true (take n X)) (sym w))
 
 -- and one behind a backslash that escapes the pipe
@@ -426,14 +487,12 @@ pipe_escape_reads h text at l e p q =
     refl
     refl
     (upto-escape is_bracket 92 92 (124 ∷ X) refl ∙ ap (λ n. 2 + n) (upto-byte is_bracket 124 X refl refl) ∙ three (label_len X))
+    (inr (let less = pipe_escape_lighter in let e = ap weight w in omega arith))
     (λ n. pipe_escape_shown (take n X) ∙ ap (λ xs. xs ++ shown true (take n X)) (sym w))
 
 -- a run of white space
-pub run_reads : (h : List ℕ → Option ℕ) (t : Bool) (text : List ℕ) (at next characters : ℕ) → at < length text → IsWhiteRun h text at next characters → 0 < characters → is_ascii_white (slice_index text next) ≡ false → Reads h t text at (space_unit text at next characters)
-run_reads h t text at next characters l r some e = run_reads_by _ h t text at next characters refl l r some e
-
-eqb-refl : (n : ℕ) → (n == n) ≡ true
-eqb-refl n = grind (arith, nat_tests)
+pub run_reads : (h : List ℕ → Option ℕ) (t : Bool) (text : List ℕ) (at next characters : ℕ) → at < length text → IsWhiteRun h text at next characters → 0 < characters → (characters ≡ 1 → slice_index text at ≡ 32 → next ≡ at + 1) → is_ascii_white (slice_index text next) ≡ false → Reads h t text at (space_unit text at next characters)
+run_reads h t text at next characters l r some lone e = run_reads_by _ h t text at next characters refl l r some lone e
 
 le-leb : (a b : ℕ) → a ≤ b → nat_le a b ≡ true
 le-leb a b h = grind (arith, nat_tests)
@@ -508,7 +567,7 @@ run_weight text at next l w s k (inl more) =
     omega arith
 run_weight text at next l w s k (inr one) =
     let e : next ≡ at + 1 = omega arith in
-    let t : (next == at + 1) ≡ true = rw e (eqb-refl (at + 1)) in
+    let t : (next == at + 1) ≡ true = rw e (eqb-same (at + 1)) in
     let z : (get_or text at 0 == 32) ≡ false = rw t at k in
     let f = ap weight (ap (part text at) e ∙ part-one text at (omega arith)) ∙ weight-other (get_or text at 0) s z in
     omega arith
@@ -615,7 +674,7 @@ close_by t known at cs = rw (upto-stop is_bracket 93 (bytes_of cs) refl refl)
 pub closes : (h : List ℕ → Option ℕ) (t : Bool) (text : List ℕ) (at : ℕ) (known : Known) → at < length text → get_or text at 0 ≡ 93 → label_behind t known (left_at h text at) ≡ (if is_label_behind known [] then Some (found (at + 1) (known.bytes ++ shown t [])) else None)
 closes h t text at known l e = ap (label_behind t known) (bracket_left h text at 93 l e refl) ∙ close_by t known at (left_at h text (at + 1))
 
-shown-nil : (t : Bool) → shown t [] ≡ []
+pub shown-nil : (t : Bool) → shown t [] ≡ []
 unfolding single_spaced without_pipe_escapes
 shown-nil true = refl
 shown-nil false = refl

@@ -6,4 +6,5 @@ pub mod Destinations
 pub mod Runs
 pub mod Parts
 pub mod Labels
+pub mod Rewritten
 pub mod Footnotes

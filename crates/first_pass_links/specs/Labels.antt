@@ -1,5 +1,5 @@
 -- Link labels (CommonMark 4.7, 6.3), of the bytes behind a `[`.
-use Rattle.std.specs.Prelude.{◌≡◌, ℕ, zero, suc, ◌+◌, ◌==◌, ◌&&◌, ◌||◌, not, Bool, List, [], ◌∷◌, map, take, drop, slice_index, Option, Some, None, Ok, Result, IsUtf8, nat_lt, nat_le, if◌then◌else◌}
+use Rattle.std.specs.Prelude.{◌≡◌, ◌≢◌, ◌⊎◌, ℕ, zero, suc, ◌+◌, ◌==◌, ◌&&◌, ◌||◌, not, Bool, List, [], ◌∷◌, map, take, drop, slice_index, Option, Some, None, Ok, Err, Result, length, true, ◌<◌, IsUtf8, nat_lt, nat_le, if◌then◌else◌}
 use Rattle.std.specs.Option.{option_map_or}
 use Rattle.std.specs.List.{list_any, count_by}
 use Rattle.std.specs.Borrow.{Bor}
@@ -75,3 +75,29 @@ label_at prefix in_table text =
     if begins right_bracket (drop n (bytes_of whole)) && is_label label
     then Some (slice_index (offsets_of whole) n + 1, shown in_table label)
     else None
+
+-- what a label is read from: in the joined text what stands before the first bracket that is not escaped, or all where none stands (CommonMark 4.7)
+abbrev pub before_bracket : (List ℕ → Option ℕ) → List ℕ → List ℕ
+before_bracket prefix text = let bs = bytes_of (joined prefix 0 0 text) in take (label_len bs) bs
+
+-- it is read otherwise than it stands: it holds a line end, or white space other than single spaces, or in a table a backslash before a pipe (CommonMark 4.7)
+abbrev pub IsRewritten : (List ℕ → Option ℕ) → Bool → List ℕ → Type 0
+IsRewritten prefix in_table text = shown in_table (before_bracket prefix text) ≢ before_bracket prefix text
+
+-- no bracket stands in the joined text, unless it is escaped (CommonMark 4.7)
+abbrev pub HasNoBracket : (List ℕ → Option ℕ) → List ℕ → Type 0
+HasNoBracket prefix text = let bs = bytes_of (joined prefix 0 0 text) in label_len bs ≡ length bs
+
+-- the function errs on the bytes behind the line end that begins at an offset into the text (this project)
+pub record ErrsBehind (text : List ℕ) (at : ℕ) (post : Bor (List ℕ) → Result (Option ℕ) AllocError → Type 0) : Type 0 where
+  pub within : at < length text
+  pub line_end : ends_line (slice_index text at) (drop (at + 1) text) ≡ true
+  pub boundary : IsCharBoundary text (at + 1)
+  pub behind : Bor (List ℕ)
+  pub behind_is : behind.now ≡ drop (at + 1) text
+  pub error : AllocError
+  pub errs : post behind (Err error)
+
+-- what asks for memory as a label is read: it has to be written, or no bracket ends it and the function errs behind a line end (this project)
+abbrev pub CanErr : (List ℕ → Option ℕ) → Bool → List ℕ → (Bor (List ℕ) → Result (Option ℕ) AllocError → Type 0) → Type 0
+CanErr prefix in_table text post = IsRewritten prefix in_table text ⊎ (HasNoBracket prefix text × ((at : ℕ) × ErrsBehind text at post))

@@ -1,13 +1,15 @@
 -- The units that a label is read by. Contracts of private functions alone cite this.
-use Rattle.std.specs.Prelude.{◌≡◌, ◌⊎◌, ℕ, ◌+◌, ◌-◌, ◌==◌, ◌<◌, ◌≤◌, ◌&&◌, not, Bool, true, false, List, [], ◌∷◌, ◌++◌, length, take, drop, slice_index, Option, if◌then◌else◌}
+use Rattle.std.specs.Prelude.{◌≡◌, ◌⊎◌, ℕ, ◌+◌, ◌-◌, ◌==◌, ◌<◌, ◌≤◌, ◌&&◌, not, Bool, true, false, List, [], ◌∷◌, ◌++◌, length, take, drop, slice_index, Option, Result, if◌then◌else◌}
 use Rattle.std.specs.List.{list_any, list_all, count_by}
+use Rattle.std.specs.Borrow.{Bor}
 use Rattle.std.specs.Str.{IsCharBoundary}
+use Rattle.std.specs.declared.alloc.AllocError.{AllocError}
 use Rattle.first_pass_items.specs.Bytes.{space, pipe, ascii_end}
 use Rattle.first_pass_lines.specs.Lines.{begins, is_ascii_white}
 use Rattle.first_pass_links.specs.Escapes.{begins_escape}
 use Rattle.first_pass_links.specs.Changes.{begins_pipe_escape}
 use Rattle.first_pass_links.specs.declared.label.Unit.{Unit}
-use Rattle.first_pass_links.specs.Labels.{begins_character, joined, bytes_of, label_len, shown}
+use Rattle.first_pass_links.specs.Labels.{AnswersWith, ErrsBehind, begins_character, joined, bytes_of, label_len, shown}
 
 -- the bytes from one offset up to another (this project)
 abbrev pub part : List ℕ → ℕ → ℕ → List ℕ
@@ -67,6 +69,7 @@ pub record Reads (prefix : List ℕ → Option ℕ) (in_table : Bool) (text : Li
   pub count : count_by begins_character (bytes_of run) ≡ unit.characters
   pub something : list_any (λ b. not (is_ascii_white b)) (bytes_of run) ≡ unit.solid
   pub passed : label_len (bytes_of run ++ bytes_of (left_at prefix text unit.next)) ≡ length run + label_len (bytes_of (left_at prefix text unit.next))
+  pub changes : (unit.kept ≡ unit.resumed) ⊎ (weight (read_of text at unit) < weight (bytes_of run))
   pub reads : (n : ℕ) → shown in_table (bytes_of run ++ take n (bytes_of (left_at prefix text unit.next))) ≡ read_of text at unit ++ shown in_table (take n (bytes_of (left_at prefix text unit.next)))
 
 -- the text up to an offset is read: what is written of it, and from where on its bytes are kept (this project)
@@ -94,3 +97,11 @@ pub record EndsWhiteRun (text : List ℕ) (at next characters : ℕ) : Type 0 wh
   pub boundary : IsCharBoundary text next
   pub some : 0 < characters
   pub few : characters ≤ next - at
+  pub lone : characters ≡ 1 → slice_index text at ≡ space → next ≡ at + 1
+
+-- a run of white space from an offset on stops at a line end behind which the function errs (this project)
+pub record StopsByError (text : List ℕ) (at : ℕ) (post : Bor (List ℕ) → Result (Option ℕ) AllocError → Type 0) : Type 0 where
+  pub next : ℕ
+  pub characters : ℕ
+  pub run : (prefix : List ℕ → Option ℕ) → AnswersWith text prefix post → IsWhiteRun prefix text at next characters
+  pub stops : ErrsBehind text next post

@@ -1,10 +1,10 @@
 //! Heads of footnote definitions (this project; CommonMark 4.7 on their labels).
 
-ghost use Rattle.std.specs.Prelude.{◌≡◌, ◌+◌, ◌-◌, ◌<◌, ℕ, List, Option, None, take, drop, IfOk, IfSome, IsSomeAnd, MatchOption};
+ghost use Rattle.std.specs.Prelude.{◌≡◌, ◌+◌, ◌-◌, ◌<◌, ℕ, List, Option, None, take, drop, IfOk, IfSome, OnErr, true, IsSomeAnd, MatchOption};
 ghost use Rattle.std.specs.Str.{IsCharBoundary};
 ghost use Rattle.first_pass_items.specs.CowText.{text_of};
 ghost use Rattle.first_pass_links.specs.Texts.{Borrows};
-ghost use Rattle.first_pass_links.specs.Labels.{AnswersWith, AnswersPlaces};
+ghost use Rattle.first_pass_links.specs.Labels.{AnswersWith, AnswersPlaces, CanErr};
 ghost use Rattle.first_pass_links.specs.Footnotes.{begins_footnote as begins_head, footnote_head};
 
 use crate::label::scan_link_label_rest;
@@ -19,7 +19,7 @@ use std::alloc::{AllocError, Global};
 /// `linebreak_handler` gets the bytes behind each line end in the label, and answers how many bytes of prefix the
 /// next line has, which are left out, or `None` where the label may not go on there.
 ///
-/// `None` where no head begins. The error is the handler's, or want of memory.
+/// `None` where no head begins. The error is that of `scan_link_label_rest` behind `[^`.
 pub fn scan_footnote_head<'t, F>(
     alloc: Global,
     text: &'t str,
@@ -39,6 +39,9 @@ where
     ensures borrowed { IfOk result (λ answer. IfSome answer (λ found.
         text_of found.1 ≡ take (found.0 - 4) (drop 2 text.now)
         → Borrows (take (found.0 - 4) (drop 2 text.now)) found.1)) }
+    ensures err { OnErr result ((begins_head text.now ≡ true) × ((prefix : List ℕ → Option ℕ)
+        → AnswersWith text.now prefix (F.post linebreak_handler)
+        → CanErr prefix is_in_table (drop 2 text.now) (F.post linebreak_handler))) }
 {
     let bytes = text.as_bytes();
     if !begins_footnote(bytes) {

@@ -1,14 +1,14 @@
 //! Link labels (CommonMark 4.7, 6.3).
 
-ghost use Rattle.std.specs.Prelude.{◌≡◌, ◌+◌, ◌-◌, ◌<◌, ◌≤◌, ◌++◌, ◌∷◌, [], ℕ, List, Option, true, false, None, Some, length, take, drop, slice_index, nat_lt, IfOk, IfSome, IsUtf8, OnOk, IsSomeAnd, MatchOption, if◌then◌else◌};
+ghost use Rattle.std.specs.Prelude.{◌≡◌, ◌≢◌, ◌+◌, ◌-◌, ◌<◌, ◌≤◌, ◌++◌, ◌∷◌, [], ℕ, List, Option, true, false, None, Some, length, take, drop, slice_index, nat_lt, IfOk, IfSome, IsUtf8, OnOk, OnErr, IsSomeAnd, MatchOption, if◌then◌else◌};
 ghost use Rattle.std.specs.String.{string_bytes};
 ghost use Rattle.std.specs.Str.{IsCharBoundary};
 ghost use Rattle.first_pass_items.specs.Bytes.{backslash, space};
 ghost use Rattle.first_pass_items.specs.CowText.{text_of};
 ghost use Rattle.first_pass_lines.specs.Lines.{ends_line, is_ascii_white};
 ghost use Rattle.first_pass_links.specs.Texts.{Borrows};
-ghost use Rattle.first_pass_links.specs.Labels.{AnswersWith, AnswersPlaces, is_bracket, begins_character, label_at};
-ghost use Rattle.first_pass_links.specs.Units.{part, read_of, left_at, kept_unit, space_unit, dropped_unit, backslash_unit, IsUnit, Reads, IsRead, IsWhiteRun, EndsWhiteRun, IsBlankRest};
+ghost use Rattle.first_pass_links.specs.Labels.{AnswersWith, AnswersPlaces, CanErr, ErrsBehind, is_bracket, begins_character, label_at};
+ghost use Rattle.first_pass_links.specs.Units.{part, read_of, left_at, kept_unit, space_unit, dropped_unit, backslash_unit, IsUnit, Reads, IsRead, IsWhiteRun, EndsWhiteRun, StopsByError, IsBlankRest};
 
 use first_pass_items::cow_str::CowStr;
 use first_pass_lines::lines::{begins, is_ascii_white};
@@ -26,8 +26,9 @@ const MOST_CHARACTERS: usize = 999;
 /// line has, which are left out, or `None` where the label may not go on there.
 ///
 /// `None` where there is no label: an unescaped `[` or the end comes first, all is white space, or there
-/// are more than 999 characters, prefixes aside. The error is the handler's, or want of memory.
-/// CommonMark 4.7, 6.3.
+/// are more than 999 characters, prefixes aside. The error is the handler's, at a line end before any
+/// bracket, or want of memory where what stands before the first bracket has to be written: where it is
+/// read otherwise than it stands. CommonMark 4.7, 6.3.
 pub fn scan_link_label_rest<'t, F>(
     alloc: Global,
     text: &'t str,
@@ -47,6 +48,8 @@ where
     ensures behind { IfOk result (λ answer. IfSome answer (λ found. IsCharBoundary text.now found.0)) }
     ensures borrowed { IfOk result (λ answer. IfSome answer (λ found.
         text_of found.1 ≡ take (found.0 - 1) text.now → Borrows (take (found.0 - 1) text.now) found.1)) }
+    ensures err { OnErr result ((prefix : List ℕ → Option ℕ) → AnswersWith text.now prefix (F.post linebreak_handler)
+        → CanErr prefix is_in_table text.now (F.post linebreak_handler)) }
 {
     let bytes = text.as_bytes();
     let mut written = String::new(alloc);
@@ -106,6 +109,7 @@ where
         → AnswersWith bytes.now prefix (F.post linebreak_handler.now) → Reads prefix in_table bytes.now at unit)) }
     ensures none { IfOk result (λ answer. answer ≡ None → (prefix : List ℕ → Option ℕ)
         → AnswersWith bytes.now prefix (F.post linebreak_handler.now) → IsBlankRest prefix bytes.now at) }
+    ensures err { OnErr result (StopsByError bytes.now at (F.post linebreak_handler.now)) }
 {
     if is_ascii_white(bytes[at]) {
         return match scan_white_run(bytes, at, linebreak_handler)? {
@@ -139,6 +143,7 @@ where
         → AnswersWith bytes.now prefix (F.post linebreak_handler.now) → IsWhiteRun prefix bytes.now at run.0 run.1)) }
     ensures none { IfOk result (λ answer. answer ≡ None → (prefix : List ℕ → Option ℕ)
         → AnswersWith bytes.now prefix (F.post linebreak_handler.now) → IsBlankRest prefix bytes.now at) }
+    ensures err { OnErr result (StopsByError bytes.now at (F.post linebreak_handler.now)) }
 {
     let mut next = at;
     let mut characters = 0;
@@ -173,6 +178,9 @@ where
     ensures none { IfOk result (λ answer. answer ≡ None → (prefix : List ℕ → Option ℕ)
         → AnswersWith bytes.now prefix (F.post linebreak_handler.now)
         → left_at prefix bytes.now at ≡ []) }
+    ensures space { IfOk result (λ answer. IfSome answer (λ next.
+        slice_index bytes.now at ≡ space → next ≡ at + 1)) }
+    ensures err { OnErr result (ErrsBehind bytes.now at (F.post linebreak_handler.now)) }
 {
     let behind = rest_of(bytes, at + 1);
     if !ends_line(bytes[at], behind) {
@@ -258,6 +266,8 @@ fn write_unit(
     ensures read { IfOk result (λ next. IsRead text.now (string_bytes written.new) next unit.next) }
     ensures bytes { IfOk result (λ next. string_bytes written.new ++ part text.now next unit.next
         ≡ (string_bytes written.old ++ part text.now from at) ++ read_of text.now at unit) }
+    ensures same { IfOk result (λ next. unit.kept ≡ unit.resumed → next ≡ from) }
+    ensures err { OnErr result (unit.kept ≢ unit.resumed) }
 {
     if unit.kept == unit.resumed {
         return Ok(from);
@@ -285,6 +295,7 @@ fn finish<'t>(
     requires boundary { IsCharBoundary text.now at }
     ensures value { IfOk result (λ label. text_of label ≡ string_bytes written ++ part text.now from at) }
     ensures borrowed { IfOk result (λ label. text_of label ≡ take at text.now → Borrows (take at text.now) label) }
+    ensures err { OnErr result (0 < from) }
 {
     if from == 0 {
         return Ok(CowStr::Borrowed(&text[..at]));

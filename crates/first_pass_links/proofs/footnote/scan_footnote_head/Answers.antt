@@ -2,8 +2,9 @@ use Rattle.std.proofs.Common.{◌≡◌, ◌+◌, Some, None, true, false, drop,
 use Rattle.std.specs.Str.{IsCharBoundary}
 use Rattle.first_pass_lines.specs.Lines.{begins}
 use Rattle.first_pass_links.specs.Footnotes.{begins_footnote}
-use Rattle.first_pass_links.specs.Labels.{label_at}
+use Rattle.first_pass_links.specs.Labels.{label_at, CanErr}
 use Rattle.first_pass_links.proofs.Footnotes.{IsAnswer, behind_mark, further, no_mark, no_label, head_by, behind_colon}
+use Rattle.first_pass_links.proofs.Rewritten.{on_err}
 use Rattle.first_pass_links.proofs.footnote.scan_footnote_head.Goals as goal
 use Rattle.first_pass_links.proofs.footnote.scan_footnote_head.Goals.{Else-not-begins_footnote, In_default, After-begins}
 
@@ -67,3 +68,15 @@ pub returns-clause-fits : goal.returns-clause-fits
 returns-clause-fits g c =
     let within = (rw c.in-Some.is at c.in_ok-len.ensures.within).0 in
     (omega arith, behind_colon c.args.text.now c.in-Some.len c.utf8.text (colon_is g (goal.at.returns-clause-fits g c).After-begins ∙ c.if-not-begins.false))
+
+pub returns-in_err-len-clause-err : goal.returns-in_err-len-clause-err
+returns-in_err-len-clause-err g c =
+    let before = (goal.at.returns-in_err-len-clause-err g c).Else-not-begins_footnote in
+    on_err c.from_residual.result (
+      mark_is g before,
+      λ prefix a.
+          subst (λ xs. CanErr prefix c.args.is_in_table xs (λ b r. g.F.Fn.post c.args.linebreak_handler (b, tt) r)) c.range_from.ensures.value
+          (c.in_err-len.ensures.err prefix (λ behind answer at b e.
+          let there = further c.args.text.now behind.now c.range_from.result.now at (mark_place g before) c.range_from.ensures.value b e in
+          a behind answer (2 + at) there.0 there.1)),
+    )

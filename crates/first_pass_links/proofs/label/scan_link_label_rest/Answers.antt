@@ -1,11 +1,12 @@
-use Rattle.std.proofs.Common.{◌≡◌, Some, None, [], ◌++◌, ◌+◌, ◌<◌, ◌||◌, true, false, length, get_or, drop, refl, sym, ap, subst, ◌∙◌, arith}
+use Rattle.std.proofs.Common.{inl, ◌≡◌, Some, None, [], ◌++◌, ◌+◌, ◌<◌, ◌||◌, true, false, length, get_or, drop, refl, sym, ap, subst, ◌∙◌, arith}
 use Rattle.std.specs.String.{string_bytes}
 use Rattle.std.specs.Str.{IsCharBoundary}
 use Rattle.std.proofs.lemmas.Str.{IsCharBoundary-start, IsCharBoundary-after_ascii}
 use Rattle.first_pass_links.specs.Labels.{is_bracket, label_at}
-use Rattle.first_pass_links.specs.Units.{part, left_at, IsRead, Reads, IsBlankRest}
+use Rattle.first_pass_links.specs.Units.{part, left_at, IsRead, Reads, StopsByError, IsBlankRest}
 use Rattle.first_pass_links.proofs.Parts.{read_none, part-none}
 use Rattle.first_pass_links.proofs.Labels.{too_long, blank_stops, end_stops, open_stops, blank_label, closed, known_as, label_behind, nothing_known, unit_known, closing_bracket}
+use Rattle.first_pass_links.proofs.Rewritten.{on_err, track_none, track_unit, track_written, track_stop}
 use Rattle.first_pass_links.proofs.label.scan_link_label_rest.Goals as goal
 use Rattle.first_pass_links.proofs.label.scan_link_label_rest.Goals.{then-at-bytes-via-then-at-bytes, then-at-bytes-via-else-at-bytes+then-bytes-at-eq91, then-loop-at-test+else-not-is_bracket, else-loop-at-test, Else-at-bytes}
 
@@ -21,6 +22,7 @@ loop-at-init g c =
       read = subst (λ bs. IsRead text bs 0 0) (sym c.new-written.ensures.bytes) (read_none text (IsCharBoundary-start text c.utf8.text));
       few = omega arith;
       label = λ h a. ap (λ bs. label_behind c.args.is_in_table (known_as 0 false bs) (left_at h text 0)) e ∙ nothing_known c.args.is_in_table h text;
+      tracked = λ h a. track_none h c.args.is_in_table text (0 ≡ 0) refl;
     }
 
 pub loop-at-preserved : goal.loop-at-preserved
@@ -36,6 +38,9 @@ loop-at-preserved g c =
           ap (λ bs. label_behind c.args.is_in_table (known_as (c.loop-at.characters + unit.characters) (c.loop-at.solid || unit.solid) bs) (left_at h text unit.next)) c.in_ok-from.ensures.bytes
           ∙ sym (unit_known h c.args.is_in_table text c.loop-at.at unit _ r)
           ∙ c.loop-at.invariant.label h a;
+      tracked = λ h a.
+          let r : Reads h c.args.is_in_table text c.loop-at.at unit = subst (λ xs. Reads h c.args.is_in_table xs c.loop-at.at unit) c.as_bytes-bytes.ensures.value (reads h (λ behind answer at b e. a behind answer at (subst (λ xs. IsCharBoundary xs at) c.as_bytes-bytes.ensures.value b) (e ∙ ap (drop at) c.as_bytes-bytes.ensures.value))) in
+          track_unit h c.args.is_in_table text c.loop-at.at unit (c.loop-at.from ≡ 0) (c.in_ok-from.from ≡ 0) (c.loop-at.invariant.tracked h a) r (λ e z. c.in_ok-from.ensures.same e ∙ z);
     }
 
 pub returns-in_default-clause-value : goal.returns-in_default-clause-value
@@ -105,3 +110,24 @@ returns-clause-behind g c =
     ] in
     let closing = closing_bracket _ bracket (λ e. c.if-bytes-at-eq91.false (ap (λ xs. get_or xs c.loop-at.at 0) b ∙ e)) in
     IsCharBoundary-after_ascii c.args.text.now c.loop-at.at c.utf8.text within (omega (arith, closing))
+
+-- the function errs
+pub returns-in_err-unit-clause-err : goal.returns-in_err-unit-clause-err
+returns-in_err-unit-clause-err g c =
+    on_err c.from_residual.result (λ h a. track_stop h c.args.is_in_table c.args.text.now c.loop-at.at (c.loop-at.from ≡ 0) _ (c.loop-at.invariant.tracked h a) (subst (λ xs. StopsByError xs c.loop-at.at (λ b r. g.F.Fn.post c.args.linebreak_handler (b, tt) r)) c.as_bytes-bytes.ensures.value c.in_err-unit.ensures.err) a)
+
+-- a unit is written
+pub returns-in_err-from-clause-err : goal.returns-in_err-from-clause-err
+returns-in_err-from-clause-err g c =
+    let text = c.args.text.now in
+    let unit = c.in-Some.unit in
+    let reads = rw c.in-Some.is at c.in_ok-unit.ensures.reads in
+    on_err c.from_residual-in_err-from.result (λ h a.
+    let r : Reads h c.args.is_in_table text c.loop-at.at unit = subst (λ xs. Reads h c.args.is_in_table xs c.loop-at.at unit) c.as_bytes-bytes.ensures.value (reads h (λ behind answer at b e. a behind answer at (subst (λ xs. IsCharBoundary xs at) c.as_bytes-bytes.ensures.value b) (e ∙ ap (drop at) c.as_bytes-bytes.ensures.value))) in
+    let k = track_unit h c.args.is_in_table text c.loop-at.at unit (c.loop-at.from ≡ 0) ⊥ (c.loop-at.invariant.tracked h a) r (λ e z. c.in_err-from.ensures.err e) in
+    inl (track_written h c.args.is_in_table text unit.next ⊥ k (λ z. z)))
+
+-- the label is written
+pub returns-in_err-finish-clause-err : goal.returns-in_err-finish-clause-err
+returns-in_err-finish-clause-err g c =
+    on_err c.from_residual-in_err-finish.result (λ h a. inl (track_written h c.args.is_in_table c.args.text.now c.loop-at.at (c.loop-at.from ≡ 0) (c.loop-at.invariant.tracked h a) (λ z. let some = c.in_err-finish.ensures.err in omega arith)))

@@ -3,6 +3,7 @@ use Rattle.std.specs.Str.{IsCharBoundary}
 use Rattle.std.proofs.lemmas.Str.{IsCharBoundary-after_ascii, IsUtf8-drop}
 use Rattle.first_pass_lines.specs.Lines.{ends_line, is_ascii_white}
 use Rattle.first_pass_links.proofs.Labels.{left-byte, left-end, left-stop, white_is_ascii, place_behind}
+use Rattle.first_pass_links.proofs.Rewritten.{on_err}
 use Rattle.first_pass_links.proofs.label.scan_space_byte.Goals as goal
 use Rattle.first_pass_links.proofs.label.scan_space_byte.Goals.{After-rest_of-behind, In-Some}
 use Rattle.first_pass_links.proofs.label.scan_space_byte.Given.{Over}
@@ -47,3 +48,15 @@ returns-in-None-clause-none g c =
     λ e h a. left-stop h c.args.bytes.now c.args.at c.requires.within
     (ap (ends_line (get_or c.args.bytes.now c.args.at 0)) (sym c.rest_of-behind.ensures.value) ∙ sym c.ends_line.ensures ∙ c.if-not-ends_line.false)
     (ap h (sym c.rest_of-behind.ensures.value) ∙ a c.rest_of-behind.result c.in_ok-prefix.field-0 (c.args.at + 1) (behind_white c.args.bytes.now c.args.at c.requires.text c.requires.within c.requires.white) c.rest_of-behind.ensures.value c.in_ok-prefix.ensures ∙ c.in-None.is)
+
+-- the function errs
+pub returns-in_err-prefix-clause-err : goal.returns-in_err-prefix-clause-err
+returns-in_err-prefix-clause-err g c = on_err c.from_residual.result (record {
+  within = c.requires.within;
+  line_end = ap (ends_line (get_or c.args.bytes.now c.args.at 0)) (sym c.rest_of-behind.ensures.value) ∙ sym c.ends_line.ensures ∙ c.if-not-ends_line.false;
+  boundary = behind_white c.args.bytes.now c.args.at c.requires.text c.requires.within c.requires.white;
+  behind = c.rest_of-behind.result;
+  behind_is = c.rest_of-behind.ensures.value;
+  error = c.in_err-prefix.field-0.0;
+  errs = c.in_err-prefix.ensures;
+})
