@@ -1,6 +1,6 @@
 //! Which lines end a paragraph before them.
 
-ghost use Rattle.std.specs.Prelude.{◌≡◌, min, drop, is_some, nat_lt, ◌&&◌, ◌||◌, not, IfOk, IfSome, OnOk, Some, None, if◌then◌else◌, IsUtf8, IsCharBoundary};
+ghost use Rattle.std.specs.Prelude.{◌≡◌, min, drop, is_some, nat_lt, ◌&&◌, ◌||◌, not, true, IfOk, IfSome, IsOk, OnErr, OnOk, Some, None, if◌then◌else◌, IsUtf8, IsCharBoundary};
 ghost use Rattle.first_pass_lines.specs.Lines.{at_line_end};
 ghost use Rattle.first_pass_lines.specs.Places.{line_rest, place_at, offset, IsPlaceOf};
 ghost use Rattle.first_pass_lines.specs.Rest.{indent};
@@ -13,6 +13,7 @@ ghost use Rattle.first_pass_open.specs.Path.{path_of, context_of};
 ghost use Rattle.first_pass_tree.specs.Forest.{in_table};
 ghost use Rattle.first_pass_text.specs.Rests.{IsRestOf};
 ghost use Rattle.first_pass_text.specs.Reading.{next_line_of};
+ghost use Rattle.first_pass_text.specs.Memory.{may_head, line_may_head};
 ghost use Rattle.std.specs.Option.{option_map};
 
 use crate::kinds::html_kind;
@@ -80,7 +81,7 @@ fn interrupts_by_mark(bytes: &[u8], current_container: bool) -> bool
 /// paragraph: its line ends, or a thematic break, an ATX heading, a code fence, a block quote, a list item or an HTML
 /// block of the kinds 1 to 6 begins. An item interrupts where the line doesn't go on with all containers, and in a
 /// table; else only a bullet or the number 1 does, and only with a rest that isn't blank (CommonMark 4.8, 4.1, 4.2,
-/// 4.5, 5.1, 5.2, 4.6; GFM 4.10).
+/// 4.5, 5.1, 5.2, 4.6; GFM 4.10). There is no error: no memory is asked for.
 pub fn scan_paragraph_interrupt_no_table(
     _alloc: Global,
     text: &str,
@@ -90,8 +91,9 @@ pub fn scan_paragraph_interrupt_no_table(
     tree: &Tree<Item>,
     _tree_position: usize,
 ) -> Result<bool, AllocError>
-    ensures { IfOk result (λ yes. yes
+    ensures value { IfOk result (λ yes. yes
         ≡ interrupts_with (current_container && not (in_table tree.now.nodes tree.now.spine)) text.now) }
+    ensures ok { IsOk result }
 {
     let whole = current_container && !tree.is_in_table();
     Ok(interrupts_without_table(text.as_bytes(), whole))
@@ -108,8 +110,9 @@ pub fn scan_interruption(
     bytes: &[u8],
     whole: bool,
 ) -> Result<bool, AllocError>
-    ensures { IfOk result (λ yes. yes
+    ensures value { IfOk result (λ yes. yes
         ≡ interrupts_in (context_of source.entry.options tree.now) whole bytes.now) }
+    ensures err { OnErr result (may_head (context_of source.entry.options tree.now) bytes.now ≡ true) }
 {
     if interrupts_without_table(bytes, whole) {
         return Ok(true);
@@ -194,6 +197,8 @@ pub fn scan_next_line(
         (unindented (place_at start (front (path_of source.entry.options tree.now)
         (line_rest (drop start source.entry.text.now)))))) }
     ensures utf8 { IsUtf8 source.entry.text.now }
+    ensures err { OnErr result (line_may_head (context_of source.entry.options tree.now)
+        (line_rest (drop start source.entry.text.now)) ≡ true) }
 {
     source.is_short();
     let bytes = rest_of(source.text.as_bytes(), start);
@@ -210,7 +215,7 @@ pub fn scan_next_line(
 
 /// What is left of the line that `bytes` begin with, all that the text has from the line on, behind its columns, where
 /// the line belongs to a block quote with a tag that is innermost, whatever open containers it goes on with; `None`
-/// where it is read as any other.
+/// where it is read as any other. The error is want of memory, where the line may head a table.
 #[tactic(auto, unfolding(first_pass_grammar::specs::Kinds::interrupts))]
 pub fn scan_line_behind_tag<'b>(
     alloc: Global,
@@ -224,6 +229,8 @@ pub fn scan_line_behind_tag<'b>(
         then None
         else Some (all_taken (front (path_of source.entry.options tree.now) (line_rest bytes.now))))) }
     ensures utf8 { IsUtf8 source.entry.text.now }
+    ensures err { OnErr result (line_may_head (context_of source.entry.options tree.now)
+        (line_rest bytes.now) ≡ true) }
 {
     source.is_short();
     let start = source.text.as_bytes().len() - bytes.len();
@@ -248,9 +255,11 @@ fn scan_paragraph_end(
     whole: bool,
 ) -> Result<bool, AllocError>
     requires { IsCharBoundary source.text.now at }
-    ensures { IfOk result (λ yes. yes ≡ (if nat_lt columns 4
+    ensures value { IfOk result (λ yes. yes ≡ (if nat_lt columns 4
         then interrupts_in (context_of source.entry.options tree.now) whole (drop at source.entry.text.now)
         else at_line_end (drop at source.entry.text.now))) }
+    ensures err { OnErr result ((nat_lt columns 4
+        && may_head (context_of source.entry.options tree.now) (drop at source.entry.text.now)) ≡ true) }
 {
     if columns < 4 {
         scan_interruption(
@@ -302,8 +311,10 @@ fn scan_definition_end(
 ) -> Result<bool, AllocError>
     requires utf8 { IsUtf8 source.text.now }
     requires place { IsPlaceOf source.text.now (place_at start rest.now) }
-    ensures { IfOk result (λ yes. yes ≡ (interrupts (context_of source.entry.options tree.now) whole rest.now
+    ensures value { IfOk result (λ yes. yes ≡ (interrupts (context_of source.entry.options tree.now) whole rest.now
         || (is_underline rest.now && (not in_label || whole)))) }
+    ensures err { OnErr result ((nat_lt (indent rest.now) 4
+        && may_head (context_of source.entry.options tree.now) (all_taken rest.now).left) ≡ true) }
 {
     source.is_short();
     let mut text = rest.copy();
@@ -322,7 +333,8 @@ fn scan_definition_end(
 /// What is left of the line that begins at the offset `start` where a link reference definition, or with `in_label`
 /// its label, goes on in it: behind what the line has of the prefixes of the open containers, and behind up to four
 /// columns. `None` where it doesn't: where the line ends a paragraph, or is the underline of a setext heading; to a
-/// label a line is one only where it goes on with all open containers (CommonMark 4.7).
+/// label a line is one only where it goes on with all open containers (CommonMark 4.7). The error is want of memory,
+/// where the line may head a table.
 #[tactic(auto, unfolding(first_pass_grammar::specs::Definitions::crossed))]
 pub fn scan_line_crossed<'a>(
     alloc: Global,
@@ -337,6 +349,8 @@ pub fn scan_line_crossed<'a>(
         (line_rest (drop start source.entry.text.now))) }
     ensures place { IfOk result (λ rest. IfSome rest (λ r. IsPlaceOf source.entry.text.now (place_at start r))) }
     ensures utf8 { IsUtf8 source.entry.text.now }
+    ensures err { OnErr result (line_may_head (context_of source.entry.options tree.now)
+        (line_rest (drop start source.entry.text.now)) ≡ true) }
 {
     source.is_short();
     let (whole, rest) = scan_front(source, tree, start);

@@ -1,11 +1,12 @@
 //! Which lines head a table (GFM 4.10).
 
-ghost use Rattle.std.specs.Prelude.{◌≡◌, ◌==◌, drop, IfOk, IsCharBoundary};
+ghost use Rattle.std.specs.Prelude.{◌≡◌, ◌==◌, drop, true, IfOk, OnErr, IsCharBoundary};
 ghost use Rattle.std.specs.List.{suffix_len};
 ghost use Rattle.std.specs.Option.{option_map};
 ghost use Rattle.first_pass_items.specs.Bytes.{backslash};
 ghost use Rattle.first_pass_grammar.specs.TableHeads.{table_at, table_interrupts, ends_in_backslash, headed_table};
 ghost use Rattle.first_pass_open.specs.Path.{path_of, context_of};
+ghost use Rattle.first_pass_text.specs.Memory.{may_head};
 
 use bitflags::Flags;
 use first_pass_items::item::{Alignment, Item};
@@ -50,7 +51,7 @@ fn scan_table_at(
 }
 
 /// Whether a paragraph is interrupted by the table that the line heads with which `bytes` begin, all that the text has
-/// from there on: with tables, a line that begins with a pipe (GFM 4.10).
+/// from there on: with tables, a line that begins with a pipe (GFM 4.10). Only such a line asks for memory.
 #[inline(always)]
 pub fn interrupts_as_table(
     alloc: Global,
@@ -58,7 +59,8 @@ pub fn interrupts_as_table(
     tree: &Tree<Item>,
     bytes: &[u8],
 ) -> Result<bool, AllocError>
-    ensures { IfOk result (λ yes. yes ≡ table_interrupts (context_of options tree.now) bytes.now) }
+    ensures value { IfOk result (λ yes. yes ≡ table_interrupts (context_of options tree.now) bytes.now) }
+    ensures err { OnErr result (may_head (context_of options tree.now) bytes.now ≡ true) }
 {
     if !begins(b'|', bytes) || !options.contains(Options::ENABLE_TABLES) {
         return Ok(false);

@@ -1,4 +1,4 @@
-use Rattle.std.proofs.Common.{◌≡◌, ℕ, ◌+◌, min, nat_lt, ◌&&◌, ◌||◌, not, Bool, true, false, IsCharBoundary, List, drop, is_some, refl, sym, ap, subst, ◌∙◌, arith, if◌then◌else◌}
+use Rattle.std.proofs.Common.{Result, Ok, Err, OnErr, ◌≡◌, ℕ, ◌+◌, min, nat_lt, ◌&&◌, ◌||◌, not, Bool, true, false, IsCharBoundary, List, drop, is_some, refl, sym, ap, subst, ◌∙◌, arith, if◌then◌else◌}
 use Rattle.std.proofs.lemmas.Bool.Decides.{nat_tests}
 use Rattle.first_pass_lines.specs.Lines.{at_line_end}
 use Rattle.first_pass_lines.specs.Rest.{Rest, indent}
@@ -9,6 +9,7 @@ use Rattle.first_pass_grammar.specs.Containers.{Context}
 use Rattle.first_pass_open.specs.Path.{context_of}
 use Rattle.first_pass_grammar.specs.Definitions.{is_underline}
 use Rattle.first_pass_open.proofs.PlaceLemmas.{all_keep}
+use Rattle.first_pass_text.specs.Memory.{may_head}
 use Rattle.first_pass_text.proofs.interrupt.scan_definition_end.Goals as goal
 use Rattle.first_pass_text.proofs.interrupt.scan_definition_end.Goals.{After-bytes_scanned}
 
@@ -76,19 +77,37 @@ overflow_add-at c = let w = (text_at c).within in let o = offset_is c in let l =
 pub scan_paragraph_end-requires : goal.scan_paragraph_end-requires
 scan_paragraph_end-requires c = subst (IsCharBoundary c.args.source.text.now) (sym (offset_is c)) (text_at c).boundary
 
-pub returns-then-branch : goal.returns-then-branch
-returns-then-branch c =
-    let at = (goal.at.returns-then-branch c).After-bytes_scanned in
-    ended_by _ _ _ _ c.in_ok-scan_paragraph_end.ensures (ends_is at) c.if-branch.true
+pub returns-then-branch-clause-value : goal.returns-then-branch-clause-value
+returns-then-branch-clause-value c =
+    let at = (goal.at.returns-then-branch-clause-value c).After-bytes_scanned in
+    ended_by _ _ _ _ c.in_ok-scan_paragraph_end.ensures.value (ends_is at) c.if-branch.true
 
-pub returns-then-is_over : goal.returns-then-is_over
-returns-then-is_over c =
-    let at = (goal.at.returns-then-is_over c).After-bytes_scanned in
-    lazy_by _ _ _ _ _ _ c.in_ok-scan_paragraph_end.ensures (ends_is at) c.if-branch.false c.if-is_over.true
+pub returns-then-is_over-clause-value : goal.returns-then-is_over-clause-value
+returns-then-is_over-clause-value c =
+    let at = (goal.at.returns-then-is_over-clause-value c).After-bytes_scanned in
+    lazy_by _ _ _ _ _ _ c.in_ok-scan_paragraph_end.ensures.value (ends_is at) c.if-branch.false c.if-is_over.true
 
-pub returns : goal.returns
-returns c =
-    let at = (goal.at.returns c).After-bytes_scanned in
-    whole_by _ _ _ _ _ _ _ c.in_ok-scan_paragraph_end.ensures (ends_is at) c.if-branch.false c.if-is_over.false
+pub returns-clause-value : goal.returns-clause-value
+returns-clause-value c =
+    let at = (goal.at.returns-clause-value c).After-bytes_scanned in
+    whole_by _ _ _ _ _ _ _ c.in_ok-scan_paragraph_end.ensures.value (ends_is at) c.if-branch.false c.if-is_over.false
     (c.is_underline.ensures ∙ underline_at c.args.rest.now _ _ (c.scan_indentation-columns.ensures.columns ∙ ap (λ r. min 4 (indent r)) c.copy-text.ensures)
     (c.left.ensures ∙ ap (λ (r : Rest). r.left) (text_is at)))
+
+-- a fact of an error
+on_err : {A E P : Type 0} (r : Result A E) → P → OnErr r P
+on_err (Ok x) p = tt
+on_err (Err e) p = p
+
+-- it errs where a table may begin
+err_at : (around : Context) (r : Rest) (columns : ℕ) (bs : List ℕ) → columns ≡ min 4 (indent r) → bs ≡ (all_taken r).left → (nat_lt columns 4 && may_head around bs) ≡ true →
+    (nat_lt (indent r) 4 && may_head around (all_taken r).left) ≡ true
+err_at around r columns bs e f h = ap (λ t. t && may_head around (all_taken r).left) (sym (few columns (indent r) e)) ∙ ap (λ xs. nat_lt columns 4 && may_head around xs) (sym f) ∙ h
+
+pub returns-in_err-scan_paragraph_end-clause-err : goal.returns-in_err-scan_paragraph_end-clause-err
+returns-in_err-scan_paragraph_end-clause-err c =
+    let at = (goal.at.returns-in_err-scan_paragraph_end-clause-err c).After-bytes_scanned in
+    on_err c.from_residual.result (err_at (around_it at) c.args.rest.now _ _
+    (c.scan_indentation-columns.ensures.columns ∙ ap (λ r. min 4 (indent r)) c.copy-text.ensures)
+    (ap (λ n. drop n c.args.source.text.now) (offset_is at) ∙ sym (text_at at).left)
+    c.in_err-scan_paragraph_end.ensures.err)
