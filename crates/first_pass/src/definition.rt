@@ -1,6 +1,6 @@
 //! Link reference definitions, as calls of the pass.
 
-ghost use Rattle.std.specs.Prelude.{◌≡◌, ℕ, ◌+◌, ◌-◌, ◌<◌, ◌≤◌, length, take, drop, None, IfOk, IfSome, IsSomeAnd, MatchOption, OnOk, IsUtf8, IsCharBoundary, true, false};
+ghost use Rattle.std.specs.Prelude.{◌≡◌, ℕ, ◌+◌, ◌-◌, ◌<◌, ◌≤◌, length, take, drop, None, IfOk, IfSome, IsSomeAnd, MatchOption, OnOk, OnErr, IsUtf8, IsCharBoundary, true, false};
 ghost use Rattle.std.specs.List.{list_any};
 ghost use Rattle.std.specs.Option.{option_map};
 ghost use Rattle.first_pass_items.specs.CowText.{text_of};
@@ -13,6 +13,7 @@ ghost use Rattle.first_pass_grammar.specs.Definitions.{prefix_crossed, space_at,
 ghost use Rattle.first_pass_names.specs.TableEntries.{tables, names_of, refdefs_of};
 ghost use Rattle.first_pass_text.specs.Rests.{IsRestOf};
 ghost use Rattle.first_pass_definitions.specs.Found.{IsTarget, IsReference, BorrowsLabel, AreWritten};
+ghost use Rattle.first_pass_definitions.specs.Memory.{LabelAsks, TargetAsks, ReferenceAsks, space_asks, title_asks};
 ghost use Rattle.first_pass.specs.Runs.{ReadsRun};
 ghost use Rattle.first_pass.specs.Views.{allocs_of, context_in, reading_of, source_of, source_text, tree_of};
 
@@ -37,7 +38,8 @@ pub(crate) enum RunEnd {
 impl<'a> FirstPass<'a> {
     /// The link reference definition that begins at the offset `start` into the text: how many bytes it has, its label
     /// and what it says. `None` where none begins. Nothing is read or changed: who takes it puts it into the table. The
-    /// error is want of memory (CommonMark 4.7).
+    /// error is want of memory, where its label or what is behind its colon asks for it as the calls below say, or
+    /// where a definition stands here: its label is folded (CommonMark 4.7).
     #[inline(always)]
     pub fn parse_refdef_total(
         &mut self,
@@ -55,6 +57,8 @@ impl<'a> FirstPass<'a> {
         ensures borrowed { IfOk result (λ answer. IfSome answer (λ found.
             BorrowsLabel (context_in self.old) (in_table (tree_of self.old).nodes (tree_of self.old).spine)
             (drop (start + 1) (source_text self.old)) found.1)) }
+        ensures err { OnErr result (ReferenceAsks (in_table (tree_of self.old).nodes (tree_of self.old).spine)
+            (context_in self.old) (drop start (source_text self.old))) }
     {
         reference::parse_refdef_total(self.alloc, self.source, &self.reading.tree, start)
     }
@@ -62,7 +66,8 @@ impl<'a> FirstPass<'a> {
     /// The label behind the `[` that stands before the offset `start` into the text: how many bytes it has from there
     /// on, its `]` too, and its text, in which each run of white space is one space. It goes on over the lines that a
     /// definition crosses, without what they have of the prefixes of the open containers. `None` where there is no
-    /// label; the error is want of memory (CommonMark 4.7).
+    /// label; the error is want of memory, where the label has to be written since it is read otherwise than it stands,
+    /// or where no bracket ends it before a line that may head a table (CommonMark 4.7).
     pub fn parse_refdef_label(
         &self,
         start: usize,
@@ -77,6 +82,8 @@ impl<'a> FirstPass<'a> {
         ensures borrowed { IfOk result (λ answer. IfSome answer (λ found.
             text_of found.1 ≡ take (found.0 - 1) (drop start (source_text self.now))
             → Borrows (take (found.0 - 1) (drop start (source_text self.now))) found.1)) }
+        ensures err { OnErr result (LabelAsks (context_in self.now)
+            (in_table (tree_of self.now).nodes (tree_of self.now).spine) (drop start (source_text self.now))) }
     {
         label::parse_refdef_label(self.alloc, self.source, &self.reading.tree, start)
     }
@@ -84,7 +91,8 @@ impl<'a> FirstPass<'a> {
     /// What a definition has behind its colon, before the offset `start` into the text: white space, a destination, and
     /// white space and a title or none. Answers how many bytes it has from `start` on, and the definition with its
     /// destination and title unescaped, whose span begins at `span_start`. `None` where none stands there; the error is
-    /// want of memory (CommonMark 4.7).
+    /// want of memory, where the destination or the title is read otherwise than it stands, where a title has a line
+    /// end, or where behind a line end a line begins that may head a table (CommonMark 4.7).
     pub fn scan_refdef(
         &self,
         span_start: usize,
@@ -98,6 +106,8 @@ impl<'a> FirstPass<'a> {
             (IsTarget (in_table (tree_of self.now).nodes (tree_of self.now).spine) span_start start target))) }
         ensures fits { IfOk result (λ answer. IfSome answer (λ found.
             IsCharBoundary (source_text self.now) (start + found.0))) }
+        ensures err { OnErr result (TargetAsks (in_table (tree_of self.now).nodes (tree_of self.now).spine)
+            (context_in self.now) (drop start (source_text self.now))) }
     {
         target::scan_refdef(
             self.alloc,
@@ -111,7 +121,7 @@ impl<'a> FirstPass<'a> {
     /// The white space of a definition at the offset `i` into `bytes`, which are those of the whole text, with at most
     /// one line end: the offset behind it, and how many line ends it has. Behind a line end it goes on where the
     /// definition goes on in the next line. `None` where a second line end follows, or no such line; the error is
-    /// want of memory (CommonMark 4.7).
+    /// want of memory, where the line behind the first line end may head a table (CommonMark 4.7).
     pub fn scan_refdef_space(
         &self,
         bytes: &[u8],
@@ -123,6 +133,7 @@ impl<'a> FirstPass<'a> {
             ≡ option_map (λ s. (i + s.0, s.1))
             (space_at (context_in self.now) (drop i (source_text self.now)))) }
         ensures place { IfOk result (λ answer. IfSome answer (λ s. IsCharBoundary (source_text self.now) s.0)) }
+        ensures err { OnErr result (space_asks (context_in self.now) (drop i (source_text self.now)) ≡ true) }
     {
         let _ = bytes;
         space::scan_refdef_space(self.alloc, self.source, &self.reading.tree, i)
@@ -130,8 +141,8 @@ impl<'a> FirstPass<'a> {
 
     /// The title that `text` begins with, all that the whole text has from a place on: how many bytes it has, what
     /// begins and ends it too, and what stands between, not yet unescaped and with one `\n` for each line end. It goes
-    /// on over the lines that a definition crosses. `None` where there is none; the error is want of memory
-    /// (CommonMark 4.7).
+    /// on over the lines that a definition crosses. `None` where there is none; the error is want of memory, where
+    /// behind the first line the title goes on, or a line begins that may head a table (CommonMark 4.7).
     pub fn scan_refdef_title<'t>(
         &self,
         text: &'t str,
@@ -144,6 +155,7 @@ impl<'a> FirstPass<'a> {
             (1 < found.0) × IsCharBoundary text.now found.0)) }
         ensures borrowed { IfOk result (λ answer. IfSome answer (λ found.
             list_any is_line_end (text_of found.1) ≡ false → Borrows (text_of found.1) found.1)) }
+        ensures err { OnErr result (title_asks (context_in self.now) text.now ≡ true) }
     {
         title::scan_refdef_title(self.alloc, self.source, &self.reading.tree, text)
     }

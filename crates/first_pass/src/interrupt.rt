@@ -1,11 +1,12 @@
 //! Which lines end a paragraph before them, as calls of the pass.
 
-ghost use Rattle.std.specs.Prelude.{◌≡◌, ◌&&◌, ◌||◌, not, Some, None, IfOk, if◌then◌else◌};
+ghost use Rattle.std.specs.Prelude.{◌≡◌, ◌&&◌, ◌||◌, not, true, Some, None, IfOk, OnErr, if◌then◌else◌};
 ghost use Rattle.first_pass_lines.specs.Places.{line_rest};
 ghost use Rattle.first_pass_grammar.specs.Containers.{front};
 ghost use Rattle.first_pass_grammar.specs.Kinds.{all_taken, ends_tag, interrupts_with, is_blank_rest};
 ghost use Rattle.first_pass_grammar.specs.TableHeads.{table_interrupts};
 ghost use Rattle.first_pass_text.specs.Rests.{IsRestOf};
+ghost use Rattle.first_pass_text.specs.Memory.{may_head, line_may_head};
 ghost use Rattle.first_pass_tree.specs.Forest.{in_table};
 ghost use Rattle.first_pass.specs.Views.{context_in, source_text, tree_of};
 
@@ -22,16 +23,18 @@ impl<'a> FirstPass<'a> {
     /// Whether `text`, what is left of a line behind its indentation of under four columns and all that the whole text
     /// has behind it, interrupts a paragraph inside the open containers: as `scan_paragraph_interrupt_no_table` says
     /// (CommonMark 4.8), or as a table does that the line heads, where it begins with a pipe (GFM 4.10).
-    /// `current_container` says whether the line goes on with all open containers, `tree_position` with how many.
+    /// `current_container` says whether the line goes on with all open containers, `tree_position` with how many. The
+    /// error is want of memory, where such a table may begin.
     pub fn scan_paragraph_interrupt(
         &self,
         text: &str,
         current_container: bool,
         tree_position: usize,
     ) -> Result<bool, AllocError>
-        ensures { IfOk result (λ yes. let tree = tree_of self.now in
+        ensures value { IfOk result (λ yes. let tree = tree_of self.now in
             yes ≡ (interrupts_with (current_container && not (in_table tree.nodes tree.spine)) text.now
             || table_interrupts (context_in self.now) text.now)) }
+        ensures err { OnErr result (may_head (context_in self.now) text.now ≡ true) }
     {
         if scan_paragraph_interrupt_no_table(
             self.alloc,
@@ -54,7 +57,7 @@ impl<'a> FirstPass<'a> {
     /// run of link reference definitions, whatever open containers it goes on with. Answers what is left of it behind
     /// what it has of their prefixes and behind its columns. `None` where it ends the run: where behind the tag of a
     /// block quote it would be read as any other, and where what is left is blank, as at the text's end. Nothing is
-    /// read or changed (CommonMark 4.7, 4.8, 5.1).
+    /// read or changed. The error is want of memory, where the line may head a table (CommonMark 4.7, 4.8, 5.1).
     pub fn scan_next_line_or_lazy_continuation<'input>(
         &mut self,
         bytes: &'input [u8],
@@ -65,6 +68,7 @@ impl<'a> FirstPass<'a> {
             rest ≡ (if ends_tag (context_in self.old) (line_rest bytes.now) || is_blank_rest (all_taken line)
             then None
             else Some (all_taken line))) }
+        ensures err { OnErr result (line_may_head (context_in self.old) (line_rest bytes.now) ≡ true) }
     {
         let line = scan_line_behind_tag(self.alloc, self.source, bytes, &self.reading.tree)?;
         let Some(rest) = line else {

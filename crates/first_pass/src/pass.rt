@@ -98,8 +98,8 @@ impl<'a> FirstPass<'a> {
     /// a title of one line are borrowed from the text where nothing in them changes (CommonMark 4.7, and this project).
     ///
     /// Where each index that they keep names an entry, and no row of a table is open, tables that are whole stay so:
-    /// their rows stand one deeper, the cells of these two deeper, and none elsewhere; each row has as many cells as its
-    /// table has columns, and of the cells of a table at most 262,144 are filled in (GFM 4.10, and this project).
+    /// their rows stand one deeper, the cells of these two deeper, and none elsewhere; each row has as many cells as
+    /// its table has columns, and of the cells of a table at most 262,144 are filled in (GFM 4.10, and this project).
     pub fn parse_block(&mut self, start_ix: usize) -> Result<usize, AllocError>
         requires within { start_ix < length (source_text self.old) }
         requires boundary { IsCharBoundary (source_text self.old) start_ix }

@@ -2,4 +2,5 @@ pub mod Titles
 pub mod Spaces
 pub mod Places
 pub mod Targets
+pub mod Asks
 pub mod ReferenceFacts

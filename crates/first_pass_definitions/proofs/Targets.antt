@@ -120,7 +120,7 @@ further_none (Some f) at h = absurd h
 abbrev pub IsDest : Option (ℕ × List ℕ) → Option (ℕ × Bor (List ℕ)) → Type 0
 IsDest o answer = MatchOption o (answer ≡ None) (λ dest. IsSomeAnd answer (λ found. (found.0 ≡ dest.0) × (found.1.now ≡ dest.1)))
 
-dest_found : (o : Option (ℕ × List ℕ)) (n : ℕ) (text : Bor (List ℕ)) → IsDest o (Some (n, text))
+pub dest_found : (o : Option (ℕ × List ℕ)) (n : ℕ) (text : Bor (List ℕ)) → IsDest o (Some (n, text))
     → (d : ℕ × List ℕ) × (o ≡ Some d) × (n ≡ d.0) × (text.now ≡ d.1)
 dest_found None n text h = cc
 dest_found (Some d) n text h = (d, refl, h.0, h.1)
@@ -130,10 +130,10 @@ dest_none None h = refl
 dest_none (Some d) h = absurd h
 
 -- answers about white space
-abbrev shifted : ℕ → Option (ℕ × ℕ) → Option (ℕ × ℕ)
+abbrev pub shifted : ℕ → Option (ℕ × ℕ) → Option (ℕ × ℕ)
 shifted start o = option_map (λ (s : ℕ × ℕ). (start + s.0, s.1)) o
 
-space_found : (o : Option (ℕ × ℕ)) (start at lines : ℕ) → Some (at, lines) ≡ shifted start o → (s : ℕ × ℕ) × (o ≡ Some s) × (at ≡ start + s.0)
+pub space_found : (o : Option (ℕ × ℕ)) (start at lines : ℕ) → Some (at, lines) ≡ shifted start o → (s : ℕ × ℕ) × (o ≡ Some s) × (at ≡ start + s.0)
 space_found None start at lines h = cc
 space_found (Some s) start at lines h = (s, refl, ap (λ (o : Option (ℕ × ℕ)). option_map_or (λ (p : ℕ × ℕ). p.0) o 0) h)
 
@@ -240,7 +240,7 @@ at_label in_table around text start h =
 abbrev pub IsLabelAnswer : Option (ℕ × List ℕ) → Option (ℕ × CowStr) → Type 0
 IsLabelAnswer o answer = MatchOption o (answer ≡ None) (λ label. IsSomeAnd answer (λ found. (found.0 ≡ label.0) × (text_of found.1 ≡ label.1)))
 
-label_found : (o : Option (ℕ × List ℕ)) (n : ℕ) (text : CowStr) → IsLabelAnswer o (Some (n, text))
+pub label_found : (o : Option (ℕ × List ℕ)) (n : ℕ) (text : CowStr) → IsLabelAnswer o (Some (n, text))
     → (l : ℕ × List ℕ) × (o ≡ Some l) × (n ≡ l.0) × (text_of text ≡ l.1)
 label_found None n text h = cc
 label_found (Some l) n text h = (l, refl, h.0, h.1)

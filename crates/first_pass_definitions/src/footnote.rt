@@ -1,11 +1,15 @@
 //! The head of a footnote definition.
 
-ghost use Rattle.std.specs.Prelude.{◌≡◌, ℕ, ◌+◌, ◌-◌, ◌<◌, take, drop, None, IfOk, IfSome, IsSomeAnd, MatchOption, IsCharBoundary};
+ghost use Rattle.std.specs.Prelude.{◌≡◌, ℕ, ◌+◌, ◌-◌, ◌<◌, take, drop, None, true, false, IfOk, IfSome, OnErr, IsSomeAnd, MatchOption, IsCharBoundary};
 ghost use Rattle.first_pass_items.specs.CowText.{text_of};
 ghost use Rattle.first_pass_links.specs.Texts.{Borrows};
 ghost use Rattle.first_pass_tree.specs.Forest.{in_table};
 ghost use Rattle.first_pass_grammar.specs.Footnotes.{footnote_prefix, footnote_at};
 ghost use Rattle.first_pass_open.specs.Path.{context_of};
+ghost use Rattle.first_pass_items.specs.OptionWords.{gfm_footnotes};
+ghost use Rattle.first_pass_lines.specs.Places.{line_rest};
+ghost use Rattle.first_pass_text.specs.Memory.{line_may_head};
+ghost use Rattle.first_pass_definitions.specs.Memory.{FootnoteAsks};
 
 use crate::label::scan_label_prefix;
 use first_pass_items::cow_str::CowStr;
@@ -19,7 +23,8 @@ use std::alloc::{AllocError, Global};
 /// many bytes it has, and its label. As GitHub has footnotes, its label holds no line end; in their old form it goes
 /// on over lines as `parse_refdef_label` does. The tree is that of the open blocks.
 ///
-/// `None` where no head begins. The error is want of memory (this project).
+/// `None` where no head begins. The error is want of memory, where behind `[^` the label has to be written, or, in the
+/// old form, where no bracket ends it before a line that may head a table (this project).
 pub fn scan_footnote<'a>(
     alloc: Global,
     source: Source<'a>,
@@ -37,6 +42,8 @@ pub fn scan_footnote<'a>(
     ensures borrowed { IfOk result (λ answer. IfSome answer (λ found.
         text_of found.1 ≡ take (found.0 - 4) (drop (start + 2) source.entry.text.now)
         → Borrows (take (found.0 - 4) (drop (start + 2) source.entry.text.now)) found.1)) }
+    ensures err { OnErr result (FootnoteAsks (context_of source.entry.options tree.now)
+        (in_table tree.now.nodes tree.now.spine) (drop start source.entry.text.now)) }
 {
     let in_table = tree.is_in_table();
     scan_footnote_head(
@@ -60,6 +67,10 @@ fn scan_footnote_prefix(
         → footnote_prefix (context_of source.entry.options tree.now) bytes.now ≡ answer) }
     ensures place { IfOk result (λ answer. IfSome answer (λ n. (at : ℕ) → IsCharBoundary source.entry.text.now at
         → bytes.now ≡ drop at source.entry.text.now → IsCharBoundary bytes.now n)) }
+    ensures old { OnErr result (gfm_footnotes source.entry.options ≡ false) }
+    ensures err { OnErr result ((at : ℕ) → IsCharBoundary source.entry.text.now at
+        → bytes.now ≡ drop at source.entry.text.now
+        → line_may_head (context_of source.entry.options tree.now) (line_rest bytes.now) ≡ true) }
 {
     if source.options.has_gfm_footnotes() {
         return Ok(None);

@@ -1,12 +1,15 @@
 //! The label of a link reference definition.
 
-ghost use Rattle.std.specs.Prelude.{◌≡◌, ℕ, ◌+◌, ◌-◌, ◌<◌, ◌≤◌, take, drop, None, IfOk, IfSome, IsSomeAnd, MatchOption, IsCharBoundary, true};
+ghost use Rattle.std.specs.Prelude.{◌≡◌, ℕ, ◌+◌, ◌-◌, ◌<◌, ◌≤◌, take, drop, None, IfOk, IfSome, OnErr, IsSomeAnd, MatchOption, IsCharBoundary, true};
 ghost use Rattle.first_pass_items.specs.CowText.{text_of};
 ghost use Rattle.first_pass_links.specs.Labels.{label_at};
 ghost use Rattle.first_pass_links.specs.Texts.{Borrows};
 ghost use Rattle.first_pass_tree.specs.Forest.{in_table};
 ghost use Rattle.first_pass_grammar.specs.Definitions.{prefix_crossed};
 ghost use Rattle.first_pass_open.specs.Path.{context_of};
+ghost use Rattle.first_pass_lines.specs.Places.{line_rest};
+ghost use Rattle.first_pass_text.specs.Memory.{line_may_head};
+ghost use Rattle.first_pass_definitions.specs.Memory.{LabelAsks};
 
 use first_pass_items::cow_str::CowStr;
 use first_pass_items::item::Item;
@@ -23,7 +26,9 @@ use std::alloc::{AllocError, Global};
 /// behind these.
 ///
 /// `None` where there is no label: an unescaped `[`, a line that ends the definition or the text's end comes first,
-/// all is white space, or there are more than 999 characters. The error is want of memory (CommonMark 4.7).
+/// all is white space, or there are more than 999 characters. The error is want of memory, where the label has to be
+/// written since it is read otherwise than it stands, or where no bracket ends it before a line that may head a table
+/// (CommonMark 4.7).
 pub fn parse_refdef_label<'a>(
     alloc: Global,
     source: Source<'a>,
@@ -41,6 +46,8 @@ pub fn parse_refdef_label<'a>(
     ensures borrowed { IfOk result (λ answer. IfSome answer (λ found.
         text_of found.1 ≡ take (found.0 - 1) (drop start source.entry.text.now)
         → Borrows (take (found.0 - 1) (drop start source.entry.text.now)) found.1)) }
+    ensures err { OnErr result (LabelAsks (context_of source.entry.options tree.now)
+        (in_table tree.now.nodes tree.now.spine) (drop start source.entry.text.now)) }
 {
     let in_table = tree.is_in_table();
     scan_link_label_rest(
@@ -64,6 +71,9 @@ pub(crate) fn scan_label_prefix(
         → prefix_crossed true (context_of source.entry.options tree.now) bytes.now ≡ answer) }
     ensures place { IfOk result (λ answer. IfSome answer (λ n. (at : ℕ) → IsCharBoundary source.entry.text.now at
         → bytes.now ≡ drop at source.entry.text.now → IsCharBoundary bytes.now n)) }
+    ensures err { OnErr result ((at : ℕ) → IsCharBoundary source.entry.text.now at
+        → bytes.now ≡ drop at source.entry.text.now
+        → line_may_head (context_of source.entry.options tree.now) (line_rest bytes.now) ≡ true) }
 {
     let whole = source.text.len();
     if bytes.len() > whole || !source.text.is_char_boundary(whole - bytes.len()) {

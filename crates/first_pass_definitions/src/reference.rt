@@ -1,12 +1,13 @@
 //! Link reference definitions.
 
-ghost use Rattle.std.specs.Prelude.{◌≡◌, ◌+◌, ◌<◌, drop, None, IfOk, IfSome, IsSomeAnd, MatchOption, IsCharBoundary, true};
+ghost use Rattle.std.specs.Prelude.{◌≡◌, ◌+◌, ◌<◌, drop, None, IfOk, IfSome, OnErr, IsSomeAnd, MatchOption, IsCharBoundary, true};
 ghost use Rattle.first_pass_items.specs.Bytes.{left_bracket};
 ghost use Rattle.first_pass_lines.specs.Lines.{begins};
 ghost use Rattle.first_pass_tree.specs.Forest.{in_table};
 ghost use Rattle.first_pass_grammar.specs.Definitions.{reference_at};
 ghost use Rattle.first_pass_open.specs.Path.{context_of};
 ghost use Rattle.first_pass_definitions.specs.Found.{BorrowsLabel, IsReference};
+ghost use Rattle.first_pass_definitions.specs.Memory.{ReferenceAsks};
 
 use crate::label::parse_refdef_label;
 use crate::target::scan_refdef;
@@ -24,7 +25,8 @@ use std::alloc::{AllocError, Global};
 /// the open blocks: its containers have prefixes in the lines that the definition crosses, and in a table
 /// backslashes before pipes are dropped.
 ///
-/// `None` where none begins. The error is want of memory (CommonMark 4.7).
+/// `None` where none begins. The error is want of memory, where its label or what is behind its colon asks for it as
+/// `parse_refdef_label` and `scan_refdef` say, or where a definition stands here: its label is folded (CommonMark 4.7).
 #[inline(always)]
 pub fn parse_refdef_total<'a>(
     alloc: Global,
@@ -42,6 +44,8 @@ pub fn parse_refdef_total<'a>(
     ensures borrowed { IfOk result (λ answer. IfSome answer (λ found.
         BorrowsLabel (context_of source.entry.options tree.now) (in_table tree.now.nodes tree.now.spine)
         (drop (start + 1) source.entry.text.now) found.1)) }
+    ensures err { OnErr result (ReferenceAsks (in_table tree.now.nodes tree.now.spine)
+        (context_of source.entry.options tree.now) (drop start source.entry.text.now)) }
 {
     if !begins(b'[', rest_of(source.text.as_bytes(), start)) {
         return Ok(None);
@@ -67,6 +71,8 @@ fn parse_behind_bracket<'a>(
     ensures borrowed { IfOk result (λ answer. IfSome answer (λ found.
         BorrowsLabel (context_of source.entry.options tree.now) (in_table tree.now.nodes tree.now.spine)
         (drop (start + 1) source.entry.text.now) found.1)) }
+    ensures err { OnErr result (ReferenceAsks (in_table tree.now.nodes tree.now.spine)
+        (context_of source.entry.options tree.now) (drop start source.entry.text.now)) }
 {
     source.is_short();
     let bytes = source.text.as_bytes();

@@ -1,9 +1,10 @@
 //! The white space of a link reference definition.
 
-ghost use Rattle.std.specs.Prelude.{◌≡◌, ◌+◌, drop, IfOk, IfSome, IsCharBoundary};
+ghost use Rattle.std.specs.Prelude.{◌≡◌, ◌+◌, drop, true, IfOk, IfSome, OnErr, IsCharBoundary};
 ghost use Rattle.std.specs.Option.{option_map};
 ghost use Rattle.first_pass_grammar.specs.Definitions.{space_at, space_beyond};
 ghost use Rattle.first_pass_open.specs.Path.{context_of};
+ghost use Rattle.first_pass_definitions.specs.Memory.{space_asks};
 
 use first_pass_items::item::Item;
 use first_pass_lines::lines::{scan_eol, scan_whitespace_no_nl};
@@ -17,7 +18,7 @@ use std::alloc::{AllocError, Global};
 /// line ends it has, 0 or 1. Behind a line end it goes on where the definition goes on in the next line.
 ///
 /// `None` where a second line end follows, or where no line follows in which the definition goes on. The error is
-/// want of memory (CommonMark 4.7).
+/// want of memory, where the line behind the first line end may head a table (CommonMark 4.7).
 pub fn scan_refdef_space(
     alloc: Global,
     source: Source<'_>,
@@ -29,6 +30,8 @@ pub fn scan_refdef_space(
         answer ≡ option_map (λ s. (start + s.0, s.1))
         (space_at (context_of source.entry.options tree.now) (drop start source.entry.text.now))) }
     ensures place { IfOk result (λ answer. IfSome answer (λ s. IsCharBoundary source.entry.text.now s.0)) }
+    ensures err { OnErr result (space_asks (context_of source.entry.options tree.now)
+        (drop start source.entry.text.now) ≡ true) }
 {
     source.is_short();
     let bytes = source.text.as_bytes();

@@ -1,6 +1,6 @@
 //! What a link reference definition has behind its colon.
 
-ghost use Rattle.std.specs.Prelude.{◌≡◌, ℕ, ◌+◌, ◌≤◌, List, Option, length, drop, None, Some, IfOk, IfSome, IsSomeAnd, MatchOption, IsCharBoundary};
+ghost use Rattle.std.specs.Prelude.{◌≡◌, ℕ, ◌+◌, ◌≤◌, List, Option, length, drop, None, Some, IfOk, IfSome, OnErr, true, ◌⊎◌, IsSomeAnd, MatchOption, IsCharBoundary};
 ghost use Rattle.std.specs.Box.{boxed_str_bytes};
 ghost use Rattle.first_pass_items.specs.CowText.{text_of};
 ghost use Rattle.first_pass_tree.specs.Forest.{in_table};
@@ -8,6 +8,9 @@ ghost use Rattle.first_pass_grammar.specs.Definitions.{target_at, behind_destina
 ghost use Rattle.first_pass_links.specs.Escapes.{unescaped};
 ghost use Rattle.first_pass_open.specs.Path.{context_of};
 ghost use Rattle.first_pass_definitions.specs.Found.{HasTitle, IsTarget};
+ghost use Rattle.std.specs.List.{list_any};
+ghost use Rattle.first_pass_lines.specs.Lines.{is_line_end};
+ghost use Rattle.first_pass_definitions.specs.Memory.{IsEscaped, TargetAsks, behind_asks};
 ghost use Rattle.first_pass_definitions.specs.Reading.{IsReadText, IsReadTitle};
 
 use crate::space::scan_refdef_space;
@@ -32,7 +35,9 @@ const DEEPEST_NESTING: usize = 32;
 /// destination and title unescaped, whose span begins at `span_start`.
 ///
 /// `None` where there is no destination, where something touches it, or where behind it neither a title nor a blank
-/// rest of its line stands. The error is want of memory (CommonMark 4.7).
+/// rest of its line stands. The error is want of memory, where the destination or the title is read otherwise than it
+/// stands, where a title has a line end, or where behind a line end a line begins that may head a table (CommonMark
+/// 4.7).
 pub fn scan_refdef<'a>(
     alloc: Global,
     source: Source<'a>,
@@ -48,6 +53,8 @@ pub fn scan_refdef<'a>(
         (IsTarget (in_table tree.now.nodes tree.now.spine) span_start start target))) }
     ensures fits { IfOk result (λ answer. IfSome answer (λ found.
         IsCharBoundary source.entry.text.now (start + found.0))) }
+    ensures err { OnErr result (TargetAsks (in_table tree.now.nodes tree.now.spine)
+        (context_of source.entry.options tree.now) (drop start source.entry.text.now)) }
 {
     source.is_short();
     let Some((dest_start, _)) = scan_refdef_space(alloc, source, tree, start)? else {
@@ -83,6 +90,8 @@ fn scan_behind_destination<'a>(
         (λ further. IsSomeAnd answer (λ found. (found.0 ≡ at + further.0) × IsReadTitle further.1 found.1))) }
     ensures fits { IfOk result (λ answer. IfSome answer (λ found.
         (at ≤ found.0) × IsCharBoundary source.entry.text.now found.0)) }
+    ensures err { OnErr result (behind_asks (context_of source.entry.options tree.now)
+        (drop at source.entry.text.now) ≡ true) }
 {
     if let Some((end, title)) = scan_title_behind(alloc, source, tree, at)? {
         return Ok(Some((end, Some(title))));
@@ -108,6 +117,8 @@ fn scan_title_behind<'a>(
         (λ title. IsSomeAnd answer (λ found. (found.0 ≡ at + title.0) × IsReadText title.1 found.1))) }
     ensures fits { IfOk result (λ answer. IfSome answer (λ found.
         (at ≤ found.0) × IsCharBoundary source.entry.text.now found.0)) }
+    ensures err { OnErr result (behind_asks (context_of source.entry.options tree.now)
+        (drop at source.entry.text.now) ≡ true) }
 {
     source.is_short();
     let Some((start, _)) = scan_refdef_space(alloc, source, tree, at)? else {
@@ -132,8 +143,10 @@ fn unescape_title<'a>(
     title: Option<CowStr<'a>>,
     in_table: bool,
 ) -> Result<Option<CowStr<'a>>, AllocError>
-    ensures { IfOk result (λ answer. (text : Option (List ℕ)) → IsReadTitle text title.entry
+    ensures value { IfOk result (λ answer. (text : Option (List ℕ)) → IsReadTitle text title.entry
         → HasTitle in_table text answer) }
+    ensures err { OnErr result ((text : Option (List ℕ)) → IsReadTitle text title.entry
+        → IsSomeAnd text (λ t. (list_any is_line_end t ≡ true) ⊎ IsEscaped in_table t)) }
 {
     match title {
         Some(CowStr::Borrowed(text)) => Ok(Some(unescape(alloc, text, in_table)?)),

@@ -1,11 +1,11 @@
 //! The title of a link reference definition.
 
-ghost use Rattle.std.specs.Prelude.{◌≡◌, ◌+◌, ◌<◌, ◌≤◌, ◌++◌, ◌||◌, length, take, drop, None, Some, [], true, slice_get, IfOk, IfSome, IsSomeAnd, MatchOption, IsCharBoundary, IsUtf8, false};
+ghost use Rattle.std.specs.Prelude.{◌≡◌, ◌+◌, ◌<◌, ◌≤◌, ◌++◌, ◌||◌, length, take, drop, None, Some, [], true, slice_get, IfOk, IfSome, OnErr, IsSomeAnd, MatchOption, IsCharBoundary, IsUtf8, false};
 ghost use Rattle.std.specs.List.{list_any};
-ghost use Rattle.std.specs.Option.{option_and_then};
+ghost use Rattle.std.specs.Option.{option_and_then, option_map_or};
 ghost use Rattle.std.specs.String.{string_bytes};
 ghost use Rattle.first_pass_items.specs.CowText.{text_of};
-ghost use Rattle.first_pass_lines.specs.Lines.{is_line_end, begins, blank_len};
+ghost use Rattle.first_pass_lines.specs.Lines.{is_line_end, begins, blank_len, eol_len};
 ghost use Rattle.first_pass_links.specs.Destinations.{unescaped_upto};
 ghost use Rattle.first_pass_links.specs.Texts.{Borrows};
 ghost use Rattle.first_pass_links.specs.Units.{part};
@@ -14,6 +14,9 @@ ghost use Rattle.first_pass_definitions.specs.Reading.{ClosesTitle, stops_title,
 ghost use Rattle.first_pass_grammar.specs.Definitions.{title_at, title_end, title_text, title_prefix};
 ghost use Rattle.first_pass_open.specs.Path.{context_of};
 ghost use Rattle.first_pass_text.specs.Rests.{IsRestOf};
+ghost use Rattle.first_pass_lines.specs.Places.{line_rest};
+ghost use Rattle.first_pass_text.specs.Memory.{line_may_head};
+ghost use Rattle.first_pass_definitions.specs.Memory.{title_asks, text_asks};
 
 use first_pass_items::cow_str::CowStr;
 use first_pass_items::item::Item;
@@ -31,7 +34,8 @@ use std::alloc::{AllocError, Global};
 /// Where no line is crossed it is borrowed, and no memory is taken.
 ///
 /// `None` where there is no title: a blank line, a line that ends the definition or the text's end comes before what
-/// ends it, or in parentheses an unescaped `(`. The error is want of memory (CommonMark 4.7, 6.3).
+/// ends it, or in parentheses an unescaped `(`. The error is want of memory, where behind the first line the title goes
+/// on, or a line begins that may head a table (CommonMark 4.7, 6.3).
 pub fn scan_refdef_title<'t>(
     alloc: Global,
     source: Source<'_>,
@@ -45,6 +49,7 @@ pub fn scan_refdef_title<'t>(
     ensures fits { IfOk result (λ answer. IfSome answer (λ found. (1 < found.0) × IsCharBoundary text.now found.0)) }
     ensures borrowed { IfOk result (λ answer. IfSome answer (λ found.
         list_any is_line_end (text_of found.1) ≡ false → Borrows (text_of found.1) found.1)) }
+    ensures err { OnErr result (title_asks (context_of source.entry.options tree.now) text.now ≡ true) }
 {
     let bytes = text.as_bytes();
     let Some(close) = title_end(bytes) else {
@@ -87,6 +92,7 @@ fn scan_title_text<'t>(
     ensures fits { IfOk result (λ answer. IfSome answer (λ found. (0 < found.0) × IsCharBoundary text.now found.0)) }
     ensures borrowed { IfOk result (λ answer. IfSome answer (λ found.
         list_any is_line_end (text_of found.1) ≡ false → Borrows (text_of found.1) found.1)) }
+    ensures err { OnErr result (text_asks (context_of source.entry.options tree.now) close text.now ≡ true) }
 {
     let bytes = text.as_bytes();
     let mut written = String::new(alloc);
@@ -141,6 +147,8 @@ fn scan_title_break(
         ≡ goes_on_at (title_prefix (context_of source.entry.options tree.now)) bytes.now at) }
     ensures place { IfOk result (λ answer. IfSome answer (λ next. (at < next) × IsCharBoundary bytes.now next)) }
     ensures texts { IfOk result (λ answer. IfSome answer (λ next. begins line_feed (drop next bytes.now) ≡ false)) }
+    ensures err { OnErr result (option_map_or (λ e. line_may_head (context_of source.entry.options tree.now)
+        (line_rest (drop (at + e) bytes.now))) (eol_len (drop at bytes.now)) false ≡ true) }
 {
     let Some(line_end) = scan_eol(rest_of(bytes, at)) else {
         return Ok(None);
@@ -165,6 +173,7 @@ fn scan_title_prefix(
         answer ≡ title_prefix (context_of source.entry.options tree.now) bytes.now) }
     ensures place { IfOk result (λ answer. IfSome answer (λ n. IsCharBoundary bytes.now n)) }
     ensures text { IfOk result (λ answer. IfSome answer (λ n. blank_len (drop n bytes.now) ≡ None)) }
+    ensures err { OnErr result (line_may_head (context_of source.entry.options tree.now) (line_rest bytes.now) ≡ true) }
 {
     let start = source.text.len() - bytes.len();
     let Some(rest) = scan_line_crossed(alloc, source, tree, start, false)? else {
@@ -193,6 +202,7 @@ fn finish<'t>(
     ensures value { IfOk result (λ title. text_of title ≡ string_bytes written ++ part text.now from at) }
     ensures borrowed { IfOk result (λ title.
         list_any is_line_end (text_of title) ≡ false → Borrows (text_of title) title) }
+    ensures err { OnErr result (0 < from) }
 {
     if from == 0 {
         return Ok(CowStr::Borrowed(&text[..at]));

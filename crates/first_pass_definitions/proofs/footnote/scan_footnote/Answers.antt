@@ -1,7 +1,16 @@
-use Rattle.std.proofs.Common.{◌≡◌, ℕ, ◌+◌, ◌-◌, List, take, drop, IfOk, IfSome, ap, subst, ◌∙◌}
+use Rattle.std.proofs.Common.{rules, true, OnErr, refl, sym, ◌≡◌, ℕ, ◌+◌, ◌-◌, List, take, drop, IfOk, IfSome, ap, subst, ◌∙◌}
 use Rattle.std.proofs.lemmas.List.{drop-drop}
 use Rattle.first_pass_items.specs.CowText.{text_of}
 use Rattle.first_pass_links.specs.Texts.{Borrows}
+use Rattle.std.proofs.lemmas.Result.{on_err_weaker}
+use Rattle.first_pass_lines.specs.Places.{line_rest}
+use Rattle.first_pass_links.proofs.Footnotes.{behind_mark}
+use Rattle.first_pass_tree.specs.Forest.{in_table}
+use Rattle.first_pass_grammar.specs.Footnotes.{footnote_prefix}
+use Rattle.first_pass_open.specs.Path.{context_of}
+use Rattle.first_pass_text.specs.Memory.{line_may_head}
+use Rattle.first_pass_definitions.specs.Memory.{FootnoteAsks}
+use Rattle.first_pass_definitions.proofs.Asks.{footnote_asks, place_from}
 use Rattle.first_pass_definitions.proofs.footnote.scan_footnote.Goals as goal
 
 pub returns-clause-borrowed : goal.returns-clause-borrowed
@@ -10,3 +19,19 @@ returns-clause-borrowed c =
     ap (drop 2) c.range_from.ensures.value ∙ drop-drop 2 c.args.start c.args.source.text.now in
     subst (λ (xs : List ℕ). IfOk c.scan_footnote_head.result (λ answer. IfSome answer (λ found. text_of found.1 ≡ take (found.0 - 4) xs → Borrows (take (found.0 - 4) xs) found.1))) there
     c.scan_footnote_head.ensures.borrowed
+
+pub returns-clause-err : goal.returns-clause-err
+returns-clause-err c =
+    let text = c.args.source.text.now in
+    let around = context_of c.args.source.options c.args.tree.now in
+    let bs = c.range_from.result.now in
+    subst (λ (xs : List ℕ). OnErr c.scan_footnote_head.result (FootnoteAsks around (in_table c.args.tree.now.nodes c.args.tree.now.spine) xs)) c.range_from.ensures.value
+    (on_err_weaker c.scan_footnote_head.result (λ f. footnote_asks around (footnote_prefix around) _ _ bs _ c.is_in_table-in_table.ensures f.0
+    (f.1 (footnote_prefix around) (λ behind answer at b e p.
+    let there = place_from text behind.now bs c.args.start at c.requires c.range_from.ensures.value b e in
+    let u = there.0 in let v = there.1 in search rules))
+    (λ at s. let mark = behind_mark bs c.range_from.utf8 f.0 in
+    let inside = place_from bs s.behind.now (drop 2 bs) 2 (at + 1) mark refl s.boundary s.behind_is in
+    let there = place_from text s.behind.now bs c.args.start (2 + (at + 1)) c.requires c.range_from.ensures.value inside.0 inside.1 in
+    let u = there.0 in let v = there.1 in let p = s.errs in (search rules, ap (λ xs. line_may_head around (line_rest xs)) (sym s.behind_is) ∙ search rules)))
+    c.scan_footnote_head.ensures.err)

@@ -2,6 +2,7 @@ use Rattle.std.proofs.Common.{◌≡◌, ◌+◌, drop, IsUtf8, refl, sym, ap, s
 use Rattle.first_pass_lines.specs.Lines.{begins}
 use Rattle.first_pass_open.specs.Path.{context_of}
 use Rattle.first_pass_definitions.proofs.Targets.{no_label, no_colon, no_target, is_reference, behind_byte}
+use Rattle.first_pass_definitions.proofs.Asks.{on_err, ask_label, ask_target, ask_key}
 use Rattle.first_pass_definitions.proofs.reference.parse_behind_bracket.Goals as goal
 use Rattle.first_pass_definitions.proofs.reference.parse_behind_bracket.Goals.{After-begins}
 
@@ -48,3 +49,20 @@ returns-clause-value c =
     c.in-Some-2.definition c.requires.bracket
     (rw c.in-Some.is at c.in_ok-label_len.ensures.value) (colon_is (goal.at.returns-clause-value c).After-begins ∙ c.if-not-begins.false)
     (rw c.in-Some-2.is at c.in_ok-len.ensures.value))
+
+pub returns-in_err-label_len-clause-err : goal.returns-in_err-label_len-clause-err
+returns-in_err-label_len-clause-err c =
+    on_err c.from_residual.result (ask_label _ (context_of c.args.source.options c.args.tree.now) c.args.source.text.now c.args.start c.requires.bracket c.in_err-label_len.ensures.err)
+
+pub returns-in_err-len-clause-err : goal.returns-in_err-len-clause-err
+returns-in_err-len-clause-err c =
+    on_err c.from_residual-in_err-len.result (ask_target _ (context_of c.args.source.options c.args.tree.now) c.args.source.text.now c.args.start c.in-Some.label_len c.in-Some.label c.requires.bracket
+    (rw c.in-Some.is at c.in_ok-label_len.ensures.value) (colon_is (goal.at.returns-in_err-len-clause-err c).After-begins ∙ c.if-not-begins.false) c.in_err-len.ensures.err)
+
+pub returns-in_err-new-clause-err : goal.returns-in_err-new-clause-err
+returns-in_err-new-clause-err c =
+    on_err c.from_residual-in_err-new.result (ask_key _ (context_of c.args.source.options c.args.tree.now) c.args.source.text.now c.args.start _ c.requires.bracket
+    (is_reference _ (context_of c.args.source.options c.args.tree.now) c.args.source.text.now c.args.start c.in-Some.label_len c.in-Some-2.len c.in-Some.label
+    c.in-Some-2.definition c.requires.bracket
+    (rw c.in-Some.is at c.in_ok-label_len.ensures.value) (colon_is (goal.at.returns-in_err-new-clause-err c).After-begins ∙ c.if-not-begins.false)
+    (rw c.in-Some-2.is at c.in_ok-len.ensures.value)))

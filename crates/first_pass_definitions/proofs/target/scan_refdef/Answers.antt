@@ -1,7 +1,9 @@
-use Rattle.std.proofs.Common.{refl, sym, subst, ◌∙◌}
+use Rattle.std.proofs.Common.{◌≡◌, inl, inr, refl, sym, subst, ◌∙◌}
 use Rattle.first_pass_open.specs.Path.{context_of}
 use Rattle.first_pass_definitions.specs.Found.{IsUnescaped, HasTitle}
 use Rattle.first_pass_definitions.proofs.Targets.{no_space, no_dest, no_further, target_found, is_target}
+use Rattle.first_pass_links.specs.Escapes.{unescaped}
+use Rattle.first_pass_definitions.proofs.Asks.{on_err, dest_asks, parts_ask}
 use Rattle.first_pass_definitions.proofs.target.scan_refdef.Goals as goal
 
 pub returns-in_default-clause-value : goal.returns-in_default-clause-value
@@ -32,5 +34,28 @@ returns-clause-value c =
     (subst (λ nested. IsUnescaped nested c.in-Some-scan_link_dest.dest.now c.in_ok-unescape.field-0) c.is_in_table-in_table.ensures
     (record { value = c.in_ok-unescape.ensures.value; borrowed = c.in_ok-unescape.ensures.borrowed }))
     (λ text read. subst (λ nested. HasTitle nested text c.in_ok-unescape_title.field-0) c.is_in_table-in_table.ensures
-    (c.in_ok-unescape_title.ensures text read))
+    (c.in_ok-unescape_title.ensures.value text read))
     refl refl
+
+pub returns-in_err-end-clause-err : goal.returns-in_err-end-clause-err
+returns-in_err-end-clause-err c =
+    on_err c.from_residual-in_err-end.result (inr (inl (dest_asks (context_of c.args.source.options c.args.tree.now) c.args.source.text.now c.args.start c.in-Some.dest_start c.in-Some.field-0-1
+    c.in-Some-scan_link_dest.dest_len c.in-Some-scan_link_dest.dest (sym c.in-Some.is ∙ c.in_ok-dest_start.ensures.value) c.in-Some-scan_link_dest.ensures.value c.in_err-end.ensures.err)))
+
+pub returns-in_err-unescape-clause-err : goal.returns-in_err-unescape-clause-err
+returns-in_err-unescape-clause-err c =
+    let around = context_of c.args.source.options c.args.tree.now in
+    let t = target_found around c.args.source.text.now c.args.start c.in-Some.dest_start c.in-Some.field-0-1
+    c.in-Some-scan_link_dest.dest_len c.in-Some-2.end c.in-Some-scan_link_dest.dest c.in-Some-2.title
+    (sym c.in-Some.is ∙ c.in_ok-dest_start.ensures.value) c.in-Some-scan_link_dest.ensures.value (rw c.in-Some-2.is at c.in_ok-end.ensures.value) in
+    on_err c.from_residual-in_err-unescape.result (inr (inr (parts_ask around c.args.source.text.now c.args.start c.in-Some-2.end c.in-Some-scan_link_dest.dest c.in-Some-2.title _ _
+    c.is_in_table-in_table.ensures t (inl (λ z. c.in_err-unescape.ensures.borrowed (subst (λ xs. unescaped c.is_in_table-in_table.result xs ≡ xs) (sym t.dest_is) z))))))
+
+pub returns-in_err-unescape_title-clause-err : goal.returns-in_err-unescape_title-clause-err
+returns-in_err-unescape_title-clause-err c =
+    let around = context_of c.args.source.options c.args.tree.now in
+    let t = target_found around c.args.source.text.now c.args.start c.in-Some.dest_start c.in-Some.field-0-1
+    c.in-Some-scan_link_dest.dest_len c.in-Some-2.end c.in-Some-scan_link_dest.dest c.in-Some-2.title
+    (sym c.in-Some.is ∙ c.in_ok-dest_start.ensures.value) c.in-Some-scan_link_dest.ensures.value (rw c.in-Some-2.is at c.in_ok-end.ensures.value) in
+    on_err c.from_residual-in_err-unescape_title.result (inr (inr (parts_ask around c.args.source.text.now c.args.start c.in-Some-2.end c.in-Some-scan_link_dest.dest c.in-Some-2.title _ _
+    c.is_in_table-in_table.ensures t (inr (c.in_err-unescape_title.ensures.err t.target.title t.title_is)))))

@@ -1,15 +1,19 @@
-use Rattle.std.proofs.Common.{◌≡◌, ℕ, ◌+◌, ◌<◌, false, ◌++◌, ◌∷◌, [], length, drop, IsCharBoundary, refl, sym, ap, subst, ◌∙◌, arith}
+use Rattle.std.proofs.Common.{◌≡◌, ℕ, ◌+◌, ◌<◌, false, true, List, ◌++◌, ◌∷◌, [], length, drop, IsCharBoundary, refl, sym, ap, subst, ◌∙◌, arith}
 use Rattle.std.specs.List.{list_any}
 use Rattle.std.specs.String.{string_bytes}
 use Rattle.std.proofs.lemmas.Str.{encode_ascii, IsCharBoundary-start, IsCharBoundary-after_ascii}
-use Rattle.first_pass_lines.specs.Lines.{is_line_end, begins}
+use Rattle.first_pass_lines.specs.Lines.{is_line_end, begins, eol_len}
 use Rattle.first_pass_links.specs.Destinations.{unescaped_upto}
 use Rattle.first_pass_links.specs.Units.{part}
 use Rattle.first_pass_links.proofs.Destinations.{first_byte}
 use Rattle.first_pass_grammar.specs.Definitions.{title_prefix}
 use Rattle.first_pass_open.specs.Path.{context_of}
 use Rattle.first_pass_definitions.specs.Reading.{stops_title, goes_on_at}
+use Rattle.std.specs.Option.{option_map_or}
+use Rattle.first_pass_lines.specs.Places.{line_rest}
+use Rattle.first_pass_text.specs.Memory.{line_may_head}
 use Rattle.first_pass_definitions.proofs.Titles.{behind_nothing, whole_title, stop_place, title_found, no_title, title_further, any_last, closes-low}
+use Rattle.first_pass_definitions.proofs.Asks.{goes_asks, meets_asks, none_or_some, on_err}
 use Rattle.first_pass_definitions.proofs.title.scan_title_text.Goals as goal
 use Rattle.first_pass_definitions.proofs.title.scan_title_text.Goals.{After-begins}
 
@@ -19,6 +23,7 @@ loop-bytes-init c =
       boundary = IsCharBoundary-start c.args.text.now c.utf8.text;
       nothing = λ h. c.new-written.ensures.bytes;
       lines = λ l. absurd (omega arith);
+      asked = λ l. absurd (omega arith);
       title = rw c.new-written.ensures.bytes (behind_nothing _ ∙ whole_title (title_prefix (context_of c.args.source.options c.args.tree.now)) c.args.close c.args.text.now);
     }
 
@@ -93,7 +98,34 @@ loop-bytes-preserved c =
       boundary = place.1;
       nothing = λ h. absurd (omega arith);
       lines = λ l. ap (list_any is_line_end) written ∙ any_last (string_bytes c.loop-bytes.written ++ part text c.loop-bytes.from stop);
+      asked = λ l. goes_asks (context_of c.args.source.options c.args.tree.now) c.args.close c.loop-bytes.from stop c.in-Some.next text c.loop-bytes.invariant.asked (line_stops at) (sym k) (none_or_some c.loop-bytes.from);
       title = title_further (title_prefix (context_of c.args.source.options c.args.tree.now)) c.args.close c.loop-bytes.from stop c.in-Some.next (string_bytes c.push.new.self)
           (string_bytes c.loop-bytes.written) text
           c.requires.close c.loop-bytes.invariant.title (line_stops at) (omega arith) k plain written;
     }
+
+-- the title goes on over a line end, or may
+pub returns-in_err-next-clause-err : goal.returns-in_err-next-clause-err
+returns-in_err-next-clause-err c =
+    let at = (goal.at.returns-in_err-next-clause-err c).After-begins in
+    let around = context_of c.args.source.options c.args.tree.now in
+    let stop : ℕ = c.loop-bytes.from + c.scan_title_line.result in
+    on_err c.from_residual-in_err-next.result (meets_asks around c.args.close c.loop-bytes.from stop c.args.text.now c.loop-bytes.invariant.asked (line_stops at)
+    (subst (λ (bs : List ℕ). option_map_or (λ e. line_may_head around (line_rest (drop (stop + e) bs))) (eol_len (drop stop bs)) false ≡ true) c.as_bytes-bytes.ensures.value c.in_err-next.ensures.err)
+    (none_or_some c.loop-bytes.from))
+
+pub returns-in_err-push_str-clause-err : goal.returns-in_err-push_str-clause-err
+returns-in_err-push_str-clause-err c =
+    let at = (goal.at.returns-in_err-push_str-clause-err c).After-begins in
+    let around = context_of c.args.source.options c.args.tree.now in
+    let stop : ℕ = c.loop-bytes.from + c.scan_title_line.result in
+    let k = sym c.in-Some.is ∙ c.in_ok-next.ensures.value ∙ ap (λ xs. goes_on_at (title_prefix around) xs stop) c.as_bytes-bytes.ensures.value in
+    on_err c.from_residual-in_err-push_str.result (goes_asks around c.args.close c.loop-bytes.from stop c.in-Some.next c.args.text.now c.loop-bytes.invariant.asked (line_stops at) (sym k) (none_or_some c.loop-bytes.from))
+
+pub returns-in_err-push-clause-err : goal.returns-in_err-push-clause-err
+returns-in_err-push-clause-err c =
+    let at = (goal.at.returns-in_err-push-clause-err c).After-begins in
+    let around = context_of c.args.source.options c.args.tree.now in
+    let stop : ℕ = c.loop-bytes.from + c.scan_title_line.result in
+    let k = sym c.in-Some.is ∙ c.in_ok-next.ensures.value ∙ ap (λ xs. goes_on_at (title_prefix around) xs stop) c.as_bytes-bytes.ensures.value in
+    on_err c.from_residual-in_err-push.result (goes_asks around c.args.close c.loop-bytes.from stop c.in-Some.next c.args.text.now c.loop-bytes.invariant.asked (line_stops at) (sym k) (none_or_some c.loop-bytes.from))
