@@ -5,7 +5,7 @@
 use anyhow::Result;
 use bitflags::Flags;
 use first_pass::below::{Item, ItemBody, Options};
-use first_pass::items::Allocations;
+use first_pass::items::{Allocations, RefDefs};
 use first_pass::pass::run_first_pass;
 use std::io;
 use std::ops::DerefStr;
@@ -44,6 +44,13 @@ fn print_heading(
     Ok(())
 }
 
+fn print_links(rt: &HostRuntime, links: &RefDefs<'_>) -> Result<()> {
+    for (label, definition) in links.iter() {
+        println!(rt; "[{}]: {}", label.label(), definition.dest.deref())?;
+    }
+    Ok(())
+}
+
 fn main(rt: HostRuntime) -> Result<()> {
     let text = io::read_to_string(rt.alloc(), rt.stdin())?;
     let options = Options::ENABLE_TABLES.union(Options::ENABLE_HEADING_ATTRIBUTES);
@@ -52,8 +59,5 @@ fn main(rt: HostRuntime) -> Result<()> {
     for i in 0..nodes.len() {
         print_heading(&rt, text.as_str(), &nodes[i..], &allocs)?;
     }
-    for (label, definition) in allocs.refdefs().iter() {
-        println!(&rt; "[{}]: {}", label.label(), definition.dest.deref())?;
-    }
-    Ok(())
+    print_links(&rt, allocs.refdefs())
 }

@@ -67,7 +67,7 @@ impl<'a> FirstPass<'a> {
     /// on, its `]` too, and its text, in which each run of white space is one space. It goes on over the lines that a
     /// definition crosses, without what they have of the prefixes of the open containers. `None` where there is no
     /// label; the error is want of memory, where the label has to be written since it is read otherwise than it stands,
-    /// or where no bracket ends it before a line that may head a table (CommonMark 4.7).
+    /// or where no bracket ends it and some later line of the text may head a table (CommonMark 4.7).
     pub fn parse_refdef_label(
         &self,
         start: usize,

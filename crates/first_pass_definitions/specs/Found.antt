@@ -54,8 +54,8 @@ IsLabelLen around in_table bs n = (label : List ℕ) × (label_at (prefix_crosse
 abbrev pub BorrowsLabel : Context → Bool → List ℕ → CowStr → Type 0
 BorrowsLabel around in_table bs label = (n : ℕ) → IsLabelLen around in_table bs n → text_of label ≡ take n bs → Borrows (take n bs) label
 
--- An entry of a table is what the definition says that stands at its range in a text, in lines of some containers, and in a table or in none. Its label, its
--- destination and a title of one line are borrowed from the text where nothing in them changes (CommonMark 4.7, and this project).
+-- An entry is what the definition says that stands at its range in the text, read in lines of some containers, and inside a table of the text or not. Its
+-- label, its destination and a title of one line are borrowed from the text where nothing in them changes (CommonMark 4.7, and this project).
 pub record IsWritten (text : List ℕ) (entry : CowStr × LinkDef) : Type 0 where
   pub around : Context
   pub nested : Bool

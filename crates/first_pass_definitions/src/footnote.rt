@@ -24,7 +24,7 @@ use std::alloc::{AllocError, Global};
 /// on over lines as `parse_refdef_label` does. The tree is that of the open blocks.
 ///
 /// `None` where no head begins. The error is want of memory, where behind `[^` the label has to be written, or, in the
-/// old form, where no bracket ends it before a line that may head a table (this project).
+/// old form, where no bracket ends it and some later line of the text may head a table (this project).
 pub fn scan_footnote<'a>(
     alloc: Global,
     source: Source<'a>,

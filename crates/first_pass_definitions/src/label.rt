@@ -25,10 +25,10 @@ use std::alloc::{AllocError, Global};
 /// definition crosses, without what they have of the prefixes of the open containers, and without up to four columns
 /// behind these.
 ///
-/// `None` where there is no label: an unescaped `[`, a line that ends the definition or the text's end comes first,
-/// all is white space, or there are more than 999 characters. The error is want of memory, where the label has to be
-/// written since it is read otherwise than it stands, or where no bracket ends it before a line that may head a table
-/// (CommonMark 4.7).
+/// `None` where there is no label: an unescaped `[`, a line that ends the definition or the text's end comes first, all
+/// is white space, or there are more than 999 characters. The error is want of memory, where the label has to be
+/// written since it is read otherwise than it stands, or where no bracket ends it and some later line of the text may
+/// head a table (CommonMark 4.7).
 pub fn parse_refdef_label<'a>(
     alloc: Global,
     source: Source<'a>,

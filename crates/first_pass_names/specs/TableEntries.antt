@@ -23,6 +23,7 @@ pub record Entries : Type 0 where
   pub links : List (CowStr × LinkDef)
   pub footnotes : List (CowStr × FootnoteDef)
 
+-- the entries of both tables (this project)
 abbrev pub entries : Allocations → Entries
 entries a = record { links = a.refdefs; footnotes = a.footdefs }
 
@@ -30,7 +31,7 @@ entries a = record { links = a.refdefs; footnotes = a.footdefs }
 abbrev pub with_definition : Entries → CowStr → LinkDef → Entries
 with_definition es label definition = record { links = with_first es.links label definition; footnotes = es.footnotes }
 
--- what entries define, as bytes alone
+-- what entries define, as bytes alone (CommonMark 4.7)
 abbrev pub told_by : Entries → Tables
 told_by es = record { links = map link_entry es.links; footnotes = map (λ (e : CowStr × FootnoteDef). text_of e.0) es.footnotes }
 
@@ -38,7 +39,7 @@ told_by es = record { links = map link_entry es.links; footnotes = map (λ (e : 
 abbrev pub tables : Allocations → Tables
 tables a = told_by (entries a)
 
--- the definitions in these tables
+-- the definitions in these tables (CommonMark 4.7, and this project)
 abbrev pub refdefs_of : Allocations → List (CowStr × LinkDef)
 refdefs_of a = a.refdefs
 

@@ -128,7 +128,7 @@ impl<'a> Allocations<'a> {
     /// The link definition that a label names which stands at the start of `text`, the bytes after a `[`: how many
     /// bytes the label has with its `]`, and the definition. `None` where no label stands there, or none of the
     /// definitions has it. The label may cross line ends; on further lines nothing is left out as the prefix of a
-    /// container. Fails only if allocation fails (CommonMark 4.7, 6.3).
+    /// container. The one error is that a request for memory was refused (CommonMark 4.7, 6.3).
     pub fn link_at(
         &self,
         alloc: Global,

@@ -64,7 +64,7 @@ fn interrupts_without_table(bytes: &[u8], current_container: bool) -> bool
     interrupts_by_mark(bytes, current_container)
 }
 
-// The same, where the first byte is looked at already.
+// The same, by each mark in turn. The caller has told lines apart whose first byte begins none.
 fn interrupts_by_mark(bytes: &[u8], current_container: bool) -> bool
     ensures { result ≡ interrupts_with current_container bytes.now }
 {

@@ -90,8 +90,15 @@ fn long_paragraphs_and_tables(rt: HostRuntime) -> Result<(), Fail> {
     ];
     assert!(rt; count(rt.alloc(), columns, Options::ENABLE_TABLES)? == (400_004, 0));
     // The root, the table, the head, its 513 cells with a text each, 512 rows of 513 cells and a text, which is all
-    // that may be filled in, and the last line as a paragraph with a text.
-    let filled: &[(&str, usize)] = &[("a|", 513), ("\n", 1), ("-|", 513), ("\n", 1), ("a\n", 513)];
+    // that may be filled in, and the last line, which lacks one cell, as a paragraph with a text.
+    let filled: &[(&str, usize)] = &[
+        ("a|", 513),
+        ("\n", 1),
+        ("-|", 513),
+        ("\n", 1),
+        ("a\n", 512),
+        ("a|", 512),
+    ];
     assert!(rt; count(rt.alloc(), filled, Options::ENABLE_TABLES)? == (264_711, 0));
     Ok(())
 }

@@ -23,7 +23,7 @@ pub use first_pass::pass::{
 };
 pub use first_pass::walk::{LoopInstruction, iterate_special_bytes, next_special, special_bytes};
 
-/// The same names of the lower crate, by its own modules.
+/// Some names of the lower crate, by its own modules: `first_pass` hands out these modules whole.
 pub mod lower {
     pub use first_pass_below::below::{CowStr, LineStart, Options, Tree, unescape};
     pub use first_pass_below::flank::{TableParseMode, delim_run_can_close, delim_run_can_open};

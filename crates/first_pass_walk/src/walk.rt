@@ -65,7 +65,8 @@ pub fn next_special_in_words(lut: &[bool; 256], bytes: &[u8], ix: usize) -> Opti
     next_special(lut, bytes, next)
 }
 
-// How many of the 16 bytes from an offset on are letters or spaces, up to the first that is neither.
+// How many of the 16 bytes from an offset on are letters, spaces or bytes past ASCII, up to the first that is none of
+// these.
 #[inline(always)]
 fn word_run(bytes: &[u8], at: usize) -> usize
     requires { at + 16 ≤ length bytes.now }

@@ -1,0 +1,11 @@
+//! The work of both programs, each fault of a run, and the printed form of nodes that no text gives yet.
+#![tactic(auto)]
+
+#[cfg(test)]
+mod bench;
+#[cfg(test)]
+mod fakes;
+#[cfg(test)]
+mod faults;
+#[cfg(test)]
+mod table_lines;
