@@ -11,7 +11,7 @@ ghost use Rattle.first_pass.specs.Lines.{ReadsLine, ReadsCell, ReadsPossibleHead
 ghost use Rattle.first_pass.specs.Views.{allocs_of, reading_of, source_of, source_options, source_text, tree_of};
 
 use crate::state::FirstPass;
-use first_pass_below::flank::TableParseMode;
+use first_pass_flank::flank::TableParseMode;
 use first_pass_items::item::{Item, ItemBody};
 use first_pass_lines::lines::content_len;
 use first_pass_lines::places::{next_line, rest_of};

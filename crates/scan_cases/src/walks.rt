@@ -3,7 +3,7 @@
 use crate::answer::Answer;
 use crate::given::Given;
 use bitflags::Flags;
-use first_pass_below::flank::{TableParseMode, delim_run_can_close, delim_run_can_open};
+use first_pass_flank::flank::{TableParseMode, delim_run_can_close, delim_run_can_open};
 use first_pass_items::option_set::Options;
 use first_pass_walk::walk::{next_special, special_bytes};
 use std::alloc::{AllocError, Global};

@@ -1,5 +1,5 @@
-use Rattle.first_pass_below.proofs.FlankFacts.{star_opens, star_closes, underscore_opens_is, underscore_closes_is}
-use Rattle.first_pass_below.proofs.flank.law_of_emphasis.Goals as goal
+use Rattle.first_pass_flank.proofs.FlankFacts.{star_opens, star_closes, underscore_opens_is, underscore_closes_is}
+use Rattle.first_pass_flank.proofs.flank.law_of_emphasis.Goals as goal
 
 pub returns-clause-star_opens : goal.returns-clause-star_opens
 returns-clause-star_opens c = star_opens c.args.run.now

@@ -2,8 +2,8 @@
 
 ghost use Rattle.std.specs.Prelude.{◌≡◌, ◌≤◌, length, drop, take, slice_index, IsCharBoundary};
 ghost use Rattle.first_pass_items.specs.Bytes.{asterisk, underscore};
-ghost use Rattle.first_pass_below.specs.Flank as flanks;
-ghost use Rattle.first_pass_below.specs.Flanking.{is_left_flanking, is_right_flanking, underscore_opens, underscore_closes, GoesBy};
+ghost use Rattle.first_pass_flank.specs.Flank as flanks;
+ghost use Rattle.first_pass_flank.specs.Flanking.{is_left_flanking, is_right_flanking, underscore_opens, underscore_closes, GoesBy};
 
 use unicode::properties::{GeneralCategory, GeneralCategoryGroup};
 

@@ -7,9 +7,9 @@ use Rattle.std.proofs.lemmas.Str.{IsUtf8-encode, IsUtf8-take, IsCharBoundary-at_
 use Rattle.std.proofs.lemmas.Option.{slice_get_read}
 use Rattle.std.proofs.Math.Seq.{take-append_seam, get_or-append_seam}
 use Rattle.std.specs.Char.{is_whitespace}
-use Rattle.first_pass_below.specs.declared.flank.DelimiterRun.{DelimiterRun}
-use Rattle.first_pass_below.specs.Flank.{last_char, is_punctuation, can_open, can_close, opens_between, closes_between}
-use Rattle.first_pass_below.specs.Flanking.{is_left_flanking, is_right_flanking, underscore_opens, underscore_closes, GoesBy}
+use Rattle.first_pass_flank.specs.declared.flank.DelimiterRun.{DelimiterRun}
+use Rattle.first_pass_flank.specs.Flank.{last_char, is_punctuation, can_open, can_close, opens_between, closes_between}
+use Rattle.first_pass_flank.specs.Flanking.{is_left_flanking, is_right_flanking, underscore_opens, underscore_closes, GoesBy}
 
 -- the text before a last character is text
 front_is_text : (text front : List ℕ) (c : ℕ) → IsUtf8 text → IsScalar c → text ≡ front ++ encode_utf8 c → IsUtf8 front

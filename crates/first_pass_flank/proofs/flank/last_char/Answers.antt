@@ -1,7 +1,7 @@
 use Rattle.std.proofs.Common.{IfSome, rules}
 use Rattle.std.specs.Char.{IsScalar}
-use Rattle.first_pass_below.proofs.FlankFacts.{last_char_by}
-use Rattle.first_pass_below.proofs.flank.last_char.Goals as goal
+use Rattle.first_pass_flank.proofs.FlankFacts.{last_char_by}
+use Rattle.first_pass_flank.proofs.flank.last_char.Goals as goal
 
 pub returns : goal.returns
 returns c =

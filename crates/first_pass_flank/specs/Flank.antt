@@ -7,9 +7,9 @@ use Rattle.unicode.specs.GeneralCategory.{general_category}
 use Rattle.unicode.specs.GeneralCategoryGroup.{in_group}
 use Rattle.ucd_category.specs.declared.GeneralCategoryGroup.TheVariants.{Punctuation, Symbol}
 use Rattle.first_pass_items.specs.Bytes.{apostrophe, right_parenthesis, asterisk, backslash, right_bracket, pipe, tilde}
-use Rattle.first_pass_below.specs.declared.flank.TableParseMode.{TableParseMode}
-use Rattle.first_pass_below.specs.declared.flank.TableParseMode.TheVariants.{Scan, Active, Disabled}
-use Rattle.first_pass_below.specs.declared.flank.DelimiterRun.{DelimiterRun}
+use Rattle.first_pass_flank.specs.declared.flank.TableParseMode.{TableParseMode}
+use Rattle.first_pass_flank.specs.declared.flank.TableParseMode.TheVariants.{Scan, Active, Disabled}
+use Rattle.first_pass_flank.specs.declared.flank.DelimiterRun.{DelimiterRun}
 
 -- a Unicode punctuation character: of the general category P or S (CommonMark 2.1)
 unfoldable pub is_punctuation : ℕ → Bool

@@ -1,8 +1,8 @@
 -- The delimiter runs of emphasis, in CommonMark's words.
 use Rattle.std.specs.Prelude.{◌≡◌, ℕ, ◌&&◌, ◌||◌, not, Bool, true, false, Option, None, Some}
 use Rattle.std.specs.Char.{is_whitespace}
-use Rattle.first_pass_below.specs.declared.flank.DelimiterRun.{DelimiterRun}
-use Rattle.first_pass_below.specs.Flank.{is_punctuation}
+use Rattle.first_pass_flank.specs.declared.flank.DelimiterRun.{DelimiterRun}
+use Rattle.first_pass_flank.specs.Flank.{is_punctuation}
 
 -- white space beside a run; the beginning and the end of the line count as it (CommonMark 6.2)
 abbrev pub is_space_beside : Option ℕ → Bool

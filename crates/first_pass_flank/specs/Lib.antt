@@ -1,0 +1,2 @@
+pub mod Flank
+pub mod Flanking
