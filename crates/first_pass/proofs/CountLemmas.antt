@@ -11,13 +11,14 @@ use Rattle.first_pass_items.specs.declared.item.ItemBody.{ItemBody}
 use Rattle.first_pass_items.specs.declared.item.ItemBody.TheVariants.{BlockQuote as BlockQuoteBody, List as ListBody, ListItem as ListItemBody}
 use Rattle.first_pass_tree.specs.declared.tree_index.TreeIndex.{TreeIndex}
 use Rattle.first_pass_tree.specs.Forest.{Forest, depths, body_at}
+use Rattle.first_pass_tree.specs.Tight.{tightened, tight_run, tight_at, tight_items}
 use Rattle.first_pass_lines.specs.Lines.{blank_len}
 use Rattle.first_pass_scan.specs.Markers.{task_of}
 use Rattle.first_pass_lines.specs.Rest.{Rest}
 use Rattle.first_pass_lines.specs.Places.{Place, place_at, offset, line_end, IsPlaceOf}
 use Rattle.first_pass_lines.proofs.LineFacts.{line_len-some}
 use Rattle.first_pass_lines.proofs.PlaceFacts.{place_length}
-use Rattle.first_pass_grammar.specs.Derivation.{list_flags, tightened}
+use Rattle.first_pass_grammar.specs.Derivation.{list_flags}
 use Rattle.first_pass_grammar.specs.Kinds.{Kind, Blank, is_blank_rest, first_kind, IsKindBy, IsKind}
 use Rattle.first_pass_grammar.specs.Skeleton.{task_by, task_behind}
 use Rattle.first_pass_grammar.specs.Counting.{own, own_nodes}
@@ -25,7 +26,7 @@ use Rattle.first_pass_grammar.specs.Order.{GrowsBy}
 use Rattle.first_pass_grammar.proofs.OwnNodes.{alike_first, alike_tightened, own_first, own_ended, own_changed, own_one, own_added}
 use Rattle.first_pass_open.specs.OpenBlock.{closed_by, with_child}
 use Rattle.first_pass_open.proofs.PlaceLemmas.{option_on, task_shorter}
-use Rattle.first_pass_lists.specs.Closing.{tight_run, tight_at, tight_items, loosened_by, top_body, is_list, is_list_of, is_item, popped_by, popped_at, popped, item_finished_by, item_finished, list_left, gap_tree, gap_noted, list_finished, loosened_top, list_kept, begun, list_continued, emptied, blank_read_by, blank_read}
+use Rattle.first_pass_lists.specs.Closing.{loosened_by, top_body, is_list, is_list_of, is_item, popped_by, popped_at, popped, item_finished_by, item_finished, list_left, gap_tree, gap_noted, list_finished, loosened_top, list_kept, begun, list_continued, emptied, blank_read_by, blank_read}
 use Rattle.first_pass_lists.specs.declared.reading.Reading.{Reading}
 use Rattle.first_pass_text.specs.Between.{AddsBetween, StandsBefore}
 use Rattle.first_pass.specs.Opening.{task_text, GrowsIn}

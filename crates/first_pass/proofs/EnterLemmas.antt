@@ -30,7 +30,7 @@ use Rattle.first_pass_lists.specs.declared.reading.Reading.{Reading}
 use Rattle.first_pass_open.specs.Path.{container_of, container_at, with_container, path_in, path_of}
 use Rattle.first_pass.specs.State.{frame_of, frame_at, AreOpen, ReadyAt, ReadyBeforeLine, ReadyInItem, ReadyEmpty, ReadyWith, Ready}
 use Rattle.first_pass.proofs.OpenLemmas.{open_path}
-use Rattle.first_pass_lists.proofs.BodyLemmas.{body-changed, body-other, not_changed}
+use Rattle.first_pass_tree.proofs.BodyLemmas.{body-changed, body-other, not_changed}
 use Rattle.first_pass.proofs.PopLemmas.{pop_container}
 use Rattle.first_pass.proofs.StateLemmas.{ready_plain, after_zero, popped_is, same_path, closed_containers}
 use Rattle.first_pass_items.specs.declared.option_set.Options.{Options}

@@ -21,7 +21,7 @@ use Rattle.first_pass_lists.specs.declared.reading.Reading.{Reading}
 use Rattle.first_pass_open.specs.Path.{container_of, with_container, path_in, path_of}
 use Rattle.first_pass.specs.State.{frame_of, frame_at, AreOpen, ReadyAt}
 use Rattle.first_pass.proofs.OpenLemmas.{open_path, open_below}
-use Rattle.first_pass_lists.proofs.BodyLemmas.{body-other, body-later, body-changed, changed_alike}
+use Rattle.first_pass_tree.proofs.BodyLemmas.{body-other, body-later, body-changed, changed_alike}
 use Rattle.first_pass.proofs.ListLemmas.{open_flags}
 use Rattle.first_pass.proofs.PopLemmas.{list_popped, leave_list}
 use Rattle.first_pass.proofs.StateLemmas.{popped_is, popped_paths, popped_spine, same_path}

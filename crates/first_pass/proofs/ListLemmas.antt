@@ -6,12 +6,12 @@ use Rattle.first_pass_items.specs.declared.item.ItemBody.TheVariants.{List as Li
 use Rattle.first_pass_items.specs.declared.item.ListFlags.{ListFlags}
 use Rattle.first_pass_tree.specs.declared.tree_index.TreeIndex.{TreeIndex}
 use Rattle.first_pass_tree.specs.Forest.{Forest, IsForest, IsOpenPath, depths, modify, map_from, body_at}
-use Rattle.first_pass_grammar.specs.Derivation.{node_of, list_flags, tight_body, tightened}
+use Rattle.first_pass_tree.specs.Tight.{tight_body, tightened, tight_run, tight_at, tight_items}
+use Rattle.first_pass_grammar.specs.Derivation.{node_of, list_flags}
 use Rattle.first_pass_grammar.specs.Completion.{flagged, list_closed, InList}
 use Rattle.first_pass_open.specs.OpenBlock.{closed_by}
-use Rattle.first_pass_lists.specs.Closing.{tight_run, tight_at, tight_items}
 use Rattle.first_pass.specs.State.{frame_of}
-use Rattle.first_pass_lists.proofs.BodyLemmas.{changed_alike}
+use Rattle.first_pass_tree.proofs.BodyLemmas.{changed_alike}
 
 -- all are deeper than a depth
 abbrev AreDeeper : ℕ → List (ℕ × Item) → Type 0

@@ -7,8 +7,9 @@ use Rattle.first_pass_items.specs.declared.item.ItemBody.{ItemBody}
 use Rattle.first_pass_items.specs.declared.item.ItemBody.TheVariants.{BlockQuote as BlockQuoteBody, List as ListBody, ListItem as ListItemBody, Paragraph, TaskListMarker}
 use Rattle.first_pass_tree.specs.declared.tree_index.TreeIndex.{TreeIndex}
 use Rattle.first_pass_tree.specs.Forest.{Forest, empty_forest, with_end_at, depths, body_at, is_text, added, at_depth}
+use Rattle.first_pass_tree.specs.Tight.{tight_body, tightened, tight_run, tight_at, tight_items}
 use Rattle.first_pass_grammar.specs.Names.{Names, Extends, index_of, NamesEntry, AreNamed}
-use Rattle.first_pass_grammar.specs.Derivation.{tight_body, tightened, list_flags}
+use Rattle.first_pass_grammar.specs.Derivation.{list_flags}
 use Rattle.first_pass_grammar.specs.Order.{is_task_marker}
 use Rattle.first_pass_grammar.proofs.LeavesNamed.{opens_named}
 use Rattle.first_pass_grammar.proofs.NamedItems.{IsNamed, named_more, named_both, named_deeper, named_modified}
@@ -21,7 +22,7 @@ use Rattle.first_pass_names.proofs.NameLemmas.{extends_none}
 use Rattle.first_pass_open.specs.Path.{path_of}
 use Rattle.first_pass.specs.Adding.{AddsKind}
 use Rattle.first_pass_open.specs.OpenBlock.{closed_by, with_child}
-use Rattle.first_pass_lists.specs.Closing.{tight_run, tight_at, tight_items, loosened_by, top_body, is_list, is_list_of, is_item, popped_by, popped_at, popped, item_finished_by, item_finished, list_left, gap_tree, gap_noted, list_finished, loosened_top, list_kept, begun, list_continued, emptied, blank_read_by, blank_read}
+use Rattle.first_pass_lists.specs.Closing.{loosened_by, top_body, is_list, is_list_of, is_item, popped_by, popped_at, popped, item_finished_by, item_finished, list_left, gap_tree, gap_noted, list_finished, loosened_top, list_kept, begun, list_continued, emptied, blank_read_by, blank_read}
 use Rattle.first_pass_lists.specs.declared.reading.Reading.{Reading}
 use Rattle.first_pass.proofs.OpenerLemmas.{item_opened}
 

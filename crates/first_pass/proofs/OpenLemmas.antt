@@ -6,13 +6,13 @@ use Rattle.first_pass_items.specs.declared.item.ItemBody.{ItemBody}
 use Rattle.first_pass_items.specs.declared.item.ItemBody.TheVariants.{BlockQuote as BlockQuoteBody, List as ListBody, ListItem as ListItemBody}
 use Rattle.first_pass_tree.specs.declared.tree_index.TreeIndex.{TreeIndex}
 use Rattle.first_pass_tree.specs.Forest.{map_from, body_at}
+use Rattle.first_pass_tree.specs.Tight.{tightened}
 use Rattle.first_pass_grammar.specs.declared.kind.Container.{Container}
-use Rattle.first_pass_grammar.specs.Derivation.{tightened}
 use Rattle.first_pass_grammar.specs.Completion.{ended, list_closed, Frame, InContainer, InList, containers_of, AreBelow}
 use Rattle.first_pass_open.specs.Path.{container_of, with_container, path_in}
 use Rattle.first_pass.specs.State.{frame_of, frame_at, AreOpen}
 use Rattle.first_pass_open.proofs.PathLemmas.{get_front}
-use Rattle.first_pass_lists.proofs.BodyLemmas.{body-kept, body-other}
+use Rattle.first_pass_tree.proofs.BodyLemmas.{body-kept, body-other}
 use Rattle.first_pass_items.specs.declared.option_set.Options.{Options}
 
 -- the container that a frame is, if it is one

@@ -36,7 +36,7 @@ use Rattle.first_pass.specs.State.{frame_of, AreOpen, ReadyAt, ReadyBeforeLine, 
 use Rattle.first_pass_open.proofs.PathLemmas.{get_front}
 use Rattle.first_pass.proofs.EnterLemmas.{path_below}
 use Rattle.first_pass.proofs.OpenLemmas.{open_path, open_below, frame-append, get_end}
-use Rattle.first_pass_lists.proofs.BodyLemmas.{body-other}
+use Rattle.first_pass_tree.proofs.BodyLemmas.{body-other}
 use Rattle.first_pass.proofs.ListLemmas.{open_flags}
 use Rattle.first_pass.proofs.FinishLemmas.{EndsListAt, ready_finished, loose_is, loose_frame, loosened_spine}
 use Rattle.first_pass_items.specs.declared.option_set.Options.{Options}

@@ -8,6 +8,7 @@ use Rattle.first_pass_items.specs.declared.item.ItemBody.TheVariants.{List as Li
 use Rattle.first_pass_items.specs.declared.item.ListFlags.{ListFlags}
 use Rattle.first_pass_tree.specs.declared.tree_index.TreeIndex.{TreeIndex}
 use Rattle.first_pass_tree.specs.Forest.{Forest, IsForest, body_at}
+use Rattle.first_pass_tree.specs.Tight.{tight_items}
 use Rattle.first_pass_lines.specs.Places.{Place, start_of}
 use Rattle.first_pass_grammar.specs.declared.kind.Container.{Container}
 use Rattle.first_pass_grammar.specs.Leaves.{Document}
@@ -17,7 +18,6 @@ use Rattle.first_pass_grammar.specs.Completion.{ended, list_closed, Frame, InCon
 use Rattle.first_pass_grammar.proofs.Finishes.{CompletesAt}
 use Rattle.first_pass_grammar.proofs.Completions.{OpensAway, completes-pop, completes-pop_list, completes-close}
 use Rattle.first_pass_open.specs.OpenBlock.{closed_by}
-use Rattle.first_pass_lists.specs.Closing.{tight_items}
 use Rattle.first_pass_open.specs.Path.{path_in}
 use Rattle.first_pass.specs.State.{frame_of, frame_at, AreOpen, ReadyAt}
 use Rattle.first_pass.proofs.OpenLemmas.{open_path, open_below, frame-closed, frame-ended}

@@ -20,7 +20,7 @@ use Rattle.first_pass_lists.specs.Closing.{emptied}
 use Rattle.first_pass_lists.specs.declared.reading.Reading.{Reading}
 use Rattle.first_pass.specs.State.{AreOpen, ReadyAt, ReadyBeforeLine, ReadyInItem, ReadyEmpty, ReadyWith, Ready}
 use Rattle.first_pass.specs.Completed.{CompletedAt, CompletedBeforeLine, CompletedInItem, CompletedWith, IsCompleted}
-use Rattle.first_pass_lists.proofs.BodyLemmas.{body-changed}
+use Rattle.first_pass_tree.proofs.BodyLemmas.{body-changed}
 use Rattle.first_pass.proofs.OpenLemmas.{open_path}
 use Rattle.first_pass_items.specs.declared.option_set.Options.{Options}
 

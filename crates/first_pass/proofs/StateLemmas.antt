@@ -9,6 +9,7 @@ use Rattle.first_pass_items.specs.declared.item.ItemBody.TheVariants.{Paragraph 
 use Rattle.first_pass_items.specs.declared.option_set.Options.{Options}
 use Rattle.first_pass_tree.specs.declared.tree_index.TreeIndex.{TreeIndex}
 use Rattle.first_pass_tree.specs.Forest.{Forest, IsForest, empty_forest, with_end_at, body_at}
+use Rattle.first_pass_tree.specs.Tight.{tight_body, tightened, tight_run, tight_at, tight_items}
 use Rattle.first_pass_lines.specs.Rest.{Rest, indent}
 use Rattle.first_pass_lines.specs.Places.{Place, start_of}
 use Rattle.first_pass_grammar.specs.Names.{Names}
@@ -17,17 +18,17 @@ use Rattle.first_pass_grammar.specs.declared.kind.Container.TheVariants.{BlockQu
 use Rattle.first_pass_grammar.specs.Containers.{prefix, after, next_goes_on}
 use Rattle.first_pass_grammar.specs.Leaves.{Document, document}
 use Rattle.first_pass_grammar.specs.Skeleton.{Line, Blanks, is_blank_behind, next_is_blank, Ends, end_before}
-use Rattle.first_pass_grammar.specs.Derivation.{Tables, no_tables, Derives, tight_body, tightened}
+use Rattle.first_pass_grammar.specs.Derivation.{Tables, no_tables, Derives}
 use Rattle.first_pass_grammar.specs.Completion.{lines_from, Frame}
 use Rattle.first_pass_grammar.proofs.Finishes.{CompletesAt}
 use Rattle.first_pass_grammar.proofs.Completions.{completes-first, completes-end}
 use Rattle.first_pass_open.specs.OpenBlock.{closed_by}
-use Rattle.first_pass_lists.specs.Closing.{remembered, tight_run, tight_at, tight_items, popped_by, popped_at, popped}
+use Rattle.first_pass_lists.specs.Closing.{remembered, popped_by, popped_at, popped}
 use Rattle.first_pass_lists.specs.declared.reading.Reading.{Reading}
 use Rattle.first_pass_open.specs.Path.{container_of, container_at, with_container, path_in, path_of, outer}
 use Rattle.first_pass.specs.State.{frame_of, frame_at, AreOpen, ReadyAt, ReadyBeforeLine, ReadyInItem, ReadyWith, NoMore, Ready}
 use Rattle.first_pass_open.proofs.FrontLemmas.{outer-all}
-use Rattle.first_pass_lists.proofs.BodyLemmas.{body-kept}
+use Rattle.first_pass_tree.proofs.BodyLemmas.{body-kept}
 use Rattle.first_pass.proofs.PopLemmas.{pop_container, pop_list}
 
 -- before the first block

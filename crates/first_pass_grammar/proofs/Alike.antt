@@ -12,6 +12,7 @@ use Rattle.first_pass_items.specs.declared.item.ItemBody.{ItemBody}
 use Rattle.first_pass_items.specs.declared.item.ItemBody.TheVariants.{Heading, SynthesizeText, FencedCodeBlock, Table, Paragraph}
 use Rattle.first_pass_attributes.specs.Attributes.{Attributes}
 use Rattle.first_pass_tree.specs.Forest.{at_depth, is_text}
+use Rattle.first_pass_tree.specs.Tight.{tight_body, tightened}
 use Rattle.first_pass_lines.specs.Places.{Place, offset, line_end}
 use Rattle.first_pass_tokens.specs.TreeTokens.{leaves}
 use Rattle.first_pass_tokens.specs.Chains.{touches, add_token, add_tokens}
@@ -20,7 +21,7 @@ use Rattle.first_pass_grammar.specs.Leaves.{Document, document, block_with}
 use Rattle.first_pass_grammar.specs.RawLines.{AreColumns, Ranges, range_text, range_html, raw_items, AreRawLines, spaces}
 use Rattle.first_pass_grammar.specs.Skeleton.{LeafBlock, Leaf, BlankLine, Block, From, Line, Blanks, At, Anything, ALeafAlone, TextOf, MarkAlone, Opening, OpensLeaf, OpensNode, Skeleton, Nil, Then, Node}
 use Rattle.first_pass_grammar.specs.Kinds.{Kind}
-use Rattle.first_pass_grammar.specs.Derivation.{node_of, tight_body, tightened}
+use Rattle.first_pass_grammar.specs.Derivation.{node_of}
 use Rattle.first_pass_grammar.proofs.NoIndex.{IsWithoutIndex, HasNoIndex, HaveNoIndex, read_alone, tokens_free}
 use Rattle.first_pass_grammar.proofs.EachToken.{range_text_each, raw_each}
 

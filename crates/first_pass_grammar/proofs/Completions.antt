@@ -7,6 +7,7 @@ use Rattle.first_pass_items.specs.declared.item.ListFlags.{ListFlags}
 use Rattle.first_pass_items.specs.declared.item.BlockQuoteKind.{BlockQuoteKind}
 use Rattle.first_pass_items.specs.declared.item.ItemBody.TheVariants.{BlockQuote as BlockQuoteBody, List as ListBody, ListItem as ListItemBody}
 use Rattle.first_pass_tree.specs.Forest.{modify, map_from}
+use Rattle.first_pass_tree.specs.Tight.{tight_body, tightened}
 use Rattle.first_pass_tree.proofs.Blocks.{modify-at}
 use Rattle.first_pass_lines.specs.Places.{Place, lines_at, start_of}
 use Rattle.first_pass_grammar.specs.declared.kind.Container.{Container}
@@ -18,7 +19,7 @@ use Rattle.first_pass_grammar.specs.Skeleton.{Leaf, LeafBlock, BlankLine, Block,
 use Rattle.first_pass_grammar.specs.Kinds.{Kind, Paragraph}
 use Rattle.first_pass_grammar.specs.Rows.{ALeaf, AList, Row, Rows, End, OneOf, behind, ends_in_gap, any_gap, is_loose, is_paragraph, closing_place, list_until, items_behind, list_behind, what_of, row_of, container_row, begins_blank, rows_of}
 use Rattle.first_pass_grammar.specs.LinkTables.{LinkEntry, with_link, with_links}
-use Rattle.first_pass_grammar.specs.Derivation.{Tables, Derives, no_tables, told, definitions_of, node_of, root_of, list_flags, tight_body, tightened, block_items, items_of}
+use Rattle.first_pass_grammar.specs.Derivation.{Tables, Derives, no_tables, told, definitions_of, node_of, root_of, list_flags, block_items, items_of}
 use Rattle.first_pass_grammar.specs.Completion.{ended, flagged, list_closed, Pending, NoList, OneList, rows_beyond, rendered, Frame, InContainer, InList, containers_of, is_quote, loosened, AreBelow, IsPlain, IsShaped}
 use Rattle.first_pass_grammar.proofs.Tightening.{eqb-same, modify-append, length-modify, list_closed-append, length-closed, list_closed-mid, closed_item}
 use Rattle.first_pass_grammar.proofs.Alike.{AlikeOpening}

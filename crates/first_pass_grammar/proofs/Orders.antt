@@ -6,11 +6,11 @@ use Rattle.first_pass_items.specs.declared.item.ItemBody.{ItemBody}
 use Rattle.first_pass_items.specs.declared.item.ItemBody.TheVariants.{Paragraph as ParagraphBody}
 use Rattle.first_pass_tree.specs.declared.tree_index.TreeIndex.{TreeIndex}
 use Rattle.first_pass_tree.specs.Forest.{modify, at_depth, body_at, block_of}
+use Rattle.first_pass_tree.specs.Tight.{tight_body, tightened}
 use Rattle.first_pass_tree.proofs.Blocks.{at_depth-append}
 use Rattle.first_pass_tokens.specs.Order.{AreInOrder}
 use Rattle.first_pass_tokens.specs.TreeTokens.{leaves}
 use Rattle.first_pass_tokens.proofs.OrderLemmas.{order_bound}
-use Rattle.first_pass_grammar.specs.Derivation.{tight_body, tightened}
 use Rattle.first_pass_grammar.specs.Order.{Extent, is_text_block, is_task_marker, is_list_item, extent_of, extents, Row, Empty, Node, laid, IsBetween, Within, Elsewhere, InItem, InText, in_item, below, beyond, IsLead, Fits, FitsBetween}
 use Rattle.first_pass_grammar.specs.OpenOrder.{laid_open, AreAt, open_item, FitsOpen}
 use Rattle.first_pass_grammar.proofs.OwnNodes.{own_at_most}

@@ -5,7 +5,7 @@ use Rattle.first_pass_items.specs.declared.item.Item.{Item}
 use Rattle.first_pass_items.specs.declared.item.ItemBody.{ItemBody}
 use Rattle.first_pass_items.specs.declared.item.ItemBody.TheVariants.{Paragraph, TableCell}
 use Rattle.first_pass_tree.specs.Forest.{modify, at_depth, body_at}
-use Rattle.first_pass_grammar.specs.Derivation.{tight_body, tightened}
+use Rattle.first_pass_tree.specs.Tight.{tight_body, tightened}
 use Rattle.first_pass_grammar.specs.Counting.{is_row, is_cell, last_cell, is_filled_behind, own, own_nodes}
 
 -- a node counts once at most

@@ -5,9 +5,10 @@ use Rattle.first_pass_items.specs.declared.item.Item.{Item}
 use Rattle.first_pass_items.specs.declared.item.ItemBody.{ItemBody}
 use Rattle.first_pass_items.specs.declared.item.ItemBody.TheVariants.{List as ListBody}
 use Rattle.first_pass_tree.specs.Forest.{modify, map_from}
+use Rattle.first_pass_tree.specs.Tight.{tight_body, tightened}
 use Rattle.first_pass_grammar.specs.Names.{Names}
 use Rattle.first_pass_grammar.specs.Rows.{Rows, is_loose, list_until, items_behind, list_behind}
-use Rattle.first_pass_grammar.specs.Derivation.{tight_body, tightened, items_of}
+use Rattle.first_pass_grammar.specs.Derivation.{items_of}
 use Rattle.first_pass_grammar.specs.Completion.{ended, flagged, list_closed, Pending, NoList, OneList, rendered}
 use Rattle.first_pass_grammar.specs.WholeTables.{Mark, shown, marks, TableRows, table_marks, AreWholeTables}
 use Rattle.first_pass_grammar.proofs.TableMarks.{marks-append, ShowsNothing}

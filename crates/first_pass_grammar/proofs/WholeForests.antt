@@ -5,12 +5,13 @@ use Rattle.first_pass_items.specs.declared.item.Item.{Item}
 use Rattle.first_pass_items.specs.declared.item.ItemBody.{ItemBody}
 use Rattle.first_pass_items.specs.declared.item.ItemBody.TheVariants.{Paragraph as ParagraphBody}
 use Rattle.first_pass_tree.specs.Forest.{at_depth}
+use Rattle.first_pass_tree.specs.Tight.{tight_body, tightened}
 use Rattle.first_pass_lines.specs.Places.{lines_at}
 use Rattle.first_pass_grammar.specs.Names.{Names}
 use Rattle.first_pass_grammar.specs.Leaves.{Document}
 use Rattle.first_pass_grammar.specs.Skeleton.{BlankLine, Block, Opener, QuoteMarker, ItemMarker, Line, Skeleton, Nil, Then, Node}
 use Rattle.first_pass_grammar.specs.Rows.{What, ALeaf, AQuote, AList, AnItem, Row, Rows, End, OneOf, behind, ends_in_gap, is_loose, is_list_of, items_behind, list_behind, what_of, row_of, container_row, is_quote_marker, counts_behind, rows_of}
-use Rattle.first_pass_grammar.specs.Derivation.{tight_body, tightened, row_items, tight_in, items_of, Tables, root_of, Derives}
+use Rattle.first_pass_grammar.specs.Derivation.{row_items, tight_in, items_of, Tables, root_of, Derives}
 use Rattle.first_pass_grammar.specs.WholeTables.{Mark, ATable, shown, marks, row_marks, TableRows, table_marks, AreFull, AreWholeTables}
 use Rattle.first_pass_grammar.proofs.HeadCells.{heads_are_full}
 use Rattle.first_pass_grammar.proofs.LinesLeft.{lines_are_at}

@@ -4,6 +4,7 @@ use Rattle.first_pass_items.specs.declared.item.Item.{Item}
 use Rattle.first_pass_items.specs.declared.item.ItemBody.{ItemBody}
 use Rattle.first_pass_items.specs.declared.item.ItemBody.TheVariants.{List as ListBody}
 use Rattle.first_pass_tree.specs.Forest.{modify, map_from}
+use Rattle.first_pass_tree.specs.Tight.{tightened}
 use Rattle.first_pass_lines.specs.Places.{Place, lines_at}
 use Rattle.first_pass_grammar.specs.declared.kind.Container.{Container}
 use Rattle.first_pass_grammar.specs.declared.kind.Container.TheVariants.{BlockQuote, ListItem, FootnoteDefinition}
@@ -11,7 +12,7 @@ use Rattle.first_pass_grammar.specs.Leaves.{Document, document}
 use Rattle.first_pass_grammar.specs.Names.{Names, Extends}
 use Rattle.first_pass_grammar.specs.Skeleton.{From, Line, blanks_alone, end_before, Skeleton, IsSequence}
 use Rattle.first_pass_grammar.specs.Rows.{Rows, behind, ends_in_gap, any_gap, is_loose, list_until, items_behind, list_behind, begins_blank, rows_of}
-use Rattle.first_pass_grammar.specs.Derivation.{Tables, Derives, told, definitions_of, list_flags, tightened, items_of}
+use Rattle.first_pass_grammar.specs.Derivation.{Tables, Derives, told, definitions_of, list_flags, items_of}
 
 -- the lines of a text from an offset on, which is a line's start
 abbrev pub lines_from : List ℕ → ℕ → List Place

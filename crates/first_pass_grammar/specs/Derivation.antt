@@ -1,10 +1,11 @@
 -- The tree that the grammar derives from a text, and what the text defines.
-use Rattle.std.specs.Prelude.{◌≡◌, ℕ, suc, ◌==◌, not, Bool, false, List, [], ◌∷◌, ◌++◌, length, map, if◌then◌else◌}
+use Rattle.std.specs.Prelude.{◌≡◌, ℕ, suc, not, Bool, false, List, [], ◌∷◌, ◌++◌, length, map, if◌then◌else◌}
 use Rattle.first_pass_items.specs.declared.item.Item.{Item}
 use Rattle.first_pass_items.specs.declared.item.ItemBody.{ItemBody}
-use Rattle.first_pass_items.specs.declared.item.ItemBody.TheVariants.{Root, Paragraph, TightParagraph, BlockQuote as BlockQuoteBody, List as ListBody, ListItem as ListItemBody}
+use Rattle.first_pass_items.specs.declared.item.ItemBody.TheVariants.{Root, BlockQuote as BlockQuoteBody, List as ListBody, ListItem as ListItemBody}
 use Rattle.first_pass_items.specs.declared.item.ListFlags.{ListFlags}
 use Rattle.first_pass_tree.specs.Forest.{at_depth}
+use Rattle.first_pass_tree.specs.Tight.{tightened}
 use Rattle.first_pass_lines.specs.Places.{lines_at}
 use Rattle.first_pass_grammar.specs.Leaves.{Document}
 use Rattle.first_pass_grammar.specs.LinkTables.{LinkEntry, with_links}
@@ -17,15 +18,6 @@ node_of start «end» body = record { start = start; «end» = «end»; body = b
 -- a list's flags
 abbrev pub list_flags : Bool → ListFlags
 list_flags tight = record { 0 = if tight then 1 else 0 }
-
--- a paragraph directly in an item of a tight list (CommonMark 5.3)
-abbrev pub tight_body : ItemBody → ItemBody
-tight_body Paragraph = TightParagraph
-tight_body body = body
-
--- a node of a tight list whose items' blocks have this depth
-abbrev pub tightened : ℕ → ℕ × Item → ℕ × Item
-tightened depth n = (n.0, if n.0 == depth then record { start = n.1.start; «end» = n.1.«end»; body = tight_body n.1.body } else n.1)
 
 -- the items of a leaf block, put at a depth, in a tight list or not
 abbrev pub block_items : ℕ → Bool → LeafBlock → List (ℕ × Item)

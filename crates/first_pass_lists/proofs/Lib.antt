@@ -1,3 +1,1 @@
-pub mod BodyLemmas
-pub mod TightLemmas
 pub mod WithinLemmas

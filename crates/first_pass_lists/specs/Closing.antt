@@ -1,13 +1,14 @@
 -- How open items and lists are closed, and what is remembered of them.
-use Rattle.std.specs.Prelude.{ℕ, ◌+◌, ◌==◌, ◌&&◌, zero, suc, Bool, true, false, nat_lt, List, [], ◌∷◌, length, Option, Some, None, is_some, slice_index, slice_get, if◌then◌else◌}
+use Rattle.std.specs.Prelude.{ℕ, ◌==◌, ◌&&◌, Bool, true, false, List, [], ◌∷◌, length, Option, Some, None, is_some, slice_get, if◌then◌else◌}
 use Rattle.std.specs.Int.RustNames.{bit_and}
 use Rattle.std.specs.Option.{option_and_then}
 use Rattle.first_pass_items.specs.declared.item.Item.{Item}
 use Rattle.first_pass_items.specs.declared.item.ItemBody.{ItemBody}
 use Rattle.first_pass_items.specs.declared.item.ItemBody.TheVariants.{BlockQuote as BlockQuoteBody, List as ListBody, ListItem as ListItemBody}
 use Rattle.first_pass_tree.specs.declared.tree_index.TreeIndex.{TreeIndex}
-use Rattle.first_pass_tree.specs.Forest.{Forest, appended, pushed, with_body_at, body_at, depths}
-use Rattle.first_pass_grammar.specs.Derivation.{list_flags, tightened}
+use Rattle.first_pass_tree.specs.Forest.{Forest, appended, pushed, with_body_at, body_at}
+use Rattle.first_pass_grammar.specs.Derivation.{list_flags}
+use Rattle.first_pass_tree.specs.Tight.{tight_items}
 use Rattle.first_pass_open.specs.OpenBlock.{closed_by}
 use Rattle.first_pass_lists.specs.declared.reading.Reading.{Reading}
 
@@ -22,33 +23,6 @@ with_tree r tree = record r { tree = tree }
 -- the same where something is added to the innermost open node: an item is empty no more
 abbrev pub with_block : Reading → Forest Item → Reading
 with_block r tree = record r { tree = tree; empty_item = None }
-
--- the nodes below one of this depth, up to the first that isn't: paragraphs two deeper are tight
-unfoldable pub tight_run : ℕ → List (ℕ × Item) → List (ℕ × Item)
-tight_run depth [] = []
-tight_run depth (n ∷ ns) = if nat_lt depth n.0 then tightened (depth + 2) n ∷ tight_run depth ns else n ∷ ns
-
-unfoldable pub tight_at : ℕ → ℕ → List (ℕ × Item) → List (ℕ × Item)
-tight_at depth zero ns = tight_run depth ns
-tight_at depth (suc i) [] = []
-tight_at depth (suc i) (n ∷ ns) = n ∷ tight_at depth i ns
-
--- the node at a place below one of this depth: a paragraph two deeper is tight
-unfoldable pub tight_node : ℕ → ℕ → List (ℕ × Item) → List (ℕ × Item)
-tight_node depth i [] = []
-tight_node depth zero (n ∷ ns) = tightened (depth + 2) n ∷ ns
-tight_node depth (suc i) (n ∷ ns) = n ∷ tight_node depth i ns
-
-abbrev pub with_tight_node : Forest Item → ℕ → TreeIndex → Forest Item
-with_tight_node f depth ix = record f { nodes = tight_node depth ix.0 f.nodes }
-
--- the tree with the paragraphs tight, from a place on, that stand directly in the items of a list of this depth
-abbrev pub tight_from : Forest Item → ℕ → ℕ → Forest Item
-tight_from f depth i = record f { nodes = tight_at depth i f.nodes }
-
--- the tree with the paragraphs tight that stand directly in the items of a list (CommonMark 5.3)
-abbrev pub tight_items : Forest Item → TreeIndex → Forest Item
-tight_items f ix = record f { nodes = tight_at (slice_index (depths f.nodes) ix.0) (ix.0 + 1) f.nodes }
 
 -- a list is loose; another node stays
 abbrev pub loosened_by : Forest Item → TreeIndex → Option ItemBody → Forest Item

@@ -1,8 +1,8 @@
 //! Lists and their items: how they go on, become loose and are closed (CommonMark 5.2, 5.3).
 
-ghost use Rattle.std.specs.Prelude.{◌≡◌, ◌==◌, ◌+◌, ◌<◌, ◌≤◌, ℕ, length, None, IsSome, IsCharBoundary, slice_get, slice_index, OnOk, bit_and, if◌then◌else◌};
-ghost use Rattle.first_pass_lists.specs.Closing.{with_tight_node, tight_from, tight_items, loosened_at, top_body, is_item, is_list_of, popped, item_finished, list_left, with_tree, gap_noted, list_finished, list_kept, list_continued, begun, blank_read};
-ghost use Rattle.first_pass_tree.specs.Forest.{Forest, depths};
+ghost use Rattle.std.specs.Prelude.{◌≡◌, ◌==◌, ◌<◌, length, None, IsSome, slice_get, OnOk, bit_and, if◌then◌else◌};
+ghost use Rattle.first_pass_lists.specs.Closing.{loosened_at, top_body, is_item, is_list_of, popped, item_finished, list_left, with_tree, gap_noted, list_finished, list_kept, list_continued, begun, blank_read};
+ghost use Rattle.first_pass_tree.specs.Tight.{tight_items};
 ghost use Rattle.first_pass_open.specs.OpenBlock.{closed_by};
 ghost use Rattle.first_pass_items.specs.declared.item.ItemBody.TheVariants.{BlockQuote as BlockQuoteBody, ListItem as ListItemBody};
 
@@ -10,7 +10,7 @@ use crate::reading::Reading;
 use bitflags::Flags;
 use first_pass_items::item::{BlockQuoteKind, Item, ItemBody, ListFlags};
 use first_pass_tree::forest::Tree;
-use first_pass_tree::subtrees::Subtree;
+use first_pass_tree::tight::surgerize_tight_list;
 use first_pass_tree::tree_index::TreeIndex;
 use std::alloc::AllocError;
 
@@ -23,79 +23,6 @@ pub struct ListMarker {
     pub number: u64,
     /// The columns that a line needs to go on with the item.
     pub indent: usize,
-}
-
-/// How deep the node at a place stands.
-fn depth_at(tree: &Tree<Item>, at: usize) -> usize
-    requires { at < length tree.now.nodes }
-    ensures { result ≡ slice_index (depths tree.now.nodes) at }
-{
-    tree.nodes()[at].0
-}
-
-/// Makes a paragraph tight that stands directly in an item of a list of depth `list_depth`; another node
-/// stays (CommonMark 5.3).
-fn tighten(tree: &mut Tree<Item>, list_depth: usize, ix: TreeIndex)
-    requires within { ix.0 < length tree.old.nodes }
-    requires deeper { list_depth < slice_index (depths tree.old.nodes) ix.0 }
-    ensures { tree.new ≡ with_tight_node tree.old list_depth ix }
-{
-    if depth_at(tree, ix.0) - list_depth != 2 {
-        return;
-    }
-    if let ItemBody::Paragraph = tree[ix].body {
-        tree.set_body(ix, ItemBody::TightParagraph);
-    }
-}
-
-/// Does so with each node from `from` up to `to`, all of them below the list. Where the paragraphs from `to`
-/// on were made tight, those from `from` on are then.
-fn tighten_between(tree: &mut Tree<Item>, list_depth: usize, from: usize, to: usize)
-    requires within { (from ≤ to) × (to ≤ length tree.old.nodes) }
-    requires deeper { (k : ℕ) → from ≤ k → k < to → list_depth < slice_index (depths tree.old.nodes) k }
-    ensures { (f : Forest Item) → tree.old ≡ tight_from f list_depth to → tree.new ≡ tight_from f list_depth from }
-{
-    let mut at = to;
-    while from < at {
-        at -= 1;
-        tighten(tree, list_depth, TreeIndex(at));
-    }
-}
-
-/// The last list inside one of depth `list_depth` that stands from `from` on and before `to`, with what is
-/// below it: no paragraph directly in an item of the outer list. The node at `from` alone where there is
-/// none, or where it was answered before.
-fn inner_list(tree: &mut Tree<Item>, list_depth: usize, from: usize, to: usize) -> Subtree
-    requires { (from < to) × (to ≤ length tree.old.nodes) }
-    ensures tree { tree.new ≡ tree.old }
-    ensures within { (from ≤ result.place) × (result.place < result.past) × (result.past ≤ to) }
-    ensures deeper { (k : ℕ) → result.place < k → k < result.past
-        → list_depth + 2 < slice_index (depths tree.old.nodes) k }
-{
-    match tree.take_subtree(from, to) {
-        Some(inner) if 2 <= depth_at(tree, inner.place).saturating_sub(list_depth) => inner,
-        _ => Subtree {
-            place: from,
-            past: from + 1,
-        },
-    }
-}
-
-/// Makes the paragraphs tight that stand directly in the items of the list `list_ix` (CommonMark 5.3). Lists
-/// inside it that were closed before are gone over, and not through.
-pub fn surgerize_tight_list(tree: &mut Tree<Item>, list_ix: TreeIndex)
-    requires { list_ix.0 < length tree.old.nodes }
-    ensures { tree.new ≡ tight_items tree.old list_ix }
-{
-    let list_depth = depth_at(tree, list_ix.0);
-    let mut at = tree.end_of(list_ix);
-    let first = list_ix.0 + 1;
-    while first < at {
-        let inner = inner_list(tree, list_depth, first, at);
-        tighten_between(tree, list_depth, inner.past, at);
-        tighten(tree, list_depth, TreeIndex(inner.place));
-        at = inner.place;
-    }
 }
 
 /// Makes the paragraphs tight that stand directly in the items of a list, the current node, unless it is

@@ -1,6 +1,5 @@
 use first_pass_items::item::{AlignmentIndex, Item, ItemBody, ListFlags};
 use first_pass_tree::forest::Tree;
-use first_pass_tree::subtrees::Subtree;
 use first_pass_tree::tree_index::TreeIndex;
 use std::alloc::{AllocError, Global};
 use std::process::Abort;
@@ -255,51 +254,5 @@ fn moves_siblings_out(rt: HostRuntime) -> Result<(), Fail> {
     ];
     check(&rt, &tree, &front, "truncate_to_parent");
     assert!(rt; tree.cur() == Some(TreeIndex(3)));
-    Ok(())
-}
-
-// `- - a` without its paragraph: a list in the open item of a list. Both are remembered, and the inner one
-// was just closed.
-fn list_in_list(alloc: Global) -> Result<Tree<Item>, AllocError> {
-    let list = item(0, 4, ItemBody::List(ListFlags::IS_TIGHT, b'-', 0));
-    let mut tree = Tree::with_capacity(alloc, 5)?;
-    for start in [0, 2] {
-        tree.append(list)?;
-        tree.remember_last()?;
-        tree.push()?;
-        tree.append(item(start, 4, ItemBody::ListItem(2)))?;
-        tree.push()?;
-    }
-    tree.pop();
-    tree.pop();
-    tree.note_end();
-    Ok(tree)
-}
-
-#[test]
-fn remembers_subtrees(rt: HostRuntime) -> Result<(), Fail> {
-    let mut tree = list_in_list(rt.alloc())?;
-    assert!(rt; 4 < tree.node_count());
-    assert!(rt; tree.end_of(TreeIndex(3)) == 5 && tree.end_of(TreeIndex(1)) == 5);
-    assert!(rt; tree.take_subtree(4, 5) == None && tree.take_subtree(2, 4) == None);
-    let inner = Subtree { place: 3, past: 5 };
-    assert!(rt; tree.take_subtree(2, 5) == Some(inner));
-    assert!(rt; tree.take_subtree(2, 5) == None);
-    tree.pop();
-    tree.pop();
-    tree.note_end();
-    assert!(rt; tree.take_subtree(0, 5) == None);
-    Ok(())
-}
-
-#[test]
-fn forgets_subtrees_that_are_cut(rt: HostRuntime) -> Result<(), Fail> {
-    let mut tree = list_in_list(rt.alloc())?;
-    assert!(rt; tree.remove_node() == Some(TreeIndex(2)));
-    tree.append(item(0, 4, ItemBody::Rule))?;
-    tree.append(item(0, 4, ItemBody::Rule))?;
-    let outer = Subtree { place: 1, past: 2 };
-    assert!(rt; tree.take_subtree(0, 5) == Some(outer));
-    assert!(rt; tree.take_subtree(0, 5) == None);
     Ok(())
 }

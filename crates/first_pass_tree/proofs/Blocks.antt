@@ -21,7 +21,7 @@ modify-here : {T : Type 0} (xs ys : List (ℕ × T)) (n : ℕ × T) (g : T → T
 modify-here [] ys n g = refl
 modify-here (x ∷ xs) ys n g = ap (λ z. x ∷ z) (modify-here xs ys n g)
 
--- a write to the node that stands behind these
+-- a write to the node that stands after these
 pub modify-at : {T : Type 0} (xs ys : List (ℕ × T)) (n : ℕ × T) (i : ℕ) (g : T → T) → i ≡ length xs → modify (xs ++ n ∷ ys) i g ≡ xs ++ (n.0, g n.1) ∷ ys
 modify-at xs ys n i g e = ap (λ k. modify (xs ++ n ∷ ys) k g) e ∙ modify-here xs ys n g
 

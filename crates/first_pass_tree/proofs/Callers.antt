@@ -25,7 +25,7 @@ child-appended f x h =
       behind = omega (arith, w, o.within);
     }
 
--- a child stays one where the list goes on behind it
+-- a child stays one where the list goes on after it
 pub child-kept : {T : Type 0} (f g : Forest T) (more : List (ℕ × T)) (ix : TreeIndex) → g.nodes ≡ f.nodes ++ more → g.spine ≡ f.spine → IsChild f ix → IsChild g ix
 child-kept {T = T} f g more ix n s h =
     let w = length-map f.nodes (λ n. n.0) in
@@ -61,7 +61,7 @@ text-empty f s e b h =
     let t : eqb s e ≡ true = grind (arith, nat_tests) in
     rw t
 
--- a text behind a text that ends at its start is joined to it
+-- a text after a text that ends at its start is joined to it
 pub text-joined : (f : Forest Item) (s e : ℕ) (b : Bool) (c : TreeIndex) (x : Item) → s < e → f.current ≡ Some c → item_at f c ≡ Some x → is_text x.body ≡ true → x.«end» ≡ s → with_text f s e b ≡ with_end_at f c e
 text-joined f s e b c x l h i t p =
     let n : eqb s e ≡ false = grind (arith, nat_tests) in
@@ -72,7 +72,7 @@ neither : (a b : Bool) → b ≡ false → (a && b) ≡ false
 neither true b h = h
 neither false b h = refl
 
--- a text behind an item that isn't a text, or ends elsewhere, stands alone
+-- a text after an item that isn't a text, or ends elsewhere, stands alone
 pub text-apart : (f : Forest Item) (s e : ℕ) (b : Bool) (c : TreeIndex) (x : Item) → s < e → f.current ≡ Some c → item_at f c ≡ Some x → (is_text x.body ≡ false) ⊎ (x.«end» ≢ s) → with_text f s e b ≡ appended f (record { start = s; «end» = e; body = Text b })
 text-apart f s e b c x l h i t =
     let n : eqb s e ≡ false = grind (arith, nat_tests) in

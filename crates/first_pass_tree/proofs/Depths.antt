@@ -34,7 +34,7 @@ path-last_depth ds (i ∷ is) h = (omega (arith, h.0.within), grind (arith, h.0.
 pub preorder-append : (ds : List ℕ) (e : ℕ) → IsPreorder ds → 0 < length ds → e ≤ get_or ds (length ds - 1) 0 + 1 → IsPreorder (ds ++ e ∷ [])
 preorder-append ds e h p l = λ k q. grind (arith, places, length_push, get_or_push, h k)
 
--- of two last places the deeper one stands behind
+-- of two last places the deeper one stands after
 pub last-order : (ds : List ℕ) (d e i j : ℕ) → IsLastAt ds d i → IsLastAt ds e j → d < e → i < j
 last-order ds d e i j h g l = grind (arith, h.depth, g.depth, g.behind i, h.within, g.within)
 
@@ -71,7 +71,7 @@ depth-small ds h z (suc k) l =
     let s = h k (omega arith) in
     grind (arith, add-one)
 
--- what stands behind a node, up to the end of its descendants, is deeper
+-- what stands after a node, up to the end of its descendants, is deeper
 pub before-end : (ds : List ℕ) (i k : ℕ) → i < k → k < end_of ds i → get_or ds i 0 < get_or ds k 0
 before-end ds i k a b =
     let p = λ (d : ℕ). nat_lt (get_or ds i 0) d in

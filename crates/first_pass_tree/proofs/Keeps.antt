@@ -261,14 +261,14 @@ map_from-end g [] (suc i) l = refl
 map_from-end g (m ∷ ns) zero l = absurd (omega arith)
 map_from-end g (m ∷ ns) (suc i) l = ap (λ k. m ∷ k) (map_from-end g ns i (omega arith))
 
--- nodes after the insertion of one and the change of those behind it
+-- nodes after the insertion of one and the change of those after it
 pub wrap-nodes : {T : Type 0} (g : ℕ × T → ℕ × T) (ns : List (ℕ × T)) (p : ℕ) (y : ℕ × T) → p ≤ length ns → map_from g (suc p) (insert ns p y) ≡ take p ns ++ y ∷ map g (drop p ns)
 wrap-nodes g [] zero y l = refl
 wrap-nodes g (n ∷ ns) zero y l = refl
 wrap-nodes g [] (suc p) y l = absurd (omega arith)
 wrap-nodes g (n ∷ ns) (suc p) y l = ap (λ z. n ∷ z) (wrap-nodes g ns p y (omega arith))
 
--- the depths behind an inserted place are those that stood before it
+-- the depths after an inserted place are those that stood before it
 pub insert-small : {T : Type 0} (ns : List (ℕ × T)) (p : ℕ) (y : ℕ × T) → p ≤ length ns → IsShallow (depths ns) → (k : ℕ) → suc p ≤ k → k < length (insert ns p y) → get_or (depths (insert ns p y)) k 0 < 2 ^ 63
 insert-small ns p y l h zero a b = absurd (omega arith)
 insert-small [] zero y l h (suc k) a b = absurd (omega arith)
@@ -281,7 +281,7 @@ map_set [] i n = refl
 map_set (m ∷ ns) zero n = refl
 map_set (m ∷ ns) (suc i) n = ap (λ z. m.0 ∷ z) (map_set ns i n)
 
--- a write to one place leaves the depths behind it
+-- a write to one place leaves the depths after it
 pub raise-keeps : {T : Type 0} (ns : List (ℕ × T)) (i : ℕ) (n : ℕ × T) → ((k : ℕ) → i ≤ k → k < length ns → get_or (depths ns) k 0 < 2 ^ 63) → (k : ℕ) → i + 1 ≤ k → k < length (set ns i n) → get_or (depths (set ns i n)) k 0 < 2 ^ 63
 raise-keeps ns i n h k a b =
     let e : depths (set ns i n) ≡ set (depths ns) i n.0 = map_set ns i n in
@@ -291,7 +291,7 @@ raise-keeps ns i n h k a b =
     let s : get_or (depths (set ns i n)) k 0 ≡ get_or (depths ns) k 0 = ap (λ ds. get_or ds k 0) e ∙ r in
     omega arith
 
--- depths after a node is put behind the current one
+-- depths after a node is put after the current one
 wrap-below : (ds : List ℕ) (p e k : ℕ) (es : List ℕ) → p ≤ length ds → k < p → get_or (take p ds ++ e ∷ es) k 0 ≡ get_or ds k 0
 wrap-below ds p e k es m l =
     let n = length-take-le p ds m in get_or_append_left (take p ds) (e ∷ es) 0 k (omega arith) ∙ get_or-take p ds k 0 l

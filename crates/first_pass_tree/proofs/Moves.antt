@@ -40,7 +40,7 @@ lower-length ns zero = length-map (map shallower ns) (λ n. n.0) ∙ length-map 
 lower-length [] (suc e) = refl
 lower-length (n ∷ ns) (suc e) = ap suc (lower-length ns e)
 
--- a last node before the place stays it, where all behind the place is two deeper
+-- a last node before the place stays it, where all after the place is two deeper
 last-lower : {T : Type 0} (ns : List (ℕ × T)) (d i e m : ℕ) → IsLastAt (depths ns) d i → i < e → d ≤ m → ((k : ℕ) → e ≤ k → k < length (depths ns) → m + 2 ≤ get_or (depths ns) k 0) → IsLastAt (depths (map_from shallower e ns)) d i
 last-lower ns d i e m h l q b = record {
   within = omega (arith, lower-length ns e, h.within);
@@ -88,7 +88,7 @@ pub record IsLastBefore (ds : List ℕ) (d n r : ℕ) : Type 0 where
   pub depth : get_or ds r 0 ≡ d
   pub behind : (k : ℕ) → r < k → k < n → d < get_or ds k 0
 
--- the last place of a depth, where one place has it and nothing behind that is above it
+-- the last place of a depth, where one place has it and nothing after that is above it
 pub last_before-is : (ds : List ℕ) (d p n : ℕ) → p < n → get_or ds p 0 ≡ d → ((k : ℕ) → p < k → k < n → d ≤ get_or ds k 0) → IsLastBefore ds d n (last_before ds d n)
 last_before-is ds d p zero l e h = absurd (omega arith)
 last_before-is ds d p (suc n) l e h =

@@ -1,10 +1,11 @@
 -- Subtrees, as some are forgotten and as the depths of a tree change.
-use Rattle.std.proofs.Common.{◌≡◌, ℕ, ◌+◌, ◌<◌, ◌≤◌, suc, zero, List, [], ◌∷◌, ◌++◌, length, get_or, set, take, reverse, Option, Some, None, refl, sym, ◌∙◌, ap, subst, arith}
-use Rattle.std.specs.Option.{option_to_list}
-use Rattle.std.proofs.lemmas.List.{append-nil, reverse-append, take_all, take_more_set, length-set, length-map, length-append, length-take-le, take-append-le, take-take, take-map, get_or-take}
+use Rattle.std.proofs.Common.{◌≡◌, ℕ, ◌+◌, ◌-◌, ◌<◌, ◌≤◌, ◌==◌, ◌||◌, nat_lt, Bool, true, false, suc, zero, List, [], ◌∷◌, ◌++◌, length, get_or, set, take, reverse, slice_index, if◌then◌else◌, IfSome, Option, Some, None, refl, sym, ◌∙◌, ap, subst, arith}
+use Rattle.std.proofs.lemmas.Bool.Decides.{nat_tests}
+use Rattle.std.proofs.lemmas.List.{reverse-append, length-reverse, take_all, take_more_set, length-set, length-map, length-append, length-take-le, take-append-le, take-take, take-map, get_or-take}
 use Rattle.first_pass_tree.specs.declared.subtrees.Subtree.{Subtree}
-use Rattle.first_pass_tree.specs.Subtrees.{IsSubtree, AreSubtrees, IsTree}
-use Rattle.first_pass_tree.specs.Forest.{Forest, depths, map_from}
+use Rattle.first_pass_tree.specs.declared.tree_index.TreeIndex.{TreeIndex}
+use Rattle.first_pass_tree.specs.Subtrees.{IsSubtree, AreSubtrees, IsTree, subtree, within_first, ended_last, ended, stands_outside, last_between, left_between}
+use Rattle.first_pass_tree.specs.Forest.{Forest, IsForest, IsLastAt, depths, map_from}
 use Rattle.first_pass_tree.proofs.Keeps.{rev_take, set-is, modify-set, depths-modify}
 
 -- they end before a greater place too
@@ -16,33 +17,134 @@ subtrees-up_to ds n m (e ∷ es) l h = (let w = h.0 in omega arith, h.1, h.2)
 pub subtrees-rest : (ds : List ℕ) (n : ℕ) (e : Subtree) (es : List Subtree) → AreSubtrees ds n (e ∷ es) → AreSubtrees ds n es
 subtrees-rest ds n e es h = subtrees-up_to ds e.past n es h.0 h.2
 
--- one step back in a list whose last element is the first that is seen
-pub subtrees-fewer : (ds : List ℕ) (n left k : ℕ) (xs : List Subtree) (d : Subtree) → left ≡ k + 1 → k < length xs → AreSubtrees ds n (reverse (take left xs)) → AreSubtrees ds n (reverse (take k xs))
-subtrees-fewer ds n left k xs d e l h =
+first_by : (t : Bool) (ds : List ℕ) (count : ℕ) (e : Subtree) (es : List Subtree) → (t ≡ false → e.past ≤ count) → IsSubtree ds e.place e.past
+    → AreSubtrees ds e.past es → AreSubtrees ds count (within_first count es)
+    → AreSubtrees ds count (if t then within_first count es else e ∷ es)
+first_by true ds count e es l s r h = h
+first_by false ds count e es l s r h = (l refl, s, r)
+
+first-are : (ds : List ℕ) (n count : ℕ) (es : List Subtree) → AreSubtrees ds n es → AreSubtrees ds count (within_first count es)
+first-are ds n count [] h = tt
+first-are ds n count (e ∷ es) h = first_by (nat_lt count e.past) ds count e es (λ f. grind (arith, nat_tests, f)) h.1 h.2 (first-are ds e.past count es h.2)
+
+-- those that end within the first nodes
+pub subtrees-first : (ds : List ℕ) (n count : ℕ) (es fs : List Subtree) → fs ≡ within_first count es → AreSubtrees ds n es → AreSubtrees ds count fs
+subtrees-first ds n count es fs e h = subst (AreSubtrees ds count) (sym e) (first-are ds n count es h)
+
+-- one step back in a list whose last element is the first that is seen: it ends after the first nodes
+pub first-fewer : (count left k : ℕ) (xs : List Subtree) (d : Subtree) → left ≡ k + 1 → k < length xs → count < (get_or xs k d).past
+    → within_first count (reverse (take left xs)) ≡ within_first count (reverse (take k xs))
+first-fewer count left k xs d e l p =
+    let t : nat_lt count (get_or xs k d).past ≡ true = grind (arith, nat_tests, p) in
+    ap (λ j. within_first count (reverse (take j xs))) e ∙ ap (within_first count) (rev_take xs k d l) ∙ rw t refl
+
+-- it ends within them
+pub first-stop : (count left k : ℕ) (xs : List Subtree) (d : Subtree) → left ≡ k + 1 → k < length xs → (get_or xs k d).past ≤ count
+    → within_first count (reverse (take left xs)) ≡ reverse (take left xs)
+first-stop count left k xs d e l p =
     let r = ap (λ j. reverse (take j xs)) e ∙ rev_take xs k d l in
-    subtrees-rest ds n (get_or xs k d) (reverse (take k xs)) (subst (AreSubtrees ds n) r h)
+    let t : nat_lt count (get_or xs k d).past ≡ false = grind (arith, nat_tests, p) in
+    ap (within_first count) r ∙ rw t refl ∙ sym r
 
--- where the last one ends before a place, all do
-pub subtrees-before : (ds : List ℕ) (n m left k : ℕ) (xs : List Subtree) (d : Subtree) → left ≡ k + 1 → k < length xs → (get_or xs k d).past ≤ m → AreSubtrees ds n (reverse (take left xs)) → AreSubtrees ds m (reverse (take left xs))
-subtrees-before ds n m left k xs d e l p h =
-    let r = ap (λ j. reverse (take j xs)) e ∙ rev_take xs k d l in
-    let t = subst (AreSubtrees ds n) r h in
-    subst (AreSubtrees ds m) (sym r) (p, t.1, t.2)
+only_by : (t : Bool) (ds : List ℕ) (past : ℕ) (e : Subtree) → AreSubtrees ds past (e ∷ []) → AreSubtrees ds past (if t then [] else e ∷ [])
+only_by true ds past e h = tt
+only_by false ds past e h = h
 
--- what a pop leaves
-pub subtrees-popped : (ds : List ℕ) (n : ℕ) (xs ys : List Subtree) (popped : Option Subtree) → xs ≡ ys ++ option_to_list popped → AreSubtrees ds n (reverse xs) → AreSubtrees ds n (reverse ys)
-subtrees-popped ds n xs ys None e h = subst (λ (zs : List Subtree). AreSubtrees ds n (reverse zs)) (e ∙ append-nil ys) h
-subtrees-popped ds n xs ys (Some x) e h =
-    subtrees-rest ds n x (reverse ys) (subst (AreSubtrees ds n) (ap reverse e ∙ reverse-append ys (x ∷ [])) h)
+outer_by : (t : Bool) (ds : List ℕ) (place past : ℕ) (e o : Subtree) (es : List Subtree) → IsSubtree ds place past → AreSubtrees ds past (e ∷ o ∷ es)
+    → AreSubtrees ds past ((if t then subtree place past else e) ∷ o ∷ es)
+outer_by true ds place past e o es s h = (omega arith, s, subtrees-up_to ds e.past past (o ∷ es) h.0 h.2)
+outer_by false ds place past e o es s h = h
 
--- the last one written anew
-pub subtrees-set : (ds : List ℕ) (n m k : ℕ) (xs : List Subtree) (e : Subtree) → length xs ≡ k + 1 → n ≤ m → e.past ≤ m → n ≤ e.past → IsSubtree ds e.place e.past → AreSubtrees ds n (reverse xs) → AreSubtrees ds m (reverse (set xs k e))
-subtrees-set ds n m k xs e l a b p w h =
-    let o = sym (take_all (k + 1) xs (omega arith)) in
-    let t = subst (AreSubtrees ds n) (ap reverse o ∙ rev_take xs k e (omega arith)) h in
-    let v = subtrees-up_to ds (get_or xs k e).past e.past (reverse (take k xs)) (let q = t.0 in omega arith) t.2 in
-    let s : set xs k e ≡ take k xs ++ e ∷ [] = sym (take_all (k + 1) (set xs k e) (omega (arith, length-set xs k e))) ∙ take_more_set xs k e (omega arith) in
-    subst (AreSubtrees ds m) (sym (ap reverse s ∙ reverse-append (take k xs) (e ∷ []))) (b, w, v)
+ended_last-are : (ds : List ℕ) (place past : ℕ) (es : List Subtree) → IsSubtree ds place past → AreSubtrees ds past es
+    → AreSubtrees ds past (ended_last place past es)
+ended_last-are ds place past [] s h = tt
+ended_last-are ds place past (e ∷ []) s h = only_by (e.place == place) ds past e h
+ended_last-are ds place past (e ∷ o ∷ es) s h = outer_by (e.place == place) ds place past e o es s h
+
+-- the last one ends at another place
+pub subtrees-ended : (ds : List ℕ) (place past : ℕ) (es fs : List Subtree) → fs ≡ ended place past es → IsSubtree ds place past
+    → AreSubtrees ds past es → AreSubtrees ds past fs
+subtrees-ended ds place past es fs e s h =
+    let w = s.behind in
+    let f = subtrees-up_to ds (place + 1) past _ (omega arith) (first-are ds past (place + 1) es h) in
+    subst (AreSubtrees ds past) (sym e) (ended_last-are ds place past _ s f)
+
+-- a list whose last element is the first that is seen
+last_seen : (xs : List Subtree) (k : ℕ) (d : Subtree) → length xs ≡ k + 1 → reverse xs ≡ get_or xs k d ∷ reverse (take k xs)
+last_seen xs k d l = ap reverse (sym (take_all (k + 1) xs (omega arith))) ∙ rev_take xs k d (omega arith)
+
+set_by : (place past : ℕ) (e : Subtree) (es : List Subtree) → 0 < length es → (e.place == place) ≡ true
+    → ended_last place past (e ∷ es) ≡ subtree place past ∷ es
+set_by place past e [] l t = absurd (omega arith)
+set_by place past e (o ∷ es) l t = rw t refl
+
+-- the last one is at the place, and another is left
+pub ended-set : (place past k : ℕ) (xs : List Subtree) (d : Subtree) → length xs ≡ k + 1 → 0 < k → (get_or xs k d).place ≡ place
+    → ended_last place past (reverse xs) ≡ reverse (set xs k (subtree place past))
+ended-set place past k xs d l m e =
+    let x = subtree place past in
+    let t : ((get_or xs k d).place == place) ≡ true = grind (arith, nat_tests, e) in
+    let w : 0 < length (reverse (take k xs)) = omega (arith, length-reverse (take k xs), length-take-le k xs (omega arith)) in
+    let s : set xs k x ≡ take k xs ++ x ∷ [] = sym (take_all (k + 1) (set xs k x) (omega (arith, length-set xs k x))) ∙ take_more_set xs k x (omega arith) in
+    ap (ended_last place past) (last_seen xs k d l) ∙ set_by place past _ _ w t ∙ sym (ap reverse s ∙ reverse-append (take k xs) (x ∷ []))
+
+-- with the last node alone
+pub subtrees-added : (ds : List ℕ) (n : ℕ) (es fs : List Subtree) → fs ≡ subtree (n - 1) n ∷ es → 0 < n → AreSubtrees ds n es → AreSubtrees ds n fs
+subtrees-added ds n es fs e l h =
+    subst (AreSubtrees ds n) (sym e) (omega arith, record { behind = omega arith; deeper = λ k a b. absurd (omega arith) }, h)
+
+left_by : (t : Bool) (ds : List ℕ) (n : ℕ) (e : Subtree) (es : List Subtree) → AreSubtrees ds n (e ∷ es) → AreSubtrees ds n (if t then e ∷ es else es)
+left_by true ds n e es h = h
+left_by false ds n e es h = subtrees-rest ds n e es h
+
+-- those that are left where the last one is taken
+pub subtrees-left : (ds : List ℕ) (n from to : ℕ) (es fs : List Subtree) → fs ≡ left_between from to es → AreSubtrees ds n es → AreSubtrees ds n fs
+subtrees-left ds n from to [] fs e h = subst (AreSubtrees ds n) (sym e) tt
+subtrees-left ds n from to (x ∷ es) fs e h = subst (AreSubtrees ds n) (sym e) (left_by (stands_outside from to x) ds n x es h)
+
+within_by : (b p : Bool) (from to : ℕ) (e : Subtree) → nat_lt e.place from ≡ b → nat_lt to e.past ≡ p
+    → IfSome (if b || p then None else Some e) (λ (s : Subtree). (from ≤ s.place) × (s.past ≤ to))
+within_by true p from to e f g = tt
+within_by false true from to e f g = tt
+within_by false false from to e f g = (grind (arith, nat_tests, f), grind (arith, nat_tests, g))
+
+last_within : (from to : ℕ) (es : List Subtree) → IfSome (last_between from to es) (λ s. (from ≤ s.place) × (s.past ≤ to))
+last_within from to [] = tt
+last_within from to (e ∷ es) = within_by (nat_lt e.place from) (nat_lt to e.past) from to e refl refl
+
+-- the one that is taken stands between the two places
+pub taken-within : (from to : ℕ) (es : List Subtree) (o : Option Subtree) → o ≡ last_between from to es → IfSome o (λ s. (from ≤ s.place) × (s.past ≤ to))
+taken-within from to es o e = subst (λ (v : Option Subtree). IfSome v (λ s. (from ≤ s.place) × (s.past ≤ to))) (sym e) (last_within from to es)
+
+below_by : (t : Bool) (ds : List ℕ) (e : Subtree) → IsSubtree ds e.place e.past
+    → IfSome (if t then None else Some e) (λ (s : Subtree). IsSubtree ds s.place s.past)
+below_by true ds e h = tt
+below_by false ds e h = h
+
+last_below : (ds : List ℕ) (n from to : ℕ) (es : List Subtree) → AreSubtrees ds n es → IfSome (last_between from to es) (λ s. IsSubtree ds s.place s.past)
+last_below ds n from to [] h = tt
+last_below ds n from to (e ∷ es) h = below_by (stands_outside from to e) ds e h.1
+
+-- it is a subtree
+pub taken-below : (ds : List ℕ) (n from to : ℕ) (es : List Subtree) (o : Option Subtree) → o ≡ last_between from to es → AreSubtrees ds n es
+    → IfSome o (λ s. IsSubtree ds s.place s.past)
+taken-below ds n from to es o e h = subst (λ (v : Option Subtree). IfSome v (λ s. IsSubtree ds s.place s.past)) (sym e) (last_below ds n from to es h)
+
+-- the last node of a depth, with all after it
+last-subtree : {T : Type 0} (ns : List (ℕ × T)) (d i : ℕ) → IsLastAt (depths ns) d i → IsSubtree (depths ns) i (length ns)
+last-subtree ns d i h =
+    let m = length-map ns (λ n. n.0) in
+    record {
+      behind = omega (arith, h.within, m);
+      deeper = λ k a b. subst (λ v. v < slice_index (depths ns) k) (sym h.depth) (h.behind k a (omega (arith, m, b)));
+    }
+
+-- the current node, with all after it
+pub current-subtree : {T : Type 0} (f : Forest T) (ix : TreeIndex) → f.current ≡ Some ix → IsForest f → IsSubtree (depths f.nodes) ix.0 (length f.nodes)
+current-subtree f ix e h =
+    let d = length f.spine + 1 in
+    let l = subst (λ (o : Option TreeIndex). IfSome o (λ c. IsLastAt (depths f.nodes) d c.0)) e h.at_current in
+    last-subtree f.nodes d ix.0 l
 
 -- only the depths before their ends count
 subtrees-kept : (ds es : List ℕ) (n : ℕ) (xs : List Subtree) → ((k : ℕ) → k < n → get_or es k 0 ≡ get_or ds k 0) → AreSubtrees ds n xs → AreSubtrees es n xs
@@ -54,33 +156,38 @@ subtrees-kept ds es n (e ∷ xs) s h = (
 )
 
 -- of a tree whose first nodes stay, where they end before the others
-pub subtrees-front : {T : Type 0} (ns ms : List (ℕ × T)) (n : ℕ) (xs : List Subtree) → n ≤ length ns → n ≤ length ms → take n ms ≡ take n ns → AreSubtrees (depths ns) n xs → AreSubtrees (depths ms) (length ms) xs
+pub subtrees-front : {T : Type 0} (ns ms : List (ℕ × T)) (n : ℕ) (xs : List Subtree) → n ≤ length ns → n ≤ length ms → take n ms ≡ take n ns
+    → AreSubtrees (depths ns) n xs → AreSubtrees (depths ms) (length ms) xs
 subtrees-front {T = T} ns ms n xs a b e h =
     let t : take n (depths ms) ≡ take n (depths ns) = take-map (λ m. m.0) n ms ∙ ap (λ (v : List (ℕ × T)). depths v) e ∙ sym (take-map (λ m. m.0) n ns) in
     subtrees-up_to (depths ms) n (length ms) xs b
     (subtrees-kept (depths ns) (depths ms) n xs (λ k l. sym (get_or-take n (depths ms) k 0 l) ∙ ap (λ v. get_or v k 0) t ∙ get_or-take n (depths ns) k 0 l) h)
 
 -- of a tree whose depths stay
-pub subtrees-same : {T : Type 0} (ns ms : List (ℕ × T)) (xs : List Subtree) → depths ms ≡ depths ns → AreSubtrees (depths ns) (length ns) xs → AreSubtrees (depths ms) (length ms) xs
+pub subtrees-same : {T : Type 0} (ns ms : List (ℕ × T)) (xs : List Subtree) → depths ms ≡ depths ns → AreSubtrees (depths ns) (length ns) xs
+    → AreSubtrees (depths ms) (length ms) xs
 subtrees-same ns ms xs e h =
     let l : length ms ≡ length ns = sym (length-map ms (λ m. m.0)) ∙ ap length e ∙ length-map ns (λ m. m.0) in
     subst (λ (ds : List ℕ). AreSubtrees ds (length ms) xs) (sym e) (subst (λ (n : ℕ). AreSubtrees (depths ns) n xs) (sym l) h)
 
 -- a tree with whatever item written at a place
-pub set-kept : {T : Type 0} (f : Forest T) (xs : List Subtree) (i : ℕ) (n : ℕ × T) (y : T) → n ≡ get_or f.nodes i n → IsTree f xs → IsTree (record f { nodes = set f.nodes i (n.0, y) }) xs
+pub set-kept : {T : Type 0} (f : Forest T) (xs : List Subtree) (i : ℕ) (n : ℕ × T) (y : T) → n ≡ get_or f.nodes i n → IsTree f xs
+    → IsTree (record f { nodes = set f.nodes i (n.0, y) }) xs
 set-kept f xs i n y e h = record {
   forest = set-is f i n y e h.forest;
   known = subtrees-same f.nodes (set f.nodes i (n.0, y)) xs (ap depths (modify-set f.nodes i n (λ _. y) e) ∙ depths-modify f.nodes i (λ _. y)) h.known;
 }
 
 -- of a tree whose last nodes are cut off
-pub subtrees-cut : {T : Type 0} (ns ms : List (ℕ × T)) (n : ℕ) (xs : List Subtree) → n ≤ length ns → ms ≡ take n ns → AreSubtrees (depths ns) n xs → AreSubtrees (depths ms) (length ms) xs
+pub subtrees-cut : {T : Type 0} (ns ms : List (ℕ × T)) (n : ℕ) (xs : List Subtree) → n ≤ length ns → ms ≡ take n ns → AreSubtrees (depths ns) n xs
+    → AreSubtrees (depths ms) (length ms) xs
 subtrees-cut ns ms n xs l e h =
     let w : n ≤ length ms = omega (arith, ap length e, length-take-le n ns l) in
     subtrees-front ns ms n xs l w (ap (take n) e ∙ take-take n n ns (omega arith)) h
 
--- of a tree that has other nodes behind the first ones
-pub subtrees-joined : {T : Type 0} (ns ms more : List (ℕ × T)) (n : ℕ) (xs : List Subtree) → n ≤ length ns → ms ≡ take n ns ++ more → AreSubtrees (depths ns) n xs → AreSubtrees (depths ms) (length ms) xs
+-- of a tree that has other nodes after the first ones
+pub subtrees-joined : {T : Type 0} (ns ms more : List (ℕ × T)) (n : ℕ) (xs : List Subtree) → n ≤ length ns → ms ≡ take n ns ++ more
+    → AreSubtrees (depths ns) n xs → AreSubtrees (depths ms) (length ms) xs
 subtrees-joined ns ms more n xs l e h =
     let t = length-take-le n ns l in
     let w : n ≤ length ms = omega (arith, ap length e, length-append (take n ns) more) in
@@ -96,8 +203,9 @@ map_from-take g zero ns = refl
 map_from-take g (suc n) [] = refl
 map_from-take g (suc n) (m ∷ ns) = ap (λ z. m ∷ z) (map_from-take g n ns)
 
--- of a tree whose nodes are changed behind the first ones
-pub subtrees-changed : {T : Type 0} (ns ms : List (ℕ × T)) (g : ℕ × T → ℕ × T) (n : ℕ) (xs : List Subtree) → n ≤ length ns → ms ≡ map_from g n ns → AreSubtrees (depths ns) n xs → AreSubtrees (depths ms) (length ms) xs
+-- of a tree whose nodes are changed after the first ones
+pub subtrees-changed : {T : Type 0} (ns ms : List (ℕ × T)) (g : ℕ × T → ℕ × T) (n : ℕ) (xs : List Subtree) → n ≤ length ns → ms ≡ map_from g n ns
+    → AreSubtrees (depths ns) n xs → AreSubtrees (depths ms) (length ms) xs
 subtrees-changed ns ms g n xs l e h =
     let w : n ≤ length ms = omega (arith, ap length e, map_from-length g n ns) in
     subtrees-front ns ms n xs l w (ap (take n) e ∙ map_from-take g n ns) h

@@ -36,7 +36,7 @@ module _ {T : Type 0} where
   abbrev pub modified : Forest T → TreeIndex → (T → T) → Forest T
   modified f ix g = record f { nodes = modify f.nodes ix.0 g }
 
--- place i has depth d, and all behind it is deeper: the last node of its depth, whose descendants are all that follows
+-- place i has depth d, and all after it is deeper: the last node of its depth, whose descendants are all that follows
 pub record IsLastAt (ds : List ℕ) (d : ℕ) (i : ℕ) : Type 0 where
   pub within : i < length ds
   pub depth : slice_index ds i ≡ d
@@ -65,7 +65,7 @@ run_end ds depth from = from + prefix_len (λ d. nat_lt depth d) (drop from ds)
 abbrev pub IsShallow : List ℕ → Type 0
 IsShallow ds = (k : ℕ) → k < length ds → slice_index ds k < 2 ^ 63
 
--- the place behind a node and all below it
+-- the place after a node and all below it
 abbrev pub end_of : List ℕ → ℕ → ℕ
 end_of ds i = run_end ds (slice_index ds i) (i + 1)
 
@@ -73,7 +73,7 @@ end_of ds i = run_end ds (slice_index ds i) (i + 1)
 abbrev pub child_of : List ℕ → ℕ → Option TreeIndex
 child_of ds i = if nat_lt (slice_index ds i) (slice_index ds (i + 1)) then Some (record { 0 = i + 1 }) else None
 
--- the place of a node's next sibling: the place behind all below it, where that has the node's depth
+-- the place of a node's next sibling: the place after all below it, where that has the node's depth
 abbrev pub sibling_of : List ℕ → ℕ → Option TreeIndex
 sibling_of ds i =
     if nat_lt (end_of ds i) (length ds) && (slice_index ds (end_of ds i) == slice_index ds i) then Some (record { 0 = end_of ds i }) else None
@@ -188,7 +188,7 @@ abbrev pub in_table : List (ℕ × Item) → List TreeIndex → Bool
 in_table ns [] = false
 in_table ns (i ∷ is) = in_table_by (in_table ns is) (body_at ns i.0)
 
--- a text whose first byte stands behind a backslash
+-- a text whose first byte stands after a backslash
 abbrev pub is_escaped : ItemBody → Bool
 is_escaped (Text b) = b
 is_escaped _ = false
@@ -198,7 +198,7 @@ abbrev pub cut_item : ℕ → Item → Item
 cut_item e x = if nat_lt e x.«end» then record x { «end» = e } else x
 
 -- The nodes below one, cut at an offset; its children, the tokens, have this depth. A token that starts before the offset stays, with all below it, and
--- ends there at the latest. The first that doesn't goes, with all that follows; but where that is a text which starts there behind a backslash, the
+-- ends there at the latest. The first that doesn't goes, with all that follows; but where that is a text which starts there after a backslash, the
 -- backslash stays as a text.
 abbrev pub cut_tokens : ℕ → ℕ → List (ℕ × Item) → List (ℕ × Item)
 cut_tokens e d [] = []
@@ -252,7 +252,7 @@ pub record IsChildOfCurrent {T : Type 0} (f : Forest T) (ix : TreeIndex) : Type 
   pub depth : slice_index (depths f.nodes) ix.0 ≡ length f.spine + 2
   pub current : IsSomeAnd f.current (λ c. c.0 < ix.0)
 
--- with the siblings after a node, and all below them, behind the current node in its parent; the last of them is current
+-- with the siblings after a node, and all below them, after the current node in its parent; the last of them is current
 abbrev pub moved_out : {T : Type 0} → Forest T → TreeIndex → Forest T
 moved_out f ix =
     let ns = map_from shallower (end_of (depths f.nodes) ix.0) f.nodes in

@@ -98,7 +98,7 @@ impl Tree<Item> {
         self.nodes.len()
     }
 
-    /// Adds a last child to the innermost open node, makes it the current node and answers its place. An
+    /// Adds a last child to the innermost open node, makes it the current node and returns its place. An
     /// error where memory is refused; then the tree is as before.
     pub fn append(&mut self, item: Item) -> Result<TreeIndex, AllocError>
         ensures index { IfOk result (λ ix. ix.0 ≡ length self.old.nodes) }
@@ -168,7 +168,7 @@ impl Tree<Item> {
         node.1.body = body;
     }
 
-    /// Opens the current node, which there must be, and answers its place; then there is no current node.
+    /// Opens the current node, which there must be, and returns its place; then there is no current node.
     /// An error where memory is refused; then the tree is as before.
     pub fn push(&mut self) -> Result<TreeIndex, AllocError>
         requires { IsSome self.old.current }
@@ -182,7 +182,7 @@ impl Tree<Item> {
         Ok(ix)
     }
 
-    /// Closes the innermost open node, which becomes current, and answers its place. `None` where only the
+    /// Closes the innermost open node, which becomes current, and returns its place. `None` where only the
     /// root is open; then nothing changes.
     pub fn pop(&mut self) -> Option<TreeIndex>
         ensures { MatchOption result
@@ -262,8 +262,8 @@ impl Tree<Item> {
 
     /// Cuts the tokens, which are the children of the innermost open node, at the offset `end`. Those that
     /// start before it stay, with all that is below them, and one that crosses it ends there. The first that
-    /// doesn't start before it goes, and so do those behind it, with all below them; but where that first one
-    /// is a text that starts at `end` behind a backslash, the backslash takes its place as a text. The last
+    /// doesn't start before it goes, and so do those after it, with all below them; but where that first one
+    /// is a text that starts at `end` after a backslash, the backslash takes its place as a text. The last
     /// token that is left becomes current.
     pub fn truncate_siblings(&mut self, end: usize)
         ensures { self.new ≡ cut_siblings self.old end }
@@ -330,7 +330,7 @@ impl Tree<Item> {
         sibling_in(&self.nodes, ix.0)
     }
 
-    /// The place behind a node and all below it.
+    /// The place after a node and all below it.
     pub fn end_of(&self, ix: TreeIndex) -> usize
         requires { ix.0 < length self.now.nodes }
         ensures { result ≡ end_of (depths self.now.nodes) ix.0 }
@@ -342,11 +342,12 @@ impl Tree<Item> {
     }
 
     /// Remembers where the subtree of the last node begins, of which `note_end` is to say where it ends. What
-    /// is remembered shows only in `take_subtree`. An error where memory is refused.
+    /// is remembered shows in no contract: it saves `surgerize_tight_list` time. An error where memory is refused.
     pub fn remember_last(&mut self) -> Result<(), AllocError>
         ensures { self.new ≡ self.old }
     {
-        self.subtrees.add_last(self.nodes.len())
+        self.subtrees.add_last(self.nodes.len())?;
+        Ok(())
     }
 
     /// Notes that the subtree of the current node, if it is remembered, ends where the nodes end now. Those
@@ -361,7 +362,7 @@ impl Tree<Item> {
 
     /// The last of the subtrees that are remembered, if it stands from `from` on and before `to`. It is
     /// forgotten then.
-    pub fn take_subtree(&mut self, from: usize, to: usize) -> Option<Subtree>
+    pub(crate) fn take_subtree(&mut self, from: usize, to: usize) -> Option<Subtree>
         ensures tree { self.new ≡ self.old }
         ensures within { IfSome result (λ s. (from ≤ s.place) × (s.past ≤ to)) }
         ensures below { IfSome result (λ s. IsSubtree (depths self.old.nodes) s.place s.past) }

@@ -4,5 +4,8 @@
 
 pub mod forest;
 mod node_list;
-pub mod subtrees;
+mod subtrees;
+#[cfg(test)]
+mod tests;
+pub mod tight;
 pub mod tree_index;

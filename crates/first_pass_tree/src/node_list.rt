@@ -19,7 +19,7 @@ pub(crate) fn deeper_end(nodes: &[(usize, Item)], depth: usize, from: usize) -> 
     end
 }
 
-/// Puts a node at a place, and each node behind it one deeper. Where memory is refused the list stays.
+/// Puts a node at a place, and each node after it one deeper. Where memory is refused the list stays.
 pub(crate) fn wrap(
     nodes: &mut Vec<(usize, Item)>,
     place: usize,
@@ -78,7 +78,7 @@ pub(crate) fn last_of_depth(nodes: &[(usize, Item)], depth: usize) -> usize
     0
 }
 
-/// The place behind the innermost open node, which may be the root; `spine` is outermost first.
+/// The place after the innermost open node, which may be the root; `spine` is outermost first.
 pub(crate) fn first_place(spine: &[TreeIndex]) -> usize
     requires { EachIndex spine.now (λ k. IfSome (slice_get spine.now k) (λ ix. ix.0 < 2 ^ 63)) }
     ensures { result ≡ open_place (reverse spine.now) + 1 }
@@ -89,7 +89,7 @@ pub(crate) fn first_place(spine: &[TreeIndex]) -> usize
     }
 }
 
-/// The last place whose node has this depth, or `None` where no node stands at `first` or behind it.
+/// The last place whose node has this depth, or `None` where no node stands at `first` or after it.
 pub(crate) fn last_child(nodes: &[(usize, Item)], first: usize, depth: usize) -> Option<TreeIndex>
     ensures { result ≡ (if nat_lt first (length nodes.now)
         then Some (record { 0 = last_before (depths nodes.now) depth (length nodes.now) }) else None) }

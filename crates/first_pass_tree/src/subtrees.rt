@@ -1,19 +1,19 @@
 //! Where subtrees begin and end, as far as a tree remembers it.
 
-ghost use Rattle.std.specs.Prelude.{◌≡◌, ℕ, ◌<◌, ◌≤◌, List, [], reverse, IfSome, IsSome};
-ghost use Rattle.first_pass_tree.specs.Subtrees.{AreSubtrees, IsSubtree};
+ghost use Rattle.std.specs.Prelude.{◌≡◌, ◌-◌, ◌<◌, ◌∷◌, [], OnOk, OnErr};
+ghost use Rattle.first_pass_tree.specs.Subtrees.{subtree, within_first, ended, last_between, left_between};
 
 use std::alloc::{AllocError, Global};
 use std::marker::Model;
 
-/// A node at `place` and nodes below it, which stand behind it up to `past`.
+/// A node at `place` and nodes below it, which stand after it up to `past`.
 #[derive(Clone, Copy, PartialEq, Eq)]
-pub struct Subtree {
-    pub place: usize,
-    pub past: usize,
+pub(crate) struct Subtree {
+    pub(crate) place: usize,
+    pub(crate) past: usize,
 }
 
-/// Subtrees in the order in which they begin; none ends behind the next one. Contracts see the last first.
+/// Subtrees in the order in which they begin; none ends after the next one. Contracts see the last first.
 #[derive(Drop)]
 pub(crate) struct Subtrees {
     list: Vec<Subtree>,
@@ -41,7 +41,8 @@ impl Subtrees {
     /// Adds the last of `count` nodes, alone. An error where memory is refused.
     pub(crate) fn add_last(&mut self, count: usize) -> Result<(), AllocError>
         requires { 0 < count }
-        ensures { (ds : List ℕ) → AreSubtrees ds count self.old → AreSubtrees ds count self.new }
+        ensures ok { OnOk result (self.new ≡ subtree (count - 1) count ∷ self.old) }
+        ensures err { OnErr result (self.new ≡ self.old) }
     {
         self.list.push(Subtree {
             place: count - 1,
@@ -50,9 +51,9 @@ impl Subtrees {
         Ok(())
     }
 
-    /// Forgets those that end behind the first `count` nodes.
+    /// Forgets the last ones that end after the first `count` nodes.
     pub(crate) fn cut_to(&mut self, count: usize)
-        ensures { (ds : List ℕ) (n : ℕ) → AreSubtrees ds n self.old → AreSubtrees ds count self.new }
+        ensures { self.new ≡ within_first count self.old }
     {
         let mut kept = self.list.len();
         while 0 < kept && count < self.list[kept - 1].past {
@@ -65,8 +66,7 @@ impl Subtrees {
     /// are forgotten, and so is itself where no other is left: nobody will ask for it.
     pub(crate) fn note_end(&mut self, place: usize, past: usize)
         requires { place < past }
-        ensures { (ds : List ℕ) → IsSubtree ds place past → AreSubtrees ds past self.old
-            → AreSubtrees ds past self.new }
+        ensures { self.new ≡ ended place past self.old }
     {
         self.cut_to(place + 1);
         let count = self.list.len();
@@ -82,10 +82,8 @@ impl Subtrees {
 
     /// The last one, if it stands from `from` on and before `to`. It is forgotten then.
     pub(crate) fn take_between(&mut self, from: usize, to: usize) -> Option<Subtree>
-        ensures within { IfSome result (λ s. (from ≤ s.place) × (s.past ≤ to)) }
-        ensures known { IfSome result (λ s. (ds : List ℕ) → (n : ℕ) → AreSubtrees ds n self.old
-            → IsSubtree ds s.place s.past) }
-        ensures rest { (ds : List ℕ) (n : ℕ) → AreSubtrees ds n self.old → AreSubtrees ds n self.new }
+        ensures value { result ≡ last_between from to self.old }
+        ensures rest { self.new ≡ left_between from to self.old }
     {
         let last = *self.list.last()?;
         if last.place < from || to < last.past {

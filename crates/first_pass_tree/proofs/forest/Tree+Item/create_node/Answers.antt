@@ -2,7 +2,7 @@ use Rattle.std.proofs.Common.{arith, ◌≡◌, ◌<◌, ◌^◌, ◌+◌, lengt
 use Rattle.std.proofs.lemmas.List.{length-reverse}
 use Rattle.first_pass_tree.specs.Forest.{depths}
 use Rattle.first_pass_tree.proofs.Keeps.{shallow, wrapped-is, current-within}
-use Rattle.first_pass_tree.proofs.SubtreeLemmas.{subtrees-joined}
+use Rattle.first_pass_tree.proofs.SubtreeLemmas.{subtrees-first, subtrees-joined}
 use Rattle.first_pass_tree.proofs.forest.Tree+Item.create_node.Goals as goal
 
 pub wrap-requires-clause-small : goal.wrap-requires-clause-small
@@ -17,5 +17,5 @@ invariant_of-self-2 c =
     let w = current-within _ c.unwrap-place.result c.unwrap-place.ensures c.self.invariant.forest in
     record {
       forest = rw (c.in_ok-wrap.ensures.ok, d, ← length-reverse c.self.inside.spine.items) (wrapped-is _ c.unwrap-place.result c.args.item c.unwrap-place.ensures c.self.invariant.forest);
-      known = subtrees-joined ns c.wrap.new.nodes.items _ (c.unwrap-place.result.0 + 1) _ (omega arith) c.in_ok-wrap.ensures.ok (c.cut_to.ensures (depths ns) (length ns) c.self.invariant.known);
+      known = subtrees-joined ns c.wrap.new.nodes.items _ (c.unwrap-place.result.0 + 1) _ (omega arith) c.in_ok-wrap.ensures.ok (subtrees-first (depths ns) (length ns) _ _ _ c.cut_to.ensures c.self.invariant.known);
     }

@@ -3,7 +3,7 @@ use Rattle.std.proofs.lemmas.List.{length-reverse}
 use Rattle.first_pass_items.specs.declared.item.Item.{Item}
 use Rattle.first_pass_tree.specs.Forest.{Forest, IsChild, depths, run_end, end_of}
 use Rattle.first_pass_tree.proofs.Keeps.{kept_after-is, run-within}
-use Rattle.first_pass_tree.proofs.SubtreeLemmas.{subtrees-cut}
+use Rattle.first_pass_tree.proofs.SubtreeLemmas.{subtrees-first, subtrees-cut}
 use Rattle.first_pass_tree.proofs.forest.Tree+Item.drop_after.Goals as goal
 
 pub invariant_of-self : goal.invariant_of-self
@@ -17,5 +17,5 @@ invariant_of-self c =
     c.deeper_end-end.ensures ∙ ap (λ (v : List (ℕ × Item)). run_end (depths v) (c.len.result + 1) (at + 1)) c.deref.ensures.value ∙ ap (λ v. run_end (depths ns) v (at + 1)) d in
     record {
       forest = rw (c.truncate.ensures.items, e) (kept_after-is _ c.args.ix q c.self.invariant.forest);
-      known = subtrees-cut ns c.truncate.new.self.items c.deeper_end-end.result _ (rw e (run-within ns (get_or (depths ns) at 0) (at + 1) (omega arith))) c.truncate.ensures.items (c.cut_to.ensures (depths c.self.inside.nodes.items) (length c.self.inside.nodes.items) c.self.invariant.known);
+      known = subtrees-cut ns c.truncate.new.self.items c.deeper_end-end.result _ (rw e (run-within ns (get_or (depths ns) at 0) (at + 1) (omega arith))) c.truncate.ensures.items (subtrees-first (depths c.self.inside.nodes.items) (length c.self.inside.nodes.items) _ _ _ c.cut_to.ensures c.self.invariant.known);
     }

@@ -2,7 +2,7 @@ use Rattle.std.proofs.Common.{arith, ◌≡◌, ◌+◌, length, Some, slice_get
 use Rattle.first_pass_items.specs.declared.item.Item.{Item}
 use Rattle.first_pass_tree.specs.Forest.{Forest, depths}
 use Rattle.first_pass_tree.proofs.Keeps.{childless-is, open-within}
-use Rattle.first_pass_tree.proofs.SubtreeLemmas.{subtrees-cut}
+use Rattle.first_pass_tree.proofs.SubtreeLemmas.{subtrees-first, subtrees-cut}
 use Rattle.first_pass_tree.proofs.forest.Tree+Item.drop_children.Goals as goal
 
 pub overflow_add-ix : goal.overflow_add-ix
@@ -21,5 +21,5 @@ invariant_of-self c =
     let w = open-within _ c.args.ix q c.self.invariant.forest in
     record {
       forest = rw c.truncate.ensures.items (childless-is _ c.args.ix q c.self.invariant.forest);
-      known = subtrees-cut c.self.inside.nodes.items c.truncate.new.self.items (c.args.ix.0 + 1) _ (omega arith) c.truncate.ensures.items (c.cut_to.ensures (depths c.self.inside.nodes.items) (length c.self.inside.nodes.items) c.self.invariant.known);
+      known = subtrees-cut c.self.inside.nodes.items c.truncate.new.self.items (c.args.ix.0 + 1) _ (omega arith) c.truncate.ensures.items (subtrees-first (depths c.self.inside.nodes.items) (length c.self.inside.nodes.items) _ _ _ c.cut_to.ensures c.self.invariant.known);
     }

@@ -2,7 +2,7 @@ use Rattle.std.proofs.Common.{ap, arith, length, ◌+◌, ◌∙◌, reverse, �
 use Rattle.std.proofs.lemmas.List.{reverse-append}
 use Rattle.first_pass_tree.specs.Forest.{depths}
 use Rattle.first_pass_tree.proofs.Keeps.{closed-is, opened-within}
-use Rattle.first_pass_tree.proofs.SubtreeLemmas.{subtrees-cut}
+use Rattle.first_pass_tree.proofs.SubtreeLemmas.{subtrees-first, subtrees-cut}
 use Rattle.first_pass_tree.proofs.forest.Tree+Item.remove_node.Goals as goal
 
 pub invariant_of-self-2 : goal.invariant_of-self-2
@@ -14,5 +14,5 @@ invariant_of-self-2 c =
     record {
       forest = rw c.truncate.ensures.items
           (closed-is _ c.in_ok-emptied.emptied (reverse rest) e c.self.invariant.forest);
-      known = subtrees-cut ns c.truncate.new.self.items (c.in_ok-emptied.emptied.0 + 1) _ (omega arith) c.truncate.ensures.items (c.cut_to.ensures (depths ns) (length ns) c.self.invariant.known);
+      known = subtrees-cut ns c.truncate.new.self.items (c.in_ok-emptied.emptied.0 + 1) _ (omega arith) c.truncate.ensures.items (subtrees-first (depths ns) (length ns) _ _ _ c.cut_to.ensures c.self.invariant.known);
     }

@@ -4,7 +4,7 @@ use Rattle.first_pass_tree.specs.declared.tree_index.TreeIndex.{TreeIndex}
 use Rattle.first_pass_tree.specs.Forest.{Forest, IsForest, open_place, depths, last_before}
 use Rattle.first_pass_tree.proofs.Keeps.{spine-small}
 use Rattle.first_pass_tree.proofs.Cuts.{cut_siblings-is, siblings-by}
-use Rattle.first_pass_tree.proofs.SubtreeLemmas.{subtrees-joined}
+use Rattle.first_pass_tree.proofs.SubtreeLemmas.{subtrees-first, subtrees-joined}
 use Rattle.first_pass_tree.proofs.Depths.{open-last}
 use Rattle.std.proofs.lemmas.List.{length-map, length-reverse}
 use Rattle.first_pass_tree.proofs.forest.Tree+Item.truncate_siblings.Goals as goal
@@ -14,7 +14,7 @@ first_place-first-requires c =
     let l : length c.self.inside.nodes.items < 2 ^ 63 = omega (arith, c.self.inside.nodes.small, c.self.inside.nodes.ok) in
     rw c.deref.ensures.value (spine-small _ c.self.inside.spine.items refl c.self.invariant.forest l)
 
--- the last of these nodes at a depth, where any stands at a place or behind it
+-- the last of these nodes at a depth, where any stands at a place or after it
 abbrev last_from : ℕ → ℕ → List (ℕ × Item) → Option TreeIndex
 last_from p d ns = if nat_lt p (length ns) then Some (record { 0 = last_before (depths ns) d (length ns) }) else None
 
@@ -28,5 +28,5 @@ invariant_of-self c =
     let w = open-last (depths ns) (reverse c.self.inside.spine.items) c.self.invariant.forest.opened in
     record {
       forest = subst (λ (v : Forest Item). IsForest v) (sym (siblings-by f c.args.end _ _ _ _ p d c.cut_nodes.ensures cur)) (cut_siblings-is f c.args.end c.self.invariant.forest);
-      known = subtrees-joined ns c.cut_nodes.new.nodes.items _ c.first_place-first.result _ (omega (arith, w.within, length-map ns (λ n. n.0))) c.cut_nodes.ensures (c.cut_to.ensures (depths ns) (length ns) c.self.invariant.known);
+      known = subtrees-joined ns c.cut_nodes.new.nodes.items _ c.first_place-first.result _ (omega (arith, w.within, length-map ns (λ n. n.0))) c.cut_nodes.ensures (subtrees-first (depths ns) (length ns) _ _ _ c.cut_to.ensures c.self.invariant.known);
     }

@@ -4,7 +4,7 @@ use Rattle.first_pass_items.specs.declared.item.Item.{Item}
 use Rattle.first_pass_tree.specs.Forest.{Forest, IsForest, IsChildOfCurrent, depths, run_end, last_before, shallower}
 use Rattle.first_pass_tree.proofs.Keeps.{run-within}
 use Rattle.first_pass_tree.proofs.Moves.{moved_out-is, moved-by}
-use Rattle.first_pass_tree.proofs.SubtreeLemmas.{subtrees-changed}
+use Rattle.first_pass_tree.proofs.SubtreeLemmas.{subtrees-first, subtrees-changed}
 use Rattle.first_pass_tree.proofs.forest.Tree+Item.truncate_to_parent.Goals as goal
 
 pub invariant_of-self : goal.invariant_of-self
@@ -19,5 +19,5 @@ invariant_of-self c =
     let w : c.args.ix.0 < length ns = q.within in
     record {
       forest = subst (λ (v : Forest Item). IsForest v) (sym (moved-by f c.args.ix _ _ _ _ d i e c.lower.ensures r)) (moved_out-is f c.args.ix q c.self.invariant.forest);
-      known = subtrees-changed ns c.lower.new.nodes.items shallower c.deeper_end-end.result _ (omega (arith, run-within ns (c.len-depth.result + 1 + 1) (c.args.ix.0 + 1) (omega arith))) c.lower.ensures (c.cut_to.ensures (depths ns) (length ns) c.self.invariant.known);
+      known = subtrees-changed ns c.lower.new.nodes.items shallower c.deeper_end-end.result _ (omega (arith, run-within ns (c.len-depth.result + 1 + 1) (c.args.ix.0 + 1) (omega arith))) c.lower.ensures (subtrees-first (depths ns) (length ns) _ _ _ c.cut_to.ensures c.self.invariant.known);
     }

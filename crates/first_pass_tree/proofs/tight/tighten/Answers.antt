@@ -1,9 +1,9 @@
 use Rattle.std.proofs.Common.{Some, refl, sym, ap, ◌∙◌, slice_index}
 use Rattle.first_pass_items.specs.declared.item.ItemBody.TheVariants.{Paragraph, TightParagraph}
 use Rattle.first_pass_tree.specs.Forest.{depths}
-use Rattle.first_pass_lists.proofs.BodyLemmas.{body_of}
-use Rattle.first_pass_lists.proofs.TightLemmas.{node_stays, node_tight, two_deeper, not_two_deeper, other_tight, with_nodes, tight_same_body}
-use Rattle.first_pass_lists.proofs.list.tighten.Goals as goal
+use Rattle.first_pass_tree.proofs.BodyLemmas.{body_of}
+use Rattle.first_pass_tree.proofs.TightLemmas.{node_stays, node_tight, two_deeper, not_two_deeper, other_tight, with_nodes, tight_same_body}
+use Rattle.first_pass_tree.proofs.tight.tighten.Goals as goal
 
 pub returns-then-depth_at-list_depth-ne2 : goal.returns-then-depth_at-list_depth-ne2
 returns-then-depth_at-list_depth-ne2 c =

@@ -1,5 +1,5 @@
-use Rattle.first_pass_lists.proofs.TightLemmas.{IsTightening}
-use Rattle.first_pass_lists.proofs.list.tighten_between.Given as goal
+use Rattle.first_pass_tree.proofs.TightLemmas.{IsTightening}
+use Rattle.first_pass_tree.proofs.tight.tighten_between.Given as goal
 
 abbrev pub invariant-loop-at : goal.invariant-loop-at
 invariant-loop-at l = IsTightening l.initial.tree l.list_depth l.from l.to l.at l.tree

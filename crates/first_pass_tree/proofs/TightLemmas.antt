@@ -8,11 +8,13 @@ use Rattle.first_pass_items.specs.declared.item.ItemBody.{ItemBody}
 use Rattle.first_pass_items.specs.declared.item.ItemBody.TheVariants.{Paragraph}
 use Rattle.first_pass_tree.specs.declared.tree_index.TreeIndex.{TreeIndex}
 use Rattle.first_pass_tree.specs.Forest.{Forest, depths, modify, body_at, end_of}
+use Rattle.first_pass_tree.specs.Tight.{tight_body, tightened, tight_run, tight_at, tight_node, with_tight_node, tight_from}
 use Rattle.first_pass_tree.proofs.Depths.{at-end, before-end}
 use Rattle.first_pass_tree.proofs.Keeps.{run-within}
-use Rattle.first_pass_grammar.specs.Derivation.{node_of, tight_body, tightened}
-use Rattle.first_pass_lists.specs.Closing.{tight_run, tight_at, tight_node, tight_from, with_tight_node}
-use Rattle.first_pass_lists.proofs.BodyLemmas.{not_changed}
+use Rattle.first_pass_tree.proofs.BodyLemmas.{not_changed}
+
+abbrev node_of : ℕ → ℕ → ItemBody → Item
+node_of start «end» body = record { start = start; «end» = «end»; body = body }
 
 run_depths_by : (t : Bool) (depth : ℕ) (n : ℕ × Item) (ns : List (ℕ × Item)) → depths (tight_run depth ns) ≡ depths ns → depths (if t then tightened (depth + 2) n ∷ tight_run depth ns else n ∷ ns) ≡ depths (n ∷ ns)
 run_depths_by true depth n ns h = ap (λ ds. n.0 ∷ ds) h
@@ -209,11 +211,11 @@ walk_deeper f g list depth at k d h a b =
     let o = before-end (depths f.nodes) list k a (omega arith) in
     subst (λ (ds : List ℕ). depth < slice_index ds k) (sym (tight_from_depths f g depth at h.tight)) (subst (λ (e : ℕ). e < slice_index (depths f.nodes) k) (sym d) o)
 
--- the nodes behind an inner list are tight too
+-- the nodes after an inner list are tight too
 pub walk_over : (f g : Forest Item) (list depth at past : ℕ) → IsTightFrom f list depth at g → list < past → past ≤ at → (h : Forest Item) → h ≡ tight_from f depth past → IsTightFrom f list depth past h
 walk_over f g list depth at past from a b h t = record { behind = a; within = (let w = from.within in omega arith); tight = t }
 
--- a step over an inner list, from the nodes behind it to its place
+-- a step over an inner list, from the nodes after it to its place
 pub walk_next : (f g h next : Forest Item) (list depth at place past : ℕ) → list < length f.nodes → depth ≡ slice_index (depths f.nodes) list → IsTightFrom f list depth at g → list < place → place < past → past ≤ at
     → ((k : ℕ) → place < k → k < past → depth + 2 < slice_index (depths g.nodes) k)
     → h ≡ tight_from f depth past → next ≡ with_tight_node h depth (record { 0 = place }) → IsTightFrom f list depth place next

@@ -1,5 +1,5 @@
-use Rattle.first_pass_lists.proofs.TightLemmas.{IsTightFrom}
-use Rattle.first_pass_lists.proofs.list.surgerize_tight_list.Given as goal
+use Rattle.first_pass_tree.proofs.TightLemmas.{IsTightFrom}
+use Rattle.first_pass_tree.proofs.tight.surgerize_tight_list.Given as goal
 
 -- the paragraphs from here on are tight
 abbrev pub invariant-loop-at : goal.invariant-loop-at

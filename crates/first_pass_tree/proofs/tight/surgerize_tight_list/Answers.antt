@@ -1,6 +1,6 @@
 use Rattle.std.proofs.Common.{◌∙◌, sym, subst, arith}
-use Rattle.first_pass_lists.proofs.TightLemmas.{IsTightFrom, walk_begins, walk_within, walk_deeper, walk_over, walk_next}
-use Rattle.first_pass_lists.proofs.list.surgerize_tight_list.Goals as goal
+use Rattle.first_pass_tree.proofs.TightLemmas.{IsTightFrom, walk_begins, walk_within, walk_deeper, walk_over, walk_next}
+use Rattle.first_pass_tree.proofs.tight.surgerize_tight_list.Goals as goal
 
 pub overflow_add-first : goal.overflow_add-first
 overflow_add-first c = omega (arith, c.end_of-at.ensures)

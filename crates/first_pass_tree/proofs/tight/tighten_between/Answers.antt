@@ -1,6 +1,6 @@
 use Rattle.std.proofs.Common.{◌-◌, arith}
-use Rattle.first_pass_lists.proofs.TightLemmas.{tightening_next}
-use Rattle.first_pass_lists.proofs.list.tighten_between.Goals as goal
+use Rattle.first_pass_tree.proofs.TightLemmas.{tightening_next}
+use Rattle.first_pass_tree.proofs.tight.tighten_between.Goals as goal
 
 pub loop-at-preserved : goal.loop-at-preserved
 loop-at-preserved c =

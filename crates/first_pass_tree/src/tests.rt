@@ -1,0 +1,58 @@
+//! What the tree remembers of subtrees, by calls one after the other.
+
+use crate::forest::Tree;
+use crate::subtrees::Subtree;
+use crate::tree_index::TreeIndex;
+use first_pass_items::item::{Item, ItemBody, ListFlags};
+use std::alloc::{AllocError, Global};
+use std::test::Fail;
+
+fn item(start: usize, end: usize, body: ItemBody) -> Item {
+    Item { start, end, body }
+}
+
+// `- - a` without its paragraph: a list in the open item of a list. Both are remembered, and the inner one
+// was just closed.
+fn list_in_list(alloc: Global) -> Result<Tree<Item>, AllocError> {
+    let list = item(0, 4, ItemBody::List(ListFlags::IS_TIGHT, b'-', 0));
+    let mut tree = Tree::with_capacity(alloc, 5)?;
+    for start in [0, 2] {
+        tree.append(list)?;
+        tree.remember_last()?;
+        tree.push()?;
+        tree.append(item(start, 4, ItemBody::ListItem(2)))?;
+        tree.push()?;
+    }
+    tree.pop();
+    tree.pop();
+    tree.note_end();
+    Ok(tree)
+}
+
+#[test]
+fn remembers_subtrees(rt: HostRuntime) -> Result<(), Fail> {
+    let mut tree = list_in_list(rt.alloc())?;
+    assert!(rt; 4 < tree.node_count());
+    assert!(rt; tree.end_of(TreeIndex(3)) == 5 && tree.end_of(TreeIndex(1)) == 5);
+    assert!(rt; tree.take_subtree(4, 5) == None && tree.take_subtree(2, 4) == None);
+    let inner = Subtree { place: 3, past: 5 };
+    assert!(rt; tree.take_subtree(2, 5) == Some(inner));
+    assert!(rt; tree.take_subtree(2, 5) == None);
+    tree.pop();
+    tree.pop();
+    tree.note_end();
+    assert!(rt; tree.take_subtree(0, 5) == None);
+    Ok(())
+}
+
+#[test]
+fn forgets_subtrees_that_are_cut(rt: HostRuntime) -> Result<(), Fail> {
+    let mut tree = list_in_list(rt.alloc())?;
+    assert!(rt; tree.remove_node() == Some(TreeIndex(2)));
+    tree.append(item(0, 4, ItemBody::Rule))?;
+    tree.append(item(0, 4, ItemBody::Rule))?;
+    let outer = Subtree { place: 1, past: 2 };
+    assert!(rt; tree.take_subtree(0, 5) == Some(outer));
+    assert!(rt; tree.take_subtree(0, 5) == None);
+    Ok(())
+}
