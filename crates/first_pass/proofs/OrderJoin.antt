@@ -13,7 +13,7 @@ use Rattle.first_pass_tokens.specs.TreeTokens.{with_token, with_tokens, AppendsL
 use Rattle.first_pass_tokens.proofs.OrderLemmas.{order_bound, order_to, order_from, line_in_order, cell_in_order, cell_end_place}
 use Rattle.first_pass_names.specs.TableEntries.{no_names}
 use Rattle.first_pass_grammar.specs.Leaves.{Document, document, content_at}
-use Rattle.first_pass_text.specs.Appends.{text_upto}
+use Rattle.first_pass_tokens.specs.Pieces.{text_upto}
 use Rattle.first_pass_text.proofs.TextFronts.{front_utf8, place_in_front, place_in_text, order_in_text}
 use Rattle.first_pass_grammar.specs.Order.{Extent, extent_of, extents, is_task_marker, Row, Empty, Node, laid, IsBetween, Within, Elsewhere, InItem, InText, in_item, below, beyond, IsLead, Fits}
 use Rattle.first_pass_grammar.specs.OpenOrder.{laid_open, open_item, FitsOpen, IsOrderedTo}
@@ -215,7 +215,7 @@ ordered_tokens text f from to (x ∷ xs) forest h high o =
 
 -- the tokens of a line added, which begins at an offset of a text of which nothing counts from another on, or all
 pub ordered_line : (d : Document) (start : ℕ) (end : Option ℕ) (old new : Forest Item) (next : ℕ) (line_break : Option Item) (from : ℕ) → IsUtf8 d.text → IfSome end (λ e. (start ≤ e) × IsCharBoundary d.text e) → IsCharBoundary d.text start → IsForest old
-    → AppendsLine (content_at (document (text_upto d.text end) d.options no_names) start) old new (next, line_break) → from ≤ start → IsOrderedTo d.text old from → IsOrderedTo d.text new next
+    → AppendsLine (record { options = d.options; whole = d.text; text = text_upto d.text end; start = start; row = false }) old new (next, line_break) → from ≤ start → IsOrderedTo d.text old from → IsOrderedTo d.text new next
 ordered_line d start None old new next line_break from u ends boundary forest h low o =
     let l = line_in_order u boundary boundary.0 h.line in
     let tokens : AreInOrder d.text start next h.tokens = order_to d.text start _ next h.tokens l.tokens_fit l.before in
@@ -239,7 +239,7 @@ tokens_ordered text old new at start to tokens forest o low order within is none
 -- the tokens of a cell added, which begins at an offset of such a text
 pub ordered_cell : (text : List ℕ) (options : Options) (start : ℕ) (end : Option ℕ) (old new : Forest Item) (stop from : ℕ) → IsUtf8 text
     → IfSome end (λ e. (start ≤ e) × IsCharBoundary text e) → IsCharBoundary text start → IsForest old
-    → AppendsCell (cell_content (document (text_upto text end) options no_names) start) old new stop → from ≤ start → IsOrderedTo text old from
+    → AppendsCell (record { options = options; whole = text; text = text_upto text end; start = start; row = true }) old new stop → from ≤ start → IsOrderedTo text old from
     → IsOrderedTo text new stop
 ordered_cell text options start None old new stop from u ends boundary forest h low o =
     let tokens = cell_in_order u boundary boundary.0 h.cell in

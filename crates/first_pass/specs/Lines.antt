@@ -6,20 +6,20 @@ use Rattle.first_pass_items.specs.declared.item.AlignmentIndex.{AlignmentIndex}
 use Rattle.first_pass_items.specs.declared.item.Item.{Item}
 use Rattle.first_pass_items.specs.declared.item.ItemBody.TheVariants.{Table}
 use Rattle.first_pass_lines.specs.Lines.{is_content}
-use Rattle.first_pass_tokens.specs.Pieces.{Source}
+use Rattle.first_pass_tokens.specs.Pieces.{Source, text_upto}
 use Rattle.first_pass_tokens.specs.LineTokens.{EndsLine, EndsCell}
 use Rattle.first_pass_tokens.specs.TreeTokens.{AppendsLine, AppendsCell}
 use Rattle.first_pass_grammar.specs.TableHeads.{headed_table}
 use Rattle.first_pass_flank.specs.declared.flank.TableParseMode.{TableParseMode}
 use Rattle.first_pass_flank.specs.declared.flank.TableParseMode.TheVariants.{Scan, Active, Disabled}
 use Rattle.first_pass_names.specs.TableEntries.{names_of, with_alignments}
-use Rattle.first_pass_text.specs.Appends.{text_upto, line_end_at}
+use Rattle.first_pass_text.specs.Appends.{line_end_at}
 use Rattle.first_pass.specs.declared.state.FirstPass.{FirstPass}
 use Rattle.first_pass.specs.Views.{allocs_of, context_in, source_options, source_text, tree_of}
 
 -- the content that begins at an offset, of a text of which nothing counts from another offset on; a cell's or a line's
 abbrev pub content_upto : FirstPass → ℕ → Option ℕ → Bool → Source
-content_upto pass start end row = record { options = source_options pass; text = text_upto (source_text pass) end; start = start; row = row }
+content_upto pass start end row = record { options = source_options pass; whole = source_text pass; text = text_upto (source_text pass) end; start = start; row = row }
 
 -- the tokens of the line are appended, and it is answered where it ends and its break (CommonMark 2.4, 6.7, 6.8)
 pub record ReadsLine (old new : FirstPass) (start : ℕ) (end : Option ℕ) (answer : ℕ × Option Item) : Type 0 where

@@ -2,7 +2,7 @@
 
 ghost use Rattle.std.specs.Prelude.{◌≡◌, ◌≤◌, ◌+◌, ◌-◌, ℕ, length, drop, None, Some, IfOk, IfSome, MatchOption, OnOk, IsUtf8, IsCharBoundary};
 ghost use Rattle.std.specs.Option.{option_map};
-ghost use Rattle.first_pass_text.specs.Appends.{text_upto};
+ghost use Rattle.first_pass_tokens.specs.Pieces.{text_upto};
 ghost use Rattle.first_pass_lists.specs.Closing.{with_block};
 ghost use Rattle.first_pass_grammar.specs.Names.{Extends};
 ghost use Rattle.first_pass_names.specs.TableEntries.{entries, names_of};
@@ -16,21 +16,9 @@ use first_pass_items::item::{Item, ItemBody};
 use first_pass_lines::lines::content_len;
 use first_pass_lines::places::{next_line, rest_of};
 use first_pass_text::table_start::scan_headed_line;
-use first_pass_tokens::line::{append_cell, append_line};
+use first_pass_tokens::line::{append_cell, append_line, text_upto};
+use first_pass_tokens::pieces::Content;
 use std::alloc::AllocError;
-
-// The bytes of a text up to an offset, or all.
-fn text_upto(text: &str, end: Option<usize>) -> &[u8]
-    requires { IfSome end (λ e. e ≤ length text.now) }
-    ensures value { result.now ≡ text_upto text.now end }
-    ensures utf8 { IsUtf8 text.now }
-{
-    let bytes = text.as_bytes();
-    match end {
-        Some(end) => &bytes[..end],
-        None => bytes,
-    }
-}
 
 impl<'a> FirstPass<'a> {
     /// Appends the tokens of a line, or of a cell in a table's row, to the innermost open node: the one whose content
@@ -92,6 +80,7 @@ impl<'a> FirstPass<'a> {
         requires end { IfSome end (λ e. (start ≤ e) × (e ≤ length (source_text self.old))) }
         ensures source { OnOk result (source_of self.new ≡ source_of self.old) }
         ensures reading { OnOk result (reading_of self.new ≡ with_block (reading_of self.old) (tree_of self.new)) }
+        ensures utf8 { OnOk result (IsUtf8 (source_text self.old)) }
         ensures line { IfOk result (λ answer. ReadsLine self.old self.new start end answer) }
         ensures boundary { IfOk result (λ answer. end ≡ None → IsCharBoundary (source_text self.old) start
             → IsCharBoundary (source_text self.old) answer.0) }
@@ -105,10 +94,14 @@ impl<'a> FirstPass<'a> {
         ensures within { IfOk result (λ answer. answer.0 ≤ length (text_upto (source_text self.old) end)) }
     {
         self.reading.tree.is_forest();
-        let bytes = text_upto(self.source.text, end);
-        let options = self.source.options;
+        let content = Content {
+            options: self.source.options,
+            start,
+            end,
+            row: false,
+        };
         let lut = &self.lookup_table;
-        let line = append_line(bytes, start, options, lut, &mut self.reading.tree)?;
+        let line = append_line(self.source.text, content, lut, &mut self.reading.tree)?;
         self.reading.empty_item = None;
         Ok(line)
     }
@@ -129,10 +122,14 @@ impl<'a> FirstPass<'a> {
             length (tree_of self.new).nodes ≤ length (tree_of self.old).nodes + (stop - start)) }
     {
         self.reading.tree.is_forest();
-        let bytes = text_upto(self.source.text, end);
-        let options = self.source.options;
+        let content = Content {
+            options: self.source.options,
+            start,
+            end,
+            row: true,
+        };
         let lut = &self.lookup_table;
-        let stop = append_cell(bytes, start, options, lut, &mut self.reading.tree)?;
+        let stop = append_cell(self.source.text, content, lut, &mut self.reading.tree)?;
         self.reading.empty_item = None;
         Ok(stop)
     }

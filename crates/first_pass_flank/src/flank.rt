@@ -35,6 +35,36 @@ pub struct DelimiterRun {
     pub size: usize,
 }
 
+impl DelimiterRun {
+    /// Whether the run can open. CommonMark 6.2, GFM 4.10 and 6.5.
+    #[tactic(auto, unfolding(crate::specs::Flank::can_open))]
+    pub fn can_open(&self) -> bool
+        ensures { result ≡ flanks.can_open self.now }
+    {
+        let Some(after) = self.after else {
+            return false;
+        };
+        match self.before {
+            None => !after.is_whitespace(),
+            Some(before) => opens_between(self, before, after),
+        }
+    }
+
+    /// Whether the run can close. CommonMark 6.2, GFM 4.10 and 6.5.
+    #[tactic(auto, unfolding(crate::specs::Flank::can_close))]
+    pub fn can_close(&self) -> bool
+        ensures { result ≡ flanks.can_close self.now }
+    {
+        let Some(before) = self.before else {
+            return false;
+        };
+        match self.after {
+            None => !before.is_whitespace(),
+            Some(after) => closes_between(self, before, after),
+        }
+    }
+}
+
 /// Whether a character is Unicode punctuation: of the general category P or S. CommonMark 2.1.
 #[tactic(auto, unfolding(crate::specs::Flank::is_punctuation))]
 pub fn is_punctuation(c: char) -> bool
@@ -49,7 +79,6 @@ pub fn is_punctuation(c: char) -> bool
 /// the content `s` at the offset `ix`. `suffix` runs on behind the run to the end of the text; in a row
 /// of a table, which `mode` says, a pipe ends a cell. A run of no bytes goes by what stands beside it alone.
 /// CommonMark 6.2, GFM 4.10 and 6.5.
-#[tactic(auto, unfolding(crate::specs::Flank::can_open))]
 pub fn delim_run_can_open(
     s: &str,
     suffix: &str,
@@ -63,21 +92,13 @@ pub fn delim_run_can_open(
     requires run_boundary { IsCharBoundary suffix.now run_len }
     ensures value { result ≡ flanks.can_open (flanks.run_beside s.now suffix.now run_len ix mode) }
 {
-    let run = run_beside(s, suffix, run_len, ix, mode);
-    let Some(after) = run.after else {
-        return false;
-    };
-    match run.before {
-        None => !after.is_whitespace(),
-        Some(before) => opens_between(&run, before, after),
-    }
+    run_beside(s, suffix, run_len, ix, mode).can_open()
 }
 
 /// Whether the delimiter run of `run_len` bytes that `suffix` begins with can close, where it stands in
 /// the content `s` at the offset `ix`. `suffix` runs on behind the run to the end of the text; in a row
 /// of a table, which `mode` says, a pipe ends a cell. A run of no bytes goes by what stands beside it alone.
 /// CommonMark 6.2, GFM 4.10 and 6.5.
-#[tactic(auto, unfolding(crate::specs::Flank::can_close))]
 pub fn delim_run_can_close(
     s: &str,
     suffix: &str,
@@ -91,14 +112,7 @@ pub fn delim_run_can_close(
     requires run_boundary { IsCharBoundary suffix.now run_len }
     ensures value { result ≡ flanks.can_close (flanks.run_beside s.now suffix.now run_len ix mode) }
 {
-    let run = run_beside(s, suffix, run_len, ix, mode);
-    let Some(before) = run.before else {
-        return false;
-    };
-    match run.after {
-        None => !before.is_whitespace(),
-        Some(after) => closes_between(&run, before, after),
-    }
+    run_beside(s, suffix, run_len, ix, mode).can_close()
 }
 
 /// Runs of `*` and `_` outside the rows of a table open and close emphasis just as the first four rules
@@ -152,9 +166,9 @@ fn is_row(mode: TableParseMode) -> bool
     }
 }
 
-// Whether the text ends with a pipe that no backslash escapes.
+/// Whether the text ends with a pipe that no backslash escapes (GFM 4.10).
 #[tactic(auto, unfolding(crate::specs::Flank::ends_with_pipe))]
-fn ends_with_pipe(text: &[u8]) -> bool
+pub fn ends_with_pipe(text: &[u8]) -> bool
     ensures { result ≡ flanks.ends_with_pipe text.now }
 {
     let len = text.len();
@@ -164,16 +178,16 @@ fn ends_with_pipe(text: &[u8]) -> bool
     len < 2 || text[len - 2] != b'\\'
 }
 
-// The first character of a text.
+/// The first character of a text; `None` where the text is empty.
 #[tactic(auto, unfolding(crate::specs::Flank::first_char))]
-fn first_char(text: &str) -> Option<char>
+pub fn first_char(text: &str) -> Option<char>
     ensures { result ≡ flanks.first_char text.now }
 {
     text.chars().next()
 }
 
-// The last character of a text.
-fn last_char(text: &str) -> Option<char>
+/// The last character of a text; `None` where the text is empty.
+pub fn last_char(text: &str) -> Option<char>
     ensures { result ≡ flanks.last_char text.now }
 {
     text.chars().next_back()

@@ -1,16 +1,16 @@
 -- What holds of each token holds of each item in the chain of a paragraph, of a heading and of a cell, and of raw lines.
-use Rattle.std.proofs.Common.{◌≡◌, inl, inr, ℕ, zero, suc, ◌+◌, ◌-◌, ◌==◌, ◌&&◌, Bool, true, false, nat_lt, nat_le, min, List, [], ◌∷◌, ◌++◌, length, Option, Some, None, IfSome, sym, subst, if◌then◌else◌}
+use Rattle.std.proofs.Common.{◌≡◌, inl, inr, ℕ, zero, suc, ◌+◌, ◌-◌, ◌==◌, ◌&&◌, Bool, true, false, nat_lt, nat_le, min, List, [], ◌∷◌, ◌++◌, length, Option, Some, None, IfSome, sym, subst, if◌then◌else◌, refl}
 use Rattle.first_pass_items.specs.declared.item.CowIndex.{CowIndex}
 use Rattle.first_pass_items.specs.declared.item.Item.{Item}
 use Rattle.first_pass_items.specs.declared.item.ItemBody.{ItemBody}
-use Rattle.first_pass_items.specs.declared.item.ItemBody.TheVariants.{Text, SoftBreak, HardBreak, Html, SynthesizeText}
+use Rattle.first_pass_items.specs.declared.item.ItemBody.TheVariants.{Text, SoftBreak, HardBreak, MaybeEmphasis, Html, SynthesizeText}
 use Rattle.first_pass_tree.specs.Forest.{is_escaped, cut_item}
 use Rattle.first_pass_lines.specs.Places.{Place, offset, line_end}
 use Rattle.first_pass_tokens.specs.declared.pieces.Piece.{Piece}
-use Rattle.first_pass_tokens.specs.declared.pieces.Piece.TheVariants.{Left, Begins, Token}
+use Rattle.first_pass_tokens.specs.declared.pieces.Piece.TheVariants.{Left, Begins, Token, Run}
 use Rattle.first_pass_tokens.specs.Pieces.{Source, size}
 use Rattle.first_pass_tokens.specs.LineTokens.{ArePieces, add_piece, add_pieces, text_end, line_end_len, breaks_by_backslash, blanks_at_end, break_of, line_break, IsLine, IsCell}
-use Rattle.first_pass_tokens.specs.Chains.{text_token, token, touches, add_token, add_tokens, add_text, is_backslash_break, close_break, cut}
+use Rattle.first_pass_tokens.specs.Chains.{text_token, token, run_tokens, touches, add_token, add_tokens, add_text, is_backslash_break, close_break, cut}
 use Rattle.first_pass_tokens.proofs.PieceFacts.{IsPieceAt, is_markup}
 use Rattle.first_pass_tokens.proofs.LineLemmas.{piece_of}
 use Rattle.first_pass_grammar.specs.declared.kind.Container.{Container}
@@ -79,11 +79,17 @@ module _ (P : ItemBody → Type 0) (holds : HoldsOfTokens P) where
   text_each from to escaped chain h =
       unless_each P (nat_lt from to) (add_token chain (text_token from to escaped)) chain (token_each P chain (text_token from to escaped) h (holds.text escaped)) h
 
+  -- the tokens of a run
+  run_each : (at n : ℕ) (opens closes : Bool) → AreEach P (run_tokens at n opens closes)
+  run_each at zero opens closes = tt
+  run_each at (suc n) opens closes = (holds.markup (MaybeEmphasis (suc n) opens closes) refl, run_each (at + 1) n opens closes)
+
   -- the tokens of pieces
   piece_each : (text : List ℕ) (stop at : ℕ) (p : Piece) (chain : List Item) → IsPieceAt text at p → AreEach P chain → AreEach P (add_piece stop at p chain)
   piece_each text stop at (Left n) chain facts h = text_each at (min (at + n) stop) false chain h
   piece_each text stop at (Begins dropped escaped) chain facts h = text_each (at + dropped) (min (at + (dropped + 1)) stop) escaped chain h
   piece_each text stop at (Token dropped n body) chain facts h = token_each P chain (token (at + dropped) n body) h (holds.markup body facts.kind)
+  piece_each text stop at (Run n opens closes) chain facts h = tokens_each P chain (run_tokens at n opens closes) h (run_each at n opens closes)
 
   pub pieces_each : (s : Source) (stop at : ℕ) (ps : List Piece) (end : ℕ) (chain : List Item) → ArePieces s at ps end → AreEach P chain
       → AreEach P (add_pieces stop at ps chain)

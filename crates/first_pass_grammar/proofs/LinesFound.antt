@@ -24,7 +24,7 @@ pub record LinesFrom (text : List ℕ) (options : Options) (path : List Containe
   pub shorter : length given.left ≤ length lines
 
 source_at : List ℕ → Options → ℕ → Source
-source_at text options start = record { options = options; text = text; start = start; row = false }
+source_at text options start = record { options = options; whole = text; text = text; start = start; row = false }
 
 lines_by : (text : List ℕ) (options : Options) (path : List Container) (start : ℕ) (chain tokens : List Item) (answer : ℕ × Option Item) (line : Place)
     (lines : List Place) (t : Bool) → ends_text (context options path) line.rest ≡ t

@@ -23,7 +23,7 @@ use Rattle.first_pass_grammar.proofs.EachToken.{AreEach, HoldsOfTokens, HoldsOfR
 use Rattle.first_pass_grammar.proofs.RowEnds.{row_ends_its_line}
 use Rattle.first_pass_grammar.proofs.TableRows.{as_many_cells}
 use Rattle.first_pass_tokens.proofs.PieceFacts.{is_markup}
-use Rattle.first_pass_items.specs.declared.item.ItemBody.TheVariants.{MaybeCode, MaybeHtml, MaybeLinkOpen, MaybeLinkClose, MaybeImage}
+use Rattle.first_pass_items.specs.declared.item.ItemBody.TheVariants.{MaybeEmphasis, MaybeCode, MaybeHtml, MaybeLinkOpen, MaybeLinkClose, MaybeImage}
 
 -- more nodes, and nodes at another depth
 pub marks-append : (names : Names) (nodes more : List (ℕ × Item)) → marks names (nodes ++ more) ≡ marks names nodes ++ marks names more
@@ -102,6 +102,7 @@ abbrev pub ShowsNothing : ItemBody → Type 0
 ShowsNothing body = (names : Names) (depth start «end» : ℕ) → shown names depth start «end» body ≡ []
 
 markup_shows : (body : ItemBody) → is_markup body ≡ true → ShowsNothing body
+markup_shows (MaybeEmphasis left opens closes) h = λ names depth start end. refl
 markup_shows (MaybeCode n escaped) h = λ names depth start end. refl
 markup_shows MaybeHtml h = λ names depth start end. refl
 markup_shows MaybeLinkOpen h = λ names depth start end. refl

@@ -47,7 +47,7 @@ no_line_end text at h =
 
 -- the content of a cell that begins there
 cell_source : List ℕ → Options → ℕ → Source
-cell_source text options start = record { options = options; text = text; start = start; row = true }
+cell_source text options start = record { options = options; whole = text; text = text; start = start; row = true }
 
 none_of : (a b c e : Bool) → a ≡ false → b ≡ false → e ≡ false → (a || (b || (true && (c && e)))) ≡ false
 none_of true b c e h k l = absurd (true≢false h)

@@ -32,7 +32,7 @@ document text options names = record { text = text; options = options; names = n
 
 -- the content that begins at an offset
 abbrev pub content_at : Document → ℕ → Source
-content_at d start = record { options = d.options; text = d.text; start = start; row = false }
+content_at d start = record { options = d.options; whole = d.text; text = d.text; start = start; row = false }
 
 -- what the text is read in, inside the containers of a path
 abbrev pub around : Document → List Container → Context
@@ -110,6 +110,7 @@ line_bytes d start = take (line_len (drop start d.text)) (drop start d.text)
 abbrev pub heading_content : Document → ℕ → Source
 heading_content d start = record {
   options = d.options;
+  whole = d.text;
   text = text_before_attributes d.options d.text start (line_bytes d start);
   start = start;
   row = false;

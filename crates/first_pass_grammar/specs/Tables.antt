@@ -21,7 +21,7 @@ use Rattle.first_pass_grammar.specs.Leaves.{Document, block_with}
 
 -- the content of a cell that begins at an offset (GFM 4.10)
 abbrev pub cell_content : Document → ℕ → Source
-cell_content d start = record { options = d.options; text = d.text; start = start; row = true }
+cell_content d start = record { options = d.options; whole = d.text; text = d.text; start = start; row = true }
 
 -- where a cell begins: behind the pipe that stands at an offset, or there where none does (GFM 4.10)
 abbrev pub cell_start : List ℕ → ℕ → ℕ

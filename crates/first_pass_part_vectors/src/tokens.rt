@@ -4,6 +4,7 @@ use bitflags::Flags;
 use first_pass_items::item::{Item, ItemBody};
 use first_pass_items::option_set::Options;
 use first_pass_tokens::line::{append_cell, append_line};
+use first_pass_tokens::pieces::Content;
 use first_pass_tree::forest::Tree;
 use first_pass_walk::walk::special_bytes;
 use std::alloc::{AllocError, Global};
@@ -33,7 +34,7 @@ fn name(body: &ItemBody) -> &'static str {
 }
 
 // A paragraph of the lines of a text, each with its break.
-fn paragraph(alloc: Global, text: &[u8]) -> Result<Tree<Item>, AllocError> {
+fn paragraph(alloc: Global, text: &str) -> Result<Tree<Item>, AllocError> {
     let lut = special_bytes(&Options::empty());
     let mut tree = Tree::with_capacity(alloc, 8)?;
     tree.append(Item {
@@ -44,7 +45,13 @@ fn paragraph(alloc: Global, text: &[u8]) -> Result<Tree<Item>, AllocError> {
     tree.push()?;
     let mut at = 0;
     while at < text.len() {
-        let (next, line_break) = append_line(text, at, Options::empty(), &lut, &mut tree)?;
+        let content = Content {
+            options: Options::empty(),
+            start: at,
+            end: None,
+            row: false,
+        };
+        let (next, line_break) = append_line(text, content, &lut, &mut tree)?;
         if let Some(item) = line_break {
             tree.append(item)?;
         }
@@ -101,7 +108,7 @@ fn texts_have_their_tokens(rt: HostRuntime) -> Result<(), Fail> {
             "MaybeLinkOpen 0..1, HardBreak(false) 1..4, MaybeLinkClose(true) 4..5, Text 5..6, SoftBreak 6..7",
         ),
     ] {
-        let tree = paragraph(rt.alloc(), text.as_bytes())?;
+        let tree = paragraph(rt.alloc(), text)?;
         assert_eq!(rt; printed(rt.alloc(), &tree)?.as_str(), wanted, "{text:?}");
     }
     Ok(())
@@ -109,7 +116,7 @@ fn texts_have_their_tokens(rt: HostRuntime) -> Result<(), Fail> {
 
 // The cells of a row: a text without the pipe that its first cell begins behind. Each begins behind the pipe that
 // ends the one before it.
-fn row(alloc: Global, text: &[u8], options: Options) -> Result<Tree<Item>, AllocError> {
+fn row(alloc: Global, text: &str, options: Options) -> Result<Tree<Item>, AllocError> {
     let lut = special_bytes(&options);
     let mut tree = Tree::with_capacity(alloc, 8)?;
     tree.append(Item {
@@ -120,7 +127,13 @@ fn row(alloc: Global, text: &[u8], options: Options) -> Result<Tree<Item>, Alloc
     tree.push()?;
     let mut at = 0;
     while at < text.len() {
-        at = append_cell(text, at, options, &lut, &mut tree)?;
+        let content = Content {
+            options,
+            start: at,
+            end: None,
+            row: true,
+        };
+        at = append_cell(text, content, &lut, &mut tree)?;
         tree.append(Item {
             start: at,
             end: at,
@@ -156,7 +169,7 @@ fn cells_have_their_tokens(rt: HostRuntime) -> Result<(), Fail> {
         ),
         ("a\\", "Text 0..2, end 2..2"),
     ] {
-        let tree = row(rt.alloc(), text.as_bytes(), Options::ENABLE_TABLES)?;
+        let tree = row(rt.alloc(), text, Options::ENABLE_TABLES)?;
         assert_eq!(rt; printed(rt.alloc(), &tree)?.as_str(), wanted, "{text:?}");
     }
     Ok(())
@@ -164,7 +177,7 @@ fn cells_have_their_tokens(rt: HostRuntime) -> Result<(), Fail> {
 
 #[test]
 fn without_tables_no_pipe_ends_a_cell(rt: HostRuntime) -> Result<(), Fail> {
-    let tree = row(rt.alloc(), b"a|b", Options::empty())?;
+    let tree = row(rt.alloc(), "a|b", Options::empty())?;
     assert_eq!(rt; printed(rt.alloc(), &tree)?.as_str(), "Text 0..3, end 3..3");
     Ok(())
 }

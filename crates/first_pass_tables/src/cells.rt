@@ -15,6 +15,7 @@ use first_pass_lines::places::rest_of;
 use first_pass_open::open_block::{close_block, open_block};
 use first_pass_open::source::Source;
 use first_pass_tokens::line::append_cell;
+use first_pass_tokens::pieces::Content;
 use first_pass_tree::forest::Tree;
 use first_pass_tree::tree_index::TreeIndex;
 use std::alloc::AllocError;
@@ -50,7 +51,13 @@ pub fn append_table_cell(
 {
     tree.is_forest();
     open_block(tree, start, ItemBody::TableCell)?;
-    let end = append_cell(source.text.as_bytes(), text, source.options, lut, tree)?;
+    let content = Content {
+        options: source.options,
+        start: text,
+        end: None,
+        row: true,
+    };
+    let end = append_cell(source.text, content, lut, tree)?;
     close_block(tree, end);
     Ok(end)
 }

@@ -92,7 +92,7 @@ line_between text start to e = let size : to - start ≡ line_len (drop start te
 pub heading_read : (text : List ℕ) (options : Options) (names : Names) (start content_end read_to : ℕ) (found : Option HeadingAttributes) (index : Option HeadingIndex) (kept : ℕ) (front : List ℕ) (old new : Forest Item)
     → content_end ≡ start + length (before_attributes options (heading_line text start)) → option_map attributes_in found ≡ heading_attributes_of options (heading_line text start)
     → read_to ≡ (if is_some found then content_end else length text) → front ≡ take read_to text → kept ≡ kept_len (slice_range text start content_end)
-    → ((content : List ℕ) → kept ≡ kept_len content → AppendsHeading (record { options = options; text = front; start = start; row = false }) content old new)
+    → ((content : List ℕ) → kept ≡ kept_len content → AppendsHeading (record { options = options; whole = text; text = front; start = start; row = false }) content old new)
     → ((more : Names) → Extends more names → NamesAttributes more index (option_map attributes_in found))
     → (chain : List Item) × (new ≡ chained old chain)
     × ((more : Names) → Extends more names → (next : ℕ) → next ≡ start + line_len (drop start text) → IsHeading (document text options more) start index chain next)
@@ -106,7 +106,7 @@ heading_read text options names start content_end read_to found index kept front
       λ more e next next_is. record {
         tokens = a.tokens;
         answer = a.answer;
-        line = subst (λ t. IsLine (record { options = options; text = t; start = start; row = false }) a.tokens a.answer) text_is a.line;
+        line = subst (λ t. IsLine (record { options = options; whole = text; text = t; start = start; row = false }) a.tokens a.answer) text_is a.line;
         chain_is = refl;
         named = subst (NamesAttributes more index) given (named more e);
         end_is = next_is;

@@ -237,7 +237,7 @@ heading_by : (d : Document) (start : ℕ) (index : Option HeadingIndex) (chain :
 heading_by d start index chain end_of_line None none utf8 boundary h =
     let text_is : text_before_attributes d.options d.text start (line_bytes d start) ≡ d.text =
     ap (λ (o : Option Braces). option_map_or (λ (block : Braces). take (start + block.opening) d.text) o d.text) none in
-    let line = subst (λ t. IsLine (record { options = d.options; text = t; start = start; row = false }) h.tokens h.answer) text_is h.line in
+    let line = subst (λ t. IsLine (record { options = d.options; whole = d.text; text = t; start = start; row = false }) h.tokens h.answer) text_is h.line in
     let ended = line_ends boundary.0 line in
     let place : h.answer.0 ≡ start + line_len (drop start d.text) = ended.place in
     let ends = h.end_is in
@@ -251,7 +251,7 @@ heading_by d start index chain end_of_line (Some block) some utf8 boundary h =
     let front : List ℕ = take (start + block.opening) d.text in
     let text_is : text_before_attributes d.options d.text start bs ≡ front =
     ap (λ (o : Option Braces). option_map_or (λ (b : Braces). take (start + b.opening) d.text) o d.text) some in
-    let line = subst (λ t. IsLine (record { options = d.options; text = t; start = start; row = false }) h.tokens h.answer) text_is h.line in
+    let line = subst (λ t. IsLine (record { options = d.options; whole = d.text; text = t; start = start; row = false }) h.tokens h.answer) text_is h.line in
     let inside = braces_within d.options bs block some in
     let fits = line_len-fits (drop start d.text) in
     let size = length-take-le (line_len (drop start d.text)) (drop start d.text) fits in
@@ -270,7 +270,7 @@ heading_by d start index chain end_of_line (Some block) some utf8 boundary h =
     let same : chain ≡ heading_chain (kept_len (take block.opening bs)) start (close_break h.answer.1 (add_tokens [] h.tokens)) =
     h.chain_is ∙ ap (λ xs. heading_chain (kept_len xs) start (close_break h.answer.1 (add_tokens [] h.tokens))) content in
     let last : h.answer.0 ≤ length front = ended.within in
-    let all = line_fits (record { options = d.options; text = front; start = start; row = false }) h.tokens h.answer (take block.opening bs) (start + block.opening) (front_utf8 d.text (start + block.opening) utf8 stop) first line
+    let all = line_fits (record { options = d.options; whole = d.text; text = front; start = start; row = false }) h.tokens h.answer (take block.opening bs) (start + block.opening) (front_utf8 d.text (start + block.opening) utf8 stop) first line
     (block_content d.text start (line_len (drop start d.text)) block.opening fits (omega arith) within) (omega arith) (omega arith) in
     let order = order_in_text d.text (start + block.opening) utf8 stop start (start + block.opening) _ all.0 in
     let few = all.1 in (

@@ -257,7 +257,7 @@ break_fits d ix n (Some x) small ends =
 
 -- the content of a line from an offset on
 abbrev pub line_source : Options → List ℕ → ℕ → Source
-line_source options text start = record { options = options; text = text; start = start; row = false }
+line_source options text start = record { options = options; whole = text; text = text; start = start; row = false }
 
 -- the same source, where the text and the options are still those
 pub same_line : (t u : List ℕ) (o w : Options) (ix : ℕ) (old new : Forest Item) (answer : ℕ × Option Item) → t ≡ u → o ≡ w

@@ -18,11 +18,6 @@ use Rattle.first_pass_grammar.specs.Texts.{underline_first, IsPlainText}
 use Rattle.first_pass_grammar.specs.Tables.{taking}
 use Rattle.first_pass_text.specs.declared.paragraph.TextEnd.{TextEnd}
 
--- the bytes of a text up to an offset, or all
-abbrev pub text_upto : List ℕ → Option ℕ → List ℕ
-text_upto text None = text
-text_upto text (Some e) = take e text
-
 -- the tree where no line follows: the backslash of a hard break is text
 abbrev pub with_closed_break : Forest Item → Option Item → Forest Item
 with_closed_break f None = f

@@ -1,7 +1,7 @@
 //! The text of an ATX heading.
 
 ghost use Rattle.std.specs.List.{suffix_len};
-ghost use Rattle.std.specs.Prelude.{◌≡◌, ℕ, ◌==◌, ◌+◌, List, take, drop, ◌≤◌, Some, length, IfOk, OnOk, IsCharBoundary, false};
+ghost use Rattle.std.specs.Prelude.{◌≡◌, ℕ, ◌==◌, ◌+◌, List, take, drop, ◌≤◌, Some, length, IfOk, IfSome, OnOk, IsCharBoundary, false};
 ghost use Rattle.first_pass_walk.specs.Walk.{MarksSpecial};
 ghost use Rattle.first_pass_lines.specs.Lines.{atx_level as atx_level_of, level_number as number_of};
 ghost use Rattle.first_pass_names.specs.TableEntries.{entries, names_of};
@@ -10,17 +10,18 @@ ghost use Rattle.first_pass_grammar.specs.Leaves.{document, is_put_aside, kept_l
 ghost use Rattle.first_pass_text.specs.Between.{AddsBetween};
 ghost use Rattle.first_pass_text.specs.Appends.{AppendsHeading, AddsHeading};
 ghost use Rattle.first_pass_open.specs.OpenBlock.{IsJustPushed};
+ghost use Rattle.first_pass_tokens.specs.Pieces.{source, text_upto};
 
 use crate::attributes::{extract_and_parse_heading_attribute_block, name_attributes};
 use crate::paragraph::append_last_backslash;
 use first_pass_items::item::{HeadingLevel, Item, ItemBody};
-use first_pass_items::option_set::Options;
 use first_pass_lines::lines::{level_number, scan_whitespace_no_nl};
 use first_pass_lines::places::{next_line, rest_of};
 use first_pass_names::items::Allocations;
 use first_pass_open::open_block::close_block;
 use first_pass_open::source::Source;
 use first_pass_tokens::line::append_line;
+use first_pass_tokens::pieces::Content;
 use first_pass_tree::forest::Tree;
 use first_pass_tree::tree_index::TreeIndex;
 use std::alloc::{AllocError, Global};
@@ -123,43 +124,41 @@ pub fn parse_atx_heading<'a>(
     })?;
     let heading_ix = tree.push()?;
     let kept = kept_len(&bytes[header_start..content_end]);
-    let text = front_of(bytes, read_to);
-    heading_text(
-        text,
-        source.options,
-        lut,
-        tree,
-        header_start,
-        kept,
-        heading_ix,
-    )?;
+    let content = Content {
+        options: source.options,
+        start: header_start,
+        end: Some(read_to),
+        row: false,
+    };
+    heading_text(source.text, content, lut, tree, kept, heading_ix)?;
     close_block(tree, end);
     Ok(end)
 }
 
-// Appends the chain of the heading whose text begins at `start`, of which so many bytes are kept, to `node_ix`, the
+// Appends the chain of a heading whose text is this content, of which so many bytes are kept, to `node_ix`, the
 // innermost open node, which was just opened.
 fn heading_text(
-    text: &[u8],
-    options: Options,
+    whole: &str,
+    content: Content,
     lut: &[bool; 256],
     tree: &mut Tree<Item>,
-    start: usize,
     kept: usize,
     node_ix: TreeIndex,
 ) -> Result<(), AllocError>
-    requires within { start + kept ≤ length text.now }
-    requires marks { MarksSpecial lut.now options }
+    requires set { IfSome content.«end» (λ e. e ≤ length whole.now) }
+    requires within { content.start + kept ≤ length (text_upto whole.now content.«end») }
+    requires marks { MarksSpecial lut.now content.options }
+    requires no_cell { content.row ≡ false }
     requires opened { IsJustPushed tree.old node_ix }
-    ensures line { OnOk result ((content : List ℕ) → kept ≡ kept_len_of content → AppendsHeading
-        (record { options = options; text = text.now; start = start; row = false }) content tree.old tree.new) }
+    ensures line { OnOk result ((bytes : List ℕ) → kept ≡ kept_len_of bytes
+        → AppendsHeading (source whole.now content) bytes tree.old tree.new) }
 {
-    let (_, line_break) = append_line(text, start, options, lut, tree)?;
+    let (_, line_break) = append_line(whole, content, lut, tree)?;
     append_last_backslash(tree, line_break)?;
     if kept == 0 {
         tree.drop_children(node_ix);
         return Ok(());
     }
-    tree.truncate_siblings(start + kept);
+    tree.truncate_siblings(content.start + kept);
     Ok(())
 }

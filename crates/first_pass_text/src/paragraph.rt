@@ -20,6 +20,7 @@ use first_pass_names::items::Allocations;
 use first_pass_open::open_block::close_block;
 use first_pass_open::source::Source;
 use first_pass_tokens::line::append_line;
+use first_pass_tokens::pieces::Content;
 use first_pass_tree::forest::Tree;
 use std::alloc::{AllocError, Global};
 
@@ -145,8 +146,13 @@ fn append_text_lines(
     tree.is_forest();
     let mut ix = start;
     'lines: loop {
-        let bytes = source.text.as_bytes();
-        let (next, line_break) = append_line(bytes, ix, source.options, lut, tree)?;
+        let content = Content {
+            options: source.options,
+            start: ix,
+            end: None,
+            row: false,
+        };
+        let (next, line_break) = append_line(source.text, content, lut, tree)?;
         match scan_next_line(alloc, source, next, tree)? {
             NextLine::More(at) => {
                 append_item(tree, line_break)?;

@@ -2,13 +2,14 @@
 use Rattle.std.proofs.Common.{◌≡◌, ℕ, zero, suc, ◌+◌, ◌-◌, ◌≤◌, ◌<◌, ◌==◌, ◌&&◌, Bool, false, List, [], ◌∷◌, ◌++◌, length, Option, Some, None, nat_lt, min, if◌then◌else◌, refl, sym, ap, subst, arith}
 use Rattle.std.proofs.lemmas.Bool.{and_parts, cond_both, eqb-true, ltb-true}
 use Rattle.first_pass_items.specs.declared.item.Item.{Item}
+use Rattle.first_pass_items.specs.declared.item.ItemBody.TheVariants.{MaybeEmphasis}
 use Rattle.std.proofs.lemmas.List.{length-append}
 use Rattle.first_pass_tree.specs.declared.tree_index.TreeIndex.{TreeIndex}
 use Rattle.first_pass_tree.specs.Forest.{Forest, is_text, is_escaped, cut_item, modify, joins_at, with_end, appended}
 use Rattle.first_pass_tokens.specs.declared.pieces.Piece.{Piece}
-use Rattle.first_pass_tokens.specs.declared.pieces.Piece.TheVariants.{Left, Begins, Token}
+use Rattle.first_pass_tokens.specs.declared.pieces.Piece.TheVariants.{Left, Begins, Token, Run}
 use Rattle.first_pass_tokens.specs.Pieces.{Source, size}
-use Rattle.first_pass_tokens.specs.Chains.{text_token, token, touches, add_token, add_tokens, add_text, is_backslash_break, close_break, cut}
+use Rattle.first_pass_tokens.specs.Chains.{text_token, token, run_tokens, touches, add_token, add_tokens, add_text, is_backslash_break, close_break, cut}
 use Rattle.first_pass_tokens.specs.LineTokens.{ArePieces, IsLine, IsCell, add_piece, add_pieces, text_end, line_end_len, blanks_at_end}
 use Rattle.first_pass_tokens.specs.TreeTokens.{with_token, with_tokens, AppendsLine, AppendsCell}
 use Rattle.first_pass_tokens.specs.Order.{AreInOrder, HaveBytes}
@@ -44,11 +45,17 @@ bytes_text a b escaped chain h =
     (λ some. bytes_add chain (text_token a b escaped) (ltb-true a b some) h)
     (λ none. h)
 
+-- the tokens of a run
+run_has_bytes : (at n : ℕ) (opens closes : Bool) → HaveBytes (run_tokens at n opens closes)
+run_has_bytes at zero opens closes = tt
+run_has_bytes at (suc n) opens closes = (omega arith, run_has_bytes (at + 1) n opens closes)
+
 -- what a piece adds behind
 bytes_piece : (text : List ℕ) (stop at : ℕ) (p : Piece) (chain : List Item) → IsPieceAt text at p → HaveBytes chain → HaveBytes (add_piece stop at p chain)
 bytes_piece text stop at (Left n) chain facts h = bytes_text at (min (at + n) stop) false chain h
 bytes_piece text stop at (Begins dropped escaped) chain facts h = bytes_text (at + dropped) (min (at + (dropped + 1)) stop) escaped chain h
 bytes_piece text stop at (Token dropped n body) chain facts h = bytes_add chain (token (at + dropped) n body) (omega (arith, facts.some)) h
+bytes_piece text stop at (Run n opens closes) chain facts h = bytes_adds chain (run_tokens at n opens closes) (run_has_bytes at n opens closes) h
 
 bytes_pieces : (s : Source) (stop at : ℕ) (ps : List Piece) (end : ℕ) (chain : List Item) → ArePieces s at ps end → HaveBytes chain
     → HaveBytes (add_pieces stop at ps chain)
@@ -86,15 +93,7 @@ cut_few e (x ∷ xs) =
     (λ b. omega arith)
     (λ b. cond_both (is_escaped x.body && (x.start == e)) (text_token (e - 1) e false ∷ []) [] (λ (ys : List Item). length ys ≤ length (x ∷ xs)) (λ c. omega arith) (λ c. omega arith))
 
--- there are at most as many pieces as bytes
-few_pieces : (s : Source) (at : ℕ) (ps : List Piece) (end : ℕ) → ArePieces s at ps end → length ps + at ≤ end
-few_pieces s at [] end is = omega arith
-few_pieces s at (p ∷ ps) end is =
-    let some = piece_some s.text at p (piece_of s at p is.0 is.1) in
-    let few = few_pieces s (at + size p) ps end is.2 in
-    omega arith
-
--- and each gives at most one token
+-- a piece gives at most as many tokens as it has bytes
 few_add : (chain : List Item) (y : Item) → length (add_token chain y) ≤ length chain + 1
 few_add [] y = omega arith
 few_add (x ∷ []) y =
@@ -106,24 +105,34 @@ few_text a b escaped chain =
     let few = few_add chain (text_token a b escaped) in
     cond_both (nat_lt a b) (add_token chain (text_token a b escaped)) chain (λ (ys : List Item). length ys ≤ length chain + 1) (λ c. few) (λ c. omega arith)
 
-few_piece : (stop at : ℕ) (p : Piece) (chain : List Item) → length (add_piece stop at p chain) ≤ length chain + 1
-few_piece stop at (Left n) chain = few_text at (min (at + n) stop) false chain
-few_piece stop at (Begins dropped escaped) chain = few_text (at + dropped) (min (at + (dropped + 1)) stop) escaped chain
-few_piece stop at (Token dropped n body) chain = few_add chain (token (at + dropped) n body)
+few_run : (at n : ℕ) (opens closes : Bool) (chain : List Item) → length (add_tokens chain (run_tokens at n opens closes)) ≤ length chain + n
+few_run at zero opens closes chain = omega arith
+few_run at (suc n) opens closes chain =
+    let x = token at 1 (MaybeEmphasis (suc n) opens closes) in
+    let first = few_add chain x in
+    let rest = few_run (at + 1) n opens closes (add_token chain x) in
+    omega arith
 
-few_by_pieces : (stop at : ℕ) (ps : List Piece) (chain : List Item) → length (add_pieces stop at ps chain) ≤ length chain + length ps
-few_by_pieces stop at [] chain = omega arith
-few_by_pieces stop at (p ∷ ps) chain =
-    let first = few_piece stop at p chain in
-    let rest = few_by_pieces stop (at + size p) ps (add_piece stop at p chain) in
+few_piece : (stop at : ℕ) (p : Piece) (chain : List Item) → 0 < size p → length (add_piece stop at p chain) ≤ length chain + size p
+few_piece stop at (Left n) chain some = (let few = few_text at (min (at + n) stop) false chain in omega arith)
+few_piece stop at (Begins dropped escaped) chain some =
+    let few = few_text (at + dropped) (min (at + (dropped + 1)) stop) escaped chain in
+    omega arith
+few_piece stop at (Token dropped n body) chain some = (let few = few_add chain (token (at + dropped) n body) in omega arith)
+few_piece stop at (Run n opens closes) chain some = few_run at n opens closes chain
+
+few_by_pieces : (s : Source) (stop at : ℕ) (ps : List Piece) (end : ℕ) (chain : List Item) → ArePieces s at ps end
+    → length (add_pieces stop at ps chain) + at ≤ length chain + end
+few_by_pieces s stop at [] end chain is = omega arith
+few_by_pieces s stop at (p ∷ ps) end chain is =
+    let some = piece_some s.text at p (piece_of s at p is.0 is.1) in
+    let first = few_piece stop at p chain some in
+    let rest = few_by_pieces s stop (at + size p) ps end (add_piece stop at p chain) is.2 in
     omega arith
 
 -- a content has at most as many tokens as bytes
 few_in_content : (s : Source) (pieces : List Piece) (end stop : ℕ) → ArePieces s s.start pieces end → length (add_pieces stop s.start pieces []) + s.start ≤ end
-few_in_content s pieces end stop are =
-    let few = few_pieces s s.start pieces end are in
-    let each = few_by_pieces stop s.start pieces [] in
-    omega arith
+few_in_content s pieces end stop are = (let few = few_by_pieces s stop s.start pieces end [] are in omega arith)
 
 -- A cell has at most as many tokens as bytes.
 pub few_in_cell : {s : Source} {tokens : List Item} {end : ℕ} → IsCell s tokens end → length tokens + s.start ≤ end

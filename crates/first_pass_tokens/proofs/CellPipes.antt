@@ -1,16 +1,16 @@
 -- Each pipe in the content of a cell stands behind a backslash.
-use Rattle.std.proofs.Common.{◌≡◌, ℕ, ◌+◌, ◌-◌, ◌≤◌, ◌<◌, true, false, List, [], ◌∷◌, slice_index, sym, ap, ◌∙◌, inl, inr, arith}
+use Rattle.std.proofs.Common.{◌≡◌, ℕ, ◌+◌, ◌-◌, ◌≤◌, ◌<◌, true, false, List, [], ◌∷◌, slice_index, sym, ap, ◌∙◌, inl, inr, arith, ◌==◌}
 use Rattle.std.proofs.lemmas.Bool.{cases_lt, eq-eqb, false≢true}
 use Rattle.first_pass_items.specs.OptionWords.{has, tables}
 use Rattle.first_pass_items.specs.declared.item.Item.{Item}
 use Rattle.first_pass_items.specs.declared.item.ItemBody.{ItemBody}
-use Rattle.first_pass_items.specs.declared.item.ItemBody.TheVariants.{MaybeCode, MaybeHtml, MaybeLinkOpen, MaybeLinkClose, MaybeImage}
+use Rattle.first_pass_items.specs.declared.item.ItemBody.TheVariants.{MaybeEmphasis, MaybeCode, MaybeHtml, MaybeLinkOpen, MaybeLinkClose, MaybeImage}
 use Rattle.first_pass_tokens.specs.declared.pieces.Piece.{Piece}
-use Rattle.first_pass_tokens.specs.declared.pieces.Piece.TheVariants.{Left, Begins, Token}
+use Rattle.first_pass_tokens.specs.declared.pieces.Piece.TheVariants.{Left, Begins, Token, Run}
 use Rattle.first_pass_tokens.specs.Pieces.{Source, piece_at, size}
 use Rattle.first_pass_tokens.specs.LineTokens.{ends_at, ArePieces, IsCell}
 use Rattle.first_pass_tokens.specs.MarkupBytes.{StandsOver, PipesAreEscaped}
-use Rattle.first_pass_tokens.proofs.PieceFacts.{IsPieceAt, is_markup}
+use Rattle.first_pass_tokens.proofs.PieceFacts.{IsPieceAt, is_markup, delimiter_other}
 use Rattle.first_pass_tokens.proofs.LineLemmas.{piece_of, not_ended_pipe}
 
 -- a byte of its own that is no pipe
@@ -20,6 +20,10 @@ other_byte text at k b same is pipe = sym is ∙ ap (slice_index text) (sym same
 -- no pipe is in a token of possible markup
 markup_no_pipe : (text : List ℕ) (start n : ℕ) (body : ItemBody) (k : ℕ) → is_markup body ≡ true → StandsOver text start (start + n) body
     → start ≤ k → k < start + n → slice_index text k ≡ 124 → ⊥
+markup_no_pipe text start n (MaybeEmphasis left opens closes) k kind over low high pipe =
+    let here : k ≡ start = omega (arith, over.0) in
+    let b = slice_index text start in
+    absurd (false≢true (sym (delimiter_other b over.1).2 ∙ eq-eqb b 124 (sym (ap (slice_index text) here) ∙ pipe)))
 markup_no_pipe text start n (MaybeCode m escaped) k kind over low high pipe =
     let byte = over.1.each k low (omega (arith, over.0)) in
     omega arith
@@ -36,15 +40,18 @@ markup_no_pipe text start n MaybeImage k kind over low high pipe =
 markup_no_pipe text start n _ k kind over low high pipe = absurd (false≢true kind)
 
 -- a pipe in a piece, behind its first byte
-pipe_inside : (text : List ℕ) (at : ℕ) (p : Piece) (k : ℕ) → IsPieceAt text at p → at < k → k < at + size p
+pipe_inside : (text : List ℕ) (at : ℕ) (p : Piece) (k : ℕ) → IsPieceAt text at p → (slice_index text at == 124) ≡ false → at < k → k < at + size p
     → slice_index text k ≡ 124 → slice_index text (k - 1) ≡ 92
-pipe_inside text at (Left n) k facts low high pipe = absurd (omega (arith, facts.0))
-pipe_inside text at (Begins dropped escaped) k facts low high pipe =
+pipe_inside text at (Left n) k facts other low high pipe =
+    absurd (false≢true (sym other ∙ eq-eqb (slice_index text at) 124 (sym (facts.same k (omega arith) high) ∙ pipe)))
+pipe_inside text at (Run n opens closes) k facts other low high pipe =
+    absurd (false≢true (sym other ∙ eq-eqb (slice_index text at) 124 (sym (facts.same k (omega arith) high) ∙ pipe)))
+pipe_inside text at (Begins dropped escaped) k facts other low high pipe =
     elim (cases_lt k (at + dropped)) [
       | inl inside ↦ let byte = facts.backslashes k (omega arith) inside in absurd (omega arith)
       | inr last ↦ facts.backslashes (k - 1) (omega arith) (omega (arith, facts.some))
     ]
-pipe_inside text at (Token dropped n body) k facts low high pipe =
+pipe_inside text at (Token dropped n body) k facts other low high pipe =
     absurd (markup_no_pipe text (at + dropped) n body k facts.kind facts.over (omega (arith, facts.few)) (omega arith) pipe)
 
 module _ (s : Source) (row : s.row ≡ true) (on : has s.options tables ≡ true) where
@@ -52,7 +59,7 @@ module _ (s : Source) (row : s.row ≡ true) (on : has s.options tables ≡ true
       → (at < k) × (slice_index s.text (k - 1) ≡ 92)
   pipe_in at p runs is k low high pipe =
       elim (cases_lt at k) [
-        | inl more ↦ (more, pipe_inside s.text at p k (piece_of s at p runs is) more high pipe)
+        | inl more ↦ (more, pipe_inside s.text at p k (piece_of s at p runs is) (not_ended_pipe s at row on runs) more high pipe)
         | inr none ↦
             let same : at ≡ k = omega arith in
             absurd (false≢true (sym (not_ended_pipe s at row on runs) ∙ eq-eqb (slice_index s.text at) 124 (ap (slice_index s.text) same ∙ pipe)))

@@ -168,6 +168,10 @@ with_tokens-add f (y ∷ []) x =
     ]
 with_tokens-add f (y ∷ z ∷ zs) x = with_tokens-add (with_token f y) (z ∷ zs) x
 
+pub with_tokens-adds : (f : Forest Item) (chain xs : List Item) → with_tokens f (add_tokens chain xs) ≡ with_tokens (with_tokens f chain) xs
+with_tokens-adds f chain [] = refl
+with_tokens-adds f chain (x ∷ xs) = with_tokens-adds f (add_token chain x) xs ∙ ap (λ (g : Forest Item). with_tokens g xs) (with_tokens-add f chain x)
+
 pub with_tokens-append : (f : Forest Item) (xs ys : List Item) → with_tokens f (xs ++ ys) ≡ with_tokens (with_tokens f xs) ys
 with_tokens-append f [] ys = refl
 with_tokens-append f (x ∷ xs) ys = with_tokens-append (with_token f x) xs ys

@@ -1,14 +1,15 @@
 -- Each escaped text of a chain stands behind a backslash that no token has, so a chain may be cut at any offset between two characters.
-use Rattle.std.proofs.Common.{◌≡◌, ℕ, ◌+◌, ◌-◌, ◌≤◌, ◌<◌, ◌==◌, ◌&&◌, Bool, true, false, List, [], ◌∷◌, ◌++◌, slice_index, Option, Some, None, IsCharBoundary, nat_lt, min, if◌then◌else◌, inl, inr, refl, sym, ap, subst, ◌∙◌, arith}
+use Rattle.std.proofs.Common.{◌≡◌, ℕ, ◌+◌, ◌-◌, ◌≤◌, ◌<◌, ◌==◌, ◌&&◌, Bool, true, false, List, [], ◌∷◌, ◌++◌, slice_index, Option, Some, None, IsCharBoundary, nat_lt, min, if◌then◌else◌, inl, inr, refl, sym, ap, subst, ◌∙◌, arith, zero, suc}
 use Rattle.std.proofs.lemmas.Bool.{cond-true, cond-false, cond_both, cases_lt, and_parts, and_right, lt-ltb, le-ltb, ltb-true, eqb-true, ne_eqb, false≢true}
 use Rattle.std.proofs.lemmas.Str.{IsCharBoundary-before_ascii}
 use Rattle.first_pass_items.specs.Bytes.{backslash}
 use Rattle.first_pass_items.specs.declared.item.Item.{Item}
+use Rattle.first_pass_items.specs.declared.item.ItemBody.TheVariants.{MaybeEmphasis}
 use Rattle.first_pass_tree.specs.Forest.{is_escaped, cut_item}
 use Rattle.first_pass_tokens.specs.declared.pieces.Piece.{Piece}
-use Rattle.first_pass_tokens.specs.declared.pieces.Piece.TheVariants.{Left, Begins, Token}
+use Rattle.first_pass_tokens.specs.declared.pieces.Piece.TheVariants.{Left, Begins, Token, Run}
 use Rattle.first_pass_tokens.specs.Pieces.{Source, size}
-use Rattle.first_pass_tokens.specs.Chains.{text_token, token, touches, add_token, add_tokens, add_text, is_backslash_break, close_break, cut}
+use Rattle.first_pass_tokens.specs.Chains.{text_token, token, run_tokens, touches, add_token, add_tokens, add_text, is_backslash_break, close_break, cut}
 use Rattle.first_pass_tokens.specs.LineTokens.{ArePieces, IsLine, add_piece, add_pieces, text_end}
 use Rattle.first_pass_tokens.specs.Order.{AreInOrder, HaveBytes}
 use Rattle.first_pass_tokens.proofs.PieceFacts.{IsPieceAt, markup_unescaped}
@@ -46,6 +47,14 @@ ends_text : (from at a b : ℕ) (escaped : Bool) (chain : List Item) → EndsBy 
 ends_text from at a b escaped chain h within =
     cond_both (nat_lt a b) (add_token chain (text_token a b escaped)) chain (EndsBy from at) (λ some. ends_add from at chain (text_token a b escaped) within) (λ none. h)
 
+ends_run : (from at n : ℕ) (opens closes : Bool) (chain : List Item) → EndsBy from at chain → EndsBy from (at + n) (add_tokens chain (run_tokens at n opens closes))
+ends_run from at zero opens closes chain h = ends_later from at (at + 0) chain h (omega arith)
+ends_run from at (suc n) opens closes chain h =
+    let x = token at 1 (MaybeEmphasis (suc n) opens closes) in
+    let past : at + 1 + n ≡ at + suc n = omega arith in
+    subst (λ (e : ℕ). EndsBy from e (add_tokens (add_token chain x) (run_tokens (at + 1) n opens closes))) past
+    (ends_run from (at + 1) n opens closes (add_token chain x) (ends_add from (at + 1) chain x (omega arith)))
+
 ends_piece : (from stop at : ℕ) (p : Piece) (chain : List Item) → EndsBy from at chain → EndsBy from (at + size p) (add_piece stop at p chain)
 ends_piece from stop at (Left n) chain h =
     ends_text from (at + n) at (min (at + n) stop) false chain (ends_later from at (at + n) chain h (omega arith)) (omega arith)
@@ -53,6 +62,7 @@ ends_piece from stop at (Begins dropped escaped) chain h =
     ends_text from (at + (dropped + 1)) (at + dropped) (min (at + (dropped + 1)) stop) escaped chain
     (ends_later from at (at + (dropped + 1)) chain h (omega arith)) (omega arith)
 ends_piece from stop at (Token dropped n body) chain h = ends_add from (at + (dropped + n)) chain (token (at + dropped) n body) (omega arith)
+ends_piece from stop at (Run n opens closes) chain h = ends_run from at n opens closes chain h
 
 -- a token behind
 pub escapes_add : (text : List ℕ) (from mid : ℕ) (chain : List Item) (y : Item) → EndsBy from mid chain → EscapesStand text from chain → EscapeBehind text mid y
@@ -91,6 +101,15 @@ pub escapes_append : (text : List ℕ) (from : ℕ) (chain : List Item) (y : Ite
 escapes_append text from [] y k plain = (λ e. absurd (false≢true (sym plain ∙ e)), tt)
 escapes_append text from (x ∷ xs) y k plain = (k.0, escapes_append text x.«end» xs y k.1 plain)
 
+-- the tokens of a run
+escapes_run : (text : List ℕ) (from at n : ℕ) (opens closes : Bool) (chain : List Item) → EndsBy from at chain → EscapesStand text from chain
+    → EscapesStand text from (add_tokens chain (run_tokens at n opens closes))
+escapes_run text from at zero opens closes chain h k = k
+escapes_run text from at (suc n) opens closes chain h k =
+    let x = token at 1 (MaybeEmphasis (suc n) opens closes) in
+    escapes_run text from (at + 1) n opens closes (add_token chain x) (ends_add from (at + 1) chain x (omega arith))
+    (escapes_add text from at chain x h k (λ e. absurd (false≢true e)))
+
 -- what a piece adds behind
 escapes_piece : (text : List ℕ) (from stop at : ℕ) (p : Piece) (chain : List Item) → IsPieceAt text at p → EndsBy from at chain → EscapesStand text from chain
     → EscapesStand text from (add_piece stop at p chain)
@@ -100,6 +119,7 @@ escapes_piece text from stop at (Begins dropped escaped) chain facts h k =
     (λ e. (omega (arith, facts.some), facts.backslashes (at + dropped - 1) (omega (arith, facts.some)) (omega (arith, facts.some))))
 escapes_piece text from stop at (Token dropped n body) chain facts h k =
     escapes_add text from at chain (token (at + dropped) n body) h k (λ e. absurd (false≢true (sym (markup_unescaped body facts.kind) ∙ e)))
+escapes_piece text from stop at (Run n opens closes) chain facts h k = escapes_run text from at n opens closes chain h k
 
 escapes_pieces : (s : Source) (from stop at : ℕ) (ps : List Piece) (end : ℕ) (chain : List Item) → ArePieces s at ps end → EndsBy from at chain → EscapesStand s.text from chain
     → EscapesStand s.text from (add_pieces stop at ps chain)

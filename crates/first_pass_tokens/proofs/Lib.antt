@@ -8,3 +8,4 @@ pub mod MarkupLemmas
 pub mod OrderLemmas
 pub mod SoFar
 pub mod LineFound
+pub mod RunPlaces

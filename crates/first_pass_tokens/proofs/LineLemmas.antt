@@ -10,13 +10,13 @@ use Rattle.first_pass_items.specs.declared.item.Item.{Item}
 use Rattle.first_pass_tree.specs.Forest.{Forest}
 use Rattle.first_pass_lines.specs.Lines.{is_line_end, is_content, is_white, begins, eol_len, line_len}
 use Rattle.first_pass_tokens.specs.declared.pieces.Piece.{Piece}
-use Rattle.first_pass_tokens.specs.declared.pieces.Piece.TheVariants.{Left, Begins, Token}
+use Rattle.first_pass_tokens.specs.declared.pieces.Piece.TheVariants.{Left, Begins, Token, Run}
 use Rattle.first_pass_tokens.specs.Pieces.{Source, piece_at, size}
 use Rattle.first_pass_tokens.specs.LineTokens.{text_end, ends_at, ends_cell, ArePieces, IsDivision, IsLine, IsCell, IsBreak, EndsLine, EndsCell, add_piece, add_pieces, line_end_len, line_break, breaks_by_backslash, backslashes_at_end, blanks_at_end}
 use Rattle.first_pass_tokens.specs.TreeTokens.{AppendsLine, AppendsCell, with_tokens, chained, JoinsNone}
-use Rattle.first_pass_tokens.specs.Chains.{token, add_tokens, AreApart}
+use Rattle.first_pass_tokens.specs.Chains.{token, run_tokens, add_tokens, AreApart}
 use Rattle.first_pass_tokens.proofs.PieceFacts.{IsPieceAt, piece_facts, visible_plain, visible_fits}
-use Rattle.first_pass_tokens.proofs.ChainLemmas.{add_token-apart, add_text-apart, add_tokens-none, with_tokens-chained}
+use Rattle.first_pass_tokens.proofs.ChainLemmas.{add_token-apart, add_tokens-apart, add_text-apart, add_tokens-none, with_tokens-chained}
 
 -- one more piece
 pub are_more : (s : Source) (at : ℕ) (ps : List Piece) (mid : ℕ) → ArePieces s at ps mid → ends_at s mid ≡ false → ArePieces s at (ps ++ piece_at s mid ∷ []) (mid + size (piece_at s mid))
@@ -87,7 +87,8 @@ piece_of s at p on is = subst (IsPieceAt s.text at) (sym is) (piece_facts s at (
 
 -- a piece takes a byte at least
 pub piece_some : (text : List ℕ) (at : ℕ) (p : Piece) → IsPieceAt text at p → 0 < size p
-piece_some text at (Left n) facts = omega (arith, facts.0)
+piece_some text at (Left n) facts = facts.some
+piece_some text at (Run n opens closes) facts = facts.some
 piece_some text at (Begins dropped escaped) facts = omega arith
 piece_some text at (Token dropped n body) facts = omega (arith, facts.some)
 
@@ -96,15 +97,15 @@ pub record IsInLine (text : List ℕ) (at : ℕ) (p : Piece) : Type 0 where
   pub fits : at + size p ≤ length text
   pub plain : (k : ℕ) → at ≤ k → k < at + size p → is_line_end (slice_index text k) ≡ false
 
-one_in_line : (text : List ℕ) (at : ℕ) → is_line_end (slice_index text at) ≡ false → (k : ℕ) → at ≤ k → k < at + 1 → is_line_end (slice_index text k) ≡ false
-one_in_line text at here k low high =
-    let same : k ≡ at = omega arith in
-    ap (λ (x : ℕ). is_line_end (slice_index text x)) same ∙ here
-
 piece_in_line : (s : Source) (at : ℕ) (p : Piece) → ends_at s at ≡ false → IsPieceAt s.text at p → IsInLine s.text at p
 piece_in_line s at (Left n) on facts =
     let here = not_ended s at on in
-    record { fits = omega (arith, facts.0, here.0); plain = λ k low high. one_in_line s.text at here.1 k low (omega (arith, facts.0)) }
+    record { fits = facts.fits; plain = λ k low high. ap is_line_end (facts.same k low high) ∙ here.1 }
+piece_in_line s at (Run n opens closes) on facts =
+    record {
+      fits = visible_fits s.text at n facts.some facts.bytes;
+      plain = λ k low high. visible_plain (slice_index s.text k) (facts.bytes k low high);
+    }
 piece_in_line s at (Begins dropped escaped) on facts =
     record {
       fits = visible_fits s.text at (dropped + 1) (omega arith) facts.bytes;
@@ -352,6 +353,8 @@ add_pieces-apart stop at (Left n ∷ ps) chain h = add_pieces-apart stop (at + n
 add_pieces-apart stop at (Begins dropped escaped ∷ ps) chain h = add_pieces-apart stop (at + (dropped + 1)) ps _ (add_text-apart (at + dropped) (min (at + (dropped + 1)) stop) escaped chain h)
 add_pieces-apart stop at (Token dropped n body ∷ ps) chain h =
     add_pieces-apart stop (at + (dropped + n)) ps _ (add_token-apart chain (token (at + dropped) n body) h)
+add_pieces-apart stop at (Run n opens closes ∷ ps) chain h =
+    add_pieces-apart stop (at + n) ps _ (add_tokens-apart chain (run_tokens at n opens closes) h)
 
 pub cell_apart : {s : Source} {tokens : List Item} {end : ℕ} → IsCell s tokens end → AreApart tokens
 cell_apart {s} {tokens} {end} cell = subst AreApart (sym cell.tokens_are) (add_pieces-apart (end - blanks_at_end s end) s.start cell.pieces [] tt)

@@ -1,17 +1,17 @@
 -- The tokens of possible markup in a line stand over the bytes of their kinds, and no backquote is left to a text.
-use Rattle.std.proofs.Common.{◌≡◌, ℕ, ◌+◌, ◌-◌, ◌≤◌, ◌==◌, ◌&&◌, Bool, true, false, nat_lt, min, List, [], ◌∷◌, Option, slice_index, sym, ap, subst, ◌∙◌, inl, inr, arith}
+use Rattle.std.proofs.Common.{◌≡◌, ℕ, ◌+◌, ◌-◌, ◌≤◌, ◌==◌, ◌&&◌, Bool, true, false, nat_lt, min, List, [], ◌∷◌, Option, slice_index, sym, ap, subst, ◌∙◌, inl, inr, refl, arith, zero, suc, ◌<◌}
 use Rattle.std.proofs.lemmas.Bool.{cases_lt, cond_both, and_parts, eqb-true, false≢true}
 use Rattle.first_pass_items.specs.declared.item.Item.{Item}
 use Rattle.first_pass_items.specs.declared.item.ItemBody.{ItemBody}
-use Rattle.first_pass_items.specs.declared.item.ItemBody.TheVariants.{Text}
+use Rattle.first_pass_items.specs.declared.item.ItemBody.TheVariants.{Text, MaybeEmphasis}
 use Rattle.first_pass_tree.specs.Forest.{is_text}
 use Rattle.first_pass_tokens.specs.declared.pieces.Piece.{Piece}
-use Rattle.first_pass_tokens.specs.declared.pieces.Piece.TheVariants.{Left, Begins, Token}
-use Rattle.first_pass_tokens.specs.Pieces.{Source, size}
+use Rattle.first_pass_tokens.specs.declared.pieces.Piece.TheVariants.{Left, Begins, Token, Run}
+use Rattle.first_pass_tokens.specs.Pieces.{Source, is_delimiter, run_at, size}
 use Rattle.first_pass_tokens.specs.MarkupBytes.{StandsOver, StandOver, HasNoBackquote, TextsHaveNoBackquote}
-use Rattle.first_pass_tokens.specs.Chains.{text_token, token, touches, add_token, add_text}
+use Rattle.first_pass_tokens.specs.Chains.{text_token, token, run_tokens, touches, add_token, add_tokens, add_text}
 use Rattle.first_pass_tokens.specs.LineTokens.{ArePieces, IsLine, IsCell, add_piece, add_pieces, text_end, blanks_at_end}
-use Rattle.first_pass_tokens.proofs.PieceFacts.{IsPieceAt, markup_plain}
+use Rattle.first_pass_tokens.proofs.PieceFacts.{IsPieceAt, markup_plain, run_next}
 use Rattle.first_pass_tokens.proofs.LineLemmas.{piece_of}
 
 -- a text is no markup, whatever its range
@@ -35,12 +35,30 @@ over_text text a b escaped chain h =
     cond_both (nat_lt a b) (add_token chain (text_token a b escaped)) chain (StandOver text)
     (λ some. over_add text chain (text_token a b escaped) tt h) (λ none. h)
 
+-- tokens behind
+over_adds : (text : List ℕ) (chain tokens : List Item) → StandOver text chain → StandOver text tokens → StandOver text (add_tokens chain tokens)
+over_adds text chain [] h k = h
+over_adds text chain (x ∷ xs) h k = over_adds text (add_token chain x) xs (over_add text chain x k.0 h) k.1
+
+-- the tokens of a run
+run_over : (text : List ℕ) (at n : ℕ) (opens closes : Bool) → (0 < n → (n ≡ run_at text at) × (is_delimiter (slice_index text at) ≡ true))
+    → StandOver text (run_tokens at n opens closes)
+run_over text at zero opens closes h = tt
+run_over text at (suc n) opens closes h =
+    let here = h (omega arith) in (
+      (refl, here.1, here.0),
+      run_over text (at + 1) n opens closes (λ some. let next = run_next text at n here.0 some in
+          (next.0, ap is_delimiter next.1 ∙ here.1)),
+    )
+
 -- what a piece adds behind
 over_piece : (text : List ℕ) (stop at : ℕ) (p : Piece) (chain : List Item) → IsPieceAt text at p → StandOver text chain
     → StandOver text (add_piece stop at p chain)
 over_piece text stop at (Left n) chain facts h = over_text text at (min (at + n) stop) false chain h
 over_piece text stop at (Begins dropped escaped) chain facts h = over_text text (at + dropped) (min (at + (dropped + 1)) stop) escaped chain h
 over_piece text stop at (Token dropped n body) chain facts h = over_add text chain (token (at + dropped) n body) facts.over h
+over_piece text stop at (Run n opens closes) chain facts h =
+    over_adds text chain (run_tokens at n opens closes) h (run_over text at n opens closes (λ some. (facts.all, facts.delimiter)))
 
 over_pieces : (s : Source) (stop at : ℕ) (ps : List Piece) (end : ℕ) (chain : List Item) → ArePieces s at ps end → StandOver s.text chain
     → StandOver s.text (add_pieces stop at ps chain)
@@ -79,6 +97,14 @@ spare_text text a b escaped chain none h =
     cond_both (nat_lt a b) (add_token chain (text_token a b escaped)) chain (TextsHaveNoBackquote text)
     (λ some. spare_add text chain (text_token a b escaped) (λ is. none) h) (λ empty. h)
 
+-- the tokens of a run
+spare_run : (text : List ℕ) (at n : ℕ) (opens closes : Bool) (chain : List Item) → TextsHaveNoBackquote text chain
+    → TextsHaveNoBackquote text (add_tokens chain (run_tokens at n opens closes))
+spare_run text at zero opens closes chain h = h
+spare_run text at (suc n) opens closes chain h =
+    let x = token at 1 (MaybeEmphasis (suc n) opens closes) in
+    spare_run text (at + 1) n opens closes (add_token chain x) (spare_add text chain x (λ is. absurd (false≢true is)) h)
+
 -- a byte alone
 spare_byte : (text : List ℕ) (at to : ℕ) → to ≤ at + 1 → (slice_index text at == 96) ≡ false → HasNoBackquote text at to
 spare_byte text at to short other k low high = (let same : k ≡ at = omega arith in ap (λ (x : ℕ). slice_index text x == 96) same ∙ other)
@@ -87,7 +113,8 @@ spare_byte text at to short other k low high = (let same : k ≡ at = omega arit
 spare_piece : (text : List ℕ) (stop at : ℕ) (p : Piece) (chain : List Item) → IsPieceAt text at p → TextsHaveNoBackquote text chain
     → TextsHaveNoBackquote text (add_piece stop at p chain)
 spare_piece text stop at (Left n) chain facts h =
-    spare_text text at (min (at + n) stop) false chain (spare_byte text at (min (at + n) stop) (omega (arith, facts.0)) facts.1) h
+    spare_text text at (min (at + n) stop) false chain (λ k low high. ap (λ (x : ℕ). x == 96) (facts.same k low (omega arith)) ∙ facts.other) h
+spare_piece text stop at (Run n opens closes) chain facts h = spare_run text at n opens closes chain h
 spare_piece text stop at (Begins dropped escaped) chain facts h =
     let to = min (at + (dropped + 1)) stop in
     spare_text text (at + dropped) to escaped chain (spare_byte text (at + dropped) to (omega arith) facts.other) h

@@ -11,13 +11,13 @@ use Rattle.first_pass_items.specs.declared.item.Item.{Item}
 use Rattle.first_pass_lines.specs.Lines.{is_line_end, is_white}
 use Rattle.first_pass_lines.proofs.PlaceFacts.{line_end_boundary}
 use Rattle.first_pass_tokens.specs.declared.pieces.Piece.{Piece}
-use Rattle.first_pass_tokens.specs.declared.pieces.Piece.TheVariants.{Left, Begins, Token}
+use Rattle.first_pass_tokens.specs.declared.pieces.Piece.TheVariants.{Left, Begins, Token, Run}
 use Rattle.first_pass_tokens.specs.Pieces.{Source}
 use Rattle.first_pass_tokens.specs.LineTokens.{ends_at, ends_cell, ArePieces, IsLine, IsCell, EndsLine, add_pieces, text_end, breaks_by_backslash, backslashes_at_end, blanks_at_end, line_end_len, break_of, line_break}
-use Rattle.first_pass_tokens.specs.Chains.{text_token, token, touches, add_token, add_tokens, add_text, is_backslash_break, close_break}
+use Rattle.first_pass_tokens.specs.Chains.{text_token, token, run_tokens, touches, add_token, add_tokens, add_text, is_backslash_break, close_break}
 use Rattle.first_pass_tokens.specs.Order.{AreInOrder}
 use Rattle.first_pass_tokens.proofs.ChainLemmas.{add_text-none}
-use Rattle.first_pass_tokens.proofs.PieceFacts.{IsVisible, IsEscape, IsMarkup, at_byte, visible_solid}
+use Rattle.first_pass_tokens.proofs.PieceFacts.{IsVisible, IsEscape, IsMarkup, IsRun, delimiter_other, at_byte, visible_solid}
 use Rattle.first_pass_tokens.proofs.LineLemmas.{piece_of, pieces_reach, ended_by, content_of, ends_line}
 use Rattle.first_pass_tokens.proofs.SoFar.{IsTextEnd, add_text_grows, line_text_end, cell_text_end}
 
@@ -73,6 +73,21 @@ module _ (s : Source) (utf8 : IsUtf8 s.text) (stop end from : ℕ) (stops : IsCh
       let same : at - 1 + 1 ≡ at = omega arith in
       subst (IsCharBoundary s.text) same (IsCharBoundary-after_ascii s.text (at - 1) utf8 (at_byte s.text (at - 1) (omega (arith, h.0))) (omega (arith, h.1)))
 
+  -- the tokens of a run
+  run_in_order : (at n : ℕ) (opens closes : Bool) → ((k : ℕ) → at ≤ k → k < at + n → IsVisible (slice_index s.text k)) → AreInOrder s.text at (at + n) (run_tokens at n opens closes)
+  run_in_order at zero opens closes bytes = omega arith
+  run_in_order at (suc n) opens closes bytes =
+      let here = bytes at (omega arith) (omega arith) in
+      let back : at + 1 - 1 ≡ at = omega arith in
+      let past : at + 1 + n ≡ at + suc n = omega arith in (
+        omega arith,
+        omega arith,
+        place_before at here,
+        place_behind (at + 1) (omega arith) (subst (λ (k : ℕ). IsVisible (slice_index s.text k)) (sym back) here),
+        subst (λ (e : ℕ). AreInOrder s.text (at + 1) e (run_tokens (at + 1) n opens closes)) past
+            (run_in_order (at + 1) n opens closes (λ k low high. bytes k (omega arith) (omega arith))),
+      )
+
   pieces_in_order : (at : ℕ) (ps : List Piece) (begin : ℕ) (escaped : Bool) (chain : List Item) → ArePieces s at ps end → s.start ≤ begin → begin ≤ at
       → (begin < at) ⊎ (escaped ≡ false) → begin ≤ stop
       → IsCharBoundary s.text begin → AreInOrder s.text from begin chain → AreInOrder s.text from stop (add_pieces stop at ps (add_text begin (min at stop) escaped chain))
@@ -112,6 +127,26 @@ module _ (s : Source) (utf8 : IsUtf8 s.text) (stop end from : ℕ) (stops : IsCh
       (pieces_in_order (at + (dropped + n)) ps (at + dropped + n) false more pieces.2 (omega arith) (omega arith) (inr refl) before last
       (order_add s.text from at (add_text begin at escaped chain) (token (at + dropped) n body)
       (order_text s.text from begin begin at escaped chain h (omega arith) upto starts here) (omega arith) (omega arith) first last)))
+  pieces_in_order at (Run n opens closes ∷ ps) begin escaped chain pieces low upto mark ahead starts h =
+      let facts : IsRun s.text at n = piece_of s at (Run n opens closes) pieces.0 pieces.1 in
+      let reach = pieces_reach s (at + n) ps end pieces.2 in
+      let byte = facts.bytes (at + n - 1) (omega (arith, facts.some)) (omega (arith, facts.some)) in
+      let same = facts.same (at + n - 1) (omega (arith, facts.some)) (omega (arith, facts.some)) in
+      let before : at + n ≤ stop = last_text.behind (at + n) (omega arith) (omega arith)
+      (inr (
+        omega (arith, facts.some),
+        visible_solid (slice_index s.text (at + n - 1)) byte,
+        inr (ap (λ (b : ℕ). b == 92) same ∙ (delimiter_other _ facts.delimiter).0),
+      )) in
+      let here = place_before at (facts.bytes at (omega arith) (omega (arith, facts.some))) in
+      let last = place_behind (at + n) (omega (arith, facts.some)) byte in
+      let cut : min at stop ≡ at = omega arith in
+      let more = add_tokens (add_text begin at escaped chain) (run_tokens at n opens closes) in
+      let none = add_text-none (at + n) (min (at + n) stop) false more (omega arith) in
+      rw cut (subst (λ c. AreInOrder s.text from stop (add_pieces stop (at + n) ps c)) none
+      (pieces_in_order (at + n) ps (at + n) false more pieces.2 (omega arith) (omega arith) (inr refl) before last
+      (order_adds s.text from at (at + n) (add_text begin at escaped chain) (run_tokens at n opens closes)
+      (order_text s.text from begin begin at escaped chain h (omega arith) upto starts here) (run_in_order at n opens closes facts.bytes))))
 
 -- the first and the last of the bytes that pass at the end of a front of a list
 pub suffix_first : (p : ℕ → Bool) (xs : List ℕ) (n : ℕ) → n ≤ length xs → 0 < suffix_len p (take n xs) → (suffix_len p (take n xs) ≤ n) × (p (get_or xs (n - suffix_len p (take n xs)) 0) ≡ true)

@@ -1,21 +1,23 @@
 -- The piece at a place, case by case: which bytes it has, and which token. What else is said of pieces rests on these facts alone.
-use Rattle.std.proofs.Common.{◌≡◌, ℕ, ◌+◌, ◌-◌, ◌≤◌, ◌<◌, ◌==◌, ◌&&◌, not, Bool, true, false, List, length, drop, get_or, slice_index, Option, unwrap_or, refl, sym, ap, subst, ◌∙◌, inl, inr, arith, length-drop}
+use Rattle.std.proofs.Common.{◌≡◌, ℕ, ◌+◌, ◌-◌, ◌≤◌, ◌<◌, ◌==◌, ◌&&◌, not, Bool, true, false, List, length, drop, get_or, slice_index, Option, unwrap_or, refl, sym, ap, subst, ◌∙◌, inl, inr, arith, length-drop, ◌||◌, suc}
 use Rattle.std.specs.Char.{is_ascii_punctuation}
 use Rattle.std.specs.List.{prefix_len}
 use Rattle.std.proofs.lemmas.List.{get_or-drop, get_or_past}
-use Rattle.std.proofs.lemmas.List.Sums.{prefix_len_passes, prefix_len_stops}
+use Rattle.std.proofs.lemmas.List.Sums.{prefix_len_passes, prefix_len_stops, prefix_len_is, prefix_len-le-length}
 use Rattle.std.proofs.lemmas.Bool.{cases_lt, cases_Bool, cond_both, and_parts, eqb-true, eq-eqb, ne_eqb, false≢true}
 use Rattle.std.proofs.lemmas.Bool.Decides.{nat_tests}
 use Rattle.first_pass_items.specs.declared.item.ItemBody.{ItemBody}
 use Rattle.first_pass_items.specs.declared.option_set.Options.{Options}
-use Rattle.first_pass_items.specs.declared.item.ItemBody.TheVariants.{Text, MaybeCode, MaybeHtml, MaybeLinkOpen, MaybeLinkClose, MaybeImage}
+use Rattle.first_pass_items.specs.declared.item.ItemBody.TheVariants.{Text, MaybeEmphasis, MaybeCode, MaybeHtml, MaybeLinkOpen, MaybeLinkClose, MaybeImage}
 use Rattle.first_pass_tree.specs.Forest.{is_text, is_escaped}
 use Rattle.first_pass_lines.specs.Lines.{is_line_end, is_white}
 use Rattle.first_pass_walk.specs.Walk.{is_special}
+use Rattle.first_pass_flank.specs.declared.flank.DelimiterRun.{DelimiterRun}
+use Rattle.first_pass_flank.specs.Flank.{can_open, can_close}
 use Rattle.first_pass_tokens.specs.declared.pieces.Piece.{Piece}
-use Rattle.first_pass_tokens.specs.declared.pieces.Piece.TheVariants.{Left, Begins, Token}
+use Rattle.first_pass_tokens.specs.declared.pieces.Piece.TheVariants.{Left, Begins, Token, Run}
 use Rattle.first_pass_tokens.specs.MarkupBytes.{AreBackquotes, StandsOver}
-use Rattle.first_pass_tokens.specs.Pieces.{Source, piece_at, special_piece, backslash_piece, backslash_piece_in, backquote_piece, run_at}
+use Rattle.first_pass_tokens.specs.Pieces.{Source, piece_at, special_piece, backslash_piece, backslash_piece_in, backquote_piece, is_delimiter, is_too_long, run_in, run_piece, delimiter_piece, bracket_piece, run_at}
 
 -- a visible character of ASCII
 abbrev pub IsVisible : ℕ → Type 0
@@ -27,6 +29,7 @@ AreVisible text at n = (k : ℕ) → at ≤ k → k < at + n → IsVisible (slic
 
 -- a token of possible code, HTML, links or images
 abbrev pub is_markup : ItemBody → Bool
+is_markup (MaybeEmphasis left opens closes) = true
 is_markup (MaybeCode n escaped) = true
 is_markup MaybeHtml = true
 is_markup MaybeLinkOpen = true
@@ -60,11 +63,34 @@ pub record IsMarkup (text : List ℕ) (at dropped n : ℕ) (body : ItemBody) : T
   pub kind : is_markup body ≡ true
   pub over : StandsOver text (at + dropped) (at + dropped + n) body
 
--- the bytes of a piece; a byte that is left over is no backquote
+-- bytes that are left over: all of them like the first, which is no backquote
+pub record IsLeft (text : List ℕ) (at n : ℕ) : Type 0 where
+  pub some : 0 < n
+  pub fits : at + n ≤ length text
+  pub same : (k : ℕ) → at ≤ k → k < at + n → slice_index text k ≡ slice_index text at
+  pub other : (slice_index text at == 96) ≡ false
+
+-- a run of delimiters
+pub record IsRun (text : List ℕ) (at n : ℕ) : Type 0 where
+  pub some : 0 < n
+  pub all : n ≡ run_at text at
+  pub bytes : AreVisible text at n
+  pub same : (k : ℕ) → at ≤ k → k < at + n → slice_index text k ≡ slice_index text at
+  pub delimiter : is_delimiter (slice_index text at) ≡ true
+
+-- the bytes of a piece
 abbrev pub IsPieceAt : List ℕ → ℕ → Piece → Type 0
-IsPieceAt text at (Left n) = (n ≡ 1) × ((slice_index text at == 96) ≡ false)
+IsPieceAt text at (Left n) = IsLeft text at n
+IsPieceAt text at (Run n opens closes) = IsRun text at n
 IsPieceAt text at (Begins dropped escaped) = IsEscape text at dropped
 IsPieceAt text at (Token dropped n body) = IsMarkup text at dropped n body
+
+-- a delimiter is visible, no backslash, no backquote and no pipe
+pub delimiter_visible : (b : ℕ) → is_delimiter b ≡ true → IsVisible b
+delimiter_visible b h = (grind (arith, nat_tests, h), grind (arith, nat_tests, h))
+
+pub delimiter_other : (b : ℕ) → is_delimiter b ≡ true → ((b == 92) ≡ false) × ((b == 96) ≡ false) × ((b == 124) ≡ false)
+delimiter_other b h = (grind (arith, nat_tests, h), grind (arith, nat_tests, h), grind (arith, nat_tests, h))
 
 punctuation_visible : (b : ℕ) → is_ascii_punctuation b ≡ true → IsVisible b
 punctuation_visible b h = (grind (arith, nat_tests, h), grind (arith, nat_tests, h))
@@ -101,7 +127,7 @@ module _ (text : List ℕ) (at : ℕ) where
       ]
 
   -- a run of a byte
-  run_same : (k : ℕ) → at ≤ k → k < at + run_at text at → slice_index text k ≡ slice_index text at
+  pub run_same : (k : ℕ) → at ≤ k → k < at + run_at text at → slice_index text k ≡ slice_index text at
   unfolding run_at
   run_same k low high =
       let same : at + (k - at) ≡ k = omega arith in
@@ -126,6 +152,41 @@ module _ (text : List ℕ) (at : ℕ) where
 
   run_visible : IsVisible (slice_index text at) → AreVisible text at (run_at text at)
   run_visible here k low high = subst IsVisible (sym (run_same k low high)) here
+
+  -- one byte that is left over
+  one_left : at < length text → (slice_index text at == 96) ≡ false → IsLeft text at 1
+  one_left within other = record {
+    some = omega arith;
+    fits = omega arith;
+    same = λ k low high. let here : k ≡ at = omega arith in ap (slice_index text) here;
+    other = other;
+  }
+
+  -- a run in the text
+  pub run_fits : run_at text at ≤ length (drop at text)
+  unfolding run_at
+  run_fits = prefix_len-le-length (λ b. b == slice_index text at) (drop at text)
+
+  -- a run of delimiters, as tokens or left over
+  run_piece_facts : at < length text → 0 < run_at text at → is_delimiter (slice_index text at) ≡ true → (r : DelimiterRun) → r.size ≡ run_at text at
+      → IsPieceAt text at (run_piece r)
+  run_piece_facts within some delimiter r size =
+      let len = length-drop at text in
+      let fits = run_fits in
+      cond_both ((can_open r || can_close r) && not (is_too_long r)) (Run r.size (can_open r) (can_close r)) (Left r.size) (IsPieceAt text at)
+      (λ tokens. record {
+        some = omega (arith, some, size);
+        all = size;
+        bytes = λ k low high. run_visible (delimiter_visible _ delimiter) k low (omega (arith, size));
+        same = λ k low high. run_same k low (omega (arith, size));
+        delimiter = delimiter;
+      })
+      (λ left. record {
+        some = omega (arith, some, size);
+        fits = omega (arith, size);
+        same = λ k low high. run_same k low (omega (arith, size));
+        other = (delimiter_other _ delimiter).1;
+      })
 
   -- a token of one byte
   one_byte : (b : ℕ) (body : ItemBody) → slice_index text at ≡ b → IsVisible b → (b == 92) ≡ false → is_markup body ≡ true
@@ -174,7 +235,7 @@ module _ (text : List ℕ) (at : ℕ) where
   }
 
 -- a run has its first byte
-run_some : (text : List ℕ) (at : ℕ) → at < length text → 0 < run_at text at
+pub run_some : (text : List ℕ) (at : ℕ) → at < length text → 0 < run_at text at
 unfolding run_at
 run_some text at within =
     elim (cases_lt 0 (prefix_len (λ b. b == slice_index text at) (drop at text))) [
@@ -189,6 +250,27 @@ run_some text at within =
           ap (λ (k : ℕ). get_or (drop at text) k 0) first ∙ get_or-drop at text 0 0 ∙ ap (slice_index text) here in
           absurd (false≢true (sym stops ∙ eq-eqb _ _ same))
     ]
+
+-- behind the first of a run the others are one
+pub run_next : (text : List ℕ) (at n : ℕ) → suc n ≡ run_at text at → 0 < n → (n ≡ run_at text (at + 1)) × (slice_index text (at + 1) ≡ slice_index text at)
+unfolding run_at
+run_next text at n all some =
+    let next : slice_index text (at + 1) ≡ slice_index text at = run_same text at (at + 1) (omega arith) (omega arith) in
+    let fits = run_fits text at in
+    let len = length-drop at text in
+    let later = length-drop (at + 1) text in
+    let p : ℕ → Bool = λ b. b == slice_index text (at + 1) in (
+      sym (prefix_len_is p (drop (at + 1) text) n 0 (omega arith)
+          (λ k low. eq-eqb _ _ (get_or-drop (at + 1) text k 0 ∙ run_same text at (at + 1 + k) (omega arith) (omega arith) ∙ sym next))
+          (λ more.
+          let place : at + 1 + n ≡ at + run_at text at = omega arith in
+          let stops = prefix_len_stops (λ b. b == slice_index text at) (drop at text) 0 (omega arith) in
+          let there : get_or (drop (at + 1) text) n 0 ≡ get_or (drop at text) (prefix_len (λ b. b == slice_index text at) (drop at text)) 0 =
+          get_or-drop (at + 1) text n 0 ∙ ap (slice_index text) place ∙ sym (get_or-drop at text (run_at text at) 0) in
+          ap (λ (x : ℕ). x == slice_index text (at + 1)) there
+          ∙ ap (λ (x : ℕ). get_or (drop at text) (prefix_len (λ b. b == slice_index text at) (drop at text)) 0 == x) next ∙ stops)),
+      next,
+    )
 
 -- a byte that is not 0 stands in the text
 pub at_byte : (text : List ℕ) (at : ℕ) → 0 < slice_index text at → at < length text
@@ -247,7 +329,7 @@ module _ (text : List ℕ) (at : ℕ) (within : at < length text) where
         punctuation = punctuation;
         other = other;
       })
-      (λ left. (refl, ap (λ (x : ℕ). x == 96) is)))
+      (λ left. one_left text at within (ap (λ (x : ℕ). x == 96) is)))
 
   -- in a row it is dropped before a pipe, and so are two of them
   backslash_in_facts : (row : Bool) → slice_index text at ≡ 92 → IsPieceAt text at (backslash_piece_in row text at)
@@ -277,15 +359,13 @@ module _ (text : List ℕ) (at : ℕ) (within : at < length text) where
       })
       (λ none. backslash_facts is))
 
-  -- the piece at a special byte
-  special_facts : (row : Bool) → IsPieceAt text at (special_piece row text at)
-  unfolding special_piece
-  special_facts row =
+  -- the piece at a byte that may open or close a link, an image or HTML
+  bracket_facts : (slice_index text at == 96) ≡ false → IsPieceAt text at (bracket_piece text at)
+  unfolding bracket_piece
+  bracket_facts h₂ =
       let holds : Piece → Type 0 = IsPieceAt text at in
       let b = slice_index text at in
-      cond_both (b == 92) _ _ holds (λ h. backslash_in_facts row (eqb-true b 92 h))
-      (λ h₁. cond_both (b == 96) _ _ holds (λ h. backquote_facts (eqb-true b 96 h))
-      (λ h₂. cond_both (b == 60 && not (slice_index text (at + 1) == 92)) _ _ holds
+      cond_both (b == 60 && not (slice_index text (at + 1) == 92)) _ _ holds
       (λ h. let is = eqb-true b 60 (and_parts (b == 60) _ h).0 in
       one_byte text at 60 MaybeHtml is (omega arith, omega arith) refl refl (refl, is))
       (λ h₃. cond_both (b == 33 && slice_index text (at + 1) == 91) _ _ holds
@@ -295,7 +375,22 @@ module _ (text : List ℕ) (at : ℕ) (within : at < length text) where
       (λ h. one_byte text at 91 MaybeLinkOpen (eqb-true b 91 h) (omega arith, omega arith) refl refl (refl, eqb-true b 91 h))
       (λ h₅. cond_both (b == 93) _ _ holds
       (λ h. one_byte text at 93 (MaybeLinkClose true) (eqb-true b 93 h) (omega arith, omega arith) refl refl (refl, eqb-true b 93 h, refl))
-      (λ h₆. (refl, h₂)))))))
+      (λ h₆. one_left text at within h₂))))
+
+-- the piece at a delimiter
+delimiter_facts : (s : Source) (at : ℕ) → at < length s.text → is_delimiter (slice_index s.text at) ≡ true → IsPieceAt s.text at (delimiter_piece s at)
+unfolding delimiter_piece run_in
+delimiter_facts s at within delimiter = run_piece_facts s.text at within (run_some s.text at within) delimiter _ refl
+
+-- the piece at a special byte
+special_facts : (s : Source) (at : ℕ) → at < length s.text → IsPieceAt s.text at (special_piece s at)
+unfolding special_piece
+special_facts s at within =
+    let holds : Piece → Type 0 = IsPieceAt s.text at in
+    let b = slice_index s.text at in
+    cond_both (b == 92) _ _ holds (λ h. backslash_in_facts s.text at within s.row (eqb-true b 92 h))
+    (λ h₁. cond_both (b == 96) _ _ holds (λ h. backquote_facts s.text at within (eqb-true b 96 h))
+    (λ h₂. cond_both (is_delimiter b) _ _ holds (λ h. delimiter_facts s at within h) (λ h₃. bracket_facts s.text at within h₂)))
 
 -- a byte that is not special is not that special byte
 pub off : (b c : ℕ) (options : Options) → is_special options c ≡ true → is_special options b ≡ false → (b == c) ≡ false
@@ -313,5 +408,5 @@ special_backquote options = refl
 pub piece_facts : (s : Source) (at : ℕ) → at < length s.text → IsPieceAt s.text at (piece_at s at)
 unfolding piece_at
 piece_facts s at within =
-    cond_both (is_special s.options (slice_index s.text at)) (special_piece s.row s.text at) (Left 1) (IsPieceAt s.text at)
-    (λ b. special_facts s.text at within s.row) (λ b. (refl, off (slice_index s.text at) 96 s.options (special_backquote s.options) b))
+    cond_both (is_special s.options (slice_index s.text at)) (special_piece s at) (Left 1) (IsPieceAt s.text at)
+    (λ b. special_facts s at within) (λ b. one_left s.text at within (off (slice_index s.text at) 96 s.options (special_backquote s.options) b))

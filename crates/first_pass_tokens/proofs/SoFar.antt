@@ -10,14 +10,14 @@ use Rattle.first_pass_lines.specs.Lines.{is_white}
 use Rattle.first_pass_walk.specs.Walk.{is_special, begins_token, begins_cell}
 use Rattle.first_pass_tokens.specs.declared.line.Pending.{Pending}
 use Rattle.first_pass_tokens.specs.declared.pieces.Piece.{Piece}
-use Rattle.first_pass_tokens.specs.declared.pieces.Piece.TheVariants.{Left, Begins, Token}
-use Rattle.first_pass_tokens.specs.Chains.{token, add_token, add_text}
+use Rattle.first_pass_tokens.specs.declared.pieces.Piece.TheVariants.{Left, Begins, Token, Run}
+use Rattle.first_pass_tokens.specs.Chains.{token, run_tokens, add_token, add_tokens, add_text}
 use Rattle.first_pass_tokens.specs.Pieces.{Source, piece_at, special_piece, size, EndsSolid}
 use Rattle.first_pass_tokens.specs.LineTokens.{ends_at, ArePieces, add_piece, add_pieces, text_end, breaks_by_backslash, backslashes_at_end, blanks_at_end, line_end_len, line_break}
 use Rattle.first_pass_tokens.specs.TreeTokens.{with_tokens, AppendsLine, AppendsCell}
 use Rattle.first_pass_tokens.specs.Pending.{pending_after, tree_after, IsReadTo}
-use Rattle.first_pass_tokens.proofs.PieceFacts.{IsPieceAt, IsMarkup, markup_plain, visible_solid, off}
-use Rattle.first_pass_tokens.proofs.ChainLemmas.{add_text-none, add_text-joined, with_tokens-text, with_tokens-add, with_token-plain}
+use Rattle.first_pass_tokens.proofs.PieceFacts.{IsPieceAt, IsMarkup, IsRun, delimiter_other, markup_plain, visible_solid, off}
+use Rattle.first_pass_tokens.proofs.ChainLemmas.{add_text-none, add_text-joined, with_tokens-text, with_tokens-add, with_tokens-adds, with_token-plain}
 use Rattle.first_pass_tokens.proofs.LineLemmas.{are_more, add_pieces_more, end_bounded, piece_of}
 
 -- the text that is not appended begins with the content, or behind a byte that is no white space, and no backslash if the text is empty
@@ -41,6 +41,7 @@ abbrev pub chain_after : ℕ → Piece → Pending → List Item → List Item
 chain_after at (Left n) p chain = chain
 chain_after at (Begins dropped escaped) p chain = add_text p.begin at p.escaped chain
 chain_after at (Token dropped n body) p chain = add_token (add_text p.begin at p.escaped chain) (token (at + dropped) n body)
+chain_after at (Run n opens closes) p chain = add_tokens (add_text p.begin at p.escaped chain) (run_tokens at n opens closes)
 
 special_lf : (options : Options) → is_special options 10 ≡ true
 unfolding is_special
@@ -65,7 +66,7 @@ plain_piece z at within plain =
     (or_from _ _ (lt-leb (length z.text) at within) (or_from _ _ line cell), cond-false _ _ _ plain)
 
 -- the piece at a special byte
-pub piece_special : (z : Source) (at : ℕ) → is_special z.options (slice_index z.text at) ≡ true → special_piece z.row z.text at ≡ piece_at z at
+pub piece_special : (z : Source) (at : ℕ) → is_special z.options (slice_index z.text at) ≡ true → special_piece z at ≡ piece_at z at
 unfolding piece_at
 piece_special z at special = sym (cond-true _ _ _ special)
 
@@ -163,6 +164,26 @@ module _ (z : Source) (chain : List Item) (pending : Pending) (at : ℕ) (s : So
             inr (omega (arith, facts.some), visible_solid (slice_index z.text (at + dropped + n - 1)) last, inr facts.last);
         shown = λ stop ahead. shown_past (Token dropped n body) stop (omega arith)
             ∙ sym (add_text-none (at + dropped + n) (min (at + (dropped + n)) stop) false _ (omega arith));
+      }
+  so_far_piece (Run n opens closes) is fits ends =
+      let facts : IsRun z.text at n = piece_of z at (Run n opens closes) on is in
+      record {
+        pieces = s.pieces ++ Run n opens closes ∷ [];
+        divided = divided_on (Run n opens closes) is;
+        from = omega arith;
+        upto = omega arith;
+        within = fits;
+        mark = inr refl;
+        begins =
+            let last = facts.bytes (at + n - 1) (omega (arith, facts.some)) (omega (arith, facts.some)) in
+            let same = facts.same (at + n - 1) (omega (arith, facts.some)) (omega (arith, facts.some)) in
+            inr (
+              omega (arith, facts.some),
+              visible_solid (slice_index z.text (at + n - 1)) last,
+              inr (ap (λ (b : ℕ). b == 92) same ∙ (delimiter_other _ facts.delimiter).0),
+            );
+        shown = λ stop ahead. shown_past (Run n opens closes) stop (omega arith)
+            ∙ sym (add_text-none (at + n) (min (at + n) stop) false _ (omega arith));
       }
 
 -- n bytes that are single pieces
@@ -262,6 +283,12 @@ tree_is_after text old tree chain pending at (Token dropped n body) facts order 
     ∙ sym (with_tokens-text old chain pending.begin at pending.escaped order) in
     ap (λ (f : Forest Item). appended f x) before ∙ sym (with_token-plain (with_tokens old more) x (markup_plain body facts.kind))
     ∙ sym (with_tokens-add old more x)
+tree_is_after text old tree chain pending at (Run n opens closes) facts order same =
+    let before =
+    ap (λ (f : Forest Item). with_text f pending.begin at pending.escaped) same
+    ∙ sym (with_tokens-text old chain pending.begin at pending.escaped order) in
+    ap (λ (f : Forest Item). with_tokens f (run_tokens at n opens closes)) before
+    ∙ sym (with_tokens-adds old (add_text pending.begin at pending.escaped chain) (run_tokens at n opens closes))
 
 pub read_piece : {z : Source} {old tree new : Forest Item} {pending next : Pending} {at to : ℕ} (p : Piece) → IsRead z old tree pending at → ends_at z at ≡ false → p ≡ piece_at z at → at + size p ≤ length z.text → EndsSolid z.text at p
     → new ≡ tree_after at p pending tree → next ≡ pending_after at p pending → to ≡ at + size p → IsRead z old new next to
@@ -301,9 +328,10 @@ read_line z old tree new pending end plain r new_is = record {
 -- the same of what a line's end answers
 pub read_ended : (z : Source) (old tree new : Forest Item) (pending : Pending) (end : ℕ) (r : Result (ℕ × Option Item) AllocError)
     → z.row ≡ false → IsReadTo z old tree end pending
-    → OnOk r (new ≡ with_text tree pending.begin (text_end z end) pending.escaped) → IfOk r (λ a. a ≡ (end + line_end_len z end, line_break z end)) → IfOk r (λ a. AppendsLine z old new a)
+    → OnOk r ((w : List ℕ) → new ≡ with_text tree pending.begin (text_end (record z { whole = w }) end) pending.escaped)
+    → IfOk r (λ a. (w : List ℕ) → a ≡ (end + line_end_len (record z { whole = w }) end, line_break (record z { whole = w }) end)) → IfOk r (λ a. AppendsLine z old new a)
 read_ended z old tree new pending end (Ok a) plain read new_is is =
-    subst (λ (b : ℕ × Option Item). AppendsLine z old new b) (sym is) (read_line z old tree new pending end plain read new_is)
+    subst (λ (b : ℕ × Option Item). AppendsLine z old new b) (sym (is z.whole)) (read_line z old tree new pending end plain read (new_is z.whole))
 read_ended z old tree new pending end (Err e) plain read new_is is = tt
 
 -- a cell whose content is read, once the text that is pending is appended

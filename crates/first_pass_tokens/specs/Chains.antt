@@ -1,8 +1,8 @@
 -- Chains of tokens: lists of items in the order of the text, the leaves of a block.
-use Rattle.std.specs.Prelude.{◌≡◌, ℕ, ◌+◌, ◌-◌, ◌==◌, ◌&&◌, Bool, false, List, [], ◌∷◌, Option, Some, None, nat_lt, if◌then◌else◌}
+use Rattle.std.specs.Prelude.{◌≡◌, ℕ, zero, suc, ◌+◌, ◌-◌, ◌==◌, ◌&&◌, Bool, false, List, [], ◌∷◌, Option, Some, None, nat_lt, if◌then◌else◌}
 use Rattle.first_pass_items.specs.declared.item.Item.{Item}
 use Rattle.first_pass_items.specs.declared.item.ItemBody.{ItemBody}
-use Rattle.first_pass_items.specs.declared.item.ItemBody.TheVariants.{Text, HardBreak}
+use Rattle.first_pass_items.specs.declared.item.ItemBody.TheVariants.{Text, HardBreak, MaybeEmphasis}
 use Rattle.first_pass_tree.specs.Forest.{is_text, is_escaped, cut_item}
 
 -- the text from one offset up to another, marked where its first byte was escaped (CommonMark 2.4)
@@ -12,6 +12,12 @@ text_token from to escaped = record { start = from; «end» = to; body = Text es
 -- the token of so many bytes at an offset (this project)
 abbrev pub token : ℕ → ℕ → ItemBody → Item
 token at n body = record { start = at; «end» = at + n; body = body }
+
+-- a token for each of so many delimiters from an offset on, with how many are left of the run, this one counted, and whether the run can open and close
+-- (CommonMark 6.2)
+abbrev pub run_tokens : ℕ → ℕ → Bool → Bool → List Item
+run_tokens at zero opens closes = []
+run_tokens at (suc n) opens closes = token at 1 (MaybeEmphasis (suc n) opens closes) ∷ run_tokens (at + 1) n opens closes
 
 -- the second is a text that begins where the first, a text, ends (this project)
 abbrev pub touches : Item → Item → Bool

@@ -8,8 +8,8 @@ use Rattle.first_pass_items.specs.declared.item.ItemBody.{ItemBody}
 use Rattle.first_pass_items.specs.declared.item.ItemBody.TheVariants.{SoftBreak, HardBreak}
 use Rattle.first_pass_lines.specs.Lines.{is_line_end, is_content, is_white, line_len}
 use Rattle.first_pass_tokens.specs.declared.pieces.Piece.{Piece}
-use Rattle.first_pass_tokens.specs.declared.pieces.Piece.TheVariants.{Left, Begins, Token}
-use Rattle.first_pass_tokens.specs.Chains.{token, add_token, add_text}
+use Rattle.first_pass_tokens.specs.declared.pieces.Piece.TheVariants.{Left, Begins, Token, Run}
+use Rattle.first_pass_tokens.specs.Chains.{token, run_tokens, add_token, add_tokens, add_text}
 use Rattle.first_pass_tokens.specs.Pieces.{Source, piece_at, size}
 
 -- with tables, a pipe ends the content of a cell (GFM 4.10)
@@ -30,11 +30,12 @@ pub record IsDivision (s : Source) (pieces : List Piece) (end : ℕ) : Type 0 wh
   pub divided : ArePieces s s.start pieces end
   pub ended : ends_at s end ≡ true
 
--- the chain with the text or the token of a piece behind it, no text past an offset; a dropped backslash is in neither (CommonMark 2.4)
+-- the chain with the text or the tokens of a piece after it, no text past an offset; a dropped backslash is in neither (CommonMark 2.4)
 abbrev pub add_piece : ℕ → ℕ → Piece → List Item → List Item
 add_piece stop at (Left n) chain = add_text at (min (at + n) stop) false chain
 add_piece stop at (Begins dropped escaped) chain = add_text (at + dropped) (min (at + (dropped + 1)) stop) escaped chain
 add_piece stop at (Token dropped n body) chain = add_token chain (token (at + dropped) n body)
+add_piece stop at (Run n opens closes) chain = add_tokens chain (run_tokens at n opens closes)
 
 -- the chain with the texts and tokens of these pieces behind it (this project)
 abbrev pub add_pieces : ℕ → ℕ → List Piece → List Item → List Item

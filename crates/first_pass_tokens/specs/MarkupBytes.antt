@@ -3,8 +3,9 @@ use Rattle.std.specs.Prelude.{◌≡◌, ℕ, ◌+◌, ◌-◌, ◌==◌, ◌<�
 use Rattle.first_pass_items.specs.Bytes.{exclamation_mark, less_than, left_bracket, backslash, right_bracket, backquote, pipe}
 use Rattle.first_pass_items.specs.declared.item.Item.{Item}
 use Rattle.first_pass_items.specs.declared.item.ItemBody.{ItemBody}
-use Rattle.first_pass_items.specs.declared.item.ItemBody.TheVariants.{MaybeCode, MaybeHtml, MaybeLinkOpen, MaybeLinkClose, MaybeImage}
+use Rattle.first_pass_items.specs.declared.item.ItemBody.TheVariants.{MaybeEmphasis, MaybeCode, MaybeHtml, MaybeLinkOpen, MaybeLinkClose, MaybeImage}
 use Rattle.first_pass_tree.specs.Forest.{is_text}
+use Rattle.first_pass_tokens.specs.Pieces.{is_delimiter, run_at}
 
 -- so many backquotes from an offset on, and none behind them (CommonMark 6.1, backtick string)
 pub record AreBackquotes (text : List ℕ) (start n : ℕ) : Type 0 where
@@ -12,9 +13,10 @@ pub record AreBackquotes (text : List ℕ) (start n : ℕ) : Type 0 where
   pub each : (k : ℕ) → start ≤ k → k < start + n → slice_index text k ≡ backquote
   pub behind : (slice_index text (start + n) == backquote) ≡ false
 
--- a token of possible markup stands over what its kind says: all of some backquotes, behind a backslash where it says so; `<`; `![`, `[` or `]`
--- (CommonMark 6.1, 6.3 to 6.6)
+-- a token of possible markup stands over what its kind says: a delimiter, from which on so many stand in a row; all of some backquotes, behind a backslash
+-- where it says so; `<`; `![`, `[` or `]` (CommonMark 6.1 to 6.6)
 abbrev pub StandsOver : List ℕ → ℕ → ℕ → ItemBody → Type 0
+StandsOver text start end (MaybeEmphasis left opens closes) = (end ≡ start + 1) × (is_delimiter (slice_index text start) ≡ true) × (left ≡ run_at text start)
 StandsOver text start end (MaybeCode n escaped) = (end ≡ start + n) × AreBackquotes text start n × (escaped ≡ true → slice_index text (start - 1) ≡ backslash)
 StandsOver text start end MaybeHtml = (end ≡ start + 1) × (slice_index text start ≡ less_than)
 StandsOver text start end MaybeImage = (end ≡ start + 2) × (slice_index text start ≡ exclamation_mark) × (slice_index text (start + 1) ≡ left_bracket)

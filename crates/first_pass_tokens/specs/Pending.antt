@@ -3,17 +3,12 @@ use Rattle.std.specs.Prelude.{◌≡◌, ℕ, ◌+◌, ◌-◌, ◌≤◌, false
 use Rattle.first_pass_items.specs.declared.item.Item.{Item}
 use Rattle.first_pass_tree.specs.Forest.{Forest, appended, with_text}
 use Rattle.first_pass_tokens.specs.declared.pieces.Piece.{Piece}
-use Rattle.first_pass_tokens.specs.declared.pieces.Piece.TheVariants.{Left, Begins, Token}
+use Rattle.first_pass_tokens.specs.declared.pieces.Piece.TheVariants.{Left, Begins, Token, Run}
 use Rattle.first_pass_tokens.specs.declared.line.Pending.{Pending}
-use Rattle.first_pass_tokens.specs.declared.line.Content.{Content}
 use Rattle.first_pass_tokens.specs.Pieces.{Source}
 use Rattle.first_pass_tokens.specs.LineTokens.{IsDivision, add_pieces, text_end, blanks_at_end}
 use Rattle.first_pass_tokens.specs.TreeTokens.{with_tokens}
-use Rattle.first_pass_tokens.specs.Chains.{token}
-
--- the content that begins there in a text (this project)
-abbrev pub source : List ℕ → Content → Source
-source text c = record { options = c.options; text = text; start = c.start; row = c.row }
+use Rattle.first_pass_tokens.specs.Chains.{token, run_tokens}
 
 -- the text that is pending behind a piece: bytes that are left over belong to the one before, a piece that begins a text leaves that one,
 -- and behind a token another one begins (this project)
@@ -21,12 +16,14 @@ abbrev pub pending_after : ℕ → Piece → Pending → Pending
 pending_after at (Left n) p = p
 pending_after at (Begins dropped escaped) p = record { begin = at + dropped; escaped = escaped }
 pending_after at (Token dropped n body) p = record { begin = at + dropped + n; escaped = false }
+pending_after at (Run n opens closes) p = record { begin = at + n; escaped = false }
 
 -- the tree behind a piece: a piece that begins a text ends the one that was pending, and so does a token (this project)
 abbrev pub tree_after : ℕ → Piece → Pending → Forest Item → Forest Item
 tree_after at (Left n) p f = f
 tree_after at (Begins dropped escaped) p f = with_text f p.begin at p.escaped
 tree_after at (Token dropped n body) p f = appended (with_text f p.begin at p.escaped) (token (at + dropped) n body)
+tree_after at (Run n opens closes) p f = with_tokens (with_text f p.begin at p.escaped) (run_tokens at n opens closes)
 
 -- A content is read up to its end, where a text is pending. Up to whatever offset that text goes on, the tree then has the content's tokens up to there; and it
 -- begins before the white space at the content's end, and before the backslash that breaks a line there (this project).

@@ -1,20 +1,38 @@
 -- The pieces that the content of a line is divided into. Places are offsets into the text.
-use Rattle.std.specs.Prelude.{◌≡◌, ℕ, ◌+◌, ◌-◌, ◌==◌, ◌<◌, ◌&&◌, not, Bool, true, false, List, drop, slice_index, Option, Some, None, unwrap_or, if◌then◌else◌}
+use Rattle.std.specs.Prelude.{◌≡◌, ℕ, ◌+◌, ◌-◌, ◌==◌, ◌<◌, ◌&&◌, ◌||◌, not, Bool, true, false, List, take, drop, slice_index, Option, Some, None, unwrap_or, nat_lt, if◌then◌else◌}
 use Rattle.std.specs.Char.{is_ascii_punctuation}
-use Rattle.std.specs.List.{prefix_len}
-use Rattle.first_pass_items.specs.Bytes.{exclamation_mark, less_than, left_bracket, backslash, right_bracket, backquote, pipe}
+use Rattle.std.specs.List.{prefix_len, slice_range}
+use Rattle.first_pass_items.specs.Bytes.{exclamation_mark, less_than, left_bracket, backslash, right_bracket, backquote, pipe, asterisk, underscore, circumflex, tilde}
+use Rattle.first_pass_flank.specs.declared.flank.DelimiterRun.{DelimiterRun}
+use Rattle.first_pass_flank.specs.Flank.{first_char, last_char, ends_with_pipe, can_open, can_close}
 use Rattle.first_pass_items.specs.declared.item.ItemBody.TheVariants.{MaybeCode, MaybeHtml, MaybeLinkOpen, MaybeLinkClose, MaybeImage}
 use Rattle.first_pass_items.specs.declared.option_set.Options.{Options}
 use Rattle.first_pass_walk.specs.Walk.{is_special}
 use Rattle.first_pass_tokens.specs.declared.pieces.Piece.{Piece}
-use Rattle.first_pass_tokens.specs.declared.pieces.Piece.TheVariants.{Left, Begins, Token}
+use Rattle.first_pass_tokens.specs.declared.pieces.Piece.TheVariants.{Left, Begins, Token, Run}
+use Rattle.first_pass_tokens.specs.declared.pieces.Content.{Content}
 
--- a content: the options that it is read under, the text that it stands in, where it begins, and whether it is that of a cell in a table's row (this project)
+-- a content: the options that it is read under, the whole text that it stands in, that text up to where no content is left, where it begins, and whether it is
+-- that of a cell in a table's row (this project)
 pub record Source : Type 0 where
   pub options : Options
+  pub whole : List ℕ
   pub text : List ℕ
   pub start : ℕ
   pub row : Bool
+
+-- a text up to an offset, or all of it (this project)
+abbrev pub text_upto : List ℕ → Option ℕ → List ℕ
+text_upto text None = text
+text_upto text (Some e) = take e text
+
+-- the content that begins there in a whole text, of which this much is left to it (this project)
+abbrev pub content_in : List ℕ → List ℕ → Content → Source
+content_in whole text c = record { options = c.options; whole = whole; text = text; start = c.start; row = c.row }
+
+-- the content that begins there in a text (this project)
+abbrev pub source : List ℕ → Content → Source
+source whole c = content_in whole (text_upto whole c.«end») c
 
 -- how many bytes like the one at a place stand there in a row (CommonMark 6.1, backtick string)
 unfoldable pub run_at : List ℕ → ℕ → ℕ
@@ -41,29 +59,69 @@ backslash_piece text at =
 abbrev pub backslash_piece_in : Bool → List ℕ → ℕ → Piece
 backslash_piece_in row text at = unwrap_or (if row then pipe_piece text at else None) (backslash_piece text at)
 
--- at a special byte: the first case that fits, else the byte is left over (CommonMark 2.4, 6.1, 6.3 to 6.6)
-unfoldable pub special_piece : Bool → List ℕ → ℕ → Piece
-special_piece row text at =
-    if slice_index text at == backslash then backslash_piece_in row text at
-    else (if slice_index text at == backquote then backquote_piece text at
-    else (if slice_index text at == less_than && not (slice_index text (at + 1) == backslash) then Token 0 1 MaybeHtml
+-- the bytes that delimiter runs are made of: * and _ (CommonMark 6.2), ~ (GFM 6.5) and ^ (this project)
+abbrev pub is_delimiter : ℕ → Bool
+is_delimiter b = b == asterisk || (b == underscore || (b == tilde || b == circumflex))
+
+-- the character before a place of a content, if it is not its first (this project)
+unfoldable pub char_before : Source → ℕ → Option ℕ
+char_before s at = if nat_lt s.start at then last_char (take at s.whole) else None
+
+-- the delimiter run of so many bytes at a place of a content: before it stands what the content has there, after it what the whole text has
+-- (CommonMark 6.2, delimiter run)
+unfoldable pub run_in : Source → ℕ → ℕ → DelimiterRun
+run_in s at size = record {
+  delimiter = slice_index s.text at;
+  size = size;
+  in_row = s.row;
+  behind_pipe = ends_with_pipe (slice_range s.text s.start at);
+  before = char_before s at;
+  after = first_char (drop (at + size) s.whole);
+}
+
+-- a run of tildes is no delimiter run where it has more than two (GFM 6.5)
+abbrev pub is_too_long : DelimiterRun → Bool
+is_too_long r = r.delimiter == tilde && nat_lt 2 r.size
+
+-- a delimiter run: a token for each of its bytes if it can open or close, else all of it is left over (CommonMark 6.2, GFM 6.5)
+abbrev pub run_piece : DelimiterRun → Piece
+run_piece r = if (can_open r || can_close r) && not (is_too_long r) then Run r.size (can_open r) (can_close r) else Left r.size
+
+-- at a delimiter: the run of all that stand there in a row (CommonMark 6.2)
+unfoldable pub delimiter_piece : Source → ℕ → Piece
+delimiter_piece s at = run_piece (run_in s at (run_at s.text at))
+
+-- at a byte that opens or closes a link, an image, or HTML, the first case that fits, else the byte is left over (CommonMark 6.3 to 6.6)
+unfoldable pub bracket_piece : List ℕ → ℕ → Piece
+bracket_piece text at =
+    if slice_index text at == less_than && not (slice_index text (at + 1) == backslash) then Token 0 1 MaybeHtml
     else (if slice_index text at == exclamation_mark && slice_index text (at + 1) == left_bracket then Token 0 2 MaybeImage
     else (if slice_index text at == left_bracket then Token 0 1 MaybeLinkOpen
     else (if slice_index text at == right_bracket then Token 0 1 (MaybeLinkClose true)
-    else Left 1)))))
+    else Left 1)))
+
+-- at a special byte: the first case that fits, else the byte is left over (CommonMark 2.4, 6.1 to 6.6)
+unfoldable pub special_piece : Source → ℕ → Piece
+special_piece s at =
+    if slice_index s.text at == backslash then backslash_piece_in s.row s.text at
+    else (if slice_index s.text at == backquote then backquote_piece s.text at
+    else (if is_delimiter (slice_index s.text at) then delimiter_piece s at
+    else bracket_piece s.text at))
 
 -- the piece that begins at a place: a byte that is not special is left over (CommonMark 6, textual content)
 unfoldable pub piece_at : Source → ℕ → Piece
-piece_at s at = if is_special s.options (slice_index s.text at) then special_piece s.row s.text at else Left 1
+piece_at s at = if is_special s.options (slice_index s.text at) then special_piece s at else Left 1
 
 -- how many bytes a piece takes (this project)
 abbrev pub size : Piece → ℕ
 size (Left n) = n
 size (Begins dropped escaped) = dropped + 1
 size (Token dropped n body) = dropped + n
+size (Run n opens closes) = n
 
 -- a piece is not empty, what it drops before a text ends with a backslash, and a token has bytes of its own (this project)
 abbrev pub EndsSolid : List ℕ → ℕ → Piece → Type 0
 EndsSolid text at (Left n) = 0 < n
 EndsSolid text at (Begins dropped escaped) = (0 < dropped) × (slice_index text (at + dropped - 1) ≡ backslash)
 EndsSolid text at (Token dropped n body) = 0 < n
+EndsSolid text at (Run n opens closes) = 0 < n

@@ -1,14 +1,18 @@
 //! The tokens of a line, appended to the tree.
 
-ghost use Rattle.std.specs.Prelude.{◌≡◌, ◌==◌, ◌+◌, ◌<◌, ◌≤◌, ◌^◌, true, false, IsTrue, length, slice_index, OnOk, IfOk};
+ghost use Rattle.std.specs.Prelude.{◌≡◌, ◌==◌, ◌+◌, ◌<◌, ◌≤◌, ◌^◌, ℕ, List, true, false, IsTrue, IsUtf8, length, slice_index, OnOk, IfOk, IfSome};
+ghost use Rattle.std.specs.List.{suffix_len, slice_range};
+ghost use Rattle.first_pass_items.specs.Bytes.{backslash};
+ghost use Rattle.first_pass_lines.specs.Lines.{is_white as is_white_byte};
 ghost use Rattle.first_pass_walk.specs.Walk.{MarksSpecial};
 ghost use Rattle.first_pass_tree.specs.Forest.{with_text};
-ghost use Rattle.first_pass_tokens.specs.Pieces.{Source, size};
-ghost use Rattle.first_pass_tokens.specs.LineTokens.{line_end_len, blanks_at_end, backslashes_at_end, breaks_by_backslash, text_end, break_of, line_break, ends_at, EndsLine, EndsCell};
-ghost use Rattle.first_pass_tokens.specs.TreeTokens.{AppendsLine, AppendsCell};
-ghost use Rattle.first_pass_tokens.specs.Pending.{source, pending_after, tree_after, IsReadTo};
+ghost use Rattle.first_pass_tokens.specs.Pieces.{source, content_in, text_upto, size};
+ghost use Rattle.first_pass_tokens.specs.LineTokens.{line_end_len, breaks_by_backslash, text_end, break_of, line_break, ends_at, EndsLine, EndsCell};
+ghost use Rattle.first_pass_tokens.specs.TreeTokens.{with_tokens, AppendsLine, AppendsCell};
+ghost use Rattle.first_pass_tokens.specs.Chains.{run_tokens};
+ghost use Rattle.first_pass_tokens.specs.Pending.{pending_after, tree_after, IsReadTo};
 
-use crate::pieces::{Piece, piece_len, special_piece};
+use crate::pieces::{Content, Piece, piece_len, special_piece};
 use bitflags::Flags;
 use first_pass_items::item::{Item, ItemBody};
 use first_pass_items::option_set::Options;
@@ -18,77 +22,59 @@ use first_pass_walk::walk::next_special_in_words;
 use std::alloc::AllocError;
 
 /// Appends the tokens of one line to the innermost open node: the texts and the tokens of possible code,
-/// HTML, links and images (CommonMark 6.1, 6.3 to 6.6) of the content that begins at `start`, an offset
-/// into `text`, up to the first line end, or the text's end. `lut` is the table of the bytes that are
-/// special under `options`.
+/// emphasis, HTML, links and images (CommonMark 6.1 to 6.6) of a content, up to the first line end, or the
+/// end that is set, or the text's end. `lut` is the table of the bytes that are special under its options.
 ///
-/// Answers the offset behind the line's line end, and the line break there (CommonMark 6.7, 6.8), which
-/// is not appended; `None` where the text ends without a line end. A backslash before ASCII punctuation
+/// Returns the offset after the line's line end, and the line break there (CommonMark 6.7, 6.8), which
+/// is not appended; `None` where no line end is left. A backslash before ASCII punctuation
 /// is dropped (2.4), and white space at the content's end is in no text. The error is want of memory.
 #[inline(always)]
 pub fn append_line(
-    text: &[u8],
-    start: usize,
-    options: Options,
+    whole: &str,
+    content: Content,
     lut: &[bool; 256],
     tree: &mut Tree<Item>,
 ) -> Result<(usize, Option<Item>), AllocError>
-    requires within { start ≤ length text.now }
-    requires marks { MarksSpecial lut.now options }
-    ensures line { IfOk result (λ answer. AppendsLine
-        (record { options = options; text = text.now; start = start; row = false }) tree.old tree.new answer) }
-    ensures ends { IfOk result (λ answer. EndsLine
-        (record { options = options; text = text.now; start = start; row = false }) answer) }
+    requires set { IfSome content.«end» (λ e. e ≤ length whole.now) }
+    requires within { content.start ≤ length (text_upto whole.now content.«end») }
+    requires marks { MarksSpecial lut.now content.options }
+    requires no_cell { content.row ≡ false }
+    ensures utf8 { IsUtf8 whole.now }
+    ensures line { IfOk result (λ answer. AppendsLine (source whole.now content) tree.old tree.new answer) }
+    ensures ends { IfOk result (λ answer. EndsLine (source whole.now content) answer) }
 {
-    let content = Content {
-        options,
-        start,
-        row: false,
-    };
-    let (end, pending) = append_pieces(text, content, lut, tree)?;
+    let text = text_upto(whole, content.end);
+    let (end, pending) = append_pieces(whole, text, content, lut, tree)?;
     end_line(text, content, end, pending, tree)
 }
 
 /// Appends the tokens of one cell of a table's row to the innermost open node: those of a line (see
-/// `append_line`), of the content that begins at `start`, an offset into `text`, up to the first line end,
-/// the text's end, or, where `options` has tables, the first pipe that is not escaped. A backslash before
+/// `append_line`), of a content, up to the first line end, the end that is set, the text's end, or, where
+/// its options have tables, the first pipe that is not escaped. A backslash before
 /// a pipe is dropped, and so are two of them (GFM 4.10). `lut` is the table of the bytes that are special
-/// under `options`.
+/// under its options.
 ///
-/// Answers the offset where the content ends: that of the pipe, the line end or the text's end. White
+/// Returns the offset where the content ends: that of the pipe, the line end or the text's end. White
 /// space before it is in no text. The error is want of memory.
 #[inline(always)]
 pub fn append_cell(
-    text: &[u8],
-    start: usize,
-    options: Options,
+    whole: &str,
+    content: Content,
     lut: &[bool; 256],
     tree: &mut Tree<Item>,
 ) -> Result<usize, AllocError>
-    requires within { start ≤ length text.now }
-    requires marks { MarksSpecial lut.now options }
-    ensures cell { IfOk result (λ end. AppendsCell
-        (record { options = options; text = text.now; start = start; row = true }) tree.old tree.new end) }
-    ensures ends { IfOk result (λ end. EndsCell
-        (record { options = options; text = text.now; start = start; row = true }) end) }
+    requires set { IfSome content.«end» (λ e. e ≤ length whole.now) }
+    requires within { content.start ≤ length (text_upto whole.now content.«end») }
+    requires marks { MarksSpecial lut.now content.options }
+    ensures utf8 { IsUtf8 whole.now }
+    ensures cell { IfOk result (λ end. AppendsCell (source whole.now content) tree.old tree.new end) }
+    ensures ends { IfOk result (λ end. EndsCell (source whole.now content) end) }
 {
-    let content = Content {
-        options,
-        start,
-        row: true,
-    };
-    let (end, pending) = append_pieces(text, content, lut, tree)?;
+    let text = text_upto(whole, content.end);
+    let (end, pending) = append_pieces(whole, text, content, lut, tree)?;
     let blanks = blanks_at_end(text, content, end);
     tree.append_text(pending.begin, end - blanks, pending.escaped)?;
     Ok(end)
-}
-
-// How a content is read, where it begins in the text, and whether it is a cell's.
-#[derive(Clone, Copy, Drop)]
-struct Content {
-    options: Options,
-    start: usize,
-    row: bool,
 }
 
 // A text that began at an offset and may go on, and is not in the tree yet.
@@ -98,17 +84,32 @@ struct Pending {
     escaped: bool,
 }
 
-// Appends the tokens of a content, but for a text that is pending. Answers where the content ends.
+/// The bytes of a text up to an offset, or all of them.
+#[inline(always)]
+pub fn text_upto(text: &str, end: Option<usize>) -> &[u8]
+    requires { IfSome end (λ e. e ≤ length text.now) }
+    ensures { result.now ≡ text_upto text.now end }
+{
+    let bytes = text.as_bytes();
+    match end {
+        Some(end) => &bytes[..end],
+        None => bytes,
+    }
+}
+
+// Appends the tokens of a content, but for a text that is pending. Returns where the content ends.
 #[inline(always)]
 fn append_pieces(
+    whole: &str,
     text: &[u8],
     content: Content,
     lut: &[bool; 256],
     tree: &mut Tree<Item>,
 ) -> Result<(usize, Pending), AllocError>
+    requires front { text.now ≡ text_upto whole.now content.«end» }
     requires within { content.start ≤ length text.now }
     requires marks { MarksSpecial lut.now content.options }
-    ensures read { IfOk result (λ answer. IsReadTo (source text.now content) tree.old tree.new answer.0 answer.1) }
+    ensures read { IfOk result (λ answer. IsReadTo (content_in whole.now text.now content) tree.old tree.new answer.0 answer.1) }
     ensures order { IfOk result (λ answer. content.start ≤ answer.0) }
     ensures within { IfOk result (λ answer. answer.0 ≤ length text.now) }
 {
@@ -121,7 +122,7 @@ fn append_pieces(
         if ends_at(text, content, at) {
             return Ok((at, pending));
         }
-        let piece = special_piece(text, at, content.row);
+        let piece = special_piece(whole, text, content, at);
         append_piece(tree, &mut pending, at, piece)?;
         from = at + piece_len(piece);
     }
@@ -133,7 +134,7 @@ fn append_pieces(
 #[tactic(auto, unfolding(crate::specs::LineTokens::ends_at))]
 fn ends_at(text: &[u8], content: Content, at: usize) -> bool
     requires { at < length text.now }
-    ensures { result ≡ ends_at (source text.now content) at }
+    ensures { (w : List ℕ) → result ≡ ends_at (content_in w text.now content) at }
 {
     let byte = text[at];
     is_line_end(byte)
@@ -171,13 +172,46 @@ fn append_piece(
                 escaped: false,
             };
         }
+        Piece::Run(n, opens, closes) => {
+            tree.append_text(pending.begin, at, pending.escaped)?;
+            append_run(tree, at, n, opens, closes)?;
+            *pending = Pending {
+                begin: at + n,
+                escaped: false,
+            };
+        }
+    }
+    Ok(())
+}
+
+// Appends a token for each of so many delimiters from an offset on.
+fn append_run(
+    tree: &mut Tree<Item>,
+    at: usize,
+    n: usize,
+    opens: bool,
+    closes: bool,
+) -> Result<(), AllocError>
+    requires { at + n < 2 ^ 64 }
+    ensures { OnOk result (tree.new ≡ with_tokens tree.old (run_tokens at n opens closes)) }
+{
+    let mut next = at;
+    let mut left = n;
+    while 0 < left {
+        tree.append(Item {
+            start: next,
+            end: next + 1,
+            body: ItemBody::MaybeEmphasis(left, opens, closes),
+        })?;
+        next += 1;
+        left -= 1;
     }
     Ok(())
 }
 
 // Ends a line: appends the last text, and answers where the line ends, and its break.
 #[inline(always)]
-#[tactic(auto, unfolding(crate::specs::LineTokens::text_end, crate::specs::LineTokens::line_break))]
+#[tactic(auto, unfolding(crate::specs::LineTokens::text_end, crate::specs::LineTokens::line_break, crate::specs::LineTokens::blanks_at_end))]
 fn end_line(
     text: &[u8],
     content: Content,
@@ -187,10 +221,10 @@ fn end_line(
 ) -> Result<(usize, Option<Item>), AllocError>
     requires order { content.start ≤ end }
     requires within { end ≤ length text.now }
-    ensures tree { OnOk result
-        (tree.new ≡ with_text tree.old pending.begin (text_end (source text.now content) end) pending.escaped) }
-    ensures answer { IfOk result (λ answer. answer
-        ≡ (end + line_end_len (source text.now content) end, line_break (source text.now content) end)) }
+    ensures tree { OnOk result ((w : List ℕ) → tree.new
+        ≡ with_text tree.old pending.begin (text_end (content_in w text.now content) end) pending.escaped) }
+    ensures answer { IfOk result (λ answer. (w : List ℕ) → answer
+        ≡ (end + line_end_len (content_in w text.now content) end, line_break (content_in w text.now content) end)) }
 {
     let next = end + line_end_len(text, content, end);
     let by_backslash = breaks_by_backslash(text, content, end, next);
@@ -231,23 +265,22 @@ fn break_of(end: usize, next: usize, by_backslash: bool, blanks: usize) -> Item
 }
 
 // Whether the line, which ends at `next`, breaks by its last backslash.
-#[tactic(auto, unfolding(crate::specs::LineTokens::breaks_by_backslash))]
+#[tactic(auto, unfolding(crate::specs::LineTokens::breaks_by_backslash, crate::specs::LineTokens::backslashes_at_end))]
 fn breaks_by_backslash(text: &[u8], content: Content, end: usize, next: usize) -> bool
     requires order { content.start ≤ end }
     requires within { end ≤ length text.now }
-    requires behind { next ≡ end + line_end_len (source text.now content) end }
-    ensures value { result ≡ breaks_by_backslash (source text.now content) end }
+    requires after { (w : List ℕ) → next ≡ end + line_end_len (content_in w text.now content) end }
+    ensures value { (w : List ℕ) → result ≡ breaks_by_backslash (content_in w text.now content) end }
     ensures nonempty { IsTrue result → content.start < end }
 {
     next < text.len() && backslashes_at_end(text, content, end) % 2 == 1
 }
 
 // How many backslashes stand at the end of the content.
-#[tactic(auto, unfolding(crate::specs::LineTokens::backslashes_at_end))]
 fn backslashes_at_end(text: &[u8], content: Content, end: usize) -> usize
     requires order { content.start ≤ end }
     requires within { end ≤ length text.now }
-    ensures value { result ≡ backslashes_at_end (source text.now content) end }
+    ensures value { result ≡ suffix_len (λ b. b == backslash) (slice_range text.now content.start end) }
     ensures fits { content.start + result ≤ end }
 {
     let bytes = &text[content.start..end];
@@ -255,11 +288,10 @@ fn backslashes_at_end(text: &[u8], content: Content, end: usize) -> usize
 }
 
 // How many bytes of white space stand at the end of the content.
-#[tactic(auto, unfolding(crate::specs::LineTokens::blanks_at_end))]
 fn blanks_at_end(text: &[u8], content: Content, end: usize) -> usize
     requires order { content.start ≤ end }
     requires within { end ≤ length text.now }
-    ensures value { result ≡ blanks_at_end (source text.now content) end }
+    ensures value { result ≡ suffix_len is_white_byte (slice_range text.now content.start end) }
     ensures fits { content.start + result ≤ end }
 {
     let bytes = &text[content.start..end];
@@ -270,7 +302,7 @@ fn blanks_at_end(text: &[u8], content: Content, end: usize) -> usize
 #[tactic(auto, unfolding(crate::specs::LineTokens::line_end_len))]
 fn line_end_len(text: &[u8], content: Content, end: usize) -> usize
     requires { end ≤ length text.now }
-    ensures value { result ≡ line_end_len (source text.now content) end }
+    ensures value { (w : List ℕ) → result ≡ line_end_len (content_in w text.now content) end }
     ensures fits { end + result ≤ length text.now }
 {
     if end >= text.len() {

@@ -1,11 +1,26 @@
 //! The pieces that the content of a line is divided into: which one begins at a place.
 
-ghost use Rattle.std.specs.Prelude.{◌≡◌, ◌+◌, ◌<◌, ◌≤◌, ◌^◌, length, slice_index};
+ghost use Rattle.std.specs.Prelude.{◌≡◌, ◌+◌, ◌<◌, ◌≤◌, ◌^◌, true, length, slice_index, ℕ, List, IsCharBoundary};
 ghost use Rattle.first_pass_items.specs.Bytes.{backslash, backquote};
-ghost use Rattle.first_pass_tokens.specs.Pieces.{special_piece, backslash_piece, backslash_piece_in, backquote_piece, run_at, size, EndsSolid};
+ghost use Rattle.first_pass_tokens.specs.Pieces.{content_in, text_upto, special_piece, backslash_piece, backslash_piece_in, backquote_piece, is_delimiter, char_before, run_in, run_piece, delimiter_piece, bracket_piece, run_at, size, EndsSolid};
 
+use first_pass_flank::flank::{DelimiterRun, ends_with_pipe, first_char, last_char};
 use first_pass_items::item::ItemBody;
+use first_pass_items::option_set::Options;
 use first_pass_lines::places::rest_of;
+
+/// The content of a line of text, or of a cell in a table's row.
+#[derive(Clone, Copy, Drop)]
+pub struct Content {
+    /// The options that it is read under.
+    pub options: Options,
+    /// Where it begins: an offset into the text.
+    pub start: usize,
+    /// The offset into the text from which on no content is left; `None` where that is the text's end.
+    pub end: Option<usize>,
+    /// Whether it is a cell's.
+    pub row: bool,
+}
 
 /// A part of a line's content, as the tokens are read off it.
 #[derive(Clone, Copy, Drop)]
@@ -16,28 +31,30 @@ pub enum Piece {
     Begins(usize, bool),
     /// Backslashes that are dropped, and then a token of so many bytes that is no text.
     Token(usize, usize, ItemBody),
+    /// A token for each of so many delimiters; whether their run can open and close.
+    Run(usize, bool, bool),
 }
 
-/// The piece at a special byte of a text; `at` is its offset. All backquotes in a row are a token of
-/// possible code (CommonMark 6.1), `<` with no backslash behind it is one of possible HTML or an autolink
-/// (6.5, 6.6), `[`, `]` and `![` are tokens of possible links and images (6.3, 6.4). A backslash before
-/// backquotes or other ASCII punctuation is dropped (2.4). In a `row` of a table a backslash before a pipe
-/// is dropped, and so are two of them (GFM 4.10). Any other byte is left over.
+/// The piece at a special byte of a content; `at` is its offset into the text `whole`, and `text` is that text up to the
+/// content's end. A run of `*`, `_`, `^` or at most two `~` that can open or close is a token for each of them
+/// (CommonMark 6.2, GFM 6.5). All backquotes in a row are a token of possible code (CommonMark 6.1), `<` with no
+/// backslash after it is one of possible HTML or an autolink (6.5, 6.6), `[`, `]` and `![` are tokens of possible links
+/// and images (6.3, 6.4). A backslash before backquotes or other ASCII punctuation is dropped (2.4). In a row of a table
+/// a backslash before a pipe is dropped, and so are two of them (GFM 4.10). Any other byte is left over.
 #[tactic(auto, unfolding(crate::specs::Pieces::special_piece))]
-pub fn special_piece(text: &[u8], at: usize, row: bool) -> Piece
-    requires { at < length text.now }
-    ensures value { result ≡ special_piece row text.now at }
+pub fn special_piece(whole: &str, text: &[u8], content: Content, at: usize) -> Piece
+    requires front { text.now ≡ text_upto whole.now content.«end» }
+    requires within { at < length text.now }
+    requires order { content.start ≤ at }
+    ensures value { result ≡ special_piece (content_in whole.now text.now content) at }
     ensures fits { at + size result ≤ length text.now }
     ensures ends { EndsSolid text.now at result }
 {
     match text[at] {
-        b'\\' => backslash_piece_in(text, at, row),
+        b'\\' => backslash_piece_in(text, at, content.row),
         b'`' => backquote_piece(text, at),
-        b'<' if byte_at(text, at + 1) != b'\\' => Piece::Token(0, 1, ItemBody::MaybeHtml),
-        b'!' if byte_at(text, at + 1) == b'[' => Piece::Token(0, 2, ItemBody::MaybeImage),
-        b'[' => Piece::Token(0, 1, ItemBody::MaybeLinkOpen),
-        b']' => Piece::Token(0, 1, ItemBody::MaybeLinkClose(true)),
-        _ => Piece::Left(1),
+        b'*' | b'_' | b'~' | b'^' => delimiter_piece(whole, text, content, at),
+        _ => bracket_piece(text, at),
     }
 }
 
@@ -50,6 +67,7 @@ pub fn piece_len(piece: Piece) -> usize
         Piece::Left(n) => n,
         Piece::Begins(dropped, _) => dropped + 1,
         Piece::Token(dropped, n, _) => dropped + n,
+        Piece::Run(n, _, _) => n,
     }
 }
 
@@ -101,6 +119,88 @@ fn backquote_piece(text: &[u8], at: usize) -> Piece
 {
     let n = run_len(text, at);
     Piece::Token(0, n, ItemBody::MaybeCode(n, false))
+}
+
+// The piece at a delimiter.
+#[tactic(auto, unfolding(crate::specs::Pieces::delimiter_piece))]
+fn delimiter_piece(whole: &str, text: &[u8], content: Content, at: usize) -> Piece
+    requires front { text.now ≡ text_upto whole.now content.«end» }
+    requires within { at < length text.now }
+    requires order { content.start ≤ at }
+    requires here { is_delimiter (slice_index text.now at) ≡ true }
+    ensures value { result ≡ delimiter_piece (content_in whole.now text.now content) at }
+    ensures fits { at + size result ≤ length text.now }
+    ensures ends { EndsSolid text.now at result }
+{
+    let n = run_len(text, at);
+    run_piece(&run_in(whole, text, content, at, n))
+}
+
+// A delimiter run as a piece.
+fn run_piece(run: &DelimiterRun) -> Piece
+    requires { 0 < run.now.size }
+    ensures value { result ≡ run_piece run.now }
+    ensures size { size result ≡ run.now.size }
+    ensures ends { (text : List ℕ) (at : ℕ) → EndsSolid text at result }
+{
+    let opens = run.can_open();
+    let closes = run.can_close();
+    if !opens && !closes || run.delimiter == b'~' && run.size > 2 {
+        Piece::Left(run.size)
+    } else {
+        Piece::Run(run.size, opens, closes)
+    }
+}
+
+// The run of so many delimiters at a place, and what stands beside it.
+#[tactic(auto, unfolding(crate::specs::Pieces::run_in))]
+fn run_in(whole: &str, text: &[u8], content: Content, at: usize, n: usize) -> DelimiterRun
+    requires front { text.now ≡ text_upto whole.now content.«end» }
+    requires within { at < length text.now }
+    requires order { content.start ≤ at }
+    requires here { is_delimiter (slice_index text.now at) ≡ true }
+    requires run { n ≡ run_at text.now at }
+    ensures value { result ≡ run_in (content_in whole.now text.now content) at n }
+    ensures size { result.size ≡ n }
+{
+    DelimiterRun {
+        delimiter: text[at],
+        in_row: content.row,
+        behind_pipe: ends_with_pipe(&text[content.start..at]),
+        before: char_before(whole, content, at),
+        after: first_char(&whole[at + n..]),
+        size: n,
+    }
+}
+
+// The character before a place of a content, if it is not its first.
+#[tactic(auto, unfolding(crate::specs::Pieces::char_before))]
+fn char_before(whole: &str, content: Content, at: usize) -> Option<char>
+    requires { IsCharBoundary whole.now at }
+    ensures { (text : List ℕ) → result ≡ char_before (content_in whole.now text content) at }
+{
+    if content.start < at {
+        last_char(&whole[..at])
+    } else {
+        None
+    }
+}
+
+// The piece at a byte that may open or close a link, an image or HTML.
+#[tactic(auto, unfolding(crate::specs::Pieces::bracket_piece))]
+fn bracket_piece(text: &[u8], at: usize) -> Piece
+    requires { at < length text.now }
+    ensures value { result ≡ bracket_piece text.now at }
+    ensures fits { at + size result ≤ length text.now }
+    ensures ends { EndsSolid text.now at result }
+{
+    match text[at] {
+        b'<' if byte_at(text, at + 1) != b'\\' => Piece::Token(0, 1, ItemBody::MaybeHtml),
+        b'!' if byte_at(text, at + 1) == b'[' => Piece::Token(0, 2, ItemBody::MaybeImage),
+        b'[' => Piece::Token(0, 1, ItemBody::MaybeLinkOpen),
+        b']' => Piece::Token(0, 1, ItemBody::MaybeLinkClose(true)),
+        _ => Piece::Left(1),
+    }
 }
 
 // How many bytes like the one at a place stand there in a row.

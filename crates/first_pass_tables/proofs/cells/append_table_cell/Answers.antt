@@ -27,7 +27,7 @@ returns c =
     record {
       cell = record {
         tokens = cell.tokens;
-        cell = subst (λ (t : List ℕ). IsCell (record { options = c.args.source.options; text = t; start = c.args.text; row = true }) cell.tokens c.in_ok-end.end) c.as_bytes.ensures.value cell.cell;
+        cell = cell.cell;
         tree_is = block_closed g c.append_cell.new.tree (begun_item c.args.start TableCell) cell.tokens (record { 0 = length g.nodes }) refl filled c.close_block.new.tree c.in_ok-end.end c.close_block.ensures;
       };
     }

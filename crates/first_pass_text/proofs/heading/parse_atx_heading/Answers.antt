@@ -1,4 +1,4 @@
-use Rattle.std.proofs.Common.{◌≡◌, ◌+◌, ℕ, List, [], length, take, drop, is_some, IsUtf8, sym, ap, subst, ◌∙◌, if◌then◌else◌}
+use Rattle.std.proofs.Common.{◌≡◌, ◌+◌, ℕ, List, [], length, take, drop, is_some, IsUtf8, refl, sym, ap, subst, ◌∙◌, if◌then◌else◌}
 use Rattle.std.specs.List.{slice_range}
 use Rattle.first_pass_items.specs.declared.item.Item.{Item}
 use Rattle.first_pass_items.specs.declared.item.ItemBody.TheVariants.{Heading}
@@ -52,10 +52,10 @@ returns-clause-block c =
       | else-is_some w ↦ w.read_to-is ∙ ap length bytes ∙ ap (λ t. if t then c.in_ok-content_end.content_end else length text) (sym w.if-is_some.false ∙ c.is_some.ensures)
     ] in
     let (chain, tree_is, heads) = heading_read text options (names_of c.name_attributes.new.allocs) start c.in_ok-content_end.content_end c.if-is_some.read_to c.in_ok-content_end.attributes c.in_ok-index.index
-    c.kept_len-kept.result c.front_of-text.result.now c.push.new.self c.heading_text.new.tree
+    c.kept_len-kept.result (take c.if-is_some.read_to text) c.push.new.self c.heading_text.new.tree
     (c.in_ok-content_end.ensures.content ∙ ap (λ xs. start + length (before_attributes options xs)) between)
     (c.in_ok-content_end.ensures.attributes ∙ ap (heading_attributes_of options) between)
-    read (c.front_of-text.ensures ∙ ap (take c.if-is_some.read_to) bytes)
+    read refl
     (c.kept_len-kept.ensures.value ∙ ap (λ xs. kept_len (slice_range xs start c.in_ok-content_end.content_end)) bytes)
     c.in_ok-heading_text.ensures.line c.in_ok-index.ensures.named in
     let begins : start ≡ heading_text_at text c.args.start (level_number c.args.atx_level) =

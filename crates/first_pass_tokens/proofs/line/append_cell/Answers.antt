@@ -1,21 +1,23 @@
-use Rattle.std.proofs.Common.{◌-◌, true, ap, ◌∙◌}
+use Rattle.std.proofs.Common.{◌-◌, List, ℕ, subst, ap, ◌∙◌}
 use Rattle.first_pass_tree.specs.Forest.{with_text}
-use Rattle.first_pass_tokens.specs.Pieces.{Source}
+use Rattle.first_pass_tokens.specs.Pieces.{content_in, source}
+use Rattle.first_pass_tokens.specs.LineTokens.{blanks_at_end}
 use Rattle.first_pass_tokens.specs.TreeTokens.{AppendsCell}
 use Rattle.first_pass_tokens.proofs.LineLemmas.{cell_ends}
 use Rattle.first_pass_tokens.proofs.SoFar.{read_cell}
 use Rattle.first_pass_tokens.proofs.line.append_cell.Goals as goal
 use Rattle.first_pass_tokens.proofs.line.append_cell.Goals.{In_ok-append_text}
 
-appended : (c : In_ok-append_text)
-    → AppendsCell (record { options = c.args.options; text = c.args.text.now; start = c.args.start; row = true }) c.args.tree.now
-    c.append_text.new.self c.in_ok-end.end
+appended : (c : In_ok-append_text) → AppendsCell (source c.args.whole.now c.args.content) c.args.tree.now c.append_text.new.self c.in_ok-end.end
+unfolding blanks_at_end
 appended c =
-    let z : Source = record { options = c.args.options; text = c.args.text.now; start = c.args.start; row = true } in
-    read_cell z c.args.tree.now _ _ c.in_ok-end.pending c.in_ok-end.end c.in_ok-end.ensures.read
+    let text = c.text_upto-text.result.now in
+    subst (λ (t : List ℕ). AppendsCell (content_in c.args.whole.now t c.args.content) c.args.tree.now c.append_text.new.self c.in_ok-end.end)
+    c.text_upto-text.ensures
+    (read_cell (content_in c.args.whole.now text c.args.content) c.args.tree.now _ _ c.in_ok-end.pending c.in_ok-end.end c.in_ok-end.ensures.read
     (c.in_ok-append_text.ensures.ok
     ∙ ap (λ n. with_text c.append_pieces.new.tree c.in_ok-end.pending.begin (c.in_ok-end.end - n) c.in_ok-end.pending.escaped)
-    c.blanks_at_end-blanks.ensures.value)
+    c.blanks_at_end-blanks.ensures.value))
 
 pub returns-clause-cell : goal.returns-clause-cell
 returns-clause-cell c = appended c

@@ -1,16 +1,19 @@
-use Rattle.std.proofs.Common.{false, refl}
-use Rattle.first_pass_tokens.specs.Pieces.{Source}
+use Rattle.std.proofs.Common.{false, List, ℕ, IfOk, subst}
+use Rattle.first_pass_tokens.specs.Pieces.{content_in, source}
+use Rattle.first_pass_tokens.specs.TreeTokens.{AppendsLine}
 use Rattle.first_pass_tokens.proofs.LineLemmas.{ends_line-if}
 use Rattle.first_pass_tokens.proofs.SoFar.{read_ended}
 use Rattle.first_pass_tokens.proofs.line.append_line.Goals as goal
 
 pub returns-clause-line : goal.returns-clause-line
 returns-clause-line c =
-    let z : Source = record { options = c.args.options; text = c.args.text.now; start = c.args.start; row = false } in
-    read_ended z _ _ _ _ c.in_ok-end.end c.end_line.result refl c.in_ok-end.ensures.read c.end_line.ensures.tree c.end_line.ensures.answer
+    let text = c.text_upto-text.result.now in
+    subst (λ (t : List ℕ). IfOk c.end_line.result (λ a. AppendsLine (content_in c.args.whole.now t c.args.content) c.args.tree.now c.end_line.new.tree a))
+    c.text_upto-text.ensures
+    (read_ended (content_in c.args.whole.now text c.args.content) _ _ _ _ c.in_ok-end.end c.end_line.result c.requires.no_cell
+    c.in_ok-end.ensures.read c.end_line.ensures.tree c.end_line.ensures.answer)
 
 pub returns-clause-ends : goal.returns-clause-ends
 returns-clause-ends c =
-    let z : Source = record { options = c.args.options; text = c.args.text.now; start = c.args.start; row = false } in
-    ends_line-if z c.args.tree.now c.end_line.new.tree c.end_line.result c.requires.within
-    (read_ended z _ _ _ _ c.in_ok-end.end c.end_line.result refl c.in_ok-end.ensures.read c.end_line.ensures.tree c.end_line.ensures.answer)
+    ends_line-if (source c.args.whole.now c.args.content) c.args.tree.now c.end_line.new.tree c.end_line.result c.requires.within
+    (returns-clause-line c)

@@ -2,7 +2,7 @@ use Rattle.std.proofs.Common.{◌≡◌, ◌≤◌, ℕ, List, Option, Some, Non
 use Rattle.first_pass_names.specs.TableEntries.{no_names}
 use Rattle.first_pass_grammar.specs.Leaves.{document}
 use Rattle.first_pass_grammar.specs.Tables.{cell_content}
-use Rattle.first_pass_text.specs.Appends.{text_upto}
+use Rattle.first_pass_tokens.specs.Pieces.{text_upto}
 use Rattle.first_pass_tokens.specs.TreeTokens.{AppendsCell}
 use Rattle.first_pass_tokens.proofs.BytesLemmas.{few_of_cell}
 use Rattle.first_pass_tokens.proofs.OrderLemmas.{cell_end_place}
@@ -15,7 +15,7 @@ use Rattle.first_pass.proofs.state.FirstPass.append_cell_content.Goals as goal
 pub returns-clause-boundary : goal.returns-clause-boundary
 returns-clause-boundary c = λ whole.
     let text = c.args.self.now.source.text.now in
-    let e : c.text_upto-bytes.result.now ≡ text = c.text_upto-bytes.ensures.value ∙ ap (text_upto text) whole in
+    let e : text_upto text c.args.«end» ≡ text = ap (text_upto text) whole in
     let cell = c.in_ok-stop.ensures.cell.cell in
     subst (λ t. IsCharBoundary t c.in_ok-stop.stop) e (cell_end_place (subst (λ t. c.args.start ≤ length t) (sym e) c.requires.start) cell)
 
@@ -31,11 +31,11 @@ returns-clause-order c = λ ends boundary at low o.
     let old : Reading = self.reading in
     let new : Reading = record old { tree = c.append_cell.new.tree; empty_item = None } in
     let stop = c.in_ok-stop.stop in
-    let h : AppendsCell (cell_content (document (text_upto text c.args.end) options no_names) c.args.start) old.tree new.tree stop = subst (λ t. AppendsCell (cell_content (document t options no_names) c.args.start) old.tree new.tree stop) c.text_upto-bytes.ensures.value c.in_ok-stop.ensures.cell in
+    let h = c.in_ok-stop.ensures.cell in
     let before = o.later in
     let e : ℕ = reached old.empty_item at in
     let low' : e ≤ at = before in
-    let to = ordered_cell text options c.args.start c.args.end old.tree new.tree stop e c.text_upto-bytes.ensures.utf8 (both_ends text c.args.start c.args.end c.requires.end ends) boundary c.is_forest.ensures h (omega arith) o.ordered in
+    let to = ordered_cell text options c.args.start c.args.end old.tree new.tree stop e c.in_ok-stop.ensures.utf8 (both_ends text c.args.start c.args.end c.requires.end ends) boundary c.is_forest.ensures h (omega arith) o.ordered in
     ordered_none text new stop refl to.within to
 
 pub returns-clause-few : goal.returns-clause-few

@@ -1,22 +1,23 @@
-use Rattle.std.proofs.Common.{◌≡◌, ◌≤◌, ℕ, List, length, Option, Some, None, IfSome, IsCharBoundary, refl, ap, subst, ◌∙◌, arith}
+use Rattle.std.proofs.Common.{false, ◌≡◌, ◌≤◌, ℕ, List, length, Option, Some, None, IfSome, IsCharBoundary, refl, ap, subst, ◌∙◌, arith}
 use Rattle.first_pass_names.specs.TableEntries.{no_names}
-use Rattle.first_pass_grammar.specs.Leaves.{document, content_at}
-use Rattle.first_pass_text.specs.Appends.{text_upto}
-use Rattle.first_pass_tokens.specs.TreeTokens.{AppendsLine}
+use Rattle.first_pass_grammar.specs.Leaves.{document}
+use Rattle.first_pass_tokens.specs.Pieces.{text_upto}
+use Rattle.first_pass_tokens.specs.LineTokens.{EndsLine}
 use Rattle.first_pass_tokens.proofs.BytesLemmas.{few_of_line}
 use Rattle.first_pass_lists.specs.declared.reading.Reading.{Reading}
 use Rattle.first_pass.specs.Ordered.{reached}
 use Rattle.first_pass.proofs.OrderLemmas.{ordered_none}
 use Rattle.first_pass.proofs.OrderJoin.{ordered_line}
-use Rattle.first_pass_text.proofs.ParagraphLemmas.{next_boundary, same_end}
+use Rattle.first_pass_text.proofs.ParagraphLemmas.{next_boundary}
 use Rattle.first_pass.proofs.state.FirstPass.append_content.Goals as goal
 
 pub returns-clause-boundary : goal.returns-clause-boundary
 returns-clause-boundary c = λ whole boundary.
     let text = c.args.self.now.source.text.now in
-    let e : c.text_upto-bytes.result.now ≡ text = c.text_upto-bytes.ensures.value ∙ ap (text_upto text) whole in
-    let ends = same_end _ _ _ c.args.self.now.source.options c.args.start c.in_ok-line.line e refl c.in_ok-line.ensures.ends in
-    next_boundary (document text c.args.self.now.source.options no_names) c.args.start c.in_ok-line.line.0 c.in_ok-line.line.1 c.text_upto-bytes.ensures.utf8 boundary ends
+    let options = c.args.self.now.source.options in
+    let ends = subst (λ (t : Option ℕ). EndsLine (record { options = options; whole = text; text = text_upto text t; start = c.args.start; row = false }) c.in_ok-line.line)
+    whole c.in_ok-line.ensures.ends in
+    next_boundary (document text c.args.self.now.source.options no_names) c.args.start c.in_ok-line.line.0 c.in_ok-line.line.1 c.in_ok-line.ensures.utf8 boundary ends
 
 both_ends : (text : List ℕ) (start : ℕ) (end : Option ℕ) → IfSome end (λ e. (start ≤ e) × (e ≤ length text)) → IfSome end (λ e. IsCharBoundary text e) → IfSome end (λ e. (start ≤ e) × IsCharBoundary text e)
 both_ends text start None h b = tt
@@ -30,11 +31,11 @@ returns-clause-order c = λ ends boundary at low o.
     let old : Reading = self.reading in
     let new : Reading = record old { tree = c.append_line.new.tree; empty_item = None } in
     let answer = c.in_ok-line.line in
-    let h : AppendsLine (content_at (document (text_upto text c.args.end) options no_names) c.args.start) old.tree new.tree answer = subst (λ t. AppendsLine (content_at (document t options no_names) c.args.start) old.tree new.tree answer) c.text_upto-bytes.ensures.value c.in_ok-line.ensures.line in
+    let h = c.in_ok-line.ensures.line in
     let before = o.later in
     let e : ℕ = reached old.empty_item at in
     let low' : e ≤ at = before in
-    let to = ordered_line (document text options no_names) c.args.start c.args.end old.tree new.tree answer.0 answer.1 e c.text_upto-bytes.ensures.utf8 (both_ends text c.args.start c.args.end c.requires.end ends) boundary c.is_forest.ensures h (omega arith) o.ordered in
+    let to = ordered_line (document text options no_names) c.args.start c.args.end old.tree new.tree answer.0 answer.1 e c.in_ok-line.ensures.utf8 (both_ends text c.args.start c.args.end c.requires.end ends) boundary c.is_forest.ensures h (omega arith) o.ordered in
     ordered_none text new answer.0 refl to.within to
 
 pub returns-clause-few : goal.returns-clause-few
