@@ -1,8 +1,10 @@
 //! What the programs of tables of cases have in common: the table and the report, control characters as they stand in
-//! both, the fault that ends a run, and how many cases differ.
+//! both, what a call is given and its answer as it is printed, the fault that ends a run, and how many cases differ.
 #![tactic(auto)]
 
+pub mod answer;
 pub mod fault;
+pub mod given;
 pub mod pictures;
 pub mod table;
 pub mod tally;

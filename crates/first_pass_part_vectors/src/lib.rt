@@ -1,6 +1,5 @@
-//! What the parts below the pass answer to calls one after the other: texts of a cow, the tree, columns, labels that
-//! cross line ends, what is defined under labels, walks, tokens. Tables of texts with one answer each stand in the
-//! crate `scan_cases`.
+//! What the parts below the pass answer to calls one after the other, or for texts that are made by a loop: the tree,
+//! columns, long labels, what is defined under labels, walks. What is a text and its answer is a case of `scan_cases`.
 #![tactic(auto)]
 
 #[cfg(test)]
@@ -9,10 +8,6 @@ mod columns;
 mod definitions;
 #[cfg(test)]
 mod labels;
-#[cfg(test)]
-mod texts;
-#[cfg(test)]
-mod tokens;
 #[cfg(test)]
 mod tree;
 #[cfg(test)]

@@ -1,10 +1,10 @@
 //! Calls of `first_pass_attributes`.
 
-use crate::answer::Answer;
 use first_pass_attributes::attrs::{
     HeadingAttributes, extract_attribute_block_content_from_header_text,
     parse_inside_attribute_block,
 };
+use first_pass_cases::answer::Answer;
 use std::alloc::{AllocError, Global};
 
 /// Answers a call for a heading's attribute block, or for the attributes that one gives, or tells that it is another

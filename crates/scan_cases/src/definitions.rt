@@ -1,10 +1,10 @@
 //! Calls of `first_pass_definitions`.
 
-use crate::answer::Answer;
 use crate::containers::{open_path, options_of};
-use crate::given::Given;
 use crate::links::append_cow;
 use bitflags::Flags;
+use first_pass_cases::answer::Answer;
+use first_pass_cases::given::Given;
 use first_pass_definitions::footnote::scan_footnote;
 use first_pass_definitions::reference::parse_refdef_total;
 use first_pass_items::option_set::Options;

@@ -1,6 +1,6 @@
 //! Calls of `first_pass_html`.
 
-use crate::answer::Answer;
+use first_pass_cases::answer::Answer;
 use first_pass_html::names::is_block_name;
 use first_pass_html::starts::{get_html_end_tag, is_raw_name, starts_html_block_type_6};
 use first_pass_html::tags::scan_html_type_7;

@@ -1,7 +1,7 @@
 //! Calls of `first_pass_scan` for the lines that open or close a leaf block.
 
-use crate::answer::Answer;
-use crate::given::Given;
+use first_pass_cases::answer::Answer;
+use first_pass_cases::given::Given;
 use first_pass_items::item::HeadingLevel;
 use first_pass_lines::lines::level_number;
 use first_pass_lines::places::rest_of;
@@ -26,7 +26,11 @@ pub fn answer_leaves(
         "scan_closing_code_fence" => {
             answer.length(scan_closing_code_fence(bytes, given.byte(0), given.number(1)))?
         }
-        "calc_indent" => append_indent(calc_indent(bytes, given.number(0)), answer)?,
+        "calc_indent" => {
+            let (columns, taken) = calc_indent(bytes, given.number(0));
+            answer.number(columns)?;
+            answer.number(taken)?
+        }
         _ => return Ok(false),
     }
     Ok(true)
@@ -53,11 +57,6 @@ fn append_fence(found: Option<(usize, u8)>, answer: &mut Answer) -> Result<(), A
         }
         None => answer.none(),
     }
-}
-
-fn append_indent(found: (usize, usize), answer: &mut Answer) -> Result<(), AllocError> {
-    answer.number(found.0)?;
-    answer.number(found.1)
 }
 
 /// Answers a call for a metadata block, or tells that it is another one. The flags that are given turn on `---` and

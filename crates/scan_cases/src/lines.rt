@@ -1,7 +1,7 @@
 //! Calls of `first_pass_lines`.
 
-use crate::answer::Answer;
-use crate::given::Given;
+use first_pass_cases::answer::Answer;
+use first_pass_cases::given::Given;
 use first_pass_lines::lines::{
     begins, is_ascii_white, is_blank, is_line_end, is_white, level_number, scan_atx_heading,
     scan_blank_line, scan_blanks, scan_eol, scan_nextline, scan_whitespace_no_nl,

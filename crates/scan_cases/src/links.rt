@@ -1,7 +1,9 @@
 //! Calls of `first_pass_links`.
 
-use crate::answer::Answer;
-use crate::given::Given;
+ghost use Rattle.std.specs.Prelude.{◌≡◌, ◌<◌, length, slice_index, IfSome};
+
+use first_pass_cases::answer::Answer;
+use first_pass_cases::given::Given;
 use first_pass_items::cow_str::CowStr;
 use first_pass_links::destination::scan_link_dest;
 use first_pass_links::entity::scan_entity;
@@ -22,28 +24,25 @@ pub fn answer_links(
         "scan_entity" => append_reference(text.as_bytes(), answer)?,
         "unescape" => append_cow(&unescape(alloc, text, given.flag(0))?, answer)?,
         "scan_link_dest" => append_destination(text, given, answer)?,
-        "scan_link_label_rest" => append_label(alloc, text, given.flag(0), answer)?,
+        "scan_link_label_rest" => append_label(alloc, text, given, answer)?,
         _ => return Ok(false),
     }
     Ok(true)
 }
 
-/// How many bytes a reference has, and the characters that it stands for.
+/// How many bytes a reference has, and the number of each character that it stands for.
 fn append_reference(bytes: &[u8], answer: &mut Answer) -> Result<(), AllocError> {
     let (len, found) = scan_entity(bytes);
     answer.number(len)?;
     match found {
-        Some(stands_for) => append_characters(stands_for.deref(), answer),
+        Some(stands_for) => {
+            for character in stands_for.deref().chars() {
+                answer.number(character as usize)?;
+            }
+            Ok(())
+        }
         None => answer.none(),
     }
-}
-
-/// Each character by its number.
-fn append_characters(text: &str, answer: &mut Answer) -> Result<(), AllocError> {
-    for character in text.chars() {
-        answer.number(character as usize)?;
-    }
-    Ok(())
 }
 
 /// A text, and whether it is borrowed.
@@ -70,18 +69,41 @@ fn append_destination(text: &str, given: &Given, answer: &mut Answer) -> Result<
     }
 }
 
-/// How many bytes a label has behind its bracket, and its text. Each line end may be crossed, and no line has a prefix.
+/// How many bytes a label has after its bracket, and its text: in a cell, where the first flag says so, and in a block
+/// quote, where the second one does.
 fn append_label(
     alloc: Global,
     text: &str,
-    in_table: bool,
+    given: &Given,
     answer: &mut Answer,
 ) -> Result<(), AllocError> {
-    match scan_link_label_rest(alloc, text, |_line: &[u8]| Ok(Some(0)), in_table)? {
+    let found = match given.flag(1) {
+        true => quoted_label(alloc, text, given.flag(0))?,
+        false => scan_link_label_rest(alloc, text, |_line: &[u8]| Ok(Some(0)), given.flag(0))?,
+    };
+    match found {
         Some((len, label)) => {
             answer.number(len)?;
             append_cow(&label, answer)
         }
         None => answer.none(),
+    }
+}
+
+/// A label each further line of which has the marker of a block quote.
+fn quoted_label<'t>(
+    alloc: Global,
+    text: &'t str,
+    in_table: bool,
+) -> Result<Option<(usize, CowStr<'t>)>, AllocError> {
+    scan_link_label_rest(alloc, text, |line: &[u8]| Ok(quote_prefix(line)), in_table)
+}
+
+fn quote_prefix(line: &[u8]) -> Option<usize>
+    ensures { IfSome result (λ n. (n ≡ 2) × (1 < length line.now) × (slice_index line.now 1 ≡ 32)) }
+{
+    match line {
+        [b'>', b' ', ..] => Some(2),
+        _ => None,
     }
 }

@@ -1,4 +1,5 @@
-//! `scan_cases`: reads a table of calls of the parts below the pass, and tells whose answers differ.
+//! `scan_cases`: reads a table of calls of the parts below the pass, and of the words and the line of the programs, and
+//! tells whose answers differ.
 //!
 //! A line is a case: the name of a call, what it is given beside its text, the text between `‹` and `›`, and the
 //! answer as it is printed.
@@ -17,17 +18,19 @@
 //! where any differs, and 2 for a table that isn't one, which is told on standard error by its line.
 #![tactic(auto)]
 
-mod answer;
 mod attributes;
 mod containers;
 mod definitions;
-mod given;
 mod html;
 mod leaves;
 mod lines;
 mod links;
 mod markers;
+mod programs;
+mod rows;
 mod table;
+mod texts;
+mod tokens;
 mod walks;
 
 use first_pass_cases::fault::CasesFault;

@@ -1,17 +1,21 @@
 //! The table: its lines, one after the other.
 
-use crate::answer::Answer;
 use crate::attributes::answer_attributes;
 use crate::containers::answer_containers;
 use crate::definitions::answer_definitions;
-use crate::given::{Given, read_given};
 use crate::html::answer_html;
 use crate::leaves::{answer_leaves, answer_metadata};
 use crate::lines::{answer_bytes, answer_lines};
 use crate::links::answer_links;
 use crate::markers::answer_markers;
+use crate::programs::answer_programs;
+use crate::rows::answer_rows;
+use crate::texts::answer_texts;
+use crate::tokens::answer_tokens;
 use crate::walks::{answer_flanks, answer_walks};
+use first_pass_cases::answer::Answer;
 use first_pass_cases::fault::CasesFault;
+use first_pass_cases::given::{Given, read_given};
 use first_pass_cases::pictures::read_shown;
 use first_pass_cases::tally::{Tally, append_place};
 use std::alloc::{AllocError, Global};
@@ -91,7 +95,11 @@ fn ask(alloc: Global, case: &Case<'_>, answer: &mut Answer) -> Result<bool, Allo
             || answer_bytes(call, given, text.as_bytes(), answer)?
             || answer_leaves(call, given, text.as_bytes(), answer)?
             || answer_metadata(call, given, text.as_bytes(), answer)?
-            || answer_markers(alloc, call, given, text.as_bytes(), answer)?
+            || answer_markers(call, given, text.as_bytes(), answer)?
+            || answer_rows(alloc, call, given, text.as_bytes(), answer)?
+            || answer_texts(alloc, call, text, answer)?
+            || answer_tokens(alloc, call, given, text, answer)?
+            || answer_programs(alloc, call, text, answer)?
             || answer_html(call, text.as_bytes(), answer)?
             || answer_links(alloc, call, given, text, answer)?
             || answer_attributes(alloc, call, text, answer)?

@@ -1,11 +1,12 @@
 //! Calls of the options, of `first_pass_walk`, and for delimiter runs.
 
-use crate::answer::Answer;
-use crate::given::Given;
+use crate::containers::options_of;
 use bitflags::Flags;
+use first_pass_cases::answer::Answer;
+use first_pass_cases::given::Given;
 use first_pass_flank::flank::{TableParseMode, delim_run_can_close, delim_run_can_open};
 use first_pass_items::option_set::Options;
-use first_pass_walk::walk::{next_special, special_bytes};
+use first_pass_walk::walk::{LoopInstruction, iterate_special_bytes, next_special, special_bytes};
 use std::alloc::{AllocError, Global};
 
 /// Answers a call of the options or of the bytes that these make special, or tells that it is another one.
@@ -23,12 +24,39 @@ pub fn answer_walks(
             let lut = special_bytes(&Options::empty());
             answer.length(next_special(&lut, text.as_bytes(), given.number(0)))?
         }
+        "iterate_special_bytes" => append_calls(text.as_bytes(), given, answer)?,
         _ => return Ok(false),
     }
     Ok(true)
 }
 
-fn append_bits(found: Option<Options>, answer: &mut Answer) -> Result<(), AllocError> {
+/// The place and the byte of each call of a walk, and where it ends. Given are the bits of options, and how many bytes
+/// are left out after each call.
+fn append_calls(bytes: &[u8], given: &Given, answer: &mut Answer) -> Result<(), AllocError> {
+    let lut = special_bytes(&options_of(given.number(0)));
+    let skip = given.number(1);
+    let (end, fault) = iterate_special_bytes(
+        &lut,
+        bytes,
+        0,
+        |at, byte| match append_call(at, byte, answer) {
+            Ok(()) => LoopInstruction::ContinueAndSkip(skip),
+            Err(error) => LoopInstruction::BreakAtWith(at, Some(error)),
+        },
+    );
+    match fault {
+        Some(error) => Err(error),
+        None => answer.number(end),
+    }
+}
+
+fn append_call(at: usize, byte: u8, answer: &mut Answer) -> Result<(), AllocError> {
+    answer.number(at)?;
+    answer.byte(byte)
+}
+
+/// The bits of options, or `none`.
+pub fn append_bits(found: Option<Options>, answer: &mut Answer) -> Result<(), AllocError> {
     match found {
         Some(options) => answer.number(options.bits() as usize),
         None => answer.none(),
@@ -37,7 +65,7 @@ fn append_bits(found: Option<Options>, answer: &mut Answer) -> Result<(), AllocE
 
 /// The bytes that the options of these bits make special, in their order.
 fn append_special(alloc: Global, bits: usize, answer: &mut Answer) -> Result<(), AllocError> {
-    let lut = special_bytes(&Options::from_bits_truncate(u32::try_from(bits).unwrap_or(0)));
+    let lut = special_bytes(&options_of(bits));
     let mut special = String::new(alloc);
     for byte in 0..=255 {
         if lut[byte as usize] {

@@ -1,6 +1,6 @@
 //! An answer as it is printed.
 
-use first_pass_cases::pictures::append_shown;
+use crate::pictures::append_shown;
 use itoa::Buffer;
 use std::alloc::{AllocError, Global};
 
@@ -11,16 +11,19 @@ pub struct Answer {
 }
 
 impl Answer {
+    /// An answer without a word.
     pub fn new(alloc: Global) -> Answer {
         Answer {
             words: String::new(alloc),
         }
     }
 
+    /// The words so far.
     pub fn as_str(&self) -> &str {
         self.words.as_str()
     }
 
+    /// A word as it is.
     pub fn word(&mut self, word: &str) -> Result<(), AllocError> {
         if !self.words.is_empty() {
             self.words.push(' ')?;
@@ -28,11 +31,13 @@ impl Answer {
         self.words.push_str(word)
     }
 
+    /// A number in decimal digits.
     pub fn number(&mut self, number: usize) -> Result<(), AllocError> {
         let mut digits = Buffer::new();
         self.word(digits.format(number))
     }
 
+    /// `true` or `false`.
     pub fn flag(&mut self, flag: bool) -> Result<(), AllocError> {
         self.word(if flag { "true" } else { "false" })
     }
@@ -50,6 +55,7 @@ impl Answer {
         self.words.push('›')
     }
 
+    /// The word `none`.
     pub fn none(&mut self) -> Result<(), AllocError> {
         self.word("none")
     }
@@ -66,6 +72,13 @@ impl Answer {
     pub fn maybe_byte(&mut self, found: Option<u8>) -> Result<(), AllocError> {
         match found {
             Some(byte) => self.byte(byte),
+            None => self.none(),
+        }
+    }
+    /// `true` or `false`, or `none`.
+    pub fn maybe_flag(&mut self, found: Option<bool>) -> Result<(), AllocError> {
+        match found {
+            Some(flag) => self.flag(flag),
             None => self.none(),
         }
     }

@@ -1,7 +1,7 @@
 use Rattle.std.proofs.Common.{rules, ◌≡◌, ℕ, List, ◌<◌, length, slice_index, arith, IsUtf8}
 use Rattle.std.specs.Str.{IsCharBoundary}
 use Rattle.std.proofs.lemmas.Str.{IsCharBoundary-after_ascii}
-use Rattle.first_pass_part_vectors.proofs.labels.quoted_label.Goals as goal
+use Rattle.scan_cases.proofs.links.quoted_label.Goals as goal
 
 behind_space : (bs : List ℕ) (n : ℕ) → IsUtf8 bs → (n ≡ 2) × (1 < length bs) × (slice_index bs 1 ≡ 32) → IsCharBoundary bs n
 behind_space bs n u h = rw h.0 (IsCharBoundary-after_ascii bs 1 u h.1 (omega (arith, h.2)))

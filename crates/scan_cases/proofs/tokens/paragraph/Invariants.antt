@@ -1,5 +1,5 @@
 use Rattle.std.proofs.Common.{◌-◌, ◌≤◌, length}
-use Rattle.first_pass_part_vectors.proofs.tokens.paragraph.Given as goal
+use Rattle.scan_cases.proofs.tokens.paragraph.Given as goal
 
 abbrev pub invariant-loop-at : goal.invariant-loop-at
 invariant-loop-at l = l.at ≤ length l.text

@@ -1,0 +1,70 @@
+//! Calls of `first_pass_host` and `first_pass_timing`: the words that the programs are given, and the line that `bench`
+//! writes.
+
+use crate::walks::append_bits;
+use bitflags::Flags;
+use first_pass_cases::answer::Answer;
+use first_pass_host::option_word::parse_options;
+use first_pass_timing::report::append_report;
+use first_pass_timing::task::{Task, parse_task};
+use first_pass_timing::timing::Timing;
+use std::alloc::{AllocError, Global};
+
+/// Answers a call for words or for a line of `bench`, or tells that it is another one.
+pub fn answer_programs(
+    alloc: Global,
+    call: &str,
+    text: &str,
+    answer: &mut Answer,
+) -> Result<bool, AllocError> {
+    match call {
+        "parse_options" => append_bits(parse_options(words_of(alloc, text)?.as_slice()), answer)?,
+        "parse_task" => append_task(parse_task(words_of(alloc, text)?.as_slice()), answer)?,
+        "append_report" => append_timing(alloc, text, answer)?,
+        _ => return Ok(false),
+    }
+    Ok(true)
+}
+
+/// The lines of a text as the words of a program.
+fn words_of(alloc: Global, text: &str) -> Result<Vec<String>, AllocError> {
+    let mut words = Vec::new(alloc);
+    for line in text.lines() {
+        words.push(String::from_str(alloc, line)?)?;
+    }
+    Ok(words)
+}
+
+/// The bits of the options, and how many runs are asked for.
+fn append_task(found: Option<Task>, answer: &mut Answer) -> Result<(), AllocError> {
+    match found {
+        Some(task) => {
+            answer.number(task.options.bits() as usize)?;
+            answer.length(task.runs.map(|runs| runs as usize))
+        }
+        None => answer.none(),
+    }
+}
+
+/// The line of `bench` for four numbers: bytes, nodes, runs and nanoseconds.
+fn append_timing(alloc: Global, text: &str, answer: &mut Answer) -> Result<(), AllocError> {
+    let Some((bytes, timing)) = read_timing(text) else {
+        return answer.none();
+    };
+    let mut line = Vec::new(alloc);
+    append_report(&mut line, bytes, timing)?;
+    let line = String::from_utf8_lossy(alloc, line.as_slice())?;
+    answer.text(line.as_str())
+}
+
+fn read_timing(text: &str) -> Option<(usize, Timing)> {
+    let (bytes, behind) = text.split_once(' ')?;
+    let (nodes, behind) = behind.split_once(' ')?;
+    let (runs, nanos) = behind.split_once(' ')?;
+    let timing = Timing {
+        nodes: nodes.parse::<usize>().ok()?,
+        runs: runs.parse::<u32>().ok()?,
+        nanos: nanos.parse::<u128>().ok()?,
+    };
+    Some((bytes.parse::<usize>().ok()?, timing))
+}

@@ -1,0 +1,36 @@
+//! Calls of the texts of `first_pass_items`.
+
+use first_pass_cases::answer::Answer;
+use first_pass_items::cow_str::{CowStr, InlineStr};
+use std::alloc::{AllocError, Global};
+use std::boxed::BoxedStr;
+use std::ops::DerefStr;
+
+/// Answers a call of a text, or tells that it is another one.
+pub fn answer_texts(
+    alloc: Global,
+    call: &str,
+    text: &str,
+    answer: &mut Answer,
+) -> Result<bool, AllocError> {
+    match call {
+        "CowStr::Inlined" => append_inlined(InlineStr::try_from_str(text), answer)?,
+        "CowStr::Boxed" => {
+            let boxed = CowStr::Boxed(BoxedStr::from_str(alloc, text)?);
+            answer.text(boxed.deref())?
+        }
+        "CowStr::Borrowed" => answer.text(CowStr::Borrowed(text).deref())?,
+        "InlineStr::from_char" => {
+            append_inlined(text.chars().next().map(InlineStr::from_char), answer)?
+        }
+        _ => return Ok(false),
+    }
+    Ok(true)
+}
+
+fn append_inlined(found: Option<InlineStr>, answer: &mut Answer) -> Result<(), AllocError> {
+    match found {
+        Some(short) => answer.text(CowStr::Inlined(short).deref()),
+        None => answer.none(),
+    }
+}

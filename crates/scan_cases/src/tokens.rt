@@ -1,0 +1,123 @@
+//! Calls of `first_pass_tokens`: the tokens of lines and of cells.
+
+ghost use Rattle.std.specs.Prelude.{◌≡◌, None};
+
+use crate::containers::options_of;
+use bitflags::Flags;
+use first_pass_cases::answer::Answer;
+use first_pass_cases::given::Given;
+use first_pass_items::item::{Item, ItemBody};
+use first_pass_items::option_set::Options;
+use first_pass_tokens::line::{append_cell, append_line};
+use first_pass_tokens::pieces::Content;
+use first_pass_tree::forest::Tree;
+use first_pass_walk::walk::special_bytes;
+use std::alloc::{AllocError, Global};
+
+/// Answers a call for tokens under the options whose bits are given, or tells that it is another one.
+pub fn answer_tokens(
+    alloc: Global,
+    call: &str,
+    given: &Given,
+    text: &str,
+    answer: &mut Answer,
+) -> Result<bool, AllocError> {
+    let options = options_of(given.number(0));
+    match call {
+        "append_line" => append_tokens(&paragraph(alloc, text, options)?, answer)?,
+        "append_cell" => append_tokens(&row(alloc, text, options)?, answer)?,
+        _ => return Ok(false),
+    }
+    Ok(true)
+}
+
+/// A paragraph of the lines of a text, each with its break.
+fn paragraph(alloc: Global, text: &str, options: Options) -> Result<Tree<Item>, AllocError> {
+    let lut = special_bytes(&options);
+    let mut tree = opened(alloc, ItemBody::Paragraph)?;
+    let mut at = 0;
+    while at < text.len() {
+        let (next, line_break) = append_line(text, content(options, at, false), &lut, &mut tree)?;
+        if let Some(item) = line_break {
+            tree.append(item)?;
+        }
+        at = next;
+    }
+    Ok(tree)
+}
+
+/// The cells of a row: a text without the pipe after which its first cell begins. Each begins after the pipe that ends
+/// the one before it, and a node `end` stands where each ends.
+fn row(alloc: Global, text: &str, options: Options) -> Result<Tree<Item>, AllocError> {
+    let lut = special_bytes(&options);
+    let mut tree = opened(alloc, ItemBody::TableRow)?;
+    let mut at = 0;
+    while at < text.len() {
+        at = append_cell(text, content(options, at, true), &lut, &mut tree)?;
+        tree.append(Item {
+            start: at,
+            end: at,
+            body: ItemBody::TableCell,
+        })?;
+        at += 1;
+    }
+    Ok(tree)
+}
+
+/// The content of a line, or of a cell, that begins at an offset.
+fn content(options: Options, start: usize, row: bool) -> Content
+    ensures { result ≡ record { options = options; start = start; «end» = None; row = row } }
+{
+    Content {
+        options,
+        start,
+        end: None,
+        row,
+    }
+}
+
+/// A tree with one open block.
+fn opened(alloc: Global, body: ItemBody) -> Result<Tree<Item>, AllocError> {
+    let mut tree = Tree::with_capacity(alloc, 8)?;
+    tree.append(Item {
+        start: 0,
+        end: 0,
+        body,
+    })?;
+    tree.push()?;
+    Ok(tree)
+}
+
+/// Each node in the open block: its name, and where it begins and ends.
+fn append_tokens(tree: &Tree<Item>, answer: &mut Answer) -> Result<(), AllocError> {
+    for node in tree.nodes().iter().skip(2) {
+        answer.word(name(&node.1.body))?;
+        answer.number(node.1.start)?;
+        answer.number(node.1.end)?;
+    }
+    Ok(())
+}
+
+fn name(body: &ItemBody) -> &'static str {
+    match body {
+        ItemBody::Text {
+            backslash_escaped: true,
+        } => "Text(escaped)",
+        ItemBody::Text {
+            backslash_escaped: false,
+        } => "Text",
+        ItemBody::SoftBreak => "SoftBreak",
+        ItemBody::HardBreak(true) => "HardBreak(true)",
+        ItemBody::HardBreak(false) => "HardBreak(false)",
+        ItemBody::MaybeEmphasis(1, true, true) => "MaybeEmphasis(1,true,true)",
+        ItemBody::MaybeCode(1, false) => "MaybeCode(1,false)",
+        ItemBody::MaybeCode(1, true) => "MaybeCode(1,true)",
+        ItemBody::MaybeCode(2, true) => "MaybeCode(2,true)",
+        ItemBody::MaybeHtml => "MaybeHtml",
+        ItemBody::MaybeLinkOpen => "MaybeLinkOpen",
+        ItemBody::MaybeLinkClose(true) => "MaybeLinkClose(true)",
+        ItemBody::MaybeImage => "MaybeImage",
+        ItemBody::TableCell => "end",
+        _ => "other",
+    }
+}
