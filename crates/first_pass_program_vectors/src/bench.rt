@@ -1,11 +1,7 @@
-//! Words, lines, runs under a clock that is told what to say, and each fault.
+//! Runs under a clock that is told what to say, and each fault.
 
-use crate::fakes::{Sink, Source, Told, time, words_of};
-use bitflags::Flags;
+use crate::fakes::{Sink, Source, Told, time};
 use first_pass_host::fault::BlocksFault;
-use first_pass_timing::report::append_report;
-use first_pass_timing::task::parse_task;
-use first_pass_timing::timing::Timing;
 use std::alloc::Global;
 use std::process::Abort;
 use std::test::Fail;
@@ -35,51 +31,8 @@ fn assert_printed(
 }
 
 #[test]
-fn words_ask_for_a_task(rt: HostRuntime) -> Result<(), Fail> {
-    let good: &[(&[&str], u32, Option<u32>)] = &[
-        (&[], 0, None),
-        (&["0"], 0, None),
-        (&["000"], 0, None),
-        (&["516"], 516, None),
-        (&["65534"], 65534, None),
-        (&["0", "1"], 0, Some(1)),
-        (&["128", "007"], 128, Some(7)),
-        (&["00", "4294967295"], 0, Some(4_294_967_295)),
-    ];
-    for (words, bits, runs) in good {
-        let list = words_of(rt.alloc(), words)?;
-        let task = parse_task(list.as_slice()).ok_or("a task")?;
-        assert_eq!(rt; task.options.bits(), *bits, "{words:?}");
-        assert_eq!(rt; task.runs, *runs, "{words:?}");
-    }
-    Ok(())
-}
-
-#[test]
 fn bad_options_come_first(rt: HostRuntime) -> Result<(), Fail> {
-    let bad: &[&[&str]] = &[
-        &[""],
-        &["x"],
-        &["+2"],
-        &["1"],
-        &["65536"],
-        &["1", "1"],
-        &["", "1"],
-        &["0", ""],
-        &["0", "0"],
-        &["0", "000"],
-        &["0", "none"],
-        &["0", "+1"],
-        &["0", "-1"],
-        &["0", "1 "],
-        &["0", "1.5"],
-        &["0", "4294967296"],
-        &["0", "99999999999999999999999999999999999999"],
-        &["0", "\u{662}"],
-        &["0", "1", ""],
-        &["0", "1", "1"],
-        &["0", "1", "1", "1"],
-    ];
+    let bad: &[&[&str]] = &[&["x"], &["0", "0"], &["0", "1", "1"]];
     for words in bad {
         let mut clock = Told { left: &[0, 1] };
         let mut input = Source::new(b"\xff", 3, 1);
@@ -90,76 +43,6 @@ fn bad_options_come_first(rt: HostRuntime) -> Result<(), Fail> {
             input.reads == 0 && clock.left.len() == 2 && output.writes == 0,
             "{words:?}"
         );
-    }
-    Ok(())
-}
-
-#[test]
-fn lines_of_timings(rt: HostRuntime) -> Result<(), Fail> {
-    let most = 18_446_744_073_709_551_615;
-    let lines: &[(usize, usize, u32, u128, &str)] = &[
-        (
-            10_000_113,
-            512_345,
-            14,
-            61_234_567,
-            "10000113 bytes, 512345 nodes, best of 14 runs: 61.234 ms, 163.3 MB/s\n",
-        ),
-        (
-            0,
-            1,
-            5,
-            0,
-            "0 bytes, 1 nodes, best of 5 runs: 0.000 ms, 0.0 MB/s\n",
-        ),
-        (
-            1,
-            3,
-            1,
-            0,
-            "1 bytes, 3 nodes, best of 1 runs: 0.000 ms, 1000.0 MB/s\n",
-        ),
-        (
-            1_190_000,
-            9,
-            2,
-            1_000_999_999,
-            "1190000 bytes, 9 nodes, best of 2 runs: 1000.999 ms, 1.1 MB/s\n",
-        ),
-        (
-            123_456,
-            10,
-            3,
-            9_087,
-            "123456 bytes, 10 nodes, best of 3 runs: 0.009 ms, 13586.0 MB/s\n",
-        ),
-        (
-            most,
-            most,
-            4_294_967_295,
-            1,
-            "18446744073709551615 bytes, 18446744073709551615 nodes, best of 4294967295 runs: \
-             0.000 ms, 18446744073709551615000.0 MB/s\n",
-        ),
-        (
-            most,
-            1,
-            1,
-            340_282_366_920_938_463_463_374_607_431_768_211_455,
-            "18446744073709551615 bytes, 1 nodes, best of 1 runs: \
-             340282366920938463463374607431768.211 ms, 0.0 MB/s\n",
-        ),
-    ];
-    for (bytes, nodes, runs, nanos, want) in lines {
-        let mut line = Vec::new(rt.alloc());
-        let timing = Timing {
-            nodes: *nodes,
-            runs: *runs,
-            nanos: *nanos,
-        };
-        append_report(&mut line, *bytes, timing)?;
-        let line = String::from_utf8_lossy(rt.alloc(), line.as_slice())?;
-        assert!(rt; line.as_str() == *want, "{line}");
     }
     Ok(())
 }

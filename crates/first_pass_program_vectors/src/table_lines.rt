@@ -5,6 +5,8 @@ use first_pass::below::{Alignment, AlignmentIndex, Item, ItemBody};
 use first_pass::items::Allocations;
 use first_pass_items::item::ListFlags;
 use first_pass_program::printed::append_node;
+use std::alloc::Global;
+use std::process::Abort;
 use std::test::Fail;
 
 fn table(start: usize, end: usize, ix: AlignmentIndex) -> Item {
@@ -34,9 +36,28 @@ fn tables_are_printed(rt: HostRuntime) -> Result<(), Fail> {
     Ok(())
 }
 
+// Asserts how nodes from the offset 1 to 2 are printed.
+fn assert_printed(
+    rt: &impl Abort,
+    alloc: Global,
+    bodies: &[(ItemBody, &[u8])],
+) -> Result<(), Fail> {
+    let allocs = Allocations::new(alloc);
+    for (body, want) in bodies {
+        let mut lines = Vec::new(alloc);
+        let node = Item {
+            start: 1,
+            end: 2,
+            body: *body,
+        };
+        append_node(&mut lines, 0, node, &allocs)?;
+        assert!(rt; *lines.as_slice() == **want, "{want:?}");
+    }
+    Ok(())
+}
+
 #[test]
-fn other_nodes_are_printed(rt: HostRuntime) -> Result<(), Fail> {
-    let allocs = Allocations::new(rt.alloc());
+fn definition_lists_are_printed(rt: HostRuntime) -> Result<(), Fail> {
     let bodies: &[(ItemBody, &[u8])] = &[
         (
             ItemBody::DefinitionList(ListFlags::IS_TIGHT),
@@ -55,6 +76,13 @@ fn other_nodes_are_printed(rt: HostRuntime) -> Result<(), Fail> {
             ItemBody::DefinitionListDefinition(4),
             b"DefinitionListDefinition(4) 1..2\n",
         ),
+    ];
+    assert_printed(&rt, rt.alloc(), bodies)
+}
+
+#[test]
+fn tokens_without_texts_are_printed(rt: HostRuntime) -> Result<(), Fail> {
+    let bodies: &[(ItemBody, &[u8])] = &[
         (
             ItemBody::MaybeEmphasis(2, true, false),
             b"MaybeEmphasis(2,true,false) 1..2\n",
@@ -72,15 +100,5 @@ fn other_nodes_are_printed(rt: HostRuntime) -> Result<(), Fail> {
             b"SynthesizeChar(\xe2\x80\x94) 1..2\n",
         ),
     ];
-    for (body, want) in bodies {
-        let mut lines = Vec::new(rt.alloc());
-        let node = Item {
-            start: 1,
-            end: 2,
-            body: *body,
-        };
-        append_node(&mut lines, 0, node, &allocs)?;
-        assert!(rt; *lines.as_slice() == **want, "{want:?}");
-    }
-    Ok(())
+    assert_printed(&rt, rt.alloc(), bodies)
 }

@@ -3,10 +3,7 @@
 use bitflags::Flags;
 use first_pass::below::{Item, ItemBody, TreeIndex};
 use first_pass::flank::TableParseMode;
-use first_pass::pass::{
-    FirstPass, count_header_cols, get_html_end_tag, run_first_pass,
-    scan_paragraph_interrupt_no_table, surgerize_tight_list,
-};
+use first_pass::pass::{FirstPass, count_header_cols, run_first_pass, surgerize_tight_list};
 use first_pass_items::option_set::Options;
 use first_pass_lines::lines::scan_atx_heading;
 use first_pass_scan::leaf_scan::scan_code_fence;
@@ -15,19 +12,7 @@ use std::test::Fail;
 
 const TEXT: &str = "# a\nb\\\nc";
 
-// How many nodes a text has.
-fn count_nodes(alloc: Global, text: &str) -> Result<usize, AllocError> {
-    let (tree, _allocs) = run_first_pass(alloc, text, Options::empty())?;
-    Ok(tree.node_count())
-}
-
-// Whether a line interrupts a paragraph behind the blocks of a text.
-fn interrupts(alloc: Global, text: &str, line: &str) -> Result<bool, AllocError> {
-    let (tree, _allocs) = run_first_pass(alloc, text, Options::empty())?;
-    scan_paragraph_interrupt_no_table(alloc, line, true, false, false, &tree, 0)
-}
-
-// The same where the line doesn't go on with all containers, asked of a pass that has read nothing.
+// Whether a line that doesn't continue all containers interrupts a paragraph, asked of a pass that has read nothing.
 fn interrupts_lazily(alloc: Global, text: &str, line: &str) -> Result<bool, AllocError> {
     let pass = FirstPass::new(alloc, text, Options::empty())?;
     pass.scan_paragraph_interrupt(line, false, 0)
@@ -50,9 +35,6 @@ fn block_end(alloc: Global) -> Result<usize, AllocError> {
 
 #[test]
 fn blocks_of_a_text(rt: HostRuntime) -> Result<(), Fail> {
-    assert_eq!(rt; count_nodes(rt.alloc(), TEXT)?, 7);
-    assert_eq!(rt; count_nodes(rt.alloc(), "~~~ r&amp;b\nx\n~~~")?, 3);
-    assert!(rt; interrupts(rt.alloc(), TEXT, "## b")?);
     assert!(rt; interrupts_lazily(rt.alloc(), TEXT, "2. b")?);
     assert_eq!(rt; bytes_before_rest(rt.alloc(), " \ta\n")?, Some(2));
     assert_eq!(rt; bytes_before_rest(rt.alloc(), "     \n")?, None);
@@ -73,7 +55,6 @@ fn count_tightened(alloc: Global, text: &str) -> Result<usize, AllocError> {
 
 #[test]
 fn calls_without_a_pass(rt: HostRuntime) -> Result<(), Fail> {
-    assert!(rt; get_html_end_tag(b"!-- a") == Some("-->"));
     assert_eq!(rt; count_header_cols(b"a|b", 1, 0, 1), 2);
     assert_eq!(rt; count_tightened(rt.alloc(), "- a\n\n- b")?, 2);
     Ok(())

@@ -4,6 +4,7 @@ use bitflags::Flags;
 use first_pass::pass::run_first_pass;
 use first_pass_items::option_set::Options;
 use std::alloc::{AllocError, Global};
+use std::process::Abort;
 use std::test::Fail;
 
 // The pieces one after the other, each so many times.
@@ -28,8 +29,28 @@ fn count(
     Ok((tree.node_count(), allocs.refdefs().iter().count()))
 }
 
+// Asserts how many nodes and link definitions texts have.
+fn assert_counted(
+    rt: &impl Abort,
+    alloc: Global,
+    cases: &[(&[(&str, usize)], usize, usize)],
+) -> Result<(), Fail> {
+    for (pieces, nodes, links) in cases {
+        let counted = count(alloc, pieces, Options::empty())?;
+        assert!(rt; counted == (*nodes, *links), "{pieces:?}");
+    }
+    Ok(())
+}
+
 #[test]
 fn long_definitions(rt: HostRuntime) -> Result<(), Fail> {
+    let definition: &[(&str, usize)] = &[
+        ("[a]: ", 1),
+        ("b", 49_992),
+        (" '", 1),
+        ("c", 50_000),
+        ("'", 1),
+    ];
     let cases: &[(&[(&str, usize)], usize, usize)] = &[
         // A destination of 100,000 bytes.
         (&[("[a]: ", 1), ("b", 100_000)], 1, 1),
@@ -37,18 +58,15 @@ fn long_definitions(rt: HostRuntime) -> Result<(), Fail> {
         (&[("[a]: b '", 1), ("c", 100_000), ("'", 1)], 1, 1),
         (&[("[a]: b '", 1), ("c\n", 50_000), ("'", 1)], 1, 1),
         // A definition of as many, with both.
-        (
-            &[
-                ("[a]: ", 1),
-                ("b", 49_992),
-                (" '", 1),
-                ("c", 50_000),
-                ("'", 1),
-            ],
-            1,
-            1,
-        ),
-        // Labels of 999 characters; of several bytes, of the least and the greatest byte behind a first one.
+        (definition, 1, 1),
+    ];
+    assert_counted(&rt, rt.alloc(), cases)
+}
+
+#[test]
+fn labels_of_999_characters(rt: HostRuntime) -> Result<(), Fail> {
+    let cases: &[(&[(&str, usize)], usize, usize)] = &[
+        // Of several bytes; of the least and the greatest byte after a first one.
         (&[("[", 1), ("a", 999), ("]: b", 1)], 1, 1),
         (&[("[", 1), ("\u{100}", 999), ("]: b", 1)], 1, 1),
         (&[("[", 1), ("\u{bf}", 999), ("]: b", 1)], 1, 1),
@@ -58,7 +76,14 @@ fn long_definitions(rt: HostRuntime) -> Result<(), Fail> {
         (&[("[a", 1), (" ", 998), ("]: b", 1)], 1, 1),
         // Four columns before a line are a prefix, and no part of it.
         (&[("[", 1), ("a", 997), ("\n    b]: c", 1)], 1, 1),
-        // Labels of 1,000: the root, a paragraph, the bracket, a text, the other bracket, a text.
+    ];
+    assert_counted(&rt, rt.alloc(), cases)
+}
+
+#[test]
+fn labels_of_1000_characters(rt: HostRuntime) -> Result<(), Fail> {
+    let cases: &[(&[(&str, usize)], usize, usize)] = &[
+        // The root, a paragraph, the bracket, a text, the other bracket, a text.
         (&[("[", 1), ("a", 1000), ("]: b", 1)], 6, 0),
         (&[("[", 1), ("\u{bf}", 1000), ("]: b", 1)], 6, 0),
         (&[("[", 1), ("\u{7f}", 1000), ("]: b", 1)], 6, 0),
@@ -68,11 +93,7 @@ fn long_definitions(rt: HostRuntime) -> Result<(), Fail> {
         (&[("[", 1), ("a\r\n", 333), ("a]: b", 1)], 672, 0),
         (&[("[", 1), ("a", 997), ("\n     b]: c", 1)], 8, 0),
     ];
-    for (pieces, nodes, links) in cases {
-        let counted = count(rt.alloc(), pieces, Options::empty())?;
-        assert!(rt; counted == (*nodes, *links), "{pieces:?}");
-    }
-    Ok(())
+    assert_counted(&rt, rt.alloc(), cases)
 }
 
 #[test]
