@@ -3,7 +3,7 @@ use Rattle.std.proofs.Common.{◌≡◌, true, List, [], ◌∷◌, map, None, r
 use Rattle.std.proofs.lemmas.Bool.{false≢true}
 use Rattle.first_pass_items.specs.declared.item.Item.{Item}
 use Rattle.first_pass_items.specs.declared.item.ItemBody.{ItemBody}
-use Rattle.first_pass_items.specs.declared.item.ItemBody.TheVariants.{MaybeEmphasis, MaybeCode, MaybeHtml, MaybeLinkOpen, MaybeLinkClose, MaybeImage}
+use Rattle.first_pass_items.specs.declared.item.ItemBody.TheVariants.{MaybeEmphasis, MaybeSmartQuote, SynthesizeChar, MaybeCode, MaybeHtml, MaybeLinkOpen, MaybeLinkClose, MaybeImage}
 use Rattle.first_pass_tokens.proofs.PieceFacts.{is_markup}
 use Rattle.first_pass_grammar.specs.Names.{Names, index_of, read}
 use Rattle.first_pass_grammar.proofs.EachToken.{AreEach, HoldsOfTokens}
@@ -29,6 +29,8 @@ read_alone m n (x ∷ xs) h = let a = reads_alone m n x h.0 in let b = read_alon
 -- a token of possible markup has no index
 markup_free : (body : ItemBody) → is_markup body ≡ true → IsWithoutIndex body
 markup_free (MaybeEmphasis left opens closes) h = refl
+markup_free (MaybeSmartQuote quote opens closes) h = refl
+markup_free (SynthesizeChar c) h = refl
 markup_free (MaybeCode n escaped) h = refl
 markup_free MaybeHtml h = refl
 markup_free MaybeLinkOpen h = refl

@@ -23,7 +23,7 @@ use Rattle.first_pass_grammar.proofs.EachToken.{AreEach, HoldsOfTokens, HoldsOfR
 use Rattle.first_pass_grammar.proofs.RowEnds.{row_ends_its_line}
 use Rattle.first_pass_grammar.proofs.TableRows.{as_many_cells}
 use Rattle.first_pass_tokens.proofs.PieceFacts.{is_markup}
-use Rattle.first_pass_items.specs.declared.item.ItemBody.TheVariants.{MaybeEmphasis, MaybeCode, MaybeHtml, MaybeLinkOpen, MaybeLinkClose, MaybeImage}
+use Rattle.first_pass_items.specs.declared.item.ItemBody.TheVariants.{MaybeEmphasis, MaybeSmartQuote, SynthesizeChar, MaybeCode, MaybeHtml, MaybeLinkOpen, MaybeLinkClose, MaybeImage}
 
 -- more nodes, and nodes at another depth
 pub marks-append : (names : Names) (nodes more : List (ℕ × Item)) → marks names (nodes ++ more) ≡ marks names nodes ++ marks names more
@@ -103,6 +103,8 @@ ShowsNothing body = (names : Names) (depth start «end» : ℕ) → shown names 
 
 markup_shows : (body : ItemBody) → is_markup body ≡ true → ShowsNothing body
 markup_shows (MaybeEmphasis left opens closes) h = λ names depth start end. refl
+markup_shows (MaybeSmartQuote quote opens closes) h = λ names depth start end. refl
+markup_shows (SynthesizeChar c) h = λ names depth start end. refl
 markup_shows (MaybeCode n escaped) h = λ names depth start end. refl
 markup_shows MaybeHtml h = λ names depth start end. refl
 markup_shows MaybeLinkOpen h = λ names depth start end. refl

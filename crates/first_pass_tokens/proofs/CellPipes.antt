@@ -1,16 +1,16 @@
--- Each pipe in the content of a cell stands behind a backslash.
-use Rattle.std.proofs.Common.{◌≡◌, ℕ, ◌+◌, ◌-◌, ◌≤◌, ◌<◌, true, false, List, [], ◌∷◌, slice_index, sym, ap, ◌∙◌, inl, inr, arith, ◌==◌}
+-- Each pipe in the content of a cell stands after a backslash.
+use Rattle.std.proofs.Common.{◌≡◌, ℕ, ◌+◌, ◌-◌, ◌≤◌, ◌<◌, true, false, List, [], ◌∷◌, slice_index, Some, None, sym, ap, ◌∙◌, inl, inr, arith, ◌==◌}
 use Rattle.std.proofs.lemmas.Bool.{cases_lt, eq-eqb, false≢true}
 use Rattle.first_pass_items.specs.OptionWords.{has, tables}
 use Rattle.first_pass_items.specs.declared.item.Item.{Item}
 use Rattle.first_pass_items.specs.declared.item.ItemBody.{ItemBody}
-use Rattle.first_pass_items.specs.declared.item.ItemBody.TheVariants.{MaybeEmphasis, MaybeCode, MaybeHtml, MaybeLinkOpen, MaybeLinkClose, MaybeImage}
+use Rattle.first_pass_items.specs.declared.item.ItemBody.TheVariants.{MaybeEmphasis, MaybeSmartQuote, SynthesizeChar, MaybeCode, MaybeHtml, MaybeLinkOpen, MaybeLinkClose, MaybeImage}
 use Rattle.first_pass_tokens.specs.declared.pieces.Piece.{Piece}
 use Rattle.first_pass_tokens.specs.declared.pieces.Piece.TheVariants.{Left, Begins, Token, Run}
 use Rattle.first_pass_tokens.specs.Pieces.{Source, piece_at, size}
 use Rattle.first_pass_tokens.specs.LineTokens.{ends_at, ArePieces, IsCell}
-use Rattle.first_pass_tokens.specs.MarkupBytes.{StandsOver, PipesAreEscaped}
-use Rattle.first_pass_tokens.proofs.PieceFacts.{IsPieceAt, is_markup, delimiter_other}
+use Rattle.first_pass_tokens.specs.MarkupBytes.{StandsOver, PipesAreEscaped, smart_char}
+use Rattle.first_pass_tokens.proofs.PieceFacts.{IsPieceAt, is_markup, delimiter_other, quote_other}
 use Rattle.first_pass_tokens.proofs.LineLemmas.{piece_of, not_ended_pipe}
 
 -- a byte of its own that is no pipe
@@ -24,6 +24,13 @@ markup_no_pipe text start n (MaybeEmphasis left opens closes) k kind over low hi
     let here : k ≡ start = omega (arith, over.0) in
     let b = slice_index text start in
     absurd (false≢true (sym (delimiter_other b over.1).2 ∙ eq-eqb b 124 (sym (ap (slice_index text) here) ∙ pipe)))
+markup_no_pipe text start n (MaybeSmartQuote quote opens closes) k kind over low high pipe =
+    let here : k ≡ start = omega (arith, over.0) in
+    absurd (false≢true (sym (quote_other quote over.2).1 ∙ eq-eqb quote 124 (sym over.1 ∙ sym (ap (slice_index text) here) ∙ pipe)))
+markup_no_pipe text start n (SynthesizeChar c) k kind over low high pipe =
+    let byte : over.byte ≡ 124 = sym (over.each k low (omega (arith, over.to))) ∙ pipe in
+    let none : None ≡ Some c = ap (λ (b : ℕ). smart_char b over.n) (sym byte) ∙ over.char in
+    absurd cc
 markup_no_pipe text start n (MaybeCode m escaped) k kind over low high pipe =
     let byte = over.1.each k low (omega (arith, over.0)) in
     omega arith

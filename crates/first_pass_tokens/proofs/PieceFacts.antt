@@ -1,14 +1,14 @@
 -- The piece at a place, case by case: which bytes it has, and which token. What else is said of pieces rests on these facts alone.
-use Rattle.std.proofs.Common.{◌≡◌, ℕ, ◌+◌, ◌-◌, ◌≤◌, ◌<◌, ◌==◌, ◌&&◌, not, Bool, true, false, List, length, drop, get_or, slice_index, Option, unwrap_or, refl, sym, ap, subst, ◌∙◌, inl, inr, arith, length-drop, ◌||◌, suc}
+use Rattle.std.proofs.Common.{◌≡◌, ℕ, ◌+◌, ◌-◌, ◌≤◌, ◌<◌, ◌==◌, ◌&&◌, not, Bool, true, false, List, length, drop, get_or, slice_index, Option, Some, unwrap_or, refl, sym, ap, subst, ◌∙◌, inl, inr, arith, length-drop, ◌||◌, suc}
 use Rattle.std.specs.Char.{is_ascii_punctuation}
 use Rattle.std.specs.List.{prefix_len}
 use Rattle.std.proofs.lemmas.List.{get_or-drop, get_or_past}
 use Rattle.std.proofs.lemmas.List.Sums.{prefix_len_passes, prefix_len_stops, prefix_len_is, prefix_len-le-length}
-use Rattle.std.proofs.lemmas.Bool.{cases_lt, cases_Bool, cond_both, and_parts, eqb-true, eq-eqb, ne_eqb, false≢true}
+use Rattle.std.proofs.lemmas.Bool.{cases_lt, cases_Bool, cond_both, cond-false, and_parts, eqb-true, eq-eqb, ne_eqb, false≢true}
 use Rattle.std.proofs.lemmas.Bool.Decides.{nat_tests}
 use Rattle.first_pass_items.specs.declared.item.ItemBody.{ItemBody}
 use Rattle.first_pass_items.specs.declared.option_set.Options.{Options}
-use Rattle.first_pass_items.specs.declared.item.ItemBody.TheVariants.{Text, MaybeEmphasis, MaybeCode, MaybeHtml, MaybeLinkOpen, MaybeLinkClose, MaybeImage}
+use Rattle.first_pass_items.specs.declared.item.ItemBody.TheVariants.{Text, MaybeEmphasis, MaybeSmartQuote, SynthesizeChar, MaybeCode, MaybeHtml, MaybeLinkOpen, MaybeLinkClose, MaybeImage}
 use Rattle.first_pass_tree.specs.Forest.{is_text, is_escaped}
 use Rattle.first_pass_lines.specs.Lines.{is_line_end, is_white}
 use Rattle.first_pass_walk.specs.Walk.{is_special}
@@ -16,8 +16,8 @@ use Rattle.first_pass_flank.specs.declared.flank.DelimiterRun.{DelimiterRun}
 use Rattle.first_pass_flank.specs.Flank.{can_open, can_close}
 use Rattle.first_pass_tokens.specs.declared.pieces.Piece.{Piece}
 use Rattle.first_pass_tokens.specs.declared.pieces.Piece.TheVariants.{Left, Begins, Token, Run}
-use Rattle.first_pass_tokens.specs.MarkupBytes.{AreBackquotes, StandsOver}
-use Rattle.first_pass_tokens.specs.Pieces.{Source, piece_at, special_piece, backslash_piece, backslash_piece_in, backquote_piece, is_delimiter, is_too_long, run_in, run_piece, delimiter_piece, bracket_piece, run_at}
+use Rattle.first_pass_tokens.specs.MarkupBytes.{AreBackquotes, StandsOver, smart_char}
+use Rattle.first_pass_tokens.specs.Pieces.{Source, piece_at, special_piece, backslash_piece, backslash_piece_in, backquote_piece, is_delimiter, is_too_long, run_in, run_size, is_quote, quote_piece, dot_piece, dash_piece, run_piece, delimiter_piece, bracket_piece, run_at}
 
 -- a visible character of ASCII
 abbrev pub IsVisible : ℕ → Type 0
@@ -30,6 +30,8 @@ AreVisible text at n = (k : ℕ) → at ≤ k → k < at + n → IsVisible (slic
 -- a token of possible code, HTML, links or images
 abbrev pub is_markup : ItemBody → Bool
 is_markup (MaybeEmphasis left opens closes) = true
+is_markup (MaybeSmartQuote quote opens closes) = true
+is_markup (SynthesizeChar c) = true
 is_markup (MaybeCode n escaped) = true
 is_markup MaybeHtml = true
 is_markup MaybeLinkOpen = true
@@ -377,10 +379,96 @@ module _ (text : List ℕ) (at : ℕ) (within : at < length text) where
       (λ h. one_byte text at 93 (MaybeLinkClose true) (eqb-true b 93 h) (omega arith, omega arith) refl refl (refl, eqb-true b 93 h, refl))
       (λ h₆. one_left text at within h₂))))
 
+quote_visible : (b : ℕ) → is_quote b ≡ true → IsVisible b
+quote_visible b h = (grind (arith, nat_tests, h), grind (arith, nat_tests, h))
+
+pub quote_other : (b : ℕ) → is_quote b ≡ true → ((b == 92) ≡ false) × ((b == 124) ≡ false)
+quote_other b h = (grind (arith, nat_tests, h), grind (arith, nat_tests, h))
+
+-- a delimiter is no quote
+delimiter_size : (text : List ℕ) (at : ℕ) → is_delimiter (slice_index text at) ≡ true → run_size text at ≡ run_at text at
+unfolding run_size
+delimiter_size text at h =
+    let b = slice_index text at in
+    let other : is_quote b ≡ false = grind (arith, nat_tests, h) in
+    cond-false _ _ _ other
+
+three_alike : (text : List ℕ) (at b : ℕ) → slice_index text at ≡ b → slice_index text (at + 1) ≡ b → slice_index text (at + 2) ≡ b
+    → (k : ℕ) → at ≤ k → k < at + 3 → slice_index text k ≡ b
+three_alike text at b here next last k low high =
+    elim (cases_lt k (at + 1)) [
+      | inl first ↦ let same : k ≡ at = omega arith in ap (slice_index text) same ∙ here
+      | inr later ↦ elim (cases_lt k (at + 2)) [
+        | inl second ↦ let same : k ≡ at + 1 = omega arith in ap (slice_index text) same ∙ next
+        | inr third ↦ let same : k ≡ at + 2 = omega arith in ap (slice_index text) same ∙ last
+      ]
+    ]
+
 -- the piece at a delimiter
 delimiter_facts : (s : Source) (at : ℕ) → at < length s.text → is_delimiter (slice_index s.text at) ≡ true → IsPieceAt s.text at (delimiter_piece s at)
 unfolding delimiter_piece run_in
-delimiter_facts s at within delimiter = run_piece_facts s.text at within (run_some s.text at within) delimiter _ refl
+delimiter_facts s at within delimiter = run_piece_facts s.text at within (run_some s.text at within) delimiter _ (delimiter_size s.text at delimiter)
+
+-- the piece at a quote
+quote_facts : (s : Source) (at : ℕ) → at < length s.text → is_quote (slice_index s.text at) ≡ true → IsPieceAt s.text at (quote_piece s at)
+unfolding quote_piece run_in
+quote_facts s at within quote =
+    let b = slice_index s.text at in
+    one_byte s.text at b (MaybeSmartQuote b _ _) refl (quote_visible b quote) (quote_other b quote).0 refl (refl, refl, quote)
+
+-- the piece at a full stop
+dot_facts : (text : List ℕ) (at : ℕ) → at < length text → slice_index text at ≡ 46 → IsPieceAt text at (dot_piece text at)
+unfolding dot_piece
+dot_facts text at within is =
+    cond_both (slice_index text (at + 1) == 46 && slice_index text (at + 2) == 46) (Token 0 3 (SynthesizeChar 0x2026)) (Left 1) (IsPieceAt text at)
+    (λ h. let both = and_parts (slice_index text (at + 1) == 46) (slice_index text (at + 2) == 46) h in
+    let next = eqb-true (slice_index text (at + 1)) 46 both.0 in
+    let last = eqb-true (slice_index text (at + 2)) 46 both.1 in
+    record {
+      some = omega arith;
+      few = omega arith;
+      bytes = three_visible text at (omega (arith, is), omega (arith, is)) (omega (arith, next), omega (arith, next)) (omega (arith, last), omega (arith, last));
+      last = let place : at + 0 + 3 - 1 ≡ at + 2 = omega arith in ap (λ (k : ℕ). slice_index text k == 92) place ∙ ap (λ (x : ℕ). x == 92) last;
+      kind = refl;
+      over =
+          let place : at ≡ at + 0 = omega arith in
+          subst (λ (x : ℕ). StandsOver text x (x + 3) (SynthesizeChar 0x2026)) place
+          (record { byte = 46; n = 3; to = refl; each = three_alike text at 46 is next last; char = refl });
+    })
+    (λ left. one_left text at within (ap (λ (x : ℕ). x == 96) is))
+
+-- a run of hyphens that stands for a character
+dash_token : (text : List ℕ) (at n c : ℕ) → slice_index text at ≡ 45 → n ≡ run_at text at → 0 < n → smart_char 45 n ≡ Some c
+    → IsMarkup text at 0 n (SynthesizeChar c)
+dash_token text at n c is run some char =
+    let alike : (k : ℕ) → at ≤ k → k < at + n → slice_index text k ≡ 45 = λ k low high. run_same text at k low (omega (arith, run, high)) ∙ is in
+    record {
+      some = some;
+      few = omega arith;
+      bytes = λ k low high. let byte = alike k low (omega (arith, high)) in (omega (arith, byte), omega (arith, byte));
+      last = let byte = alike (at + 0 + n - 1) (omega (arith, some)) (omega (arith, some)) in ap (λ (x : ℕ). x == 92) byte;
+      kind = refl;
+      over =
+          let place : at ≡ at + 0 = omega arith in
+          subst (λ (x : ℕ). StandsOver text x (x + n) (SynthesizeChar c)) place (record { byte = 45; n = n; to = refl; each = alike; char = char });
+    }
+
+-- the piece at a hyphen
+dash_facts : (text : List ℕ) (at : ℕ) → at < length text → slice_index text at ≡ 45 → IsPieceAt text at (dash_piece text at)
+unfolding dash_piece
+dash_facts text at within is =
+    let n = run_at text at in
+    let fits = run_fits text at in
+    let len = length-drop at text in
+    cond_both (n == 2) _ _ (IsPieceAt text at) (λ h. dash_token text at 2 0x2013 is (sym (eqb-true n 2 h)) (omega arith) refl)
+    (λ h₁. cond_both (n == 3) (Token 0 3 (SynthesizeChar 0x2014)) (Left n) (IsPieceAt text at)
+    (λ h. dash_token text at 3 0x2014 is (sym (eqb-true n 3 h)) (omega arith) refl)
+    (λ left. record {
+      some = run_some text at within;
+      fits = omega (arith, fits, len, within);
+      same = run_same text at;
+      other = ap (λ (x : ℕ). x == 96) is;
+    }))
 
 -- the piece at a special byte
 special_facts : (s : Source) (at : ℕ) → at < length s.text → IsPieceAt s.text at (special_piece s at)
@@ -390,7 +478,10 @@ special_facts s at within =
     let b = slice_index s.text at in
     cond_both (b == 92) _ _ holds (λ h. backslash_in_facts s.text at within s.row (eqb-true b 92 h))
     (λ h₁. cond_both (b == 96) _ _ holds (λ h. backquote_facts s.text at within (eqb-true b 96 h))
-    (λ h₂. cond_both (is_delimiter b) _ _ holds (λ h. delimiter_facts s at within h) (λ h₃. bracket_facts s.text at within h₂)))
+    (λ h₂. cond_both (is_delimiter b) _ _ holds (λ h. delimiter_facts s at within h)
+    (λ h₃. cond_both (is_quote b) _ _ holds (λ h. quote_facts s at within h)
+    (λ h₄. cond_both (b == 46) _ _ holds (λ h. dot_facts s.text at within (eqb-true b 46 h))
+    (λ h₅. cond_both (b == 45) _ _ holds (λ h. dash_facts s.text at within (eqb-true b 45 h)) (λ h₆. bracket_facts s.text at within h₂))))))
 
 -- a byte that is not special is not that special byte
 pub off : (b c : ℕ) (options : Options) → is_special options c ≡ true → is_special options b ≡ false → (b == c) ≡ false

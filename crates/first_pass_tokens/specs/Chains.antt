@@ -29,18 +29,18 @@ AreApart [] = Unit
 AreApart (x ∷ []) = Unit
 AreApart (x ∷ y ∷ ys) = (touches x y ≡ false) × AreApart (y ∷ ys)
 
--- the chain with a token behind it: a text that touches the last one is joined to it, and keeps that one's mark (this project)
+-- the chain with a token after it: a text that touches the last one is joined to it, and keeps that one's mark (this project)
 abbrev pub add_token : List Item → Item → List Item
 add_token [] y = y ∷ []
 add_token (x ∷ []) y = if touches x y then record x { «end» = y.«end» } ∷ [] else x ∷ y ∷ []
 add_token (x ∷ z ∷ zs) y = x ∷ add_token (z ∷ zs) y
 
--- the chain with these tokens behind it, one after the other (this project)
+-- the chain with these tokens after it, in turn (this project)
 abbrev pub add_tokens : List Item → List Item → List Item
 add_tokens chain [] = chain
 add_tokens chain (x ∷ xs) = add_tokens (add_token chain x) xs
 
--- the chain with a text behind it, unless it is empty (this project)
+-- the chain with a text after it, unless it is empty (this project)
 abbrev pub add_text : ℕ → ℕ → Bool → List Item → List Item
 add_text from to escaped chain = if nat_lt from to then add_token chain (text_token from to escaped) else chain
 

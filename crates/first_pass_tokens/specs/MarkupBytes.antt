@@ -1,22 +1,40 @@
 -- Which bytes the tokens of possible markup stand over.
-use Rattle.std.specs.Prelude.{◌≡◌, ℕ, ◌+◌, ◌-◌, ◌==◌, ◌<◌, ◌≤◌, true, false, List, [], ◌∷◌, slice_index}
-use Rattle.first_pass_items.specs.Bytes.{exclamation_mark, less_than, left_bracket, backslash, right_bracket, backquote, pipe}
+use Rattle.std.specs.Prelude.{◌≡◌, ℕ, ◌+◌, ◌-◌, ◌==◌, ◌<◌, ◌≤◌, true, false, List, [], ◌∷◌, slice_index, Option, Some, None, if◌then◌else◌}
+use Rattle.first_pass_items.specs.Bytes.{exclamation_mark, hyphen, full_stop, less_than, left_bracket, backslash, right_bracket, backquote, pipe}
 use Rattle.first_pass_items.specs.declared.item.Item.{Item}
 use Rattle.first_pass_items.specs.declared.item.ItemBody.{ItemBody}
-use Rattle.first_pass_items.specs.declared.item.ItemBody.TheVariants.{MaybeEmphasis, MaybeCode, MaybeHtml, MaybeLinkOpen, MaybeLinkClose, MaybeImage}
+use Rattle.first_pass_items.specs.declared.item.ItemBody.TheVariants.{MaybeEmphasis, MaybeSmartQuote, SynthesizeChar, MaybeCode, MaybeHtml, MaybeLinkOpen, MaybeLinkClose, MaybeImage}
 use Rattle.first_pass_tree.specs.Forest.{is_text}
-use Rattle.first_pass_tokens.specs.Pieces.{is_delimiter, run_at}
+use Rattle.first_pass_tokens.specs.Pieces.{is_delimiter, is_quote, run_at}
 
--- so many backquotes from an offset on, and none behind them (CommonMark 6.1, backtick string)
+-- so many backquotes from an offset on, and none after them (CommonMark 6.1, backtick string)
 pub record AreBackquotes (text : List ℕ) (start n : ℕ) : Type 0 where
   pub some : 0 < n
   pub each : (k : ℕ) → start ≤ k → k < start + n → slice_index text k ≡ backquote
   pub behind : (slice_index text (start + n) == backquote) ≡ false
 
--- a token of possible markup stands over what its kind says: a delimiter, from which on so many stand in a row; all of some backquotes, behind a backslash
--- where it says so; `<`; `![`, `[` or `]` (CommonMark 6.1 to 6.6)
+-- the character that so many of a byte in a row stand for: three full stops for a horizontal ellipsis, two hyphens for an en dash, three for an em dash
+-- (this project)
+abbrev pub smart_char : ℕ → ℕ → Option ℕ
+smart_char byte n =
+    if byte == full_stop then (if n == 3 then Some 0x2026 else None)
+    else (if byte == hyphen then (if n == 2 then Some 0x2013 else (if n == 3 then Some 0x2014 else None)) else None)
+
+-- the bytes from one offset up to another are alike, and stand for a character (this project)
+pub record StandFor (text : List ℕ) (start «end» c : ℕ) : Type 0 where
+  pub byte : ℕ
+  pub n : ℕ
+  pub to : «end» ≡ start + n
+  pub each : (k : ℕ) → start ≤ k → k < start + n → slice_index text k ≡ byte
+  pub char : smart_char byte n ≡ Some c
+
+-- a token of possible markup stands over what its kind says: a delimiter, from which on so many stand in a row; all of some backquotes, after a backslash
+-- where it says so; the quote that it says; the bytes that stand for its character; `<`; `![`, `[` or `]`
+-- (CommonMark 6.1 to 6.6; smart punctuation: this project)
 abbrev pub StandsOver : List ℕ → ℕ → ℕ → ItemBody → Type 0
 StandsOver text start end (MaybeEmphasis left opens closes) = (end ≡ start + 1) × (is_delimiter (slice_index text start) ≡ true) × (left ≡ run_at text start)
+StandsOver text start end (MaybeSmartQuote quote opens closes) = (end ≡ start + 1) × (slice_index text start ≡ quote) × (is_quote quote ≡ true)
+StandsOver text start end (SynthesizeChar c) = StandFor text start end c
 StandsOver text start end (MaybeCode n escaped) = (end ≡ start + n) × AreBackquotes text start n × (escaped ≡ true → slice_index text (start - 1) ≡ backslash)
 StandsOver text start end MaybeHtml = (end ≡ start + 1) × (slice_index text start ≡ less_than)
 StandsOver text start end MaybeImage = (end ≡ start + 2) × (slice_index text start ≡ exclamation_mark) × (slice_index text (start + 1) ≡ left_bracket)
@@ -38,6 +56,6 @@ abbrev pub TextsHaveNoBackquote : List ℕ → List Item → Type 0
 TextsHaveNoBackquote text [] = Unit {0}
 TextsHaveNoBackquote text (x ∷ xs) = (is_text x.body ≡ true → HasNoBackquote text x.start x.«end») × TextsHaveNoBackquote text xs
 
--- each pipe from one offset up to another stands directly behind a backslash there (GFM 4.10)
+-- each pipe from one offset up to another stands directly after a backslash there (GFM 4.10)
 abbrev pub PipesAreEscaped : List ℕ → ℕ → ℕ → Type 0
 PipesAreEscaped text start end = (k : ℕ) → start ≤ k → k < end → slice_index text k ≡ pipe → (start < k) × (slice_index text (k - 1) ≡ backslash)

@@ -2,10 +2,10 @@
 use Rattle.std.specs.Prelude.{◌≡◌, ℕ, ◌+◌, ◌-◌, ◌==◌, ◌<◌, ◌&&◌, ◌||◌, not, Bool, true, false, List, take, drop, slice_index, Option, Some, None, unwrap_or, nat_lt, if◌then◌else◌}
 use Rattle.std.specs.Char.{is_ascii_punctuation}
 use Rattle.std.specs.List.{prefix_len, slice_range}
-use Rattle.first_pass_items.specs.Bytes.{exclamation_mark, less_than, left_bracket, backslash, right_bracket, backquote, pipe, asterisk, underscore, circumflex, tilde}
+use Rattle.first_pass_items.specs.Bytes.{exclamation_mark, quotation_mark, apostrophe, hyphen, full_stop, less_than, left_bracket, backslash, right_bracket, backquote, pipe, asterisk, underscore, circumflex, tilde}
 use Rattle.first_pass_flank.specs.declared.flank.DelimiterRun.{DelimiterRun}
 use Rattle.first_pass_flank.specs.Flank.{first_char, last_char, ends_with_pipe, can_open, can_close}
-use Rattle.first_pass_items.specs.declared.item.ItemBody.TheVariants.{MaybeCode, MaybeHtml, MaybeLinkOpen, MaybeLinkClose, MaybeImage}
+use Rattle.first_pass_items.specs.declared.item.ItemBody.TheVariants.{MaybeCode, MaybeHtml, MaybeLinkOpen, MaybeLinkClose, MaybeImage, MaybeSmartQuote, SynthesizeChar}
 use Rattle.first_pass_items.specs.declared.option_set.Options.{Options}
 use Rattle.first_pass_walk.specs.Walk.{is_special}
 use Rattle.first_pass_tokens.specs.declared.pieces.Piece.{Piece}
@@ -42,7 +42,7 @@ run_at text at = prefix_len (λ b. b == slice_index text at) (drop at text)
 unfoldable pub backquote_piece : List ℕ → ℕ → Piece
 backquote_piece text at = Token 0 (run_at text at) (MaybeCode (run_at text at) false)
 
--- at a backslash in a row: a pipe behind it begins a text that is not escaped, and a pipe behind two of them one that is; they are dropped (GFM 4.10)
+-- at a backslash in a row: a pipe after it begins a text that is not escaped, and a pipe after two of them one that is; they are dropped (GFM 4.10)
 abbrev pub pipe_piece : List ℕ → ℕ → Option Piece
 pipe_piece text at =
     if slice_index text (at + 1) == pipe then Some (Begins 1 false)
@@ -62,6 +62,10 @@ backslash_piece_in row text at = unwrap_or (if row then pipe_piece text at else 
 -- the bytes that delimiter runs are made of: * and _ (CommonMark 6.2), ~ (GFM 6.5) and ^ (this project)
 abbrev pub is_delimiter : ℕ → Bool
 is_delimiter b = b == asterisk || (b == underscore || (b == tilde || b == circumflex))
+
+-- the bytes of quotes (this project)
+abbrev pub is_quote : ℕ → Bool
+is_quote b = b == quotation_mark || b == apostrophe
 
 -- the character before a place of a content, if it is not its first (this project)
 unfoldable pub char_before : Source → ℕ → Option ℕ
@@ -87,9 +91,32 @@ is_too_long r = r.delimiter == tilde && nat_lt 2 r.size
 abbrev pub run_piece : DelimiterRun → Piece
 run_piece r = if (can_open r || can_close r) && not (is_too_long r) then Run r.size (can_open r) (can_close r) else Left r.size
 
+-- how many bytes the delimiter run at a place has: all that are alike, of quotes one (CommonMark 6.2; quotes: this project)
+unfoldable pub run_size : List ℕ → ℕ → ℕ
+run_size text at = if is_quote (slice_index text at) then 1 else run_at text at
+
 -- at a delimiter: the run of all that stand there in a row (CommonMark 6.2)
 unfoldable pub delimiter_piece : Source → ℕ → Piece
-delimiter_piece s at = run_piece (run_in s at (run_at s.text at))
+delimiter_piece s at = run_piece (run_in s at (run_size s.text at))
+
+-- a quote: a run of one, which can open and close as it stands (this project)
+abbrev pub quote_token : DelimiterRun → Piece
+quote_token r = Token 0 1 (MaybeSmartQuote r.delimiter (can_open r) (can_close r))
+
+-- at a quote (this project)
+unfoldable pub quote_piece : Source → ℕ → Piece
+quote_piece s at = quote_token (run_in s at (run_size s.text at))
+
+-- at a full stop: three of them are a horizontal ellipsis, U+2026 (this project)
+unfoldable pub dot_piece : List ℕ → ℕ → Piece
+dot_piece text at = if slice_index text (at + 1) == full_stop && slice_index text (at + 2) == full_stop then Token 0 3 (SynthesizeChar 0x2026) else Left 1
+
+-- at a hyphen: a run of two is an en dash, U+2013, a run of three an em dash, U+2014, and any other is left over (this project)
+unfoldable pub dash_piece : List ℕ → ℕ → Piece
+dash_piece text at =
+    if run_at text at == 2 then Token 0 2 (SynthesizeChar 0x2013)
+    else (if run_at text at == 3 then Token 0 3 (SynthesizeChar 0x2014)
+    else Left (run_at text at))
 
 -- at a byte that opens or closes a link, an image, or HTML, the first case that fits, else the byte is left over (CommonMark 6.3 to 6.6)
 unfoldable pub bracket_piece : List ℕ → ℕ → Piece
@@ -100,13 +127,16 @@ bracket_piece text at =
     else (if slice_index text at == right_bracket then Token 0 1 (MaybeLinkClose true)
     else Left 1)))
 
--- at a special byte: the first case that fits, else the byte is left over (CommonMark 2.4, 6.1 to 6.6)
+-- at a special byte: the first case that fits, else the byte is left over (CommonMark 2.4, 6.1 to 6.6; smart punctuation: this project)
 unfoldable pub special_piece : Source → ℕ → Piece
 special_piece s at =
     if slice_index s.text at == backslash then backslash_piece_in s.row s.text at
     else (if slice_index s.text at == backquote then backquote_piece s.text at
     else (if is_delimiter (slice_index s.text at) then delimiter_piece s at
-    else bracket_piece s.text at))
+    else (if is_quote (slice_index s.text at) then quote_piece s at
+    else (if slice_index s.text at == full_stop then dot_piece s.text at
+    else (if slice_index s.text at == hyphen then dash_piece s.text at
+    else bracket_piece s.text at)))))
 
 -- the piece that begins at a place: a byte that is not special is left over (CommonMark 6, textual content)
 unfoldable pub piece_at : Source → ℕ → Piece

@@ -22,7 +22,7 @@ pub fn one_cell()
         → IsCell s tokens a → IsCell s others b → (tokens ≡ others) × (a ≡ b) }
 {}
 
-/// With tables each pipe in the content of a cell stands directly behind a backslash (GFM 4.10).
+/// With tables each pipe in the content of a cell stands directly after a backslash (GFM 4.10).
 pub fn cell_has_no_other_pipe()
     ensures { (s : Source) (tokens : List Item) (end : ℕ) → s.row ≡ true → has s.options tables ≡ true
         → IsCell s tokens end → PipesAreEscaped s.text s.start end }
@@ -42,7 +42,8 @@ pub fn line_is_joined()
 {}
 
 /// A token of possible markup in a line or a cell stands over the bytes of its kind: all of some backquotes, and
-/// behind a backslash where it says so (CommonMark 6.1); `<` (6.5, 6.6); `![`, `[` or `]` (6.3, 6.4).
+/// after a backslash where it says so (CommonMark 6.1); a delimiter (6.2); `<` (6.5, 6.6); `![`, `[` or `]` (6.3, 6.4);
+/// a quote, or the bytes that its character stands for.
 pub fn markup_has_its_bytes()
     ensures line { (s : Source) (tokens : List Item) (answer : ℕ × Option Item) → IsLine s tokens answer
         → StandOver s.text tokens }

@@ -1,13 +1,13 @@
 //! The tokens of a line, appended to the tree.
 
-ghost use Rattle.std.specs.Prelude.{◌≡◌, ◌==◌, ◌+◌, ◌<◌, ◌≤◌, ◌^◌, ℕ, List, true, false, IsTrue, IsUtf8, length, slice_index, OnOk, IfOk, IfSome};
+ghost use Rattle.std.specs.Prelude.{◌≡◌, ◌==◌, ◌&&◌, ◌%◌, nat_lt, ◌+◌, ◌<◌, ◌≤◌, ◌^◌, ℕ, List, true, false, IsTrue, IsUtf8, length, slice_index, OnOk, IfOk, IfSome};
 ghost use Rattle.std.specs.List.{suffix_len, slice_range};
 ghost use Rattle.first_pass_items.specs.Bytes.{backslash};
 ghost use Rattle.first_pass_lines.specs.Lines.{is_white as is_white_byte};
 ghost use Rattle.first_pass_walk.specs.Walk.{MarksSpecial};
 ghost use Rattle.first_pass_tree.specs.Forest.{with_text};
 ghost use Rattle.first_pass_tokens.specs.Pieces.{source, content_in, text_upto, size};
-ghost use Rattle.first_pass_tokens.specs.LineTokens.{line_end_len, breaks_by_backslash, text_end, break_of, line_break, ends_at, EndsLine, EndsCell};
+ghost use Rattle.first_pass_tokens.specs.LineTokens.{line_end_len, text_end, break_of, line_break, ends_at, EndsLine, EndsCell};
 ghost use Rattle.first_pass_tokens.specs.TreeTokens.{with_tokens, AppendsLine, AppendsCell};
 ghost use Rattle.first_pass_tokens.specs.Chains.{run_tokens};
 ghost use Rattle.first_pass_tokens.specs.Pending.{pending_after, tree_after, IsReadTo};
@@ -72,7 +72,7 @@ pub fn append_cell(
 {
     let text = text_upto(whole, content.end);
     let (end, pending) = append_pieces(whole, text, content, lut, tree)?;
-    let blanks = blanks_at_end(text, content, end);
+    let blanks = blanks_at_end(text, content.start, end);
     tree.append_text(pending.begin, end - blanks, pending.escaped)?;
     Ok(end)
 }
@@ -122,7 +122,7 @@ fn append_pieces(
         if ends_at(text, content, at) {
             return Ok((at, pending));
         }
-        let piece = special_piece(whole, text, content, at);
+        let piece = special_piece(whole, text, content.start, content.row, at);
         append_piece(tree, &mut pending, at, piece)?;
         from = at + piece_len(piece);
     }
@@ -211,7 +211,7 @@ fn append_run(
 
 // Ends a line: appends the last text, and answers where the line ends, and its break.
 #[inline(always)]
-#[tactic(auto, unfolding(crate::specs::LineTokens::text_end, crate::specs::LineTokens::line_break, crate::specs::LineTokens::blanks_at_end))]
+#[tactic(auto, unfolding(crate::specs::LineTokens::text_end, crate::specs::LineTokens::line_break, crate::specs::LineTokens::breaks_by_backslash, crate::specs::LineTokens::backslashes_at_end, crate::specs::LineTokens::blanks_at_end))]
 fn end_line(
     text: &[u8],
     content: Content,
@@ -226,9 +226,9 @@ fn end_line(
     ensures answer { IfOk result (λ answer. (w : List ℕ) → answer
         ≡ (end + line_end_len (content_in w text.now content) end, line_break (content_in w text.now content) end)) }
 {
-    let next = end + line_end_len(text, content, end);
-    let by_backslash = breaks_by_backslash(text, content, end, next);
-    let blanks = blanks_at_end(text, content, end);
+    let next = end + line_end_len(text, end);
+    let by_backslash = breaks_by_backslash(text, content.start, end, next);
+    let blanks = blanks_at_end(text, content.start, end);
     let stop = if by_backslash { end - 1 } else { end - blanks };
     tree.append_text(pending.begin, stop, pending.escaped)?;
     if end == text.len() {
@@ -265,44 +265,43 @@ fn break_of(end: usize, next: usize, by_backslash: bool, blanks: usize) -> Item
 }
 
 // Whether the line, which ends at `next`, breaks by its last backslash.
-#[tactic(auto, unfolding(crate::specs::LineTokens::breaks_by_backslash, crate::specs::LineTokens::backslashes_at_end))]
-fn breaks_by_backslash(text: &[u8], content: Content, end: usize, next: usize) -> bool
-    requires order { content.start ≤ end }
+fn breaks_by_backslash(text: &[u8], start: usize, end: usize, next: usize) -> bool
+    requires order { start ≤ end }
     requires within { end ≤ length text.now }
-    requires after { (w : List ℕ) → next ≡ end + line_end_len (content_in w text.now content) end }
-    ensures value { (w : List ℕ) → result ≡ breaks_by_backslash (content_in w text.now content) end }
-    ensures nonempty { IsTrue result → content.start < end }
+    ensures value { result ≡ ((suffix_len (λ b. b == backslash) (slice_range text.now start end) % 2 == 1)
+        && nat_lt next (length text.now)) }
+    ensures nonempty { IsTrue result → start < end }
 {
-    next < text.len() && backslashes_at_end(text, content, end) % 2 == 1
+    next < text.len() && backslashes_at_end(text, start, end) % 2 == 1
 }
 
 // How many backslashes stand at the end of the content.
-fn backslashes_at_end(text: &[u8], content: Content, end: usize) -> usize
-    requires order { content.start ≤ end }
+fn backslashes_at_end(text: &[u8], start: usize, end: usize) -> usize
+    requires order { start ≤ end }
     requires within { end ≤ length text.now }
-    ensures value { result ≡ suffix_len (λ b. b == backslash) (slice_range text.now content.start end) }
-    ensures fits { content.start + result ≤ end }
+    ensures value { result ≡ suffix_len (λ b. b == backslash) (slice_range text.now start end) }
+    ensures fits { start + result ≤ end }
 {
-    let bytes = &text[content.start..end];
+    let bytes = &text[start..end];
     bytes.iter().rev().take_while(|b| **b == b'\\').count()
 }
 
 // How many bytes of white space stand at the end of the content.
-fn blanks_at_end(text: &[u8], content: Content, end: usize) -> usize
-    requires order { content.start ≤ end }
+fn blanks_at_end(text: &[u8], start: usize, end: usize) -> usize
+    requires order { start ≤ end }
     requires within { end ≤ length text.now }
-    ensures value { result ≡ suffix_len is_white_byte (slice_range text.now content.start end) }
-    ensures fits { content.start + result ≤ end }
+    ensures value { result ≡ suffix_len is_white_byte (slice_range text.now start end) }
+    ensures fits { start + result ≤ end }
 {
-    let bytes = &text[content.start..end];
+    let bytes = &text[start..end];
     bytes.iter().rev().take_while(|b| is_white(**b)).count()
 }
 
 // How many bytes the line end at a place has: `\r\n` has two.
 #[tactic(auto, unfolding(crate::specs::LineTokens::line_end_len))]
-fn line_end_len(text: &[u8], content: Content, end: usize) -> usize
+fn line_end_len(text: &[u8], end: usize) -> usize
     requires { end ≤ length text.now }
-    ensures value { (w : List ℕ) → result ≡ line_end_len (content_in w text.now content) end }
+    ensures value { (w : List ℕ) (c : Content) → result ≡ line_end_len (content_in w text.now c) end }
     ensures fits { end + result ≤ length text.now }
 {
     if end >= text.len() {

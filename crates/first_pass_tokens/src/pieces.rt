@@ -1,8 +1,8 @@
 //! The pieces that the content of a line is divided into: which one begins at a place.
 
-ghost use Rattle.std.specs.Prelude.{◌≡◌, ◌+◌, ◌<◌, ◌≤◌, ◌^◌, true, length, slice_index, ℕ, List, IsCharBoundary};
-ghost use Rattle.first_pass_items.specs.Bytes.{backslash, backquote};
-ghost use Rattle.first_pass_tokens.specs.Pieces.{content_in, text_upto, special_piece, backslash_piece, backslash_piece_in, backquote_piece, is_delimiter, char_before, run_in, run_piece, delimiter_piece, bracket_piece, run_at, size, EndsSolid};
+ghost use Rattle.std.specs.Prelude.{◌≡◌, ◌||◌, ◌+◌, ◌<◌, ◌≤◌, ◌^◌, true, length, slice_index, take, ℕ, List, Bool, IsCharBoundary};
+ghost use Rattle.first_pass_items.specs.Bytes.{backslash, backquote, hyphen, full_stop};
+ghost use Rattle.first_pass_tokens.specs.Pieces.{special_piece, backslash_piece, backslash_piece_in, backquote_piece, is_delimiter, char_before, run_in, run_size, is_quote, quote_piece, dot_piece, dash_piece, run_piece, delimiter_piece, bracket_piece, run_at, size, EndsSolid};
 
 use first_pass_flank::flank::{DelimiterRun, ends_with_pipe, first_char, last_char};
 use first_pass_items::item::ItemBody;
@@ -39,21 +39,26 @@ pub enum Piece {
 /// content's end. A run of `*`, `_`, `^` or at most two `~` that can open or close is a token for each of them
 /// (CommonMark 6.2, GFM 6.5). All backquotes in a row are a token of possible code (CommonMark 6.1), `<` with no
 /// backslash after it is one of possible HTML or an autolink (6.5, 6.6), `[`, `]` and `![` are tokens of possible links
-/// and images (6.3, 6.4). A backslash before backquotes or other ASCII punctuation is dropped (2.4). In a row of a table
+/// and images (6.3, 6.4). With smart punctuation a quote is a token, and three full stops, two hyphens or three are a
+/// token of the character that they stand for. A backslash before backquotes or other ASCII punctuation is dropped (2.4). In a row of a table
 /// a backslash before a pipe is dropped, and so are two of them (GFM 4.10). Any other byte is left over.
 #[tactic(auto, unfolding(crate::specs::Pieces::special_piece))]
-pub fn special_piece(whole: &str, text: &[u8], content: Content, at: usize) -> Piece
-    requires front { text.now ≡ text_upto whole.now content.«end» }
+pub fn special_piece(whole: &str, text: &[u8], start: usize, row: bool, at: usize) -> Piece
+    requires front { text.now ≡ take (length text.now) whole.now }
     requires within { at < length text.now }
-    requires order { content.start ≤ at }
-    ensures value { result ≡ special_piece (content_in whole.now text.now content) at }
+    requires order { start ≤ at }
+    ensures value { (o : Options) → result ≡ special_piece
+        (record { options = o; whole = whole.now; text = text.now; start = start; row = row }) at }
     ensures fits { at + size result ≤ length text.now }
     ensures ends { EndsSolid text.now at result }
 {
     match text[at] {
-        b'\\' => backslash_piece_in(text, at, content.row),
+        b'\\' => backslash_piece_in(text, at, row),
         b'`' => backquote_piece(text, at),
-        b'*' | b'_' | b'~' | b'^' => delimiter_piece(whole, text, content, at),
+        b'*' | b'_' | b'~' | b'^' => delimiter_piece(whole, text, start, row, at),
+        b'"' | b'\'' => quote_piece(whole, text, start, row, at),
+        b'.' => dot_piece(text, at),
+        b'-' => dash_piece(text, at),
         _ => bracket_piece(text, at),
     }
 }
@@ -123,17 +128,17 @@ fn backquote_piece(text: &[u8], at: usize) -> Piece
 
 // The piece at a delimiter.
 #[tactic(auto, unfolding(crate::specs::Pieces::delimiter_piece))]
-fn delimiter_piece(whole: &str, text: &[u8], content: Content, at: usize) -> Piece
-    requires front { text.now ≡ text_upto whole.now content.«end» }
+fn delimiter_piece(whole: &str, text: &[u8], start: usize, row: bool, at: usize) -> Piece
+    requires front { text.now ≡ take (length text.now) whole.now }
     requires within { at < length text.now }
-    requires order { content.start ≤ at }
+    requires order { start ≤ at }
     requires here { is_delimiter (slice_index text.now at) ≡ true }
-    ensures value { result ≡ delimiter_piece (content_in whole.now text.now content) at }
+    ensures value { (o : Options) → result ≡ delimiter_piece
+        (record { options = o; whole = whole.now; text = text.now; start = start; row = row }) at }
     ensures fits { at + size result ≤ length text.now }
     ensures ends { EndsSolid text.now at result }
 {
-    let n = run_len(text, at);
-    run_piece(&run_in(whole, text, content, at, n))
+    run_piece(&run_in(whole, text, start, row, at))
 }
 
 // A delimiter run as a piece.
@@ -152,34 +157,103 @@ fn run_piece(run: &DelimiterRun) -> Piece
     }
 }
 
-// The run of so many delimiters at a place, and what stands beside it.
+// The run of delimiters at a place, and what stands beside it.
 #[tactic(auto, unfolding(crate::specs::Pieces::run_in))]
-fn run_in(whole: &str, text: &[u8], content: Content, at: usize, n: usize) -> DelimiterRun
-    requires front { text.now ≡ text_upto whole.now content.«end» }
+fn run_in(whole: &str, text: &[u8], start: usize, row: bool, at: usize) -> DelimiterRun
+    requires front { text.now ≡ take (length text.now) whole.now }
     requires within { at < length text.now }
-    requires order { content.start ≤ at }
-    requires here { is_delimiter (slice_index text.now at) ≡ true }
-    requires run { n ≡ run_at text.now at }
-    ensures value { result ≡ run_in (content_in whole.now text.now content) at n }
-    ensures size { result.size ≡ n }
+    requires order { start ≤ at }
+    requires here { is_delimiter (slice_index text.now at) || is_quote (slice_index text.now at) ≡ true }
+    ensures value { (o : Options) → result ≡ run_in
+        (record { options = o; whole = whole.now; text = text.now; start = start; row = row }) at (run_size text.now at) }
+    ensures some { 0 < result.size }
+    ensures fits { at + result.size ≤ length text.now }
 {
+    let size = run_size(text, at);
     DelimiterRun {
         delimiter: text[at],
-        in_row: content.row,
-        behind_pipe: ends_with_pipe(&text[content.start..at]),
-        before: char_before(whole, content, at),
-        after: first_char(&whole[at + n..]),
-        size: n,
+        in_row: row,
+        behind_pipe: ends_with_pipe(&text[start..at]),
+        before: char_before(whole, start, at),
+        after: first_char(&whole[at + size..]),
+        size,
+    }
+}
+
+// How many bytes the delimiter run at a place has: of quotes one.
+#[tactic(auto, unfolding(crate::specs::Pieces::run_size))]
+fn run_size(text: &[u8], at: usize) -> usize
+    requires { at < length text.now }
+    ensures value { result ≡ run_size text.now at }
+    ensures some { 0 < result }
+    ensures fits { at + result ≤ length text.now }
+{
+    match text[at] {
+        b'"' | b'\'' => 1,
+        _ => run_len(text, at),
+    }
+}
+
+// The piece at a quote.
+#[tactic(auto, unfolding(crate::specs::Pieces::quote_piece))]
+fn quote_piece(whole: &str, text: &[u8], start: usize, row: bool, at: usize) -> Piece
+    requires front { text.now ≡ take (length text.now) whole.now }
+    requires within { at < length text.now }
+    requires order { start ≤ at }
+    requires here { is_quote (slice_index text.now at) ≡ true }
+    ensures value { (o : Options) → result ≡ quote_piece
+        (record { options = o; whole = whole.now; text = text.now; start = start; row = row }) at }
+    ensures fits { at + size result ≤ length text.now }
+    ensures ends { EndsSolid text.now at result }
+{
+    let run = run_in(whole, text, start, row, at);
+    Piece::Token(
+        0,
+        1,
+        ItemBody::MaybeSmartQuote(run.delimiter, run.can_open(), run.can_close()),
+    )
+}
+
+// The piece at a full stop.
+#[tactic(auto, unfolding(crate::specs::Pieces::dot_piece))]
+fn dot_piece(text: &[u8], at: usize) -> Piece
+    requires within { at < length text.now }
+    requires here { slice_index text.now at ≡ full_stop }
+    ensures value { result ≡ dot_piece text.now at }
+    ensures fits { at + size result ≤ length text.now }
+    ensures ends { EndsSolid text.now at result }
+{
+    if byte_at(text, at + 1) == b'.' && byte_at(text, at + 2) == b'.' {
+        Piece::Token(0, 3, ItemBody::SynthesizeChar('\u{2026}'))
+    } else {
+        Piece::Left(1)
+    }
+}
+
+// The piece at a hyphen.
+#[tactic(auto, unfolding(crate::specs::Pieces::dash_piece))]
+fn dash_piece(text: &[u8], at: usize) -> Piece
+    requires within { at < length text.now }
+    requires here { slice_index text.now at ≡ hyphen }
+    ensures value { result ≡ dash_piece text.now at }
+    ensures fits { at + size result ≤ length text.now }
+    ensures ends { EndsSolid text.now at result }
+{
+    match run_len(text, at) {
+        2 => Piece::Token(0, 2, ItemBody::SynthesizeChar('\u{2013}')),
+        3 => Piece::Token(0, 3, ItemBody::SynthesizeChar('\u{2014}')),
+        n => Piece::Left(n),
     }
 }
 
 // The character before a place of a content, if it is not its first.
 #[tactic(auto, unfolding(crate::specs::Pieces::char_before))]
-fn char_before(whole: &str, content: Content, at: usize) -> Option<char>
+fn char_before(whole: &str, start: usize, at: usize) -> Option<char>
     requires { IsCharBoundary whole.now at }
-    ensures { (text : List ℕ) → result ≡ char_before (content_in whole.now text content) at }
+    ensures { (o : Options) (text : List ℕ) (row : Bool) → result ≡ char_before
+        (record { options = o; whole = whole.now; text = text; start = start; row = row }) at }
 {
-    if content.start < at {
+    if start < at {
         last_char(&whole[..at])
     } else {
         None

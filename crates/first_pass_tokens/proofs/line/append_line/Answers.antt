@@ -1,4 +1,4 @@
-use Rattle.std.proofs.Common.{false, List, ℕ, IfOk, subst}
+use Rattle.std.proofs.Common.{List, ℕ, IfOk, subst}
 use Rattle.first_pass_tokens.specs.Pieces.{content_in, source}
 use Rattle.first_pass_tokens.specs.TreeTokens.{AppendsLine}
 use Rattle.first_pass_tokens.proofs.LineLemmas.{ends_line-if}

@@ -1,6 +1,7 @@
 use Rattle.std.proofs.Common.{◌+◌, length, sym, ◌∙◌, ap, arith}
 use Rattle.first_pass_tokens.specs.Pieces.{Source, content_in}
 use Rattle.first_pass_tokens.proofs.SoFar.{IsRead, read_start, read_upto, read_piece, read_all, piece_special, ended_by_text}
+use Rattle.first_pass_tokens.proofs.RunPlaces.{front_upto}
 use Rattle.first_pass_walk.proofs.WalkFacts.{spares_words}
 use Rattle.first_pass_tokens.proofs.line.append_pieces.Goals as goal
 use Rattle.first_pass_tokens.proofs.line.append_pieces.Goals.{In_default, In-Some}
@@ -29,7 +30,7 @@ loop-at-preserved c =
     let special = sym (c.requires.marks _ (omega (arith, c.type_inv.text c.in-Some.at))) ∙ found.marked in
     record {
       read = read_piece piece.result (upto_special (goal.at.loop-at-preserved c).In-Some) (sym (c.ends_at.ensures c.args.whole.now) ∙ c.if-ends_at.false)
-          (piece.ensures.value ∙ piece_special z c.in-Some.at special) piece.ensures.fits piece.ensures.ends
+          (piece.ensures.value c.args.content.options ∙ piece_special z c.in-Some.at special) piece.ensures.fits piece.ensures.ends
           c.in_ok-append_piece.ensures.tree c.in_ok-append_piece.ensures.pending (ap (λ n. c.in-Some.at + n) c.piece_len.ensures);
     }
 
@@ -42,6 +43,9 @@ pub returns-clause-read : goal.returns-clause-read
 returns-clause-read c =
     let z : Source = content_in c.args.whole.now c.args.text.now c.args.content in
     read_all z _ _ _ (length c.args.text.now) (upto_end (goal.at.returns-clause-read c).In_default) (ended_by_text z)
+
+pub special_piece-piece-requires-clause-front : goal.special_piece-piece-requires-clause-front
+special_piece-piece-requires-clause-front c = front_upto c.args.whole.now c.args.text.now c.args.content.«end» c.requires.front
 
 pub next_special_in_words-requires : goal.next_special_in_words-requires
 next_special_in_words-requires c = spares_words c.args.content.options c.args.lut.now c.requires.marks
