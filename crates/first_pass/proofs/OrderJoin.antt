@@ -2,6 +2,8 @@
 use Rattle.std.proofs.Common.{◌≡◌, ◌⊎◌, inl, inr, ℕ, zero, suc, ◌+◌, ◌<◌, ◌≤◌, ◌==◌, ◌&&◌, Bool, true, false, List, [], ◌∷◌, ◌++◌, length, slice_get, slice_index, Option, Some, None, IfSome, IsUtf8, IsCharBoundary, refl, sym, ap, subst, ◌∙◌, arith, if◌then◌else◌, take}
 use Rattle.std.proofs.lemmas.Bool.{and_parts, eqb-true}
 use Rattle.std.specs.Option.{option_map}
+use Rattle.first_pass_items.specs.declared.cow_str.CowStr.{CowStr}
+use Rattle.first_pass_tokens.specs.Braces.{MathBraces}
 use Rattle.first_pass_items.specs.declared.item.Item.{Item}
 use Rattle.first_pass_items.specs.declared.item.ItemBody.{ItemBody}
 use Rattle.first_pass_items.specs.declared.item.ItemBody.TheVariants.{Text}
@@ -214,13 +216,13 @@ ordered_tokens text f from to (x ∷ xs) forest h high o =
     ordered_tokens text (with_token f x) x.«end» to xs one.0 h.4 high one.1
 
 -- the tokens of a line added, which begins at an offset of a text of which nothing counts from another on, or all
-pub ordered_line : (d : Document) (start : ℕ) (end : Option ℕ) (old new : Forest Item) (next : ℕ) (line_break : Option Item) (from : ℕ) → IsUtf8 d.text → IfSome end (λ e. (start ≤ e) × IsCharBoundary d.text e) → IsCharBoundary d.text start → IsForest old
-    → AppendsLine (record { options = d.options; whole = d.text; text = text_upto d.text end; start = start; row = false }) old new (next, line_break) → from ≤ start → IsOrderedTo d.text old from → IsOrderedTo d.text new next
-ordered_line d start None old new next line_break from u ends boundary forest h low o =
+pub ordered_line : {texts : List CowStr} {after : MathBraces} (d : Document) (braces : MathBraces) (start : ℕ) (end : Option ℕ) (old new : Forest Item) (next : ℕ) (line_break : Option Item) (from : ℕ) → IsUtf8 d.text → IfSome end (λ e. (start ≤ e) × IsCharBoundary d.text e) → IsCharBoundary d.text start → IsForest old
+    → AppendsLine texts (record { options = d.options; whole = d.text; text = text_upto d.text end; start = start; row = false; braces = braces }) old new (next, line_break) after → from ≤ start → IsOrderedTo d.text old from → IsOrderedTo d.text new next
+ordered_line d braces start None old new next line_break from u ends boundary forest h low o =
     let l = line_in_order u boundary boundary.0 h.line in
     let tokens : AreInOrder d.text start next h.tokens = order_to d.text start _ next h.tokens l.tokens_fit l.before in
     subst (λ f. IsOrderedTo d.text f next) (sym h.tree_is) (ordered_tokens d.text old from next h.tokens forest (order_from d.text from start next h.tokens tokens low) l.ends.0 o)
-ordered_line d start (Some e) old new next line_break from u ends boundary forest h low o =
+ordered_line d braces start (Some e) old new next line_break from u ends boundary forest h low o =
     let first = place_in_front d.text e u ends.1 start ends.0 boundary in
     let l = line_in_order (front_utf8 d.text e u ends.1) first first.0 h.line in
     let tokens : AreInOrder d.text start next h.tokens = order_in_text d.text e u ends.1 start next h.tokens (order_to (take e d.text) start _ next h.tokens l.tokens_fit l.before) in
@@ -237,16 +239,16 @@ tokens_ordered text old new at start to tokens forest o low order within is none
     (subst (λ f. IsOrderedTo text f to) (sym is) (ordered_tokens text old.tree e to tokens forest (order_from text e start to tokens order (omega arith)) within o.ordered))
 
 -- the tokens of a cell added, which begins at an offset of such a text
-pub ordered_cell : (text : List ℕ) (options : Options) (start : ℕ) (end : Option ℕ) (old new : Forest Item) (stop from : ℕ) → IsUtf8 text
+pub ordered_cell : {texts : List CowStr} {after : MathBraces} (text : List ℕ) (options : Options) (braces : MathBraces) (start : ℕ) (end : Option ℕ) (old new : Forest Item) (stop from : ℕ) → IsUtf8 text
     → IfSome end (λ e. (start ≤ e) × IsCharBoundary text e) → IsCharBoundary text start → IsForest old
-    → AppendsCell (record { options = options; whole = text; text = text_upto text end; start = start; row = true }) old new stop → from ≤ start → IsOrderedTo text old from
+    → AppendsCell texts (record { options = options; whole = text; text = text_upto text end; start = start; row = true; braces = braces }) old new stop after → from ≤ start → IsOrderedTo text old from
     → IsOrderedTo text new stop
-ordered_cell text options start None old new stop from u ends boundary forest h low o =
+ordered_cell text options braces start None old new stop from u ends boundary forest h low o =
     let tokens = cell_in_order u boundary boundary.0 h.cell in
     let place = cell_end_place boundary.0 h.cell in
     subst (λ f. IsOrderedTo text f stop) (sym h.tree_is)
     (ordered_tokens text old from stop h.tokens forest (order_from text from start stop h.tokens tokens low) place.0 o)
-ordered_cell text options start (Some e) old new stop from u ends boundary forest h low o =
+ordered_cell text options braces start (Some e) old new stop from u ends boundary forest h low o =
     let first = place_in_front text e u ends.1 start ends.0 boundary in
     let tokens = order_in_text text e u ends.1 start stop h.tokens (cell_in_order (front_utf8 text e u ends.1) first first.0 h.cell) in
     let place = place_in_text text e u ends.1 stop (cell_end_place first.0 h.cell) in

@@ -12,40 +12,49 @@ use Rattle.first_pass_tokens.specs.TreeTokens.{AppendsLine, AppendsCell}
 use Rattle.first_pass_grammar.specs.TableHeads.{headed_table}
 use Rattle.first_pass_flank.specs.declared.flank.TableParseMode.{TableParseMode}
 use Rattle.first_pass_flank.specs.declared.flank.TableParseMode.TheVariants.{Scan, Active, Disabled}
-use Rattle.first_pass_names.specs.TableEntries.{names_of, with_alignments}
+use Rattle.first_pass_names.specs.TableEntries.{names_of, with_alignments, AddsTexts}
 use Rattle.first_pass_text.specs.Appends.{line_end_at}
 use Rattle.first_pass.specs.declared.state.FirstPass.{FirstPass}
-use Rattle.first_pass.specs.Views.{allocs_of, context_in, source_options, source_text, tree_of}
+use Rattle.first_pass.specs.Views.{allocs_of, braces_of, context_in, source_options, source_text, tree_of}
 
--- the content that begins at an offset, of a text of which nothing counts from another offset on; a cell's or a line's
+-- the content that begins at an offset, of a text of which nothing counts from another offset on, with the pass's brace contexts before it; a cell's or a
+-- line's
 abbrev pub content_upto : FirstPass → ℕ → Option ℕ → Bool → Source
-content_upto pass start end row = record { options = source_options pass; whole = source_text pass; text = text_upto (source_text pass) end; start = start; row = row }
+content_upto pass start end row = record {
+  options = source_options pass;
+  whole = source_text pass;
+  text = text_upto (source_text pass) end;
+  start = start;
+  row = row;
+  braces = braces_of pass;
+}
 
--- the tokens of the line are appended, and it is answered where it ends and its break (CommonMark 2.4, 6.7, 6.8)
+-- the tokens of the line are appended, texts that they name are named after the others, and it is answered where it ends and its break
+-- (CommonMark 2.4, 2.5, 6.7, 6.8)
 pub record ReadsLine (old new : FirstPass) (start : ℕ) (end : Option ℕ) (answer : ℕ × Option Item) : Type 0 where
-  pub line : AppendsLine (content_upto old start end false) (tree_of old) (tree_of new) answer
+  pub line : AppendsLine (names_of (allocs_of new)).texts (content_upto old start end false) (tree_of old) (tree_of new) answer (braces_of new)
   pub ends : EndsLine (content_upto old start end false) answer
-  pub allocs : allocs_of new ≡ allocs_of old
+  pub names : AddsTexts (names_of (allocs_of new)) (names_of (allocs_of old))
 
--- the tokens of the cell are appended, and it is answered where its content ends (GFM 4.10)
+-- the tokens of the cell are appended, texts that they name are named after the others, and it is answered where its content ends (GFM 4.10)
 pub record ReadsCell (old new : FirstPass) (start : ℕ) (end : Option ℕ) (stop : ℕ) : Type 0 where
-  pub cell : AppendsCell (content_upto old start end true) (tree_of old) (tree_of new) stop
+  pub cell : AppendsCell (names_of (allocs_of new)).texts (content_upto old start end true) (tree_of old) (tree_of new) stop (braces_of new)
   pub ends : EndsCell (content_upto old start end true) stop
-  pub allocs : allocs_of new ≡ allocs_of old
+  pub names : AddsTexts (names_of (allocs_of new)) (names_of (allocs_of old))
 
 -- a table's node from the end of its header row's content up to behind its delimiter row (GFM 4.10)
 abbrev pub table_between : List ℕ → ℕ → AlignmentIndex → Item
 table_between text start ix =
     record { start = start + prefix_len is_content (drop start text); «end» = line_end_at text (line_end_at text start); body = Table ix }
 
--- The tokens of a table's header row are appended, as a line's; the alignments of its columns are named, and it is answered where its delimiter row ends, and the
--- table (GFM 4.10).
+-- The tokens of a table's header row are appended, as a line's; the alignments of its columns are named, and the texts that its tokens name, and it is answered
+-- where its delimiter row ends, and the table (GFM 4.10).
 pub record ReadsHead (old new : FirstPass) (start : ℕ) (end : Option ℕ) (alignments : List Alignment) (answer : ℕ × Option Item) : Type 0 where
   pub index : AlignmentIndex
   pub index_is : index.0 ≡ length (names_of (allocs_of old)).alignments
-  pub names : names_of (allocs_of new) ≡ with_alignments (names_of (allocs_of old)) alignments
+  pub names : AddsTexts (names_of (allocs_of new)) (with_alignments (names_of (allocs_of old)) alignments)
   pub line_answer : ℕ × Option Item
-  pub line : AppendsLine (content_upto old start end false) (tree_of old) (tree_of new) line_answer
+  pub line : AppendsLine (names_of (allocs_of new)).texts (content_upto old start end false) (tree_of old) (tree_of new) line_answer (braces_of new)
   pub answer_is : answer ≡ ((table_between (text_upto (source_text old) end) start index).«end», Some (table_between (text_upto (source_text old) end) start index))
 
 -- a line is read that is the header row of a table, or none (GFM 4.10)

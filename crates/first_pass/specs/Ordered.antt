@@ -14,6 +14,8 @@ use Rattle.first_pass_grammar.specs.OpenOrder.{IsOrderedTo}
 use Rattle.first_pass_open.specs.OpenBlock.{IsJustPushed, begun_item, with_child}
 use Rattle.first_pass_items.specs.declared.option_set.Options.{Options}
 use Rattle.first_pass_open.specs.Path.{path_of}
+use Rattle.first_pass_tokens.specs.Braces.{no_braces}
+use Rattle.first_pass_tokens.specs.LineTokens.{spot}
 use Rattle.first_pass_tokens.specs.TreeTokens.{chained}
 use Rattle.first_pass_text.specs.Appends.{line_end_at}
 use Rattle.first_pass_text.specs.Between.{StandsBefore}
@@ -63,6 +65,6 @@ pub record HoldsText (d : Document) (f : Forest Item) (block : TreeIndex) (l : T
   pub boundary : IsCharBoundary d.text start
   pub stands : StandsBefore d.text from start marker
   pub ahead : IfSome marker (λ x. x.start < start)
-  pub lines : AreTextLines d (path_of d.options before) start [] (lines_from d.text (line_end_at d.text start)) l
+  pub lines : AreTextLines d (path_of d.options before) (spot start no_braces) [] (lines_from d.text (line_end_at d.text start)) l
   pub tree_is : f ≡ chained before (marker_items marker ++ l.chain)
   pub ordered : IsOrderedTo d.text (with_child before marker) start

@@ -4,6 +4,7 @@ use Rattle.first_pass_items.specs.declared.item.Item.{Item}
 use Rattle.first_pass_items.specs.declared.option_set.Options.{Options}
 use Rattle.first_pass_tree.specs.Forest.{Forest}
 use Rattle.first_pass_names.specs.declared.items.Allocations.{Allocations}
+use Rattle.first_pass_tokens.specs.Braces.{MathBraces}
 use Rattle.first_pass_open.specs.declared.source.Source.{Source}
 use Rattle.first_pass_lists.specs.declared.reading.Reading.{Reading}
 use Rattle.first_pass_grammar.specs.Containers.{Context}
@@ -27,6 +28,10 @@ tree_of pass = pass.reading.tree
 
 abbrev pub allocs_of : FirstPass → Allocations
 allocs_of pass = pass.allocs
+
+-- the brace contexts that a line which is read by itself begins with (this project)
+abbrev pub braces_of : FirstPass → MathBraces
+braces_of pass = pass.braces
 
 -- what a line is read in by it
 abbrev pub context_in : FirstPass → Context

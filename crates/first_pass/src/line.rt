@@ -16,7 +16,7 @@ use first_pass_items::item::{Item, ItemBody};
 use first_pass_lines::lines::content_len;
 use first_pass_lines::places::{next_line, rest_of};
 use first_pass_text::table_start::scan_headed_line;
-use first_pass_tokens::line::{append_cell, append_line, text_upto};
+use first_pass_tokens::line::text_upto;
 use first_pass_tokens::pieces::Content;
 use std::alloc::AllocError;
 
@@ -31,7 +31,8 @@ impl<'a> FirstPass<'a> {
     /// offset behind the delimiter row, and in the place of the break a `Table` with the columns' alignments, from
     /// the line's end up to there, which is not appended either; else as in mode `Disabled`.
     ///
-    /// At most one node is added for each byte that is read. The error is want of memory.
+    /// The texts that tokens name are put after those that are named. The brace contexts are those that the call before
+    /// left, none in a new pass. At most one node is added for each byte that is read. The error is want of memory.
     pub fn parse_line(
         &mut self,
         start: usize,
@@ -79,6 +80,8 @@ impl<'a> FirstPass<'a> {
         requires start { start ≤ length (source_text self.old) }
         requires end { IfSome end (λ e. (start ≤ e) × (e ≤ length (source_text self.old))) }
         ensures source { OnOk result (source_of self.new ≡ source_of self.old) }
+        ensures names { OnOk result (Extends (names_of (allocs_of self.new)) (names_of (allocs_of self.old))) }
+        ensures entries { OnOk result (entries (allocs_of self.new) ≡ entries (allocs_of self.old)) }
         ensures reading { OnOk result (reading_of self.new ≡ with_block (reading_of self.old) (tree_of self.new)) }
         ensures utf8 { OnOk result (IsUtf8 (source_text self.old)) }
         ensures line { IfOk result (λ answer. ReadsLine self.old self.new start end answer) }
@@ -101,7 +104,10 @@ impl<'a> FirstPass<'a> {
             row: false,
         };
         let lut = &self.lookup_table;
-        let line = append_line(self.source.text, content, lut, &mut self.reading.tree)?;
+        let tree = &mut self.reading.tree;
+        let text = self.source.text;
+        let braces = &mut self.braces;
+        let line = self.allocs.append_line(text, content, lut, tree, braces)?;
         self.reading.empty_item = None;
         Ok(line)
     }
@@ -111,6 +117,8 @@ impl<'a> FirstPass<'a> {
         requires start { start ≤ length (source_text self.old) }
         requires end { IfSome end (λ e. (start ≤ e) × (e ≤ length (source_text self.old))) }
         ensures source { OnOk result (source_of self.new ≡ source_of self.old) }
+        ensures names { OnOk result (Extends (names_of (allocs_of self.new)) (names_of (allocs_of self.old))) }
+        ensures entries { OnOk result (entries (allocs_of self.new) ≡ entries (allocs_of self.old)) }
         ensures reading { OnOk result (reading_of self.new ≡ with_block (reading_of self.old) (tree_of self.new)) }
         ensures cell { IfOk result (λ stop. ReadsCell self.old self.new start end stop) }
         ensures boundary { IfOk result (λ stop. end ≡ None → IsCharBoundary (source_text self.old) stop) }
@@ -129,7 +137,10 @@ impl<'a> FirstPass<'a> {
             row: true,
         };
         let lut = &self.lookup_table;
-        let stop = append_cell(self.source.text, content, lut, &mut self.reading.tree)?;
+        let tree = &mut self.reading.tree;
+        let text = self.source.text;
+        let braces = &mut self.braces;
+        let stop = self.allocs.append_cell(text, content, lut, tree, braces)?;
         self.reading.empty_item = None;
         Ok(stop)
     }

@@ -46,6 +46,7 @@ use first_pass_scan::metadata_search::MetadataEnds;
 use first_pass_text::interrupt::scan_line_behind_tag;
 pub use first_pass_text::interrupt::scan_paragraph_interrupt_no_table;
 use first_pass_text::kinds::{Found, MarkedLeaf, kind_at};
+use first_pass_tokens::braces::BraceContexts;
 use first_pass_tree::forest::Tree;
 pub use first_pass_tree::tight::surgerize_tight_list;
 use first_pass_tree::tree_index::TreeIndex;
@@ -81,6 +82,7 @@ impl<'a> FirstPass<'a> {
                 blank: false,
             },
             allocs: Allocations::new(alloc),
+            braces: BraceContexts::new(),
             lookup_table: special_bytes(&options),
             metadata_ends: MetadataEnds::new(),
         })
@@ -351,6 +353,7 @@ pub fn run_first_pass<'a>(
         source: _,
         reading,
         allocs,
+        braces: _,
         lookup_table: _,
         metadata_ends: _,
     } = pass;

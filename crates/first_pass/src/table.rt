@@ -3,7 +3,8 @@
 ghost use Rattle.std.specs.Prelude.{◌≡◌, ◌<◌, ◌≤◌, true, ℕ, length, IfOk, IsSomeAnd, OnOk, IsCharBoundary};
 ghost use Rattle.first_pass_tree.specs.declared.tree_index.TreeIndex.{TreeIndex};
 ghost use Rattle.first_pass_tree.specs.Forest.{in_table};
-ghost use Rattle.first_pass_names.specs.TableEntries.{no_names};
+ghost use Rattle.first_pass_names.specs.TableEntries.{entries, names_of, AddsTexts};
+ghost use Rattle.first_pass_grammar.specs.Names.{Extends};
 ghost use Rattle.first_pass_grammar.specs.Leaves.{document};
 ghost use Rattle.first_pass_grammar.specs.OpenOrder.{IsOrderedTo};
 ghost use Rattle.first_pass_grammar.specs.Order.{GrowsBy};
@@ -12,7 +13,7 @@ ghost use Rattle.first_pass_open.specs.OpenBlock.{IsJustPushed};
 ghost use Rattle.first_pass_text.specs.Appends.{line_end_at};
 ghost use Rattle.first_pass.specs.Ordered.{behind_row};
 ghost use Rattle.first_pass_tables.specs.Appends.{IsOpenNode, open_table, ReadsRow, ReadsRowLine, AppendsRows, AddsWholeRows};
-ghost use Rattle.first_pass.specs.Views.{allocs_of, reading_of, source_of, source_options, source_text, tree_of, with_tree};
+ghost use Rattle.first_pass.specs.Views.{allocs_of, braces_of, reading_of, source_of, source_options, source_text, tree_of, with_tree};
 
 use crate::state::FirstPass;
 use first_pass_tables::{row, rows};
@@ -38,11 +39,14 @@ impl<'a> FirstPass<'a> {
         requires open { (ix : TreeIndex) × IsJustPushed (tree_of self.old) ix }
         requires table { in_table (tree_of self.old).nodes (tree_of self.old).spine ≡ true }
         ensures source { OnOk result (source_of self.new ≡ source_of self.old) }
-        ensures allocs { OnOk result (allocs_of self.new ≡ allocs_of self.old) }
+        ensures names { OnOk result (Extends (names_of (allocs_of self.new)) (names_of (allocs_of self.old))) }
+        ensures texts { OnOk result (AddsTexts (names_of (allocs_of self.new)) (names_of (allocs_of self.old))) }
+        ensures entries { OnOk result (entries (allocs_of self.new) ≡ entries (allocs_of self.old)) }
+        ensures braces { OnOk result (braces_of self.new ≡ braces_of self.old) }
         ensures reading { OnOk result (reading_of self.new ≡ with_tree (reading_of self.old) (tree_of self.new)) }
         ensures rows { IfOk result (λ answer. IsSomeAnd answer (λ next.
-            AppendsRows (document (source_text self.old) (source_options self.old) no_names) table_cols head_start
-            body_start (tree_of self.old) (tree_of self.new) next)) }
+            AppendsRows (document (source_text self.old) (source_options self.old) (names_of (allocs_of self.new)))
+            table_cols head_start body_start (tree_of self.old) (tree_of self.new) next)) }
         ensures order { IfOk result (λ answer. IsSomeAnd answer (λ next. (at : ℕ) → at ≤ head_start
             → line_end_at (source_text self.old) head_start ≤ body_start
             → IsOrderedTo (source_text self.old) (tree_of self.old) at
@@ -51,14 +55,15 @@ impl<'a> FirstPass<'a> {
             → line_end_at (source_text self.old) head_start ≤ body_start → from < next
             → GrowsBy from next (tree_of self.old).nodes (tree_of self.new).nodes)) }
         ensures whole { IfOk result (λ answer. IsSomeAnd answer (λ next.
-            AddsWholeRows (document (source_text self.old) (source_options self.old) no_names) table_cols head_start
-            (tree_of self.old) (tree_of self.new) next)) }
+            AddsWholeRows (document (source_text self.old) (source_options self.old) (names_of (allocs_of self.new)))
+            table_cols head_start (tree_of self.old) (tree_of self.new) next)) }
     {
         let next = rows::parse_table(
             self.alloc,
             self.source,
             &self.lookup_table,
             &mut self.reading.tree,
+            &mut self.allocs,
             table_cols,
             head_start,
             body_start,
@@ -69,7 +74,7 @@ impl<'a> FirstPass<'a> {
     /// Appends the row of a table of `row_cells` columns that is in the line which begins at the offset `ix` into the
     /// text, to the table, the innermost open node; answers as `parse_table_row_inner`. `None` too where the line
     /// doesn't go on with all open containers, or its text would interrupt a paragraph, as any list item does here
-    /// (GFM 4.10).
+    /// (GFM 4.10). The brace contexts are those that the call before left, and then those after the row.
     pub fn parse_table_row(
         &mut self,
         ix: usize,
@@ -81,12 +86,15 @@ impl<'a> FirstPass<'a> {
         requires table { in_table (tree_of self.old).nodes (tree_of self.old).spine ≡ true }
         requires few { missing_empty_cells.old ≤ most_filled }
         ensures source { OnOk result (source_of self.new ≡ source_of self.old) }
-        ensures allocs { OnOk result (allocs_of self.new ≡ allocs_of self.old) }
+        ensures names { OnOk result (Extends (names_of (allocs_of self.new)) (names_of (allocs_of self.old))) }
+        ensures texts { OnOk result (AddsTexts (names_of (allocs_of self.new)) (names_of (allocs_of self.old))) }
+        ensures entries { OnOk result (entries (allocs_of self.new) ≡ entries (allocs_of self.old)) }
         ensures reading { OnOk result (reading_of self.new ≡ with_tree (reading_of self.old) (tree_of self.new)) }
         ensures row { IfOk result (λ row.
-            ReadsRowLine (document (source_text self.old) (source_options self.old) no_names) row_cells ix
-            (open_table (tree_of self.old) missing_empty_cells.old)
-            (open_table (tree_of self.new) missing_empty_cells.new) row) }
+            ReadsRowLine (document (source_text self.old) (source_options self.old) (names_of (allocs_of self.new)))
+            row_cells ix
+            (open_table (tree_of self.old) missing_empty_cells.old (braces_of self.old))
+            (open_table (tree_of self.new) missing_empty_cells.new (braces_of self.new)) row) }
         ensures order { IfOk result (λ row. (at : ℕ) → at ≤ ix
             → IsOrderedTo (source_text self.old) (tree_of self.old) at
             → IsOrderedTo (source_text self.old) (tree_of self.new) (behind_row row ix)) }
@@ -98,6 +106,8 @@ impl<'a> FirstPass<'a> {
             self.source,
             &self.lookup_table,
             &mut self.reading.tree,
+            &mut self.allocs,
+            &mut self.braces,
             ix,
             row_cells,
             missing_empty_cells,
@@ -120,12 +130,15 @@ impl<'a> FirstPass<'a> {
         requires open { IsOpenNode (tree_of self.old) }
         requires few { missing_empty_cells.old ≤ most_filled }
         ensures source { OnOk result (source_of self.new ≡ source_of self.old) }
-        ensures allocs { OnOk result (allocs_of self.new ≡ allocs_of self.old) }
+        ensures names { OnOk result (Extends (names_of (allocs_of self.new)) (names_of (allocs_of self.old))) }
+        ensures texts { OnOk result (AddsTexts (names_of (allocs_of self.new)) (names_of (allocs_of self.old))) }
+        ensures entries { OnOk result (entries (allocs_of self.new) ≡ entries (allocs_of self.old)) }
         ensures reading { OnOk result (reading_of self.new ≡ with_tree (reading_of self.old) (tree_of self.new)) }
         ensures row { IfOk result (λ row.
-            ReadsRow (document (source_text self.old) (source_options self.old) no_names) row_cells ix
-            (open_table (tree_of self.old) missing_empty_cells.old)
-            (open_table (tree_of self.new) missing_empty_cells.new) row) }
+            ReadsRow (document (source_text self.old) (source_options self.old) (names_of (allocs_of self.new)))
+            row_cells ix
+            (open_table (tree_of self.old) missing_empty_cells.old (braces_of self.old))
+            (open_table (tree_of self.new) missing_empty_cells.new (braces_of self.new)) row) }
         ensures order { IfOk result (λ row. IsCharBoundary (source_text self.old) ix → (at : ℕ) → at ≤ ix
             → IsOrderedTo (source_text self.old) (tree_of self.old) at
             → IsOrderedTo (source_text self.old) (tree_of self.new) (behind_row row ix)) }
@@ -137,6 +150,8 @@ impl<'a> FirstPass<'a> {
             self.source,
             &self.lookup_table,
             &mut self.reading.tree,
+            &mut self.allocs,
+            &mut self.braces,
             ix,
             row_cells,
             missing_empty_cells,

@@ -22,7 +22,7 @@ use Rattle.first_pass_grammar.specs.RawLines.{AreColumns, Ranges, range_text, ra
 use Rattle.first_pass_grammar.specs.Skeleton.{LeafBlock, Leaf, BlankLine, Block, From, Line, Blanks, At, Anything, ALeafAlone, TextOf, MarkAlone, Opening, OpensLeaf, OpensNode, Skeleton, Nil, Then, Node}
 use Rattle.first_pass_grammar.specs.Kinds.{Kind}
 use Rattle.first_pass_grammar.specs.Derivation.{node_of}
-use Rattle.first_pass_grammar.proofs.NoIndex.{IsWithoutIndex, HasNoIndex, HaveNoIndex, read_alone, tokens_free}
+use Rattle.first_pass_grammar.proofs.NoIndex.{IsWithoutIndex, HasNoIndex, HaveNoIndex, read_alone}
 use Rattle.first_pass_grammar.proofs.EachToken.{range_text_each, raw_each}
 
 -- the same document, where indices name other texts
@@ -74,7 +74,7 @@ Alike m n (Node head e kids next) (Then leaf' next') = ⊥
 Alike m n (Node head e kids next) (Node head' e' kids' next') = (head ≡ head') × (e ≡ e') × Alike m n kids kids' × Alike m n next next'
 
 -- one chain behind another
-chains_append : (m n : Names) (xs xs' ys ys' : List Item) → AlikeChains m n xs xs' → AlikeChains m n ys ys' → AlikeChains m n (xs ++ ys) (xs' ++ ys')
+pub chains_append : (m n : Names) (xs xs' ys ys' : List Item) → AlikeChains m n xs xs' → AlikeChains m n ys ys' → AlikeChains m n (xs ++ ys) (xs' ++ ys')
 chains_append m n xs xs' ys ys' h k = let a = map-append (read m) xs ys in let b = map-append (read n) xs' ys' in cc
 
 pub nodes_append : (m n : Names) (xs xs' ys ys' : List (ℕ × Item)) → AlikeNodes m n xs xs' → AlikeNodes m n ys ys' → AlikeNodes m n (xs ++ ys) (xs' ++ ys')
@@ -120,7 +120,7 @@ read_tokens : (m : Names) (chain tokens : List Item) → map (read m) (add_token
 read_tokens m chain [] = refl
 read_tokens m chain (x ∷ xs) = read_tokens m (add_token chain x) xs ∙ ap (λ z. join_reads z (map (read m) xs)) (read_token m chain x)
 
-tokens_alike : (m n : Names) (chain chain' tokens tokens' : List Item) → AlikeChains m n chain chain' → AlikeChains m n tokens tokens' → AlikeChains m n (add_tokens chain tokens) (add_tokens chain' tokens')
+pub tokens_alike : (m n : Names) (chain chain' tokens tokens' : List Item) → AlikeChains m n chain chain' → AlikeChains m n tokens tokens' → AlikeChains m n (add_tokens chain tokens) (add_tokens chain' tokens')
 tokens_alike m n chain chain' tokens tokens' h k = let a = read_tokens m chain tokens in let b = read_tokens n chain' tokens' in cc
 
 -- what an index names
@@ -172,7 +172,7 @@ abbrev pub AreFree : Ranges → Type 0
 AreFree range = (from to : ℕ) → HaveNoIndex (range from to)
 
 pub text_free : AreFree range_text
-text_free = range_text_each IsWithoutIndex tokens_free
+text_free = range_text_each IsWithoutIndex (λ escaped. refl)
 
 pub html_free : AreFree range_html
 html_free from to = (refl, tt)

@@ -1,5 +1,6 @@
 -- What holds of each token holds of each item in the chain of a paragraph, of a heading and of a cell, and of raw lines.
 use Rattle.std.proofs.Common.{◌≡◌, inl, inr, ℕ, zero, suc, ◌+◌, ◌-◌, ◌==◌, ◌&&◌, Bool, true, false, nat_lt, nat_le, min, List, [], ◌∷◌, ◌++◌, length, Option, Some, None, IfSome, sym, subst, if◌then◌else◌, refl}
+use Rattle.first_pass_items.specs.declared.cow_str.CowStr.{CowStr}
 use Rattle.first_pass_items.specs.declared.item.CowIndex.{CowIndex}
 use Rattle.first_pass_items.specs.declared.item.Item.{Item}
 use Rattle.first_pass_items.specs.declared.item.ItemBody.{ItemBody}
@@ -8,12 +9,14 @@ use Rattle.first_pass_tree.specs.Forest.{is_escaped, cut_item}
 use Rattle.first_pass_lines.specs.Places.{Place, offset, line_end}
 use Rattle.first_pass_tokens.specs.declared.pieces.Piece.{Piece}
 use Rattle.first_pass_tokens.specs.declared.pieces.Piece.TheVariants.{Left, Begins, Token, Run}
-use Rattle.first_pass_tokens.specs.Pieces.{Source, size}
-use Rattle.first_pass_tokens.specs.LineTokens.{ArePieces, add_piece, add_pieces, text_end, line_end_len, breaks_by_backslash, blanks_at_end, break_of, line_break, IsLine, IsCell}
+use Rattle.first_pass_tokens.specs.Pieces.{Source, found_at, size}
+use Rattle.first_pass_tokens.specs.Braces.{MathBraces, braces_after}
+use Rattle.first_pass_tokens.specs.LineTokens.{Spot, spot, ArePieces, add_piece, add_pieces, text_end, line_end_len, breaks_by_backslash, blanks_at_end, break_of, line_break, IsLine, IsCell}
 use Rattle.first_pass_tokens.specs.Chains.{text_token, token, run_tokens, touches, add_token, add_tokens, add_text, is_backslash_break, close_break, cut}
 use Rattle.first_pass_tokens.proofs.PieceFacts.{IsPieceAt, is_markup}
 use Rattle.first_pass_tokens.proofs.LineLemmas.{piece_of}
 use Rattle.first_pass_grammar.specs.declared.kind.Container.{Container}
+use Rattle.first_pass_grammar.proofs.TokensNamed.{NamesWithin, PieceWithin, piece_within}
 use Rattle.first_pass_grammar.specs.Names.{Names}
 use Rattle.first_pass_grammar.specs.Containers.{at_rest, front}
 use Rattle.first_pass_grammar.specs.Kinds.{unindented}
@@ -29,12 +32,12 @@ abbrev pub AreEach : (ItemBody → Type 0) → List Item → Type 0
 AreEach P [] = Unit {0}
 AreEach P (x ∷ xs) = P x.body × AreEach P xs
 
--- this holds of each token of a text's lines
-pub record HoldsOfTokens (P : ItemBody → Type 0) : Type 0 where
+-- this holds of each token of a text's lines, whose texts are among these
+pub record HoldsOfTokens (texts : List CowStr) (P : ItemBody → Type 0) : Type 0 where
   pub text : (escaped : Bool) → P (Text escaped)
   pub soft : P SoftBreak
   pub hard : (by_backslash : Bool) → P (HardBreak by_backslash)
-  pub markup : (body : ItemBody) → is_markup body ≡ true → P body
+  pub markup : (body : ItemBody) → is_markup body ≡ true → NamesWithin texts body → P body
 
 -- this holds of what stands for raw lines beside texts
 pub record HoldsOfRaw (P : ItemBody → Type 0) : Type 0 where
@@ -71,79 +74,18 @@ module _ (P : ItemBody → Type 0) where
       unless_each (ends_with_both text from to) (range from (to - 2) ++ range (to - 1) to) (range from to)
       (both_each (range from (to - 2)) (range (to - 1) to) (each from (to - 2)) (each (to - 1) to)) (each from to)
 
-module _ (P : ItemBody → Type 0) (holds : HoldsOfTokens P) where
+module _ (P : ItemBody → Type 0) (text : (escaped : Bool) → P (Text escaped)) where
   pub range_text_each : (a b : ℕ) → AreEach P (range_text a b)
-  range_text_each a b = unless_each P (nat_lt a b) (text_token a b false ∷ []) [] (holds.text false, tt) tt
+  range_text_each a b = unless_each P (nat_lt a b) (text_token a b false ∷ []) [] (text false, tt) tt
 
   text_each : (from to : ℕ) (escaped : Bool) (chain : List Item) → AreEach P chain → AreEach P (add_text from to escaped chain)
   text_each from to escaped chain h =
-      unless_each P (nat_lt from to) (add_token chain (text_token from to escaped)) chain (token_each P chain (text_token from to escaped) h (holds.text escaped)) h
-
-  -- the tokens of a run
-  run_each : (at n : ℕ) (opens closes : Bool) → AreEach P (run_tokens at n opens closes)
-  run_each at zero opens closes = tt
-  run_each at (suc n) opens closes = (holds.markup (MaybeEmphasis (suc n) opens closes) refl, run_each (at + 1) n opens closes)
-
-  -- the tokens of pieces
-  piece_each : (text : List ℕ) (stop at : ℕ) (p : Piece) (chain : List Item) → IsPieceAt text at p → AreEach P chain → AreEach P (add_piece stop at p chain)
-  piece_each text stop at (Left n) chain facts h = text_each at (min (at + n) stop) false chain h
-  piece_each text stop at (Begins dropped escaped) chain facts h = text_each (at + dropped) (min (at + (dropped + 1)) stop) escaped chain h
-  piece_each text stop at (Token dropped n body) chain facts h = token_each P chain (token (at + dropped) n body) h (holds.markup body facts.kind)
-  piece_each text stop at (Run n opens closes) chain facts h = tokens_each P chain (run_tokens at n opens closes) h (run_each at n opens closes)
-
-  pub pieces_each : (s : Source) (stop at : ℕ) (ps : List Piece) (end : ℕ) (chain : List Item) → ArePieces s at ps end → AreEach P chain
-      → AreEach P (add_pieces stop at ps chain)
-  pieces_each s stop at [] end chain are h = h
-  pieces_each s stop at (p ∷ ps) end chain are h =
-      pieces_each s stop (at + size p) ps end (add_piece stop at p chain) are.2 (piece_each s.text stop at p chain (piece_of s at p are.0 are.1) h)
-
-  -- the tokens of a line and its break
-  line_each : (s : Source) (tokens : List Item) (answer : ℕ × Option Item) → IsLine s tokens answer → AreEach P tokens
-  line_each s tokens answer h =
-      subst (AreEach P) (sym h.tokens_are) (pieces_each s (text_end s h.content_end) s.start h.pieces h.content_end [] h.division.divided tt)
-
-  white_each : (two : Bool) (end next blanks : ℕ)
-      → P (if◌then◌else◌ {A = Item} two (record { start = end - blanks; «end» = next; body = HardBreak false }) (record { start = end; «end» = next; body = SoftBreak })).body
-  white_each true end next blanks = holds.hard false
-  white_each false end next blanks = holds.soft
-
-  break_of_each : (end next : ℕ) (by_backslash : Bool) (blanks : ℕ) → P (break_of end next by_backslash blanks).body
-  break_of_each end next true blanks = holds.hard true
-  break_of_each end next false blanks = white_each (nat_le 2 blanks) end next blanks
-
-  some_each : (t : Bool) (x : Item) → P x.body → IfSome (if t then None else Some x) (λ y. P y.body)
-  some_each true x h = tt
-  some_each false x h = h
-
-  line_break_each : (s : Source) (end : ℕ) → IfSome (line_break s end) (λ y. P y.body)
-  unfolding line_break
-  line_break_each s end =
-      some_each (nat_le (length s.text) end) (break_of end (end + line_end_len s end) (breaks_by_backslash s end) (blanks_at_end s end))
-      (break_of_each end (end + line_end_len s end) (breaks_by_backslash s end) (blanks_at_end s end))
-
-  break_each : (s : Source) (tokens : List Item) (answer : ℕ × Option Item) → IsLine s tokens answer → IfSome answer.1 (λ y. P y.body)
-  break_each s tokens answer h = subst (λ (a : ℕ × Option Item). IfSome a.1 (λ y. P y.body)) (sym h.answer_is) (line_break_each s h.content_end)
+      unless_each P (nat_lt from to) (add_token chain (text_token from to escaped)) chain (token_each P chain (text_token from to escaped) h (text escaped)) h
 
   closed_each : (o : Option Item) (chain : List Item) → AreEach P chain → AreEach P (close_break o chain)
   closed_each None chain h = h
   closed_each (Some x) chain h =
       unless_each P (is_backslash_break x.body) (add_text x.start (x.start + 1) false chain) chain (text_each x.start (x.start + 1) false chain h) h
-
-  broken_each : (o : Option Item) (chain : List Item) → IfSome o (λ y. P y.body) → AreEach P chain → AreEach P (add_break o chain)
-  broken_each None chain k h = h
-  broken_each (Some x) chain k h = both_each P chain (x ∷ []) h (k, tt)
-
-  -- the chain of a text's lines
-  pub lines_each : (d : Document) (path : List Container) (start : ℕ) (chain : List Item) (lines : List Place) (t : TextLines) → AreEach P chain
-      → AreTextLines d path start chain lines t → AreEach P t.chain
-  unfolding AreTextLines
-  lines_each d path start chain [] t h (k, a, i, e) =
-      subst (λ (z : TextLines). AreEach P z.chain) (sym e) (tokens_each P chain k h (line_each (content_at d start) k a i))
-  lines_each d path start chain (line ∷ lines) t h (k, a, i, inl (ends, e)) =
-      subst (λ (z : TextLines). AreEach P z.chain) (sym e) (tokens_each P chain k h (line_each (content_at d start) k a i))
-  lines_each d path start chain (line ∷ lines) t h (k, a, i, inr (goes, more)) =
-      lines_each d path (offset (unindented (at_rest line (front path line.rest)))) (add_break a.1 (add_tokens chain k)) lines t
-      (broken_each a.1 (add_tokens chain k) (break_each (content_at d start) k a i) (tokens_each P chain k h (line_each (content_at d start) k a i))) more
 
   pub marked_each : (marker : Option Item) (chain : List Item) → IfSome marker (λ x. P x.body) → AreEach P chain → AreEach P (marker_items marker ++ chain)
   marked_each None chain h k = k
@@ -162,17 +104,11 @@ module _ (P : ItemBody → Type 0) (holds : HoldsOfTokens P) where
   cut_each e (x ∷ xs) h =
       unless_each P (nat_lt x.start e) (cut_item e x ∷ cut e xs) (if is_escaped x.body && (x.start == e) then text_token (e - 1) e false ∷ [] else [])
       (cut_item_each (nat_lt e x.«end») e x h.0, cut_each e xs h.1)
-      (unless_each P (is_escaped x.body && (x.start == e)) (text_token (e - 1) e false ∷ []) [] (holds.text false, tt) tt)
+      (unless_each P (is_escaped x.body && (x.start == e)) (text_token (e - 1) e false ∷ []) [] (text false, tt) tt)
 
   heading_chain_each : (kept start : ℕ) (chain : List Item) → AreEach P chain → AreEach P (heading_chain kept start chain)
   unfolding heading_chain
   heading_chain_each kept start chain h = unless_each P (kept == 0) [] (cut (start + kept) chain) tt (cut_each (start + kept) chain h)
-
-  pub heading_each : (d : Document) (start : ℕ) (index : Option HeadingIndex) (chain : List Item) (e : ℕ) → IsHeading d start index chain e → AreEach P chain
-  heading_each d start index chain e h =
-      subst (AreEach P) (sym h.chain_is)
-      (heading_chain_each _ start (close_break h.answer.1 (add_tokens [] h.tokens))
-      (closed_each h.answer.1 (add_tokens [] h.tokens) (tokens_each P [] h.tokens tt (line_each (heading_content d start) h.tokens h.answer h.line))))
 
   -- the children of a heading that is underlined
   cut_children_each : (d : Document) (start : ℕ) (marker : Option Item) (t : TextLines) (o : Option Braces) → AreEach P (marker_items marker ++ t.chain)
@@ -188,10 +124,91 @@ module _ (P : ItemBody → Type 0) (holds : HoldsOfTokens P) where
   heading_children_each d start marker t h k =
       cut_children_each d start marker t (heading_braces d.options (heading_bytes d start marker t)) (marked_each marker t.chain h k) (children_each marker t h k)
 
-  -- the tokens of a cell
-  pub cell_each : (s : Source) (tokens : List Item) (stop : ℕ) → IsCell s tokens stop → AreEach P tokens
-  cell_each s tokens stop h =
-      subst (AreEach P) (sym h.tokens_are) (pieces_each s (stop - blanks_at_end s stop) s.start h.pieces stop [] h.division.divided tt)
+-- breaks
+module _ (P : ItemBody → Type 0) (soft : P SoftBreak) (hard : (by_backslash : Bool) → P (HardBreak by_backslash)) where
+  white_each : (two : Bool) (end next blanks : ℕ)
+      → P (if◌then◌else◌ {A = Item} two (record { start = end - blanks; «end» = next; body = HardBreak false }) (record { start = end; «end» = next; body = SoftBreak })).body
+  white_each true end next blanks = hard false
+  white_each false end next blanks = soft
+
+  break_of_each : (end next : ℕ) (by_backslash : Bool) (blanks : ℕ) → P (break_of end next by_backslash blanks).body
+  break_of_each end next true blanks = hard true
+  break_of_each end next false blanks = white_each (nat_le 2 blanks) end next blanks
+
+  some_each : (t : Bool) (x : Item) → P x.body → IfSome (if t then None else Some x) (λ y. P y.body)
+  some_each true x h = tt
+  some_each false x h = h
+
+  line_break_each : (s : Source) (end : ℕ) → IfSome (line_break s end) (λ y. P y.body)
+  unfolding line_break
+  line_break_each s end =
+      some_each (nat_le (length s.text) end) (break_of end (end + line_end_len s end) (breaks_by_backslash s end) (blanks_at_end s end))
+      (break_of_each end (end + line_end_len s end) (breaks_by_backslash s end) (blanks_at_end s end))
+
+  pub break_each : {after : MathBraces} (texts : List CowStr) (s : Source) (tokens : List Item) (answer : ℕ × Option Item) → IsLine texts s tokens answer after
+      → IfSome answer.1 (λ y. P y.body)
+  break_each texts s tokens answer h = subst (λ (a : ℕ × Option Item). IfSome a.1 (λ y. P y.body)) (sym h.answer_is) (line_break_each s h.content_end)
+
+module _ (texts : List CowStr) (P : ItemBody → Type 0) (holds : HoldsOfTokens texts P) where
+  -- the tokens of a run
+  run_each : (at n : ℕ) (opens closes : Bool) → AreEach P (run_tokens at n opens closes)
+  run_each at zero opens closes = tt
+  run_each at (suc n) opens closes = (holds.markup (MaybeEmphasis (suc n) opens closes) refl tt, run_each (at + 1) n opens closes)
+
+  -- the tokens of pieces
+  piece_each : (text : List ℕ) (stop at : ℕ) (p : Piece) (chain : List Item) → IsPieceAt text at p → PieceWithin texts p → AreEach P chain
+      → AreEach P (add_piece stop at p chain)
+  piece_each text stop at (Left n) chain facts within h = text_each P holds.text at (min (at + n) stop) false chain h
+  piece_each text stop at (Begins dropped escaped) chain facts within h =
+      text_each P holds.text (at + dropped) (min (at + (dropped + 1)) stop) escaped chain h
+  piece_each text stop at (Token dropped n body) chain facts within h =
+      token_each P chain (token (at + dropped) n body) h (holds.markup body facts.kind within)
+  piece_each text stop at (Run n opens closes) chain facts within h = tokens_each P chain (run_tokens at n opens closes) h (run_each at n opens closes)
+
+  pub pieces_each : (s : Source) (stop at : ℕ) (b : MathBraces) (ps : List Piece) (to : Spot) (chain : List Item) → ArePieces texts s at b ps to
+      → AreEach P chain → AreEach P (add_pieces stop at ps chain)
+  pieces_each s stop at b [] to chain are h = h
+  pieces_each s stop at b (p ∷ ps) to chain are h =
+      pieces_each s stop (at + size p) (braces_after (found_at s at) b) ps to (add_piece stop at p chain) are.2
+      (piece_each s.text stop at p chain (piece_of texts b s at p are.0 are.1) (piece_within texts b s at p are.1) h)
+
+  -- the tokens of a line, and of a cell
+  pub line_each : {after : MathBraces} (s : Source) (tokens : List Item) (answer : ℕ × Option Item) → IsLine texts s tokens answer after → AreEach P tokens
+  line_each {after} s tokens answer h =
+      subst (AreEach P) (sym h.tokens_are)
+      (pieces_each s (text_end s h.content_end) s.start s.braces h.pieces (spot h.content_end after) [] h.division.divided tt)
+
+  pub cell_each : {after : MathBraces} (s : Source) (tokens : List Item) (stop : ℕ) → IsCell texts s tokens stop after → AreEach P tokens
+  cell_each {after} s tokens stop h =
+      subst (AreEach P) (sym h.tokens_are)
+      (pieces_each s (stop - blanks_at_end s stop) s.start s.braces h.pieces (spot stop after) [] h.division.divided tt)
+
+module _ (P : ItemBody → Type 0) (d : Document) (holds : HoldsOfTokens d.names.texts P) where
+  broken_each : (o : Option Item) (chain : List Item) → IfSome o (λ y. P y.body) → AreEach P chain → AreEach P (add_break o chain)
+  broken_each None chain k h = h
+  broken_each (Some x) chain k h = both_each P chain (x ∷ []) h (k, tt)
+
+  first_each : {after : MathBraces} (p : Spot) (chain tokens : List Item) (answer : ℕ × Option Item) → AreEach P chain
+      → IsLine d.names.texts (content_at d p) tokens answer after → AreEach P (add_tokens chain tokens)
+  first_each p chain tokens answer h line = tokens_each P chain tokens h (line_each d.names.texts P holds (content_at d p) tokens answer line)
+
+  -- the chain of a text's lines
+  pub lines_each : (path : List Container) (p : Spot) (chain : List Item) (lines : List Place) (t : TextLines) → AreEach P chain
+      → AreTextLines d path p chain lines t → AreEach P t.chain
+  unfolding AreTextLines
+  lines_each path p chain [] t h (k, a, after, i, e) = subst (λ (z : TextLines). AreEach P z.chain) (sym e) (first_each p chain k a h i)
+  lines_each path p chain (line ∷ lines) t h (k, a, after, i, inl (ends, e)) =
+      subst (λ (z : TextLines). AreEach P z.chain) (sym e) (first_each p chain k a h i)
+  lines_each path p chain (line ∷ lines) t h (k, a, after, i, inr (goes, more)) =
+      lines_each path (spot (offset (unindented (at_rest line (front path line.rest)))) after) (add_break a.1 (add_tokens chain k)) lines t
+      (broken_each a.1 (add_tokens chain k) (break_each P holds.soft holds.hard d.names.texts (content_at d p) k a i) (first_each p chain k a h i)) more
+
+  pub heading_each : (start : ℕ) (index : Option HeadingIndex) (chain : List Item) (e : ℕ) → IsHeading d start index chain e → AreEach P chain
+  heading_each start index chain e h =
+      subst (AreEach P) (sym h.chain_is)
+      (heading_chain_each P holds.text _ start (close_break h.answer.1 (add_tokens [] h.tokens))
+      (closed_each P holds.text h.answer.1 (add_tokens [] h.tokens)
+      (tokens_each P [] h.tokens tt (line_each d.names.texts P holds (heading_content d start) h.tokens h.answer h.line))))
 
 -- raw lines
 module _ (P : ItemBody → Type 0) (raw : HoldsOfRaw P) where

@@ -12,7 +12,8 @@ use Rattle.first_pass_items.specs.declared.item.Item.{Item}
 use Rattle.first_pass_lines.specs.Lines.{is_content, is_white, begins, eol_len, at_line_end, is_blank_line}
 use Rattle.first_pass_lines.specs.Places.{Place, offset}
 use Rattle.first_pass_table_scan.specs.TableHead.{is_pipe, pipes_behind, pipes_of, header_columns, last_pipe_behind, head_columns}
-use Rattle.first_pass_tokens.specs.LineTokens.{IsCell}
+use Rattle.first_pass_tokens.specs.Braces.{MathBraces, no_braces}
+use Rattle.first_pass_tokens.specs.LineTokens.{Spot, spot, IsCell}
 use Rattle.first_pass_tokens.specs.MarkupBytes.{PipesAreEscaped}
 use Rattle.first_pass_tokens.proofs.CellPipes.{cell_pipes}
 use Rattle.first_pass_tokens.proofs.LineLemmas.{pieces_reach}
@@ -176,11 +177,12 @@ through text (suc n) at b stop same here escaped =
       | inr past ↦ let none = at_drop_all (cells_of b) text at past in omega arith
     ]
 
-one_cell : (d : Document) (at : ℕ) (tokens : List Item) (stop : ℕ) → has d.options tables ≡ true → IsCell (cell_content d at) tokens stop
+one_cell : {after : MathBraces} (d : Document) (at : ℕ) (before : MathBraces) (tokens : List Item) (stop : ℕ) → has d.options tables ≡ true
+    → IsCell d.names.texts (cell_content d (spot at before)) tokens stop after
     → cells_of 0 (drop at d.text) ≤ suc (cells_of 0 (drop stop d.text) - 1)
-one_cell d at tokens stop on is =
-    let escaped : PipesAreEscaped d.text at stop = cell_pipes (cell_content d at) refl on is in
-    let reach = pieces_reach (cell_content d at) at is.pieces stop is.division.divided in
+one_cell {after} d at before tokens stop on is =
+    let escaped : PipesAreEscaped d.text at stop = cell_pipes (cell_content d (spot at before)) refl on is in
+    let reach = pieces_reach d.names.texts (cell_content d (spot at before)) at before is.pieces (spot stop after) is.division.divided in
     through d.text (stop - at) at 0 stop (omega arith) (λ low stands. absurd (let first = (escaped at (omega arith) low stands).0 in omega arith))
     (λ k low high stands. (escaped k (omega arith) high stands).1)
 
@@ -189,18 +191,18 @@ at_most_one : (t : Bool) → (if t then 1 else 0) ≤ 1
 at_most_one true = omega arith
 at_most_one false = omega arith
 
-cells_least : (d : Document) (at : ℕ) (cells : List (List (ℕ × Item))) («end» : ℕ) → has d.options tables ≡ true → AreCells d at cells «end»
-    → cells_of 0 (drop at d.text) ≤ (if slice_index d.text at == pipe then 1 else 0) + length cells
+cells_least : (d : Document) (p : Spot) (cells : List (List (ℕ × Item))) (to : Spot) → has d.options tables ≡ true → AreCells d p cells to
+    → cells_of 0 (drop p.at d.text) ≤ (if slice_index d.text p.at == pipe then 1 else 0) + length cells
 unfolding AreCells
-cells_least d at [] end on (n, e, is) =
-    let first = to_text d.text at in
-    let none = cells_end 0 (drop (cell_text d.text at) d.text) n e in
+cells_least d p [] to on (n, e, is) =
+    let first = to_text d.text p.at in
+    let none = cells_end 0 (drop (cell_text d.text p.at) d.text) n e in
     omega arith
-cells_least d at (cell ∷ cells) end on (line, tokens, stop, is, same, more) =
-    let first = to_text d.text at in
-    let here = one_cell d (cell_text d.text at) tokens stop on is in
-    let rest = cells_least d stop cells end on more in
-    let one = at_most_one (slice_index d.text stop == pipe) in
+cells_least d p (cell ∷ cells) to on (line, tokens, stop, is, same, more) =
+    let first = to_text d.text p.at in
+    let here = one_cell d (cell_text d.text p.at) p.braces tokens stop.at on is in
+    let rest = cells_least d stop cells to on more in
+    let one = at_most_one (slice_index d.text stop.at == pipe) in
     omega arith
 
 -- where something stands before the line end there is one
@@ -349,13 +351,13 @@ begins_there text at =
       | inr past ↦ at_drop_all (begins pipe) text at past ∙ sym (ap (λ (b : ℕ). b == pipe) (get_or_past text at 0 past))
     ]
 
--- A row that begins at an offset has at least as many cells as its line has columns as a header row.
-pub head_has_cells : (d : Document) (at : ℕ) (cells : List (List (ℕ × Item))) («end» : ℕ) → has d.options tables ≡ true → AreCells d at cells «end»
-    → head_columns (drop at d.text) ≤ length cells
-head_has_cells d at cells end on are =
-    let least = cells_least d at cells end on are in
-    let there = ap (λ (t : Bool). one_if t + length cells) (begins_there d.text at) in
-    columns_most (drop at d.text) (length cells) (omega arith)
+-- A row that begins at a place has at least as many cells as its line has columns as a header row.
+pub head_has_cells : (d : Document) (p : Spot) (cells : List (List (ℕ × Item))) (to : Spot) → has d.options tables ≡ true → AreCells d p cells to
+    → head_columns (drop p.at d.text) ≤ length cells
+head_has_cells d p cells to on are =
+    let least = cells_least d p cells to on are in
+    let there = ap (λ (t : Bool). one_if t + length cells) (begins_there d.text p.at) in
+    columns_most (drop p.at d.text) (length cells) (omega arith)
 
 -- the columns of a table that a text heads
 as_many_by : (t : Bool) (columns : ℕ) (xs alignments : List Alignment) → (length xs == columns) ≡ t → (if t then Some xs else None) ≡ Some alignments
@@ -375,15 +377,15 @@ headed_by true false o alignments e = absurd (none-some alignments e)
 headed_by false s o alignments e = absurd (none-some alignments e)
 
 -- Nothing is filled into a header row.
-pub head_is_full : (d : Document) (path : List Container) (p : Place) (alignments : List Alignment) (cells : List (List (ℕ × Item))) («end» : ℕ) → IsAt d.text p
-    → headed_table (around d path) p.rest.left ≡ Some alignments → AreCells d (offset p) cells «end» → filled (length alignments) cells ≡ 0
+pub head_is_full : (d : Document) (path : List Container) (p : Place) (alignments : List Alignment) (cells : List (List (ℕ × Item))) (to : Spot) → IsAt d.text p
+    → headed_table (around d path) p.rest.left ≡ Some alignments → AreCells d (spot (offset p) no_braces) cells to → filled (length alignments) cells ≡ 0
 unfolding headed_table table_at
-head_is_full d path p alignments cells end i e are =
+head_is_full d path p alignments cells to i e are =
     let headed = headed_by (has d.options tables) (not (ends_in_backslash p.rest.left)) _ alignments e in
     let columns = table_columns (head_columns p.rest.left) (alignments_behind path p.rest.left) alignments headed.1 in
-    let least = head_has_cells d (offset p) cells end headed.0 are in
+    let least = head_has_cells d (spot (offset p) no_braces) cells to headed.0 are in
     let here = ap (λ (bs : List ℕ). head_columns bs) i in
     omega arith
 
 pub heads_are_full : (d : Document) → HeadsAreFull d
-heads_are_full d path p alignments lines t i e h = (let none = head_is_full d path p alignments h.cells h.head_end i e h.are_cells in omega arith)
+heads_are_full d path p alignments lines t i e h = (let none = head_is_full d path p alignments h.cells (spot h.head_end h.after) i e h.are_cells in omega arith)

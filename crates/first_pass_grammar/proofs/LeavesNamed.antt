@@ -11,9 +11,8 @@ use Rattle.first_pass_grammar.specs.LinkRuns.{Ended, FlowsOn}
 use Rattle.first_pass_grammar.specs.Leaves.{Document}
 use Rattle.first_pass_grammar.specs.RawLines.{range_text, range_html}
 use Rattle.first_pass_grammar.specs.Skeleton.{Block, Line, Opening, OpensLeaf, leaf_block, OpensAs, OpensRun, OpensText}
-use Rattle.first_pass_grammar.proofs.NoIndex.{IsWithoutIndex, tokens_free}
 use Rattle.first_pass_grammar.proofs.EachToken.{heading_each}
-use Rattle.first_pass_grammar.proofs.NamedItems.{named_deeper, free_named, text_is_free, html_is_free, lines_named, block_named}
+use Rattle.first_pass_grammar.proofs.NamedItems.{HasEntry, tokens_entered, each_named, named_deeper, text_is_free, html_is_free, lines_named, block_named}
 use Rattle.first_pass_grammar.proofs.TextsNamed.{given_entry, text_named}
 
 -- what is opened at a place has the items that are said of it
@@ -42,7 +41,7 @@ opens_named d path p lines (ThematicBreak size) items gap left opens =
     subst (AreNamed d.names) (sym (ap items_of_leaf opens)) (tt, tt)
 opens_named d path p lines (AtxHeading level) items gap left (index, chain, stop, is, opens) =
     subst (AreNamed d.names) (sym (ap items_of_leaf opens))
-    (given_entry d.names index _ is.named, named_deeper d.names 1 (leaves chain) (free_named d.names chain (heading_each IsWithoutIndex tokens_free d _ index chain stop is)))
+    (given_entry d.names index _ is.named, named_deeper d.names 1 (leaves chain) (each_named d.names chain (heading_each (HasEntry d.names) d (tokens_entered d.names) _ index chain stop is)))
 opens_named d path p lines (FencedCode count byte) items gap left (own, is, opens) =
     subst (AreNamed d.names) (sym (ap items_of_leaf opens))
     (block_named d.names _ _ _ is.chain own is.items_are (slice_get_within d.names.texts is.info.0 is.names.named is.names.at)

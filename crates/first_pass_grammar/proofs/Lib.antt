@@ -1,4 +1,6 @@
 pub mod Alike
+pub mod BlocksAlike
+pub mod ChainsAlike
 pub mod Completed
 pub mod Completions
 pub mod CountedRows
@@ -33,8 +35,10 @@ pub mod TableMarks
 pub mod TableRows
 pub mod TablesAlike
 pub mod TablesFound
+pub mod TextsMore
 pub mod TextsNamed
 pub mod Tightening
+pub mod TokensNamed
 pub mod Unique
 pub mod WholeBefore
 pub mod WholeBlocks

@@ -1,5 +1,5 @@
 -- The lines of a text, and those that paragraphs, runs of definitions, tables and what else takes lines leave, are places of it.
-use Rattle.std.proofs.Common.{◌≡◌, inl, inr, ℕ, ◌+◌, ◌-◌, nat_lt, Bool, true, false, List, [], ◌∷◌, drop, drop-drop, Option, Some, None, MatchOption, refl, sym, ap, ◌∙◌, subst, arith, if◌then◌else◌}
+use Rattle.std.proofs.Common.{◌≡◌, inl, inr, ℕ, ◌+◌, nat_lt, Bool, true, false, List, [], ◌∷◌, drop, drop-drop, Option, Some, None, MatchOption, refl, sym, ap, ◌∙◌, subst, arith, if◌then◌else◌}
 use Rattle.first_pass_items.specs.declared.item.Item.{Item}
 use Rattle.first_pass_items.specs.declared.item.Alignment.{Alignment}
 use Rattle.first_pass_lines.specs.Places.{Place, line_place, lines_behind, lines_at, offset}
@@ -8,14 +8,16 @@ use Rattle.first_pass_grammar.specs.declared.kind.Container.{Container}
 use Rattle.first_pass_grammar.specs.Containers.{Context, at_rest, front}
 use Rattle.first_pass_grammar.specs.Kinds.{unindented}
 use Rattle.first_pass_grammar.specs.Leaves.{Document, around, add_break, TextLines, AreTextLines}
+use Rattle.first_pass_tokens.specs.Braces.{no_braces}
+use Rattle.first_pass_tokens.specs.LineTokens.{Spot, spot}
 use Rattle.first_pass_tokens.specs.Chains.{add_tokens}
 use Rattle.first_pass_grammar.specs.LinkTables.{LinkEntry}
 use Rattle.first_pass_grammar.specs.LinkRuns.{lines_beyond, Beyond, Ended, FlowsOn, IsRun}
 use Rattle.first_pass_grammar.specs.TableHeads.{headed_table}
-use Rattle.first_pass_grammar.specs.Tables.{filled, Taken, IsTable}
+use Rattle.first_pass_grammar.specs.Tables.{Taken, TableSoFar, IsTable}
 use Rattle.first_pass_grammar.specs.Completion.{lines_from}
 use Rattle.first_pass_grammar.specs.Texts.{IsPlainText, IsText, IsUnderlined, underline_first, plain_text}
-use Rattle.first_pass_grammar.proofs.CountedRows.{CountedRows, counted}
+use Rattle.first_pass_grammar.proofs.CountedRows.{with_row, CountedRows, counted}
 use Rattle.first_pass_grammar.proofs.PlacesKept.{IsAt, AreAt, at_front}
 use Rattle.first_pass_items.specs.declared.item.HeadingLevel.{HeadingLevel}
 
@@ -70,23 +72,23 @@ run_at text around p lines (x ∷ xs) b i h (at, inr (line, left, is, on, more))
     run_at text around (unindented (at_rest line (front around.path line.rest))) left xs b (at_front text around.path line behind.0) behind.1 more
 
 -- what the lines of a text leave
-pub lines_left : (d : Document) (path : List Container) (start : ℕ) (chain : List Item) (lines : List Place) (t : TextLines)
-    → AreAt d.text lines → AreTextLines d path start chain lines t → AreAt d.text t.left
+pub lines_left : (d : Document) (path : List Container) (p : Spot) (chain : List Item) (lines : List Place) (t : TextLines)
+    → AreAt d.text lines → AreTextLines d path p chain lines t → AreAt d.text t.left
 unfolding AreTextLines
-lines_left d path start chain [] t h (k, a, i, e) = subst (λ (z : TextLines). AreAt d.text z.left) (sym e) tt
-lines_left d path start chain (line ∷ lines) t h (k, a, i, inl (ends, e)) = subst (λ (z : TextLines). AreAt d.text z.left) (sym e) h
-lines_left d path start chain (line ∷ lines) t h (k, a, i, inr (goes, more)) =
-    lines_left d path (offset (unindented (at_rest line (front path line.rest)))) (add_break a.1 (add_tokens chain k)) lines t h.1 more
+lines_left d path p chain [] t h (k, a, after, i, e) = subst (λ (z : TextLines). AreAt d.text z.left) (sym e) tt
+lines_left d path p chain (line ∷ lines) t h (k, a, after, i, inl (ends, e)) = subst (λ (z : TextLines). AreAt d.text z.left) (sym e) h
+lines_left d path p chain (line ∷ lines) t h (k, a, after, i, inr (goes, more)) =
+    lines_left d path (spot (offset (unindented (at_rest line (front path line.rest)))) after) (add_break a.1 (add_tokens chain k)) lines t h.1 more
 
 -- what rows leave
-pub rows_left : (d : Document) (path : List Container) (columns most : ℕ) (lines : List Place) (t : Taken) → AreAt d.text lines
-    → CountedRows d path columns most lines t → AreAt d.text t.left
+pub rows_left : (d : Document) (path : List Container) (table : TableSoFar) (lines : List Place) (t : Taken) → AreAt d.text lines
+    → CountedRows d path table lines t → AreAt d.text t.left
 unfolding CountedRows
-rows_left d path columns most [] t h e = subst (λ (z : Taken). AreAt d.text z.left) (sym e) tt
-rows_left d path columns most (line ∷ lines) t h (inl (none, e)) = subst (λ (z : Taken). AreAt d.text z.left) (sym e) h
-rows_left d path columns most (line ∷ lines) t h (inr (start, cells, end, at, are, inl (stops, e))) = subst (λ (z : Taken). AreAt d.text z.left) (sym e) h
-rows_left d path columns most (line ∷ lines) t h (inr (start, cells, end, at, are, inr (is, more, rest, e))) =
-    subst (λ (z : Taken). AreAt d.text z.left) (sym e) (rows_left d path columns (most - filled columns cells) lines more h.1 rest)
+rows_left d path table [] t h e = subst (λ (z : Taken). AreAt d.text z.left) (sym e) tt
+rows_left d path table (line ∷ lines) t h (inl (none, e)) = subst (λ (z : Taken). AreAt d.text z.left) (sym e) h
+rows_left d path table (line ∷ lines) t h (inr (row, has, inl (stops, e))) = subst (λ (z : Taken). AreAt d.text z.left) (sym e) h
+rows_left d path table (line ∷ lines) t h (inr (row, has, inr (is, more, rest, e))) =
+    subst (λ (z : Taken). AreAt d.text z.left) (sym e) (rows_left d path (with_row table row) lines more h.1 rest)
 
 first_left : (text : List ℕ) (lines : List Place) → AreAt text lines → AreAt text (drop 1 lines)
 first_left text [] h = tt
@@ -102,9 +104,9 @@ ended_left d path start marker l t (Some underline) h (index, named, e) = subst 
 text_left_by : (d : Document) (path : List Container) (p : Place) (marker : Option Item) (lines : List Place) (t : Taken) (o : Option (List Alignment))
     → AreAt d.text lines → MatchOption o (IsPlainText d path (offset p) marker lines t) (λ alignments. IsTable d path p alignments lines t) → AreAt d.text t.left
 text_left_by d path p marker lines t None h (l, are, is) =
-    ended_left d path (offset p) marker l t (underline_first path l.left) (lines_left d path (offset p) [] lines l h are) is
+    ended_left d path (offset p) marker l t (underline_first path l.left) (lines_left d path (spot (offset p) no_braces) [] lines l h are) is
 text_left_by d path p marker lines t (Some alignments) h table =
-    rows_left d path _ _ (drop 1 lines) _ (first_left d.text lines h) (counted _ _ _ _ _ _ table.are_rows)
+    rows_left d path _ (drop 1 lines) _ (first_left d.text lines h) (counted _ _ _ _ _ table.are_rows)
 
 pub text_left : (d : Document) (path : List Container) (p : Place) (marker : Option Item) (lines : List Place) (t : Taken) → AreAt d.text lines
     → IsText d path p marker lines t → AreAt d.text t.left

@@ -8,6 +8,7 @@ use Rattle.first_pass_items.specs.declared.item.AlignmentIndex.{AlignmentIndex}
 use Rattle.first_pass_items.specs.declared.item.CowIndex.{CowIndex}
 use Rattle.first_pass_items.specs.declared.item.HeadingIndex.{HeadingIndex}
 use Rattle.first_pass_attributes.specs.Attributes.{Attributes}
+use Rattle.first_pass_tokens.specs.NamedTexts.{AreMore}
 use Rattle.first_pass_grammar.specs.Names.{Names, NamesAlignments, NamesAttributes, Extends, with_named, with_alignments, with_heading, alignments_named}
 
 -- no more is named
@@ -44,6 +45,20 @@ extends_named old new cow e = record {
   alignments = ap (λ (n : Names). n.alignments) e ∙ sym (append-nil old.alignments);
   more_headings = [];
   headings = ap (λ (n : Names). n.headings) e ∙ sym (append-nil old.headings);
+}
+
+-- more texts
+abbrev pub with_texts : Names → List CowStr → Names
+with_texts names texts = record { texts = texts; alignments = names.alignments; headings = names.headings }
+
+pub extends_texts : (old : Names) (texts : List CowStr) → AreMore texts old.texts → Extends (with_texts old texts) old
+extends_texts old texts more = record {
+  more_texts = more.0;
+  texts = more.1;
+  more_alignments = [];
+  alignments = sym (append-nil old.alignments);
+  more_headings = [];
+  headings = sym (append-nil old.headings);
 }
 
 pub extends_alignments : (old new : Names) (alignments : List Alignment) → new ≡ with_alignments old alignments → Extends new old

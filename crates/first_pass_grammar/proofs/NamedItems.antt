@@ -10,6 +10,11 @@ use Rattle.first_pass_tokens.specs.TreeTokens.{leaves}
 use Rattle.first_pass_grammar.specs.Names.{Names, Extends, Index, TextAt, AlignmentsAt, AttributesAt, index_of, NamesEntry, AreNamed}
 use Rattle.first_pass_grammar.specs.Leaves.{Document, block_with}
 use Rattle.first_pass_grammar.specs.RawLines.{AreColumns, Ranges, range_text, range_html, ends_with_both, raw_items, IsRawLine, AreRawLines}
+use Rattle.std.proofs.lemmas.Bool.{false≢true}
+use Rattle.first_pass_items.specs.declared.item.ItemBody.TheVariants.{MaybeEmphasis, MaybeMath, MaybeSmartQuote, SynthesizeChar, SynthesizeText, MaybeCode, MaybeHtml, MaybeLinkOpen, MaybeLinkClose, MaybeImage}
+use Rattle.first_pass_tokens.proofs.PieceFacts.{is_markup}
+use Rattle.first_pass_grammar.proofs.TokensNamed.{NamesWithin}
+use Rattle.first_pass_grammar.proofs.EachToken.{AreEach, HoldsOfTokens}
 use Rattle.first_pass_grammar.proofs.NoIndex.{HaveNoIndex}
 
 -- an item is read in no node whose index names no entry
@@ -56,6 +61,32 @@ pub free_named : (names : Names) (chain : List Item) → HaveNoIndex chain → A
 unfolding AreNamed
 free_named names [] h = tt
 free_named names (x ∷ chain) h = (free_entry names (index_of x.body) h.0, free_named names chain h.1)
+
+-- a kind whose index, where it has one, names an entry
+abbrev pub HasEntry : Names → ItemBody → Type 0
+HasEntry names body = NamesEntry names (index_of body)
+
+markup_entered : (names : Names) (body : ItemBody) → is_markup body ≡ true → NamesWithin names.texts body → HasEntry names body
+markup_entered names (MaybeEmphasis left opens closes) h k = tt
+markup_entered names (MaybeMath opens closes context) h k = tt
+markup_entered names (MaybeSmartQuote quote opens closes) h k = tt
+markup_entered names (SynthesizeChar c) h k = tt
+markup_entered names (SynthesizeText ix) h k = k
+markup_entered names (MaybeCode n escaped) h k = tt
+markup_entered names MaybeHtml h k = tt
+markup_entered names MaybeLinkOpen h k = tt
+markup_entered names (MaybeLinkClose b) h k = tt
+markup_entered names MaybeImage h k = tt
+markup_entered names _ h k = absurd (false≢true h)
+
+-- so it is with the tokens of lines
+pub tokens_entered : (names : Names) → HoldsOfTokens names.texts (HasEntry names)
+tokens_entered names = record { text = λ escaped. tt; soft = tt; hard = λ by_backslash. tt; markup = markup_entered names }
+
+pub each_named : (names : Names) (chain : List Item) → AreEach (HasEntry names) chain → AreNamed names (leaves chain)
+unfolding AreNamed
+each_named names [] h = tt
+each_named names (x ∷ chain) h = (h.0, each_named names chain h.1)
 
 -- a token joined to a chain
 joined_named : (names : Names) (t : Bool) (x y : Item) → IsNamed names x → IsNamed names y → AreNamed names (leaves (if t then record x { «end» = y.«end» } ∷ [] else x ∷ y ∷ []))

@@ -1,12 +1,14 @@
--- Items that have no index: the tokens of lines, and the chains of paragraphs and headings. They read alike whatever indices name.
+-- Items that have no index read alike, whatever indices name; the tokens of lines have none but those of texts.
 use Rattle.std.proofs.Common.{◌≡◌, true, List, [], ◌∷◌, map, None, refl}
 use Rattle.std.proofs.lemmas.Bool.{false≢true}
+use Rattle.first_pass_items.specs.declared.cow_str.CowStr.{CowStr}
 use Rattle.first_pass_items.specs.declared.item.Item.{Item}
 use Rattle.first_pass_items.specs.declared.item.ItemBody.{ItemBody}
-use Rattle.first_pass_items.specs.declared.item.ItemBody.TheVariants.{MaybeEmphasis, MaybeSmartQuote, SynthesizeChar, MaybeCode, MaybeHtml, MaybeLinkOpen, MaybeLinkClose, MaybeImage}
+use Rattle.first_pass_items.specs.declared.item.ItemBody.TheVariants.{MaybeEmphasis, MaybeMath, MaybeSmartQuote, SynthesizeChar, SynthesizeText, MaybeCode, MaybeHtml, MaybeLinkOpen, MaybeLinkClose, MaybeImage}
 use Rattle.first_pass_tokens.proofs.PieceFacts.{is_markup}
 use Rattle.first_pass_grammar.specs.Names.{Names, index_of, read}
 use Rattle.first_pass_grammar.proofs.EachToken.{AreEach, HoldsOfTokens}
+use Rattle.first_pass_grammar.proofs.TokensNamed.{NamesWithin}
 
 abbrev pub IsWithoutIndex : ItemBody → Type 0
 IsWithoutIndex body = index_of body ≡ None
@@ -26,18 +28,25 @@ pub read_alone : (m n : Names) (xs : List Item) → HaveNoIndex xs → map (read
 read_alone m n [] h = refl
 read_alone m n (x ∷ xs) h = let a = reads_alone m n x h.0 in let b = read_alone m n xs h.1 in cc
 
--- a token of possible markup has no index
-markup_free : (body : ItemBody) → is_markup body ≡ true → IsWithoutIndex body
-markup_free (MaybeEmphasis left opens closes) h = refl
-markup_free (MaybeSmartQuote quote opens closes) h = refl
-markup_free (SynthesizeChar c) h = refl
-markup_free (MaybeCode n escaped) h = refl
-markup_free MaybeHtml h = refl
-markup_free MaybeLinkOpen h = refl
-markup_free (MaybeLinkClose b) h = refl
-markup_free MaybeImage h = refl
-markup_free _ h = absurd (false≢true h)
+-- an item has no index, or that of a text that it stands for
+abbrev pub HasTextIndex : ItemBody → Type 0
+HasTextIndex (SynthesizeText ix) = Unit {0}
+HasTextIndex body = index_of body ≡ None
 
--- no token of a line has an index
-pub tokens_free : HoldsOfTokens IsWithoutIndex
-tokens_free = record { text = λ escaped. refl; soft = refl; hard = λ by_backslash. refl; markup = markup_free }
+-- so it is with a token of possible markup
+markup_textual : (texts : List CowStr) (body : ItemBody) → is_markup body ≡ true → NamesWithin texts body → HasTextIndex body
+markup_textual texts (MaybeEmphasis left opens closes) h k = refl
+markup_textual texts (MaybeMath opens closes context) h k = refl
+markup_textual texts (MaybeSmartQuote quote opens closes) h k = refl
+markup_textual texts (SynthesizeChar c) h k = refl
+markup_textual texts (SynthesizeText ix) h k = tt
+markup_textual texts (MaybeCode n escaped) h k = refl
+markup_textual texts MaybeHtml h k = refl
+markup_textual texts MaybeLinkOpen h k = refl
+markup_textual texts (MaybeLinkClose b) h k = refl
+markup_textual texts MaybeImage h k = refl
+markup_textual texts _ h k = absurd (false≢true h)
+
+-- no token of a line has an index but of a text
+pub tokens_textual : (texts : List CowStr) → HoldsOfTokens texts HasTextIndex
+tokens_textual texts = record { text = λ escaped. refl; soft = refl; hard = λ by_backslash. refl; markup = markup_textual texts }

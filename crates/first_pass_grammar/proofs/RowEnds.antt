@@ -11,7 +11,9 @@ use Rattle.first_pass_lines.specs.Lines.{is_line_end, is_content, is_white, at_l
 use Rattle.first_pass_lines.specs.Places.{Place, line_place, offset, line_end, IsPlaceOf}
 use Rattle.first_pass_lines.proofs.LineFacts.{line_len-eol, line_len-fits}
 use Rattle.first_pass_lines.proofs.PlaceFacts.{bytes_line_end}
-use Rattle.first_pass_tokens.specs.LineTokens.{IsCell}
+use Rattle.first_pass_tokens.specs.Braces.{MathBraces}
+use Rattle.first_pass_tokens.specs.Pieces.{Source}
+use Rattle.first_pass_tokens.specs.LineTokens.{Spot, spot, IsCell}
 use Rattle.first_pass_tokens.proofs.LineLemmas.{cell_ends, ended_by}
 use Rattle.first_pass_grammar.specs.Leaves.{Document}
 use Rattle.first_pass_grammar.specs.Tables.{cell_content, cell_start, cell_text, AreCells}
@@ -80,31 +82,32 @@ text_in_line text at within =
     let rest = length-drop at text in
     (text_behind text at (slice_index text at == pipe) refl, omega arith)
 
--- The row whose cells begin at an offset ends behind the line end there: its line ends where it does.
-pub row_ends_its_line : (d : Document) (at : ℕ) (cells : List (List (ℕ × Item))) («end» : ℕ) → at ≤ length d.text → AreCells d at cells «end»
-    → «end» ≡ at + line_len (drop at d.text)
+-- The row whose cells begin at a place ends behind the line end there: its line ends where it does.
+pub row_ends_its_line : (d : Document) (p : Spot) (cells : List (List (ℕ × Item))) (to : Spot) → p.at ≤ length d.text → AreCells d p cells to
+    → to.at ≡ p.at + line_len (drop p.at d.text)
 unfolding AreCells
-row_ends_its_line d at [] stop within (n, h, is) =
-    let first = text_along d.text at in
-    let rest = line_len-eol (drop (cell_text d.text at) d.text) n h in
+row_ends_its_line d p [] to within (n, h, is) =
+    let first = text_along d.text p.at in
+    let rest = line_len-eol (drop (cell_text d.text p.at) d.text) n h in
+    let stop : to.at ≡ cell_text d.text p.at + n = ap (λ (z : Spot). z.at) is in
     omega arith
-row_ends_its_line d at (cell ∷ cells) stop within (on, tokens, next, is, same, more) =
-    let start = text_in_line d.text at within in
+row_ends_its_line d p (cell ∷ cells) to within (on, tokens, next, is, same, more) =
+    let start = text_in_line d.text p.at within in
     let ends = cell_ends start.1 is in
-    let from : cell_text d.text at ≤ next = ends.from in
-    let reach : next ≤ cell_text d.text at + prefix_len is_content (drop (cell_text d.text at) d.text) = ends.in_line in
-    let first = text_along d.text at in
-    let behind = along d.text (cell_text d.text at) (next - cell_text d.text at) (omega arith) in
-    let place : cell_text d.text at + (next - cell_text d.text at) ≡ next = omega arith in
+    let from : cell_text d.text p.at ≤ next.at = ends.from in
+    let reach : next.at ≤ cell_text d.text p.at + prefix_len is_content (drop (cell_text d.text p.at) d.text) = ends.in_line in
+    let first = text_along d.text p.at in
+    let behind = along d.text (cell_text d.text p.at) (next.at - cell_text d.text p.at) (omega arith) in
+    let place : cell_text d.text p.at + (next.at - cell_text d.text p.at) ≡ next.at = omega arith in
     let read = ap (λ (k : ℕ). k + line_len (drop k d.text)) place in
-    let rest = row_ends_its_line d next cells stop ends.within more in
+    let rest = row_ends_its_line d next cells to ends.within more in
     omega arith
 
 -- the same of a row that begins at a place of the text
-pub row_ends_at_place : (d : Document) (p : Place) (cells : List (List (ℕ × Item))) («end» : ℕ) → IsPlaceOf d.text p → AreCells d (offset p) cells «end»
-    → «end» ≡ line_end p
-row_ends_at_place d p cells stop place are =
-    row_ends_its_line d (offset p) cells stop place.within are ∙ ap (λ (bs : List ℕ). offset p + line_len bs) (sym place.left)
+pub row_ends_at_place : (d : Document) (p : Place) (before : MathBraces) (cells : List (List (ℕ × Item))) (to : Spot) → IsPlaceOf d.text p
+    → AreCells d (spot (offset p) before) cells to → to.at ≡ line_end p
+row_ends_at_place d p before cells to place are =
+    row_ends_its_line d (spot (offset p) before) cells to place.within are ∙ ap (λ (bs : List ℕ). offset p + line_len bs) (sym place.left)
 
 -- where a line end stands, a line ends
 end_byte : (t u : Bool) (b : ℕ) (bs : List ℕ) → (b == line_feed) ≡ t → (b == carriage_return) ≡ u → is_line_end b ≡ true → at_line_end (b ∷ bs) ≡ true
@@ -113,11 +116,11 @@ end_byte false true b bs h k is = rw (h, k)
 end_byte false false b bs h k is = absurd (grind (arith, h, k, is))
 
 -- no content of a cell ends where no line ends and no pipe stands
-goes_further : (d : Document) (at : ℕ) (tokens : List Item) → at_line_end (drop at d.text) ≡ false → (slice_index d.text at == pipe) ≡ false
-    → IsCell (cell_content d at) tokens at → ⊥
-goes_further d at tokens on other cell =
+goes_further : {after : MathBraces} (d : Document) (at : ℕ) (before : MathBraces) (tokens : List Item) → at_line_end (drop at d.text) ≡ false
+    → (slice_index d.text at == pipe) ≡ false → IsCell d.names.texts (cell_content d (spot at before)) tokens at after → ⊥
+goes_further d at before tokens on other cell =
     elim (cases_lt at (length d.text)) [
-      | inl inside ↦ elim (ended_by (cell_content d at) at cell.division.ended) [
+      | inl inside ↦ elim (ended_by (cell_content d (spot at before)) at cell.division.ended) [
         | inl past ↦ absurd (omega arith)
         | inr byte ↦ elim byte [
           | inl line ↦
@@ -130,15 +133,20 @@ goes_further d at tokens on other cell =
       | inr past ↦ true≢false (sym (at_drop_all (λ (bs : List ℕ). at_line_end bs) d.text at past) ∙ on)
     ]
 
-later_by : (d : Document) (at : ℕ) (tokens : List Item) (stop : ℕ) (t : Bool) → (slice_index d.text at == pipe) ≡ t → at ≤ length d.text
-    → at_line_end (drop (cell_text d.text at) d.text) ≡ false → IsCell (cell_content d (cell_text d.text at)) tokens stop → at < stop
-later_by d at tokens stop true here within on cell =
+-- the content of the cell that begins at a place
+abbrev pub begun_there : Document → Spot → Source
+begun_there d p = cell_content d (spot (cell_text d.text p.at) p.braces)
+
+later_by : {after : MathBraces} (d : Document) (at : ℕ) (before : MathBraces) (tokens : List Item) (stop : ℕ) (t : Bool) → (slice_index d.text at == pipe) ≡ t
+    → at ≤ length d.text → at_line_end (drop (cell_text d.text at) d.text) ≡ false → IsCell d.names.texts (begun_there d (spot at before)) tokens stop after
+    → at < stop
+later_by d at before tokens stop true here within on cell =
     let start = text_in_line d.text at within in
     let ends = cell_ends start.1 cell in
     let from : cell_text d.text at ≤ stop = ends.from in
     let begins : cell_start d.text at ≡ at + 1 = ap (λ (t : Bool). if t then at + 1 else at) here in
     omega arith
-later_by d at tokens stop false here within on cell =
+later_by {after} d at before tokens stop false here within on cell =
     let start = text_in_line d.text at within in
     let low = start.0 in
     let ends = cell_ends start.1 cell in
@@ -148,11 +156,12 @@ later_by d at tokens stop false here within on cell =
       | inr none ↦
           let place : cell_text d.text at ≡ at = omega arith in
           let same : stop ≡ at = omega arith in
-          absurd (goes_further d at tokens (ap (λ (k : ℕ). at_line_end (drop k d.text)) (sym place) ∙ on) here
-          (subst (λ (k : ℕ). IsCell (cell_content d k) tokens at) place (subst (IsCell (cell_content d (cell_text d.text at)) tokens) same cell)))
+          absurd (goes_further d at before tokens (ap (λ (k : ℕ). at_line_end (drop k d.text)) (sym place) ∙ on) here
+          (subst (λ (k : ℕ). IsCell d.names.texts (cell_content d (spot k before)) tokens at after) place
+          (subst (λ (k : ℕ). IsCell d.names.texts (begun_there d (spot at before)) tokens k after) same cell)))
     ]
 
 -- A cell of a row ends behind the place where it is looked for.
-pub cell_takes_a_byte : (d : Document) (at : ℕ) (tokens : List Item) (stop : ℕ) → at ≤ length d.text
-    → at_line_end (drop (cell_text d.text at) d.text) ≡ false → IsCell (cell_content d (cell_text d.text at)) tokens stop → at < stop
-cell_takes_a_byte d at tokens stop within on cell = later_by d at tokens stop (slice_index d.text at == pipe) refl within on cell
+pub cell_takes_a_byte : {after : MathBraces} (d : Document) (p : Spot) (tokens : List Item) (stop : ℕ) → p.at ≤ length d.text
+    → at_line_end (drop (cell_text d.text p.at) d.text) ≡ false → IsCell d.names.texts (begun_there d p) tokens stop after → p.at < stop
+cell_takes_a_byte d p tokens stop within on cell = later_by d p.at p.braces tokens stop (slice_index d.text p.at == pipe) refl within on cell

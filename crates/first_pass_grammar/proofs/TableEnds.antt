@@ -7,6 +7,7 @@ use Rattle.std.proofs.lemmas.Option.{none-some, same_Some}
 use Rattle.first_pass_items.specs.Bytes.{pipe, line_feed, carriage_return}
 use Rattle.first_pass_items.specs.declared.item.Item.{Item}
 use Rattle.first_pass_lines.specs.Lines.{is_white, begins, eol_len}
+use Rattle.first_pass_tokens.specs.LineTokens.{Spot}
 use Rattle.first_pass_tokens.proofs.LineLemmas.{cell_ends}
 use Rattle.first_pass_grammar.specs.Leaves.{Document}
 use Rattle.first_pass_grammar.specs.Tables.{cell_start, cell_text, AreCells}
@@ -47,17 +48,18 @@ text_within text at within =
     (omega (arith, start.0), omega (arith, start.1))
 
 -- a row ends in the text, and not before its beginning
-pub cells_end : (d : Document) (at : ℕ) (cells : List (List (ℕ × Item))) («end» : ℕ) → at ≤ length d.text → AreCells d at cells «end»
-    → (at ≤ «end») × («end» ≤ length d.text)
+pub cells_end : (d : Document) (p : Spot) (cells : List (List (ℕ × Item))) (to : Spot) → p.at ≤ length d.text → AreCells d p cells to
+    → (p.at ≤ to.at) × (to.at ≤ length d.text)
 unfolding AreCells
-cells_end d at [] stop within (n, h, is) =
-    let start = text_within d.text at within in
-    let fits = end_fits (drop (cell_text d.text at) d.text) n h in
-    let rest = length-drop (cell_text d.text at) d.text in
+cells_end d p [] to within (n, h, is) =
+    let start = text_within d.text p.at within in
+    let fits = end_fits (drop (cell_text d.text p.at) d.text) n h in
+    let rest = length-drop (cell_text d.text p.at) d.text in
+    let stop : to.at ≡ cell_text d.text p.at + n = ap (λ (z : Spot). z.at) is in
     (omega (arith, start.0), omega (arith, start.1))
-cells_end d at (cell ∷ cells) stop within (on, tokens, next, is, same, more) =
-    let start = text_within d.text at within in
+cells_end d p (cell ∷ cells) to within (on, tokens, next, is, same, more) =
+    let start = text_within d.text p.at within in
     let ends = cell_ends start.1 is in
-    let from : cell_text d.text at ≤ next = ends.from in
-    let further = cells_end d next cells stop ends.within more in
+    let from : cell_text d.text p.at ≤ next.at = ends.from in
+    let further = cells_end d next cells to ends.within more in
     (omega (arith, start.0, further.0), further.1)

@@ -10,20 +10,23 @@ use Rattle.first_pass_tree.specs.Forest.{at_depth, block_of}
 use Rattle.first_pass_lines.specs.Lines.{at_line_end}
 use Rattle.first_pass_lines.specs.Places.{Place, offset, start_of}
 use Rattle.first_pass_lines.proofs.LineFacts.{line_len-within}
-use Rattle.first_pass_tokens.specs.LineTokens.{IsCell}
+use Rattle.first_pass_tokens.specs.Braces.{MathBraces, no_braces}
+use Rattle.first_pass_tokens.specs.LineTokens.{Spot, spot, IsCell}
 use Rattle.first_pass_tokens.specs.TreeTokens.{leaves}
 use Rattle.first_pass_tokens.proofs.LineLemmas.{cell_ends}
 use Rattle.first_pass_grammar.specs.declared.kind.Container.{Container}
 use Rattle.first_pass_grammar.specs.Names.{Names}
 use Rattle.first_pass_grammar.specs.Leaves.{Document}
-use Rattle.first_pass_grammar.specs.Tables.{cell_content, cell_start, cell_text, cell_block, AreCells, filled, side_by_side, row_cells, row_block, Taken, AreRows, most_filled, IsTable}
+use Rattle.first_pass_grammar.specs.Tables.{cell_content, cell_start, cell_text, cell_block, AreCells, filled, side_by_side, row_cells, row_block, Taken, TableSoFar, table_so_far, AreRows, most_filled, IsTable}
 use Rattle.first_pass_grammar.specs.WholeTables.{Mark, ATable, ARow, ACell, shown, marks, RowCells, row_marks, TableRows, table_marks, how_often, filled_in, HaveCells, AreFull, AreWholeTables}
-use Rattle.first_pass_grammar.proofs.CountedRows.{CountedRows, counted}
+use Rattle.first_pass_grammar.proofs.CountedRows.{with_row, CountedRows, counted}
 use Rattle.first_pass_grammar.proofs.EachToken.{AreEach, HoldsOfTokens, HoldsOfRaw, cell_each}
 use Rattle.first_pass_grammar.proofs.RowEnds.{row_ends_its_line}
 use Rattle.first_pass_grammar.proofs.TableRows.{as_many_cells}
 use Rattle.first_pass_tokens.proofs.PieceFacts.{is_markup}
-use Rattle.first_pass_items.specs.declared.item.ItemBody.TheVariants.{MaybeEmphasis, MaybeSmartQuote, SynthesizeChar, MaybeCode, MaybeHtml, MaybeLinkOpen, MaybeLinkClose, MaybeImage}
+use Rattle.first_pass_items.specs.declared.cow_str.CowStr.{CowStr}
+use Rattle.first_pass_grammar.proofs.TokensNamed.{NamesWithin}
+use Rattle.first_pass_items.specs.declared.item.ItemBody.TheVariants.{MaybeEmphasis, MaybeMath, MaybeSmartQuote, SynthesizeChar, SynthesizeText, Text, MaybeCode, MaybeHtml, MaybeLinkOpen, MaybeLinkClose, MaybeImage}
 
 -- more nodes, and nodes at another depth
 pub marks-append : (names : Names) (nodes more : List (ℕ × Item)) → marks names (nodes ++ more) ≡ marks names nodes ++ marks names more
@@ -101,24 +104,29 @@ whole_deeper names d nodes (tables, is, full) = (
 abbrev pub ShowsNothing : ItemBody → Type 0
 ShowsNothing body = (names : Names) (depth start «end» : ℕ) → shown names depth start «end» body ≡ []
 
-markup_shows : (body : ItemBody) → is_markup body ≡ true → ShowsNothing body
-markup_shows (MaybeEmphasis left opens closes) h = λ names depth start end. refl
-markup_shows (MaybeSmartQuote quote opens closes) h = λ names depth start end. refl
-markup_shows (SynthesizeChar c) h = λ names depth start end. refl
-markup_shows (MaybeCode n escaped) h = λ names depth start end. refl
-markup_shows MaybeHtml h = λ names depth start end. refl
-markup_shows MaybeLinkOpen h = λ names depth start end. refl
-markup_shows (MaybeLinkClose b) h = λ names depth start end. refl
-markup_shows MaybeImage h = λ names depth start end. refl
-markup_shows _ h = absurd (true≢false (sym h))
+markup_shows : (texts : List CowStr) (body : ItemBody) → is_markup body ≡ true → NamesWithin texts body → ShowsNothing body
+markup_shows texts (MaybeEmphasis left opens closes) h k = λ names depth start end. refl
+markup_shows texts (MaybeMath opens closes context) h k = λ names depth start end. refl
+markup_shows texts (MaybeSmartQuote quote opens closes) h k = λ names depth start end. refl
+markup_shows texts (SynthesizeChar c) h k = λ names depth start end. refl
+markup_shows texts (SynthesizeText ix) h k = λ names depth start end. refl
+markup_shows texts (MaybeCode n escaped) h k = λ names depth start end. refl
+markup_shows texts MaybeHtml h k = λ names depth start end. refl
+markup_shows texts MaybeLinkOpen h k = λ names depth start end. refl
+markup_shows texts (MaybeLinkClose b) h k = λ names depth start end. refl
+markup_shows texts MaybeImage h k = λ names depth start end. refl
+markup_shows texts _ h k = absurd (true≢false (sym h))
 
-pub tokens_show : HoldsOfTokens ShowsNothing
-tokens_show =
+pub text_shows : (escaped : Bool) → ShowsNothing (Text escaped)
+text_shows escaped = λ names depth start end. refl
+
+pub tokens_show : (texts : List CowStr) → HoldsOfTokens texts ShowsNothing
+tokens_show texts =
     record {
-      text = λ escaped names depth start end. refl;
+      text = text_shows;
       soft = λ names depth start end. refl;
       hard = λ by_backslash names depth start end. refl;
-      markup = markup_shows;
+      markup = markup_shows texts;
     }
 
 pub raw_shows : HoldsOfRaw ShowsNothing
@@ -213,56 +221,58 @@ at_or_behind : (t : Bool) (at : ℕ) → at ≤ (if t then at + 1 else at)
 at_or_behind true at = omega arith
 at_or_behind false at = omega arith
 
-written_before : (d : Document) (at : ℕ) (tokens : List Item) (stop : ℕ) (cells : List (List (ℕ × Item))) («end» : ℕ)
-    → at_line_end (drop (cell_text d.text at) d.text) ≡ false → IsCell (cell_content d (cell_text d.text at)) tokens stop → AreCells d stop cells «end»
-    → (cell_start d.text at < «end») × (stop ≤ length d.text)
-written_before d at tokens stop cells end on cell more =
-    elim (cases_lt (cell_text d.text at) (length d.text)) [
+written_before : (d : Document) (p : Spot) (tokens : List Item) (stop : Spot) (cells : List (List (ℕ × Item))) (to : Spot)
+    → at_line_end (drop (cell_text d.text p.at) d.text) ≡ false
+    → IsCell d.names.texts (cell_content d (spot (cell_text d.text p.at) p.braces)) tokens stop.at stop.braces → AreCells d stop cells to
+    → (cell_start d.text p.at < to.at) × (stop.at ≤ length d.text)
+written_before d p tokens stop cells to on cell more =
+    elim (cases_lt (cell_text d.text p.at) (length d.text)) [
       | inl inside ↦
           let ends = cell_ends (omega arith) cell in
-          let from : cell_text d.text at ≤ stop = ends.from in
-          let within : stop ≤ length d.text = ends.within in
-          let line = row_ends_its_line d stop cells end within more in (
-            elim (cases_lt stop (length d.text)) [
-              | inl short ↦ (let some = (line_len-within d.text stop short).0 in omega arith)
+          let from : cell_text d.text p.at ≤ stop.at = ends.from in
+          let within : stop.at ≤ length d.text = ends.within in
+          let line = row_ends_its_line d stop cells to within more in (
+            elim (cases_lt stop.at (length d.text)) [
+              | inl short ↦ (let some = (line_len-within d.text stop.at short).0 in omega arith)
               | inr all ↦ omega arith
             ],
             within,
           )
-      | inr past ↦ absurd (true≢false (sym (at_drop_all (λ (bs : List ℕ). at_line_end bs) d.text (cell_text d.text at) past) ∙ on))
+      | inr past ↦ absurd (true≢false (sym (at_drop_all (λ (bs : List ℕ). at_line_end bs) d.text (cell_text d.text p.at) past) ∙ on))
     ]
 
 -- the cells of a row show where they start
-cell_shows : (d : Document) (at start : ℕ) (tokens : List Item) (stop : ℕ) → IsCell (cell_content d at) tokens stop
+cell_shows : {after : MathBraces} (d : Document) (p : Spot) (start : ℕ) (tokens : List Item) (stop : ℕ) → IsCell d.names.texts (cell_content d p) tokens stop after
     → marks d.names (cell_block start stop tokens) ≡ ACell 0 start ∷ []
 unfolding marks
-cell_shows d at start tokens stop h =
+cell_shows d p start tokens stop h =
     ap (λ (z : List Mark). ACell 0 start ∷ z)
     (marks-at_depth d.names 1 (leaves tokens)
-    ∙ ap (map (mark_deeper 1)) (leaves_show d.names tokens (cell_each ShowsNothing tokens_show (cell_content d at) tokens stop h)))
+    ∙ ap (map (mark_deeper 1)) (leaves_show d.names tokens (cell_each d.names.texts ShowsNothing (tokens_show d.names.texts) (cell_content d p) tokens stop h)))
 
-cells_show : (d : Document) (at : ℕ) (cells : List (List (ℕ × Item))) («end» : ℕ) → AreCells d at cells «end»
-    → (starts : List ℕ) × ShowCells d.names cells starts × AreBefore «end» starts
+cells_show : (d : Document) (p : Spot) (cells : List (List (ℕ × Item))) (to : Spot) → AreCells d p cells to
+    → (starts : List ℕ) × ShowCells d.names cells starts × AreBefore to.at starts
 unfolding AreCells ShowCells AreBefore
-cells_show d at [] end h = ([], tt, tt)
-cells_show d at (cell ∷ cells) end (on, tokens, stop, is, e, more) =
-    let rest = cells_show d stop cells end more in
-    let here = written_before d at tokens stop cells end on is more in
-    let own = cell_shows d (cell_text d.text at) (cell_start d.text at) tokens stop is in
-    (cell_start d.text at ∷ rest.0, (ap (marks d.names) e ∙ own, rest.1), (here.0, rest.2))
+cells_show d p [] to h = ([], tt, tt)
+cells_show d p (cell ∷ cells) to (on, tokens, stop, is, e, more) =
+    let rest = cells_show d stop cells to more in
+    let here = written_before d p tokens stop cells to on is more in
+    let own = cell_shows d (spot (cell_text d.text p.at) p.braces) (cell_start d.text p.at) tokens stop.at is in
+    (cell_start d.text p.at ∷ rest.0, (ap (marks d.names) e ∙ own, rest.1), (here.0, rest.2))
 
 filled_shows : (names : Names) («end» : ℕ) → marks names (cell_block «end» «end» []) ≡ ACell 0 «end» ∷ []
 unfolding marks
 filled_shows names end = refl
 
 -- what a row shows: where it ends, and as many cells as columns, of which those that are filled in start at its end
-pub row_shows : (d : Document) (body : ItemBody) (columns start at : ℕ) (cells : List (List (ℕ × Item))) («end» : ℕ)
-    → shown d.names 0 start «end» body ≡ ARow 0 «end» ∷ [] → AreCells d at cells «end»
-    → (starts : List ℕ) × (marks d.names (row_block body columns start cells «end») ≡ ARow 0 «end» ∷ map (ACell 1) starts)
-    × (length starts ≡ columns) × (how_often «end» starts ≡ filled columns cells)
+pub row_shows : (d : Document) (body : ItemBody) (columns : ℕ) (p : Spot) (cells : List (List (ℕ × Item))) (to : Spot)
+    → shown d.names 0 p.at to.at body ≡ ARow 0 to.at ∷ [] → AreCells d p cells to
+    → (starts : List ℕ) × (marks d.names (row_block body columns p.at cells to.at) ≡ ARow 0 to.at ∷ map (ACell 1) starts)
+    × (length starts ≡ columns) × (how_often to.at starts ≡ filled columns cells)
 unfolding marks
-row_shows d body columns start at cells end own are =
-    let (starts, show, before) = cells_show d at cells end are in
+row_shows d body columns p cells to own are =
+    let (starts, show, before) = cells_show d p cells to are in
+    let end : ℕ = to.at in
     let n : ℕ = filled columns cells in
     let both = both_show d.names (take columns cells) (replicate n (cell_block end end [])) (take columns starts) (replicate n end)
     (first_show d.names columns cells starts show) (copies_show d.names n (cell_block end end []) end (filled_shows d.names end)) in
@@ -299,23 +309,25 @@ one_over d columns most first more items row rows e show size these have few = (
   few,
 )
 
-counted_show : (d : Document) (path : List Container) (columns most : ℕ) (lines : List Place) (t : Taken) → CountedRows d path columns most lines t
-    → (rows : List RowCells) × (marks d.names t.items ≡ row_marks 0 rows) × HaveCells columns rows × (filled_in rows ≤ most)
+counted_show : (d : Document) (path : List Container) (table : TableSoFar) (lines : List Place) (t : Taken) → CountedRows d path table lines t
+    → (rows : List RowCells) × (marks d.names t.items ≡ row_marks 0 rows) × HaveCells table.columns rows × (filled_in rows ≤ table.room)
 unfolding CountedRows
-counted_show d path columns most [] t e = none_over d columns t.items (ap (λ (z : Taken). z.items) e) most
-counted_show d path columns most (line ∷ lines) t (inl (none, e)) = none_over d columns t.items (ap (λ (z : Taken). z.items) e) most
-counted_show d path columns most (line ∷ lines) t (inr (start, cells, end, at, are, inl (stops, e))) =
-    none_over d columns t.items (ap (λ (z : Taken). z.items) e) most
-counted_show d path columns most (line ∷ lines) t (inr (start, cells, end, at, are, inr (is, more, rest, e))) =
-    let (starts, show, size, often) = row_shows d TableRow columns start start cells end refl are in
-    let (rows, these, have, few) = counted_show d path columns (most - filled columns cells) lines more rest in
-    let fits = leb-true (filled columns cells) most (and_parts (nat_lt 0 (length cells)) (nat_le (filled columns cells) most) is).1 in
-    one_over d columns most (row_block TableRow columns start cells end) more.items t.items (record { «end» = end; starts = starts }) rows
-    (ap (λ (z : Taken). z.items) e) show size these have (omega arith)
+counted_show d path table [] t e = none_over d table.columns t.items (ap (λ (z : Taken). z.items) e) table.room
+counted_show d path table (line ∷ lines) t (inl (none, e)) = none_over d table.columns t.items (ap (λ (z : Taken). z.items) e) table.room
+counted_show d path table (line ∷ lines) t (inr (row, has, inl (stops, e))) =
+    none_over d table.columns t.items (ap (λ (z : Taken). z.items) e) table.room
+counted_show d path table (line ∷ lines) t (inr (row, has, inr (is, more, rest, e))) =
+    let n : ℕ = filled table.columns row.cells in
+    let (starts, show, size, often) =
+    row_shows d TableRow table.columns (spot row.start table.braces) row.cells (spot row.row_end row.after) refl has.are_cells in
+    let (rows, these, have, few) = counted_show d path (with_row table row) lines more rest in
+    let fits = leb-true n table.room (and_parts (nat_lt 0 (length row.cells)) (nat_le n table.room) is).1 in
+    one_over d table.columns table.room (row_block TableRow table.columns row.start row.cells row.row_end) more.items t.items
+    (record { «end» = row.row_end; starts = starts }) rows (ap (λ (z : Taken). z.items) e) show size these have (omega arith)
 
-pub rows_show : (d : Document) (path : List Container) (columns most : ℕ) (lines : List Place) (t : Taken) → AreRows d path columns most lines t
-    → (rows : List RowCells) × (marks d.names t.items ≡ row_marks 0 rows) × HaveCells columns rows × (filled_in rows ≤ most)
-rows_show d path columns most lines t h = counted_show d path columns most lines t (counted d path columns most lines t h)
+pub rows_show : (d : Document) (path : List Container) (table : TableSoFar) (lines : List Place) (t : Taken) → AreRows d path table lines t
+    → (rows : List RowCells) × (marks d.names t.items ≡ row_marks 0 rows) × HaveCells table.columns rows × (filled_in rows ≤ table.room)
+rows_show d path table lines t h = counted_show d path table lines t (counted d path table lines t h)
 
 -- What a table shows is one table, whole where no more cells are filled into its header row than may be.
 pub table_shows : (d : Document) (path : List Container) (p : Place) (alignments : List Alignment) (lines : List Place) (t : Taken)
@@ -323,8 +335,9 @@ pub table_shows : (d : Document) (path : List Container) (p : Place) (alignments
 unfolding AreWholeTables marks row_marks table_marks HaveCells filled_in AreFull
 table_shows d path p alignments lines t h low =
     let columns : ℕ = length alignments in
-    let (starts, show, size, often) = row_shows d TableHead columns (offset p) (offset p) h.cells h.head_end refl h.are_cells in
-    let (rows, these, have, few) = rows_show d path columns (most_filled - filled columns h.cells) (drop 1 lines) _ h.are_rows in
+    let (starts, show, size, often) =
+    row_shows d TableHead columns (spot (offset p) no_braces) h.cells (spot h.head_end h.after) refl h.are_cells in
+    let (rows, these, have, few) = rows_show d path (table_so_far columns (most_filled - filled columns h.cells) h.after) (drop 1 lines) _ h.are_rows in
     let head : List (ℕ × Item) = row_block TableHead columns (offset p) h.cells h.head_end in
     let first : RowCells = record { «end» = h.head_end; starts = starts } in
     let count : shown d.names 0 (offset p) (start_of (length d.text) t.left) (Table h.index) ≡ ATable 0 columns ∷ [] = rw h.named refl in

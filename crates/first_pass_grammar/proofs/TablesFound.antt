@@ -5,6 +5,7 @@ use Rattle.std.proofs.lemmas.List.{at_drop_all, at_drop_more}
 use Rattle.std.proofs.lemmas.Option.{none-some}
 use Rattle.first_pass_items.specs.Bytes.{pipe, line_feed, carriage_return}
 use Rattle.first_pass_items.specs.OptionWords.{has, tables}
+use Rattle.first_pass_items.specs.declared.cow_str.CowStr.{CowStr}
 use Rattle.first_pass_items.specs.declared.item.Alignment.{Alignment}
 use Rattle.first_pass_items.specs.declared.item.Item.{Item}
 use Rattle.first_pass_items.specs.declared.item.ItemBody.TheVariants.{Table, TableHead, TableRow}
@@ -13,7 +14,8 @@ use Rattle.first_pass_tree.specs.Forest.{block_of}
 use Rattle.first_pass_lines.specs.Lines.{is_line_end, begins, eol_len}
 use Rattle.first_pass_lines.specs.Places.{Place, offset, start_of}
 use Rattle.first_pass_tokens.specs.Pieces.{Source}
-use Rattle.first_pass_tokens.specs.LineTokens.{ends_at, IsCell}
+use Rattle.first_pass_tokens.specs.Braces.{MathBraces, no_braces}
+use Rattle.first_pass_tokens.specs.LineTokens.{Spot, spot, ends_at, IsCell}
 use Rattle.first_pass_tokens.proofs.LineFound.{cell_found}
 use Rattle.first_pass_tokens.proofs.LineLemmas.{cell_ends}
 use Rattle.first_pass_grammar.specs.declared.kind.Container.{Container}
@@ -21,12 +23,13 @@ use Rattle.first_pass_grammar.specs.Names.{Names, Extends}
 use Rattle.first_pass_grammar.specs.Containers.{context}
 use Rattle.first_pass_grammar.specs.Leaves.{document, Document, TextLines}
 use Rattle.first_pass_grammar.specs.TableHeads.{headed_table}
-use Rattle.first_pass_grammar.specs.Tables.{cell_start, cell_text, cell_block, AreCells, filled, row_block, row_text, Taken, taking, most_filled, IsTable}
+use Rattle.first_pass_grammar.specs.Tables.{cell_start, cell_text, cell_block, AreCells, filled, row_block, row_text, Taken, taking, FoundRow, HasCells, TableSoFar, table_so_far, most_filled, IsTable}
 use Rattle.first_pass_grammar.specs.Headings.{heading_attributes_of}
 use Rattle.first_pass_grammar.specs.Texts.{IsPlainText, IsText, IsUnderlined, heading_bytes, heading_children, plain_text, underlined_text, underline_first}
-use Rattle.first_pass_grammar.proofs.CountedRows.{is_row, CountedRows, are_rows}
+use Rattle.first_pass_grammar.proofs.CountedRows.{is_row, with_row, CountedRows, are_rows}
 use Rattle.first_pass_grammar.proofs.Found.{named_alignments, named_attributes}
-use Rattle.first_pass_grammar.proofs.MoreNames.{extends_none}
+use Rattle.first_pass_grammar.proofs.MoreNames.{extends_none, extends_both, with_texts, extends_texts}
+use Rattle.first_pass_grammar.proofs.TextsMore.{cell_later, text_lines_more, cells_more, row_more, rows_more}
 use Rattle.first_pass_grammar.proofs.LinesFound.{lines_found}
 use Rattle.first_pass_items.specs.declared.item.HeadingLevel.{HeadingLevel}
 
@@ -46,8 +49,8 @@ no_line_end text at h =
     ]
 
 -- the content of a cell that begins there
-cell_source : List ℕ → Options → ℕ → Source
-cell_source text options start = record { options = options; whole = text; text = text; start = start; row = true }
+cell_source : List ℕ → Options → Spot → Source
+cell_source text options p = record { options = options; whole = text; text = text; start = p.at; row = true; braces = p.braces }
 
 none_of : (a b c e : Bool) → a ≡ false → b ≡ false → e ≡ false → (a || (b || (true && (c && e)))) ≡ false
 none_of true b c e h k l = absurd (true≢false h)
@@ -56,23 +59,25 @@ none_of false false c true h k l = absurd (true≢false l)
 none_of false false true false h k l = refl
 none_of false false false false h k l = refl
 
-goes_on_at : (text : List ℕ) (options : Options) (at : ℕ) → at < length text → is_line_end (slice_index text at) ≡ false → (slice_index text at == pipe) ≡ false
-    → ends_at (cell_source text options at) at ≡ false
+goes_on_at : (text : List ℕ) (options : Options) (p : Spot) → p.at < length text → is_line_end (slice_index text p.at) ≡ false
+    → (slice_index text p.at == pipe) ≡ false → ends_at (cell_source text options p) p.at ≡ false
 unfolding ends_at cell_source
-goes_on_at text options at within line other =
-    none_of (nat_le (length text) at) (is_line_end (slice_index text at)) (has options tables) (slice_index text at == pipe) (lt-leb (length text) at within) line other
+goes_on_at text options p within line other =
+    none_of (nat_le (length text) p.at) (is_line_end (slice_index text p.at)) (has options tables) (slice_index text p.at == pipe)
+    (lt-leb (length text) p.at within) line other
 
 -- A cell ends behind the place where it is looked for.
-later_by : (text : List ℕ) (options : Options) (at : ℕ) (tokens : List Item) (stop : ℕ) (t : Bool) → (slice_index text at == pipe) ≡ t
-    → eol_len (drop (cell_text text at) text) ≡ None → IsCell (cell_source text options (cell_text text at)) tokens stop → at < stop
+later_by : (texts : List CowStr) (text : List ℕ) (options : Options) (at : ℕ) (braces : MathBraces) (tokens : List Item) (stop : ℕ) (after : MathBraces) (t : Bool)
+    → (slice_index text at == pipe) ≡ t → eol_len (drop (cell_text text at) text) ≡ None
+    → IsCell texts (cell_source text options (spot (cell_text text at) braces)) tokens stop after → at < stop
 unfolding cell_source
-later_by text options at tokens stop true here h cell =
+later_by texts text options at braces tokens stop after true here h cell =
     let on = no_line_end text (cell_text text at) h in
     let ends = cell_ends (omega (arith, on.0)) cell in
     let from : cell_text text at ≤ stop = ends.from in
     let begins : cell_start text at ≡ at + 1 = ap (λ (t : Bool). if t then at + 1 else at) here in
     omega arith
-later_by text options at tokens stop false here h cell =
+later_by texts text options at braces tokens stop after false here h cell =
     let on = no_line_end text (cell_text text at) h in
     let ends = cell_ends (omega (arith, on.0)) cell in
     let from : cell_text text at ≤ stop = ends.from in
@@ -81,80 +86,107 @@ later_by text options at tokens stop false here h cell =
       | inl behind ↦ omega arith
       | inr same ↦
           let place : cell_text text at ≡ at = omega arith in
-          let later : cell_text text at < stop = ends.later (goes_on_at text options (cell_text text at) on.0 on.1 (ap (λ (k : ℕ). slice_index text k == pipe) place ∙ here)) in
+          let later : cell_text text at < stop = ends.later (goes_on_at text options (spot (cell_text text at) braces) on.0 on.1 (ap (λ (k : ℕ). slice_index text k == pipe) place ∙ here)) in
           omega arith
     ]
 
--- the cells of a row, whatever is named
-pub record CellsFrom (text : List ℕ) (options : Options) (at : ℕ) : Type 0 where
+-- the cells of a row, and names that go on with these, with the texts that they name
+pub record CellsFrom (names : Names) (text : List ℕ) (options : Options) (p : Spot) : Type 0 where
   pub cells : List (List (ℕ × Item))
-  pub stop : ℕ
-  pub are : (names : Names) → AreCells (document text options names) at cells stop
+  pub to : Spot
+  pub more : Names
+  pub extends : Extends more names
+  pub are : AreCells (document text options more) p cells to
 
-cells_by : (text : List ℕ) (options : Options) (at most : ℕ) (o : Option ℕ) → length text ≤ at + suc most → eol_len (drop (cell_text text at) text) ≡ o
-    → ((next : ℕ) → length text ≤ next + most → CellsFrom text options next) → CellsFrom text options at
+cells_by : (names : Names) (text : List ℕ) (options : Options) (p : Spot) (most : ℕ) (o : Option ℕ) → length text ≤ p.at + suc most
+    → eol_len (drop (cell_text text p.at) text) ≡ o → ((mid : Names) (next : Spot) → length text ≤ next.at + most → CellsFrom mid text options next)
+    → CellsFrom names text options p
 unfolding AreCells cell_source
-cells_by text options at most (Some n) h e f = record { cells = []; stop = cell_text text at + n; are = λ names. (n, e, refl) }
-cells_by text options at most None h e f =
-    let cell = cell_found (cell_source text options (cell_text text at)) in
-    let later : at < cell.1 = later_by text options at cell.0 cell.1 (slice_index text at == pipe) refl e cell.2 in
-    let further = f cell.1 (omega arith) in
+cells_by names text options p most (Some n) h e f =
+    record { cells = []; to = spot (cell_text text p.at + n) p.braces; more = names; extends = extends_none names; are = (n, e, refl) }
+cells_by names text options p most None h e f =
+    let cell = cell_found names.texts (cell_source text options (spot (cell_text text p.at) p.braces)) in
+    let mid : Names = with_texts names cell.named in
+    let stop : Spot = spot cell.end cell.after in
+    let later : p.at < cell.end =
+    later_by cell.named text options p.at p.braces cell.tokens cell.end cell.after (slice_index text p.at == pipe) refl e cell.cell in
+    let further = f mid stop (omega arith) in
     record {
-      cells = cell_block (cell_start text at) cell.1 cell.0 ∷ further.cells;
-      stop = further.stop;
-      are = λ names. (ap is_some e, cell.0, cell.1, cell.2, refl, further.are names);
+      cells = cell_block (cell_start text p.at) cell.end cell.tokens ∷ further.cells;
+      to = further.to;
+      more = further.more;
+      extends = extends_both further.more mid names further.extends (extends_texts names cell.named cell.more);
+      are = (ap is_some e, cell.tokens, stop, cell_later further.more mid _ cell.tokens cell.end further.extends cell.cell, refl, further.are);
     }
 
 start_behind : (text : List ℕ) (at : ℕ) (t : Bool) → (slice_index text at == pipe) ≡ t → at ≤ cell_text text at
 start_behind text at true here = let begins : cell_start text at ≡ at + 1 = ap (λ (t : Bool). if t then at + 1 else at) here in omega arith
 start_behind text at false here = let begins : cell_start text at ≡ at = ap (λ (t : Bool). if t then at + 1 else at) here in omega arith
 
-cells_at : (text : List ℕ) (options : Options) (most at : ℕ) → length text ≤ at + most → CellsFrom text options at
+cells_at : (names : Names) (text : List ℕ) (options : Options) (most : ℕ) (p : Spot) → length text ≤ p.at + most → CellsFrom names text options p
 unfolding AreCells
-cells_at text options zero at h =
-    let behind = start_behind text at (slice_index text at == pipe) refl in
-    record { cells = []; stop = cell_text text at + 0; are = λ names. (0, at_drop_all (λ bs. eol_len bs) text (cell_text text at) (omega arith), refl) }
-cells_at text options (suc most) at h =
-    cells_by text options at most (eol_len (drop (cell_text text at) text)) h refl (λ next k. cells_at text options most next k)
+cells_at names text options zero p h =
+    let behind = start_behind text p.at (slice_index text p.at == pipe) refl in
+    record {
+      cells = [];
+      to = spot (cell_text text p.at + 0) p.braces;
+      more = names;
+      extends = extends_none names;
+      are = (0, at_drop_all (λ bs. eol_len bs) text (cell_text text p.at) (omega arith), refl);
+    }
+cells_at names text options (suc most) p h =
+    cells_by names text options p most (eol_len (drop (cell_text text p.at) text)) h refl (λ mid next k. cells_at mid text options most next k)
 
-pub cells_found : (text : List ℕ) (options : Options) (at : ℕ) → CellsFrom text options at
-cells_found text options at = cells_at text options (length text) at (omega arith)
+pub cells_found : (names : Names) (text : List ℕ) (options : Options) (p : Spot) → CellsFrom names text options p
+cells_found names text options p = cells_at names text options (length text) p (omega arith)
 
--- the rows of a body, whatever is named
-pub record RowsFrom (text : List ℕ) (options : Options) (path : List Container) (columns most : ℕ) (lines : List Place) : Type 0 where
+-- the rows of a body, and names that go on with these, with the texts that they name
+pub record RowsFrom (names : Names) (text : List ℕ) (options : Options) (path : List Container) (table : TableSoFar) (lines : List Place) : Type 0 where
   pub rows : Taken
-  pub are : (names : Names) → CountedRows (document text options names) path columns most lines rows
+  pub more : Names
+  pub extends : Extends more names
+  pub are : CountedRows (document text options more) path table lines rows
   pub shorter : length rows.left ≤ length lines
 
-row_by : (text : List ℕ) (options : Options) (path : List Container) (columns most : ℕ) (line : Place) (lines : List Place) (start : ℕ)
-    → row_text path line ≡ Some start → (row : CellsFrom text options start) (t : Bool) → is_row columns most row.cells ≡ t
-    → RowsFrom text options path columns (most - filled columns row.cells) lines → RowsFrom text options path columns most (line ∷ lines)
-unfolding CountedRows
-row_by text options path columns most line lines start e row true h more = record {
-  rows = taking (row_block TableRow columns start row.cells row.stop ++ more.rows.items) more.rows.left;
-  are = λ names. inr (start, row.cells, row.stop, e, row.are names, inr (h, more.rows, more.are names, refl));
-  shorter = let less = more.shorter in omega arith;
-}
-row_by text options path columns most line lines start e row false h more = record {
-  rows = taking [] (line ∷ lines);
-  are = λ names. inr (start, row.cells, row.stop, e, row.are names, inl (h, refl));
-  shorter = omega arith;
-}
+-- the row with the cells that are found
+abbrev row_with : (names : Names) (text : List ℕ) (options : Options) (start : ℕ) (braces : MathBraces) → CellsFrom names text options (spot start braces) → FoundRow
+row_with names text options start braces found = record { start = start; cells = found.cells; row_end = found.to.at; after = found.to.braces }
 
-rows_by : (text : List ℕ) (options : Options) (path : List Container) (columns most : ℕ) (line : Place) (lines : List Place) (o : Option ℕ)
-    → row_text path line ≡ o → ((fewer : ℕ) → RowsFrom text options path columns fewer lines) → RowsFrom text options path columns most (line ∷ lines)
+row_by : (names mid : Names) (text : List ℕ) (options : Options) (path : List Container) (table : TableSoFar) (line : Place) (lines : List Place)
+    (row : FoundRow) (t : Bool) → Extends mid names → HasCells (document text options mid) path line table.braces row → is_row table row.cells ≡ t
+    → RowsFrom mid text options path (with_row table row) lines → RowsFrom names text options path table (line ∷ lines)
 unfolding CountedRows
-rows_by text options path columns most line lines None e f = record { rows = taking [] (line ∷ lines); are = λ names. inl (e, refl); shorter = omega arith }
-rows_by text options path columns most line lines (Some start) e f =
-    let row = cells_found text options start in
-    row_by text options path columns most line lines start e row (is_row columns most row.cells) refl (f (most - filled columns row.cells))
+row_by names mid text options path table line lines row true e has h more =
+    let still = row_more text options mid more.more path line table.braces row more.extends has in
+    record {
+      rows = taking (row_block TableRow table.columns row.start row.cells row.row_end ++ more.rows.items) more.rows.left;
+      more = more.more;
+      extends = extends_both more.more mid names more.extends e;
+      are = inr (row, still, inr (h, more.rows, more.are, refl));
+      shorter = let less = more.shorter in omega arith;
+    }
+row_by names mid text options path table line lines row false e has h more =
+    record { rows = taking [] (line ∷ lines); more = mid; extends = e; are = inr (row, has, inl (h, refl)); shorter = omega arith }
 
-pub rows_found : (text : List ℕ) (options : Options) (path : List Container) (columns : ℕ) (lines : List Place) (most : ℕ)
-    → RowsFrom text options path columns most lines
+rows_by : (names : Names) (text : List ℕ) (options : Options) (path : List Container) (table : TableSoFar) (line : Place) (lines : List Place)
+    (o : Option ℕ) → row_text path line ≡ o → ((mid : Names) (further : TableSoFar) → RowsFrom mid text options path further lines)
+    → RowsFrom names text options path table (line ∷ lines)
 unfolding CountedRows
-rows_found text options path columns [] most = record { rows = taking [] []; are = λ names. refl; shorter = omega arith }
-rows_found text options path columns (line ∷ lines) most =
-    rows_by text options path columns most line lines (row_text path line) refl (λ fewer. rows_found text options path columns lines fewer)
+rows_by names text options path table line lines None e f =
+    record { rows = taking [] (line ∷ lines); more = names; extends = extends_none names; are = inl (e, refl); shorter = omega arith }
+rows_by names text options path table line lines (Some start) e f =
+    let found = cells_found names text options (spot start table.braces) in
+    let row : FoundRow = row_with names text options start table.braces found in
+    row_by names found.more text options path table line lines row (is_row table row.cells) found.extends (record { begins = e; are_cells = found.are }) refl
+    (f found.more (with_row table row))
+
+pub rows_found : (names : Names) (text : List ℕ) (options : Options) (path : List Container) (lines : List Place) (table : TableSoFar)
+    → RowsFrom names text options path table lines
+unfolding CountedRows
+rows_found names text options path [] table =
+    record { rows = taking [] []; more = names; extends = extends_none names; are = refl; shorter = omega arith }
+rows_found names text options path (line ∷ lines) table =
+    rows_by names text options path table line lines (row_text path line) refl (λ mid further. rows_found mid text options path lines further)
 
 -- What is taken of a text, and names that go on with these, so that this holds of it for all names that go on with those.
 pub record TakenFrom (names : Names) (lines : List Place) (Holds : Names → Taken → Type 0) : Type 0 where
@@ -168,24 +200,31 @@ pub record TakenFrom (names : Names) (lines : List Place) (Holds : Names → Tak
 table_found : (names : Names) (text : List ℕ) (options : Options) (path : List Container) (p : Place) (alignments : List Alignment) (lines : List Place)
     → TakenFrom names lines (λ later t. IsTable (document text options later) path p alignments lines t)
 table_found names text options path p alignments lines =
-    let head = cells_found text options (offset p) in
-    let body = rows_found text options path (length alignments) (drop 1 lines) (most_filled - filled (length alignments) head.cells) in
-    let ix = named_alignments names alignments in
+    let columns : ℕ = length alignments in
+    let head = cells_found names text options (spot (offset p) no_braces) in
+    let table : TableSoFar = table_so_far columns (most_filled - filled columns head.cells) head.to.braces in
+    let body = rows_found head.more text options path (drop 1 lines) table in
+    let ix = named_alignments body.more alignments in
+    let rows = are_rows (document text options body.more) path table (drop 1 lines) body.rows body.are in
     record {
       value = taking (block_of (record { start = offset p; «end» = start_of (length text) body.rows.left; body = Table ix.value })
-          (row_block TableHead (length alignments) (offset p) head.cells head.stop ++ body.rows.items)) body.rows.left;
+          (row_block TableHead columns (offset p) head.cells head.to.at ++ body.rows.items)) body.rows.left;
       more = ix.more;
-      extends = ix.extends;
-      holds = λ later e. record {
-        index = ix.value;
-        named = ix.holds later e;
-        cells = head.cells;
-        head_end = head.stop;
-        are_cells = head.are later;
-        body = body.rows.items;
-        are_rows = are_rows _ _ _ _ _ _ (body.are later);
-        items_are = refl;
-      };
+      extends = extends_both ix.more body.more names ix.extends (extends_both body.more head.more names body.extends head.extends);
+      holds = λ later e.
+          let behind : Extends later body.more = extends_both later ix.more body.more e ix.extends in
+          record {
+            index = ix.value;
+            named = ix.holds later e;
+            cells = head.cells;
+            head_end = head.to.at;
+            after = head.to.braces;
+            are_cells = cells_more text options head.more later (spot (offset p) no_braces) head.cells head.to
+                (extends_both later body.more head.more behind body.extends) head.are;
+            body = body.rows.items;
+            are_rows = rows_more text options body.more later path table (drop 1 lines) body.rows behind rows;
+            items_are = refl;
+          };
       shorter = let less = body.shorter in let behind = length-drop 1 lines in omega arith;
     }
 
@@ -210,13 +249,17 @@ ended_found names text options start marker l lines (Some underline) less =
 plain_found : (names : Names) (text : List ℕ) (options : Options) (path : List Container) (p : Place) (marker : Option Item) (lines : List Place)
     → TakenFrom names lines (λ later t. IsPlainText (document text options later) path (offset p) marker lines t)
 plain_found names text options path p marker lines =
-    let found = lines_found text options path lines (offset p) [] in
-    let ended = ended_found names text options (offset p) marker found.given lines (underline_first path found.given.left) found.shorter in
+    let found = lines_found names text options path lines (spot (offset p) no_braces) [] in
+    let ended = ended_found found.more text options (offset p) marker found.given lines (underline_first path found.given.left) found.shorter in
     record {
       value = ended.value;
       more = ended.more;
-      extends = ended.extends;
-      holds = λ later e. (found.given, found.are later, ended.holds later e);
+      extends = extends_both ended.more found.more names ended.extends found.extends;
+      holds = λ later e. (
+        found.given,
+        text_lines_more text options found.more later path (spot (offset p) no_braces) [] lines found.given (extends_both later ended.more found.more e ended.extends) found.are,
+        ended.holds later e,
+      );
       shorter = ended.shorter;
     }
 

@@ -27,8 +27,7 @@ use Rattle.std.proofs.lemmas.Bool.{true≢false}
 use Rattle.std.proofs.lemmas.Option.{none-some, same_Some}
 use Rattle.first_pass_grammar.specs.Skeleton.{leaf_block, OpensBeyond, OpensRun, Head, opened, From, Line, Blanks, At, Anything, ALeafAlone, TextOf, MarkAlone, behind_marker, Opening, OpensLeaf, OpensNode, OpensText, OpensExtent, OpensAs, OpensBlockAt, is_blank_behind, next_is_blank, item_head, task_by, task_behind, behind_task, task_alone, item_opening, tag_behind, behind_tag, quote_opening, OpensQuote, OpensFrom, Opens, OpensAt, Skeleton, Nil, Then, Node, Begins, Ends, behind_first, end_before, IsFirst, IsSequence}
 use Rattle.first_pass_grammar.specs.Derivation.{Tables, no_tables, told, node_of, Derives}
-use Rattle.first_pass_grammar.proofs.NoIndex.{IsWithoutIndex, HasNoIndex, read_alone, tokens_free}
-use Rattle.first_pass_grammar.proofs.EachToken.{heading_each}
+use Rattle.first_pass_grammar.proofs.NoIndex.{HasNoIndex, read_alone}
 use Rattle.first_pass_grammar.specs.RawLines.{range_text, range_html}
 use Rattle.first_pass_grammar.proofs.Alike.{with_names, AlikeNodes, HoldsNoIndex, AlikeOpening, Alike, text_free, html_free, raw_alike, block_alike, fence_alike, heading_alike}
 use Rattle.first_pass_grammar.proofs.LinesAlike.{one_heading}
@@ -161,11 +160,10 @@ opens_once d n path p lines (AtxHeading level) o o' (i, c, e, h, f) (i', c', e',
     let text : ℕ = heading_text_at d.text (offset (unindented p)) (level_number level) in
     let s = one_heading d n text i i' c c' e e' h h' in
     let start : ℕ = offset (unindented p) in
-    let same : o' ≡ OpensLeaf (leaf_block (AtxHeading level) p (heading_block start e level i' c) false) Line lines =
-    f' ∙ ap (λ z. OpensLeaf (leaf_block (AtxHeading level) p (heading_block start e' level i' z) false) Line lines) (sym s.0)
-    ∙ ap (λ z. OpensLeaf (leaf_block (AtxHeading level) p (heading_block start z level i' c) false) Line lines) (sym s.1) in
+    let same : o' ≡ OpensLeaf (leaf_block (AtxHeading level) p (heading_block start e level i' c') false) Line lines =
+    f' ∙ ap (λ z. OpensLeaf (leaf_block (AtxHeading level) p (heading_block start z level i' c') false) Line lines) (sym s.1) in
     let own = heading_alike d.names n start e level i i' (heading_attributes_of d.options (line_bytes d text)) h.named h'.named in
-    let items = block_alike d.names n start e (HeadingBody level i) (HeadingBody level i') c c own (read_alone d.names n c (heading_each IsWithoutIndex tokens_free d text i c e h)) in
+    let items = block_alike d.names n start e (HeadingBody level i) (HeadingBody level i') c c' own s.0 in
     alike_by d.names n o o' _ _ f same ((refl, items, refl, refl), refl, tt, refl)
 opens_once d n path p lines (FencedCode count byte) o o' e f =
     let x : Extent = fenced_lines (length d.text) path (indent p.rest) byte count lines in

@@ -10,6 +10,8 @@ use Rattle.first_pass_lines.specs.Rest.{Rest, indent}
 use Rattle.first_pass_lines.specs.Places.{Place, offset, start_of, line_of}
 use Rattle.first_pass_scan.specs.Markers.{task_of}
 use Rattle.first_pass_items.specs.OptionWords.{has, tasklists}
+use Rattle.first_pass_tokens.specs.Braces.{no_braces}
+use Rattle.first_pass_tokens.specs.LineTokens.{spot}
 use Rattle.first_pass_grammar.specs.declared.kind.Container.{Container}
 use Rattle.first_pass_grammar.specs.declared.kind.Container.TheVariants.{BlockQuote, ListItem}
 use Rattle.first_pass_grammar.specs.Names.{Names}
@@ -30,7 +32,7 @@ use Rattle.first_pass_grammar.specs.WholeTables.{Mark, marks, table_marks, AreFu
 use Rattle.first_pass_grammar.proofs.EachToken.{AreEach, heading_each, range_text_each, range_html_each, raw_lines_each, lines_each, children_each, heading_children_each}
 use Rattle.first_pass_grammar.proofs.PlacesKept.{IsAt, AreAt, at_unindented, at_front, at_taken, at_quote, at_item, extent_at, tag_left_at, code_at}
 use Rattle.first_pass_grammar.proofs.LinesLeft.{BeyondAt, run_at, text_left}
-use Rattle.first_pass_grammar.proofs.TableMarks.{ShowsNothing, tokens_show, raw_shows, block_shows, table_shows}
+use Rattle.first_pass_grammar.proofs.TableMarks.{ShowsNothing, text_shows, tokens_show, raw_shows, block_shows, table_shows}
 use Rattle.first_pass_items.specs.declared.item.HeadingLevel.{HeadingLevel}
 
 -- nodes that show nothing
@@ -80,17 +82,18 @@ module _ (d : Document) (full : HeadsAreFull d) where
       → MatchOption o (t ≡ plain_text d start marker l) (λ underline. IsUnderlined d start marker l underline.1 t) → AreWholeTables d.names t.items
   ended_whole path start marker l t None plain h e =
       chain_whole d.names start (start_of (length d.text) l.left) ParagraphBody (text_children marker l) t.items (ap (λ (z : Taken). z.items) e)
-      (λ names depth start end. refl) (children_each ShowsNothing tokens_show marker l plain h)
+      (λ names depth start end. refl) (children_each ShowsNothing text_shows marker l plain h)
   ended_whole path start marker l t (Some underline) plain h (index, named, e) =
       chain_whole d.names start (start_of (length d.text) (drop 1 l.left)) (HeadingBody underline.1 index) (heading_children d start marker l) t.items
-      (ap (λ (z : Taken). z.items) e) (λ names depth start end. refl) (heading_children_each ShowsNothing tokens_show d start marker l plain h)
+      (ap (λ (z : Taken). z.items) e) (λ names depth start end. refl) (heading_children_each ShowsNothing text_shows d start marker l plain h)
 
   -- what stands for a text
   text_by : (path : List Container) (p : Place) (marker : Option Item) (lines : List Place) (t : Taken) (o : Option (List Alignment))
       → headed_table (around d path) p.rest.left ≡ o → IsAt d.text p → ShownBy marker
       → MatchOption o (IsPlainText d path (offset p) marker lines t) (λ alignments. IsTable d path p alignments lines t) → AreWholeTables d.names t.items
   text_by path p marker lines t None e i plain (l, are, is) =
-      ended_whole path (offset p) marker l t (underline_first path l.left) plain (lines_each ShowsNothing tokens_show d path (offset p) [] lines l tt are) is
+      ended_whole path (offset p) marker l t (underline_first path l.left) plain
+      (lines_each ShowsNothing d (tokens_show d.names.texts) path (spot (offset p) no_braces) [] lines l tt are) is
   text_by path p marker lines t (Some alignments) e i plain h = table_shows d path p alignments lines t h (full path p alignments lines t i e h)
 
   pub text_whole : (path : List Container) (p : Place) (marker : Option Item) (lines : List Place) (t : Taken) → IsAt d.text p → ShownBy marker
@@ -126,14 +129,14 @@ module _ (d : Document) (full : HeadsAreFull d) where
   opens_as path p lines IndentedCode o i h (items, is, e) =
       subst (WholeOpening d) (sym e) (
         chain_whole d.names _ _ IndentCodeBlock is.chain items is.items_are (λ names depth start end. refl)
-            (raw_lines_each ShowsNothing raw_shows range_text d [] _ is.chain (range_text_each ShowsNothing tokens_show) tt is.lines),
+            (raw_lines_each ShowsNothing raw_shows range_text d [] _ is.chain (range_text_each ShowsNothing text_shows) tt is.lines),
         tt,
         code_at d.text path lines h,
       )
   opens_as path p lines (Metadata byte) o i h (items, is, e) =
       subst (WholeOpening d) (sym e) (
         chain_whole d.names _ _ (MetadataBlock (metadata_kind byte)) is.chain items is.items_are (λ names depth start end. refl)
-            (raw_lines_each ShowsNothing raw_shows range_text d [] _ is.chain (range_text_each ShowsNothing tokens_show) tt is.lines),
+            (raw_lines_each ShowsNothing raw_shows range_text d [] _ is.chain (range_text_each ShowsNothing text_shows) tt is.lines),
         tt,
         extent_at d.text (in_containers path (metadata_judge byte)) (length d.text) lines h,
       )
@@ -156,14 +159,14 @@ module _ (d : Document) (full : HeadsAreFull d) where
   opens_as path p lines (AtxHeading level) o i h (index, chain, stop, is, e) =
       subst (WholeOpening d) (sym e) (
         chain_whole d.names _ _ (HeadingBody level index) chain _ refl (λ names depth start end. refl)
-            (heading_each ShowsNothing tokens_show d (heading_text_at d.text (offset (unindented p)) (level_number level)) index chain stop is),
+            (heading_each ShowsNothing d (tokens_show d.names.texts) (heading_text_at d.text (offset (unindented p)) (level_number level)) index chain stop is),
         tt,
         h,
       )
   opens_as path p lines (FencedCode count byte) o i h (items, is, e) =
       subst (WholeOpening d) (sym e) (
         chain_whole d.names _ _ (FencedCodeBlock is.info) is.chain items is.items_are (λ names depth start end. refl)
-            (raw_lines_each ShowsNothing raw_shows range_text d [] _ is.chain (range_text_each ShowsNothing tokens_show) tt is.lines),
+            (raw_lines_each ShowsNothing raw_shows range_text d [] _ is.chain (range_text_each ShowsNothing text_shows) tt is.lines),
         tt,
         extent_at d.text (in_containers path (fence_judge (indent p.rest) byte count)) (length d.text) lines h,
       )

@@ -12,7 +12,8 @@ use Rattle.first_pass_tree.specs.Forest.{block_of}
 use Rattle.first_pass_lines.specs.Lines.{is_white, line_len}
 use Rattle.first_pass_lines.specs.Places.{Place, offset}
 use Rattle.first_pass_tokens.specs.Pieces.{Source}
-use Rattle.first_pass_tokens.specs.LineTokens.{IsLine}
+use Rattle.first_pass_tokens.specs.Braces.{MathBraces, no_braces}
+use Rattle.first_pass_tokens.specs.LineTokens.{Spot, spot, IsLine}
 use Rattle.first_pass_tokens.specs.TreeTokens.{leaves}
 use Rattle.first_pass_tokens.specs.Chains.{add_tokens, close_break, cut}
 use Rattle.first_pass_grammar.specs.declared.kind.Container.{Container}
@@ -30,9 +31,9 @@ pub record Document : Type 0 where
 abbrev pub document : List ℕ → Options → Names → Document
 document text options names = record { text = text; options = options; names = names }
 
--- the content that begins at an offset
-abbrev pub content_at : Document → ℕ → Source
-content_at d start = record { options = d.options; whole = d.text; text = d.text; start = start; row = false }
+-- the content that begins at a place, with the brace contexts before it
+abbrev pub content_at : Document → Spot → Source
+content_at d p = record { options = d.options; whole = d.text; text = d.text; start = p.at; row = false; braces = p.braces }
 
 -- what the text is read in, inside the containers of a path
 abbrev pub around : Document → List Container → Context
@@ -56,17 +57,19 @@ pub record TextLines : Type 0 where
 abbrev pub text_lines : List Item → Option Item → List Place → TextLines
 text_lines chain break left = record { chain = chain; break = break; left = left }
 
--- What the lines of a text give, of which those from an offset on stand behind a chain: the tokens of each line are joined to it, with the break between two
--- lines. The text takes each line up to the least that is an underline or interrupts it, whatever containers that line goes on with (CommonMark 4.3, 4.8, and
--- 5.1 on lazy continuation lines); columns before a line's text are dropped.
-unfoldable pub AreTextLines : Document → List Container → ℕ → List Item → List Place → TextLines → Type 0
-AreTextLines d path start chain [] t =
-    (tokens : List Item) × (answer : ℕ × Option Item) × IsLine (content_at d start) tokens answer × (t ≡ text_lines (add_tokens chain tokens) answer.1 [])
-AreTextLines d path start chain (line ∷ lines) t =
-    (tokens : List Item) × (answer : ℕ × Option Item) × IsLine (content_at d start) tokens answer
+-- What the lines of a text give, of which those from a place on stand after a chain: the tokens of each line, whose texts are among those that are named, are
+-- joined to it, with the break between two lines. The text takes each line up to the least that is an underline or interrupts it, whatever containers that
+-- line goes on with (CommonMark 4.3, 4.8, and 5.1 on lazy continuation lines); columns before a line's text are dropped. Each line has the brace contexts that
+-- the line before it leaves.
+unfoldable pub AreTextLines : Document → List Container → Spot → List Item → List Place → TextLines → Type 0
+AreTextLines d path p chain [] t =
+    (tokens : List Item) × (answer : ℕ × Option Item) × (after : MathBraces) × IsLine d.names.texts (content_at d p) tokens answer after
+    × (t ≡ text_lines (add_tokens chain tokens) answer.1 [])
+AreTextLines d path p chain (line ∷ lines) t =
+    (tokens : List Item) × (answer : ℕ × Option Item) × (after : MathBraces) × IsLine d.names.texts (content_at d p) tokens answer after
     × (((ends_text (around d path) line.rest ≡ true) × (t ≡ text_lines (add_tokens chain tokens) answer.1 (line ∷ lines)))
     ⊎ ((ends_text (around d path) line.rest ≡ false)
-    × AreTextLines d path (offset (unindented (at_rest line (front path line.rest)))) (add_break answer.1 (add_tokens chain tokens)) lines t))
+    × AreTextLines d path (spot (offset (unindented (at_rest line (front path line.rest)))) after) (add_break answer.1 (add_tokens chain tokens)) lines t))
 
 -- spaces and line ends
 abbrev pub is_put_aside : ℕ → Bool
@@ -114,14 +117,16 @@ heading_content d start = record {
   text = text_before_attributes d.options d.text start (line_bytes d start);
   start = start;
   row = false;
+  braces = no_braces;
 }
 
 -- An ATX heading whose text begins at an offset and whose line ends before another: the tokens of that line before its attribute block, without the closing
--- sequence; and the index of the attributes that the block gives (CommonMark 4.2, and this project).
+-- sequence, whose texts are among those that are named; and the index of the attributes that the block gives (CommonMark 4.2, and this project).
 pub record IsHeading (d : Document) (start : ℕ) (index : Option HeadingIndex) (chain : List Item) (end_of_line : ℕ) : Type 0 where
   pub tokens : List Item
   pub answer : ℕ × Option Item
-  pub line : IsLine (heading_content d start) tokens answer
+  pub after : MathBraces
+  pub line : IsLine d.names.texts (heading_content d start) tokens answer after
   pub chain_is : chain ≡ heading_chain (kept_len (before_attributes d.options (line_bytes d start))) start (close_break answer.1 (add_tokens [] tokens))
   pub named : NamesAttributes d.names index (heading_attributes_of d.options (line_bytes d start))
   pub end_is : end_of_line ≡ start + line_len (drop start d.text)

@@ -11,6 +11,7 @@ use Rattle.first_pass_items.specs.declared.item.Item.{Item}
 use Rattle.first_pass_items.specs.declared.item.ItemBody.{ItemBody}
 use Rattle.first_pass_items.specs.declared.item.ItemBody.TheVariants.{Heading, SynthesizeText, FencedCodeBlock, Table}
 use Rattle.first_pass_attributes.specs.Attributes.{Attributes, no_attributes}
+use Rattle.first_pass_tokens.specs.NamedTexts.{NamesAmong}
 
 -- the texts, the alignments of tables' columns, and the attributes of headings, that items name by their indices (this project)
 pub record Names : Type 0 where
@@ -20,7 +21,7 @@ pub record Names : Type 0 where
 
 -- an index names a text (this project)
 abbrev pub NamesText : Names → CowIndex → List ℕ → Type 0
-NamesText names ix text = (named : CowStr) × (slice_get names.texts ix.0 ≡ Some named) × (text_of named ≡ text)
+NamesText names ix text = NamesAmong names.texts ix text
 
 -- an index names the alignments of a table's columns (GFM 4.10)
 abbrev pub NamesAlignments : Names → AlignmentIndex → List Alignment → Type 0

@@ -12,16 +12,17 @@ use Rattle.first_pass_tree.specs.Forest.{block_of}
 use Rattle.first_pass_lines.specs.Lines.{is_white, at_line_end, eol_len}
 use Rattle.first_pass_lines.specs.Places.{Place, offset, start_of}
 use Rattle.first_pass_tokens.specs.Pieces.{Source}
-use Rattle.first_pass_tokens.specs.LineTokens.{IsCell}
+use Rattle.first_pass_tokens.specs.Braces.{MathBraces, no_braces}
+use Rattle.first_pass_tokens.specs.LineTokens.{Spot, spot, IsCell}
 use Rattle.first_pass_grammar.specs.declared.kind.Container.{Container}
 use Rattle.first_pass_grammar.specs.Names.{NamesAlignments}
 use Rattle.first_pass_grammar.specs.Containers.{taken}
 use Rattle.first_pass_grammar.specs.Kinds.{unindented, interrupts_with}
 use Rattle.first_pass_grammar.specs.Leaves.{Document, block_with}
 
--- the content of a cell that begins at an offset (GFM 4.10)
-abbrev pub cell_content : Document → ℕ → Source
-cell_content d start = record { options = d.options; whole = d.text; text = d.text; start = start; row = true }
+-- the content of a cell that begins at a place, with the brace contexts before it (GFM 4.10)
+abbrev pub cell_content : Document → Spot → Source
+cell_content d p = record { options = d.options; whole = d.text; text = d.text; start = p.at; row = true; braces = p.braces }
 
 -- where a cell begins: behind the pipe that stands at an offset, or there where none does (GFM 4.10)
 abbrev pub cell_start : List ℕ → ℕ → ℕ
@@ -35,14 +36,15 @@ cell_text text at = cell_start text at + prefix_len is_white (drop (cell_start t
 abbrev pub cell_block : ℕ → ℕ → List Item → List (ℕ × Item)
 cell_block start «end» tokens = block_with start «end» TableCell tokens
 
--- These are the cells of a row from an offset on, and the row ends behind its line end there: a cell goes from behind its pipe up to the next one or to the
--- line's end; white space behind the last pipe is no cell (GFM 4.10).
-unfoldable pub AreCells : Document → ℕ → List (List (ℕ × Item)) → ℕ → Type 0
-AreCells d at [] «end» = (n : ℕ) × (eol_len (drop (cell_text d.text at) d.text) ≡ Some n) × («end» ≡ cell_text d.text at + n)
-AreCells d at (cell ∷ cells) «end» =
-    (at_line_end (drop (cell_text d.text at) d.text) ≡ false)
-    × (tokens : List Item) × (stop : ℕ) × IsCell (cell_content d (cell_text d.text at)) tokens stop
-    × (cell ≡ cell_block (cell_start d.text at) stop tokens) × AreCells d stop cells «end»
+-- These are the cells of a row from a place on, and the row ends behind its line end there: a cell goes from behind its pipe up to the next one or to the
+-- line's end, and the texts of its tokens are among those that are named; white space behind the last pipe is no cell. Each cell has the brace contexts that
+-- the one before it leaves, be it dropped or not (GFM 4.10, and this project).
+unfoldable pub AreCells : Document → Spot → List (List (ℕ × Item)) → Spot → Type 0
+AreCells d p [] to = (n : ℕ) × (eol_len (drop (cell_text d.text p.at) d.text) ≡ Some n) × (to ≡ spot (cell_text d.text p.at + n) p.braces)
+AreCells d p (cell ∷ cells) to =
+    (at_line_end (drop (cell_text d.text p.at) d.text) ≡ false)
+    × (tokens : List Item) × (stop : Spot) × IsCell d.names.texts (cell_content d (spot (cell_text d.text p.at) p.braces)) tokens stop.at stop.braces
+    × (cell ≡ cell_block (cell_start d.text p.at) stop.at tokens) × AreCells d stop cells to
 
 -- how many empty cells are filled into a row that has too few for so many columns (GFM 4.10)
 abbrev pub filled : ℕ → List (List (ℕ × Item)) → ℕ
@@ -74,47 +76,69 @@ pub record Taken : Type 0 where
 abbrev pub taking : List (ℕ × Item) → List Place → Taken
 taking items left = record { items = items; left = left }
 
--- a row as it is found in a text: where its text begins, its cells, and where it ends (GFM 4.10)
+-- a row as it is found in a text: where its text begins, its cells, where it ends, and the brace contexts there (GFM 4.10)
 pub record FoundRow : Type 0 where
   pub start : ℕ
   pub cells : List (List (ℕ × Item))
   pub row_end : ℕ
+  pub after : MathBraces
 
--- the text of a line has the cells of this row, if any (GFM 4.10)
-pub record HasCells (d : Document) (path : List Container) (line : Place) (row : FoundRow) : Type 0 where
+-- the text of a line, with these brace contexts before it, has the cells of this row, if any (GFM 4.10)
+pub record HasCells (d : Document) (path : List Container) (line : Place) (before : MathBraces) (row : FoundRow) : Type 0 where
   pub begins : row_text path line ≡ Some row.start
-  pub are_cells : AreCells d row.start row.cells row.row_end
+  pub are_cells : AreCells d (spot row.start before) row.cells (spot row.row_end row.after)
+
+-- the brace contexts after rows, before the first of which these are (this project)
+abbrev pub braces_after_rows : MathBraces → List FoundRow → MathBraces
+braces_after_rows before [] = before
+braces_after_rows before (row ∷ rows) = braces_after_rows row.after rows
 
 -- The first of these lines are these rows, one after the other and each with a cell, and the other lines are left (GFM 4.10).
-unfoldable pub TakesRows : Document → List Container → List FoundRow → List Place → List Place → Type 0
-TakesRows d path [] lines left = left ≡ lines
-TakesRows d path (row ∷ rows) [] left = ⊥
-TakesRows d path (row ∷ rows) (line ∷ lines) left = HasCells d path line row × (0 < length row.cells) × TakesRows d path rows lines left
+unfoldable pub TakesRows : Document → List Container → MathBraces → List FoundRow → List Place → List Place → Type 0
+TakesRows d path before [] lines left = left ≡ lines
+TakesRows d path before (row ∷ rows) [] left = ⊥
+TakesRows d path before (row ∷ rows) (line ∷ lines) left =
+    HasCells d path line before row × (0 < length row.cells) × TakesRows d path row.after rows lines left
 
 -- how many cells are filled into rows of so many columns, all together (GFM 4.10)
 abbrev pub all_filled : ℕ → List FoundRow → ℕ
 all_filled columns [] = 0
 all_filled columns (row ∷ rows) = filled columns row.cells + all_filled columns rows
 
--- Rows into which so many cells are filled end before these lines: there is no line, or the first is no row, or has no cell, or is a row with which more than
--- the most would be filled in (GFM 4.10, and this project).
-unfoldable pub EndRows : Document → List Container → ℕ → ℕ → ℕ → List Place → Type 0
-EndRows d path columns before most [] = Unit {0}
-EndRows d path columns before most (line ∷ lines) =
+-- a table up to a line: how many columns it has, how many cells more may be filled into its rows, and the brace contexts before that line
+-- (GFM 4.10, and this project)
+pub record TableSoFar : Type 0 where
+  pub columns : ℕ
+  pub room : ℕ
+  pub braces : MathBraces
+
+abbrev pub table_so_far : ℕ → ℕ → MathBraces → TableSoFar
+table_so_far columns room braces = record { columns = columns; room = room; braces = braces }
+
+-- The rows of a table end before these lines: there is no line, or the first is no row, or has no cell, or is a row into which more cells would be filled than
+-- may be (GFM 4.10, and this project).
+unfoldable pub EndRows : Document → List Container → TableSoFar → List Place → Type 0
+EndRows d path table [] = Unit {0}
+EndRows d path table (line ∷ lines) =
     (row_text path line ≡ None)
-    ⊎ ((row : FoundRow) × HasCells d path line row × ((row.cells ≡ []) ⊎ (most < before + filled columns row.cells)))
+    ⊎ ((row : FoundRow) × HasCells d path line table.braces row × ((row.cells ≡ []) ⊎ (table.room < filled table.columns row.cells)))
 
 -- the items of rows of so many columns, one after the other (GFM 4.10)
 abbrev pub row_blocks : ℕ → List FoundRow → List (ℕ × Item)
 row_blocks columns rows = side_by_side (map (λ (row : FoundRow). row_block TableRow columns row.start row.cells row.row_end) rows)
 
--- The longest run of rows among these lines, from the first on, into which all together no more than so many cells are filled (GFM 4.10, and this project).
-pub record AreRows (d : Document) (path : List Container) (columns most : ℕ) (lines : List Place) (t : Taken) : Type 0 where
+-- a table after these rows
+abbrev pub with_rows : TableSoFar → List FoundRow → TableSoFar
+with_rows table rows = table_so_far table.columns (table.room - all_filled table.columns rows) (braces_after_rows table.braces rows)
+
+-- The longest run of rows of a table among these lines, from the first on, into which all together no more cells are filled than may be
+-- (GFM 4.10, and this project).
+pub record AreRows (d : Document) (path : List Container) (table : TableSoFar) (lines : List Place) (t : Taken) : Type 0 where
   pub rows : List FoundRow
-  pub takes : TakesRows d path rows lines t.left
-  pub fits : all_filled columns rows ≤ most
-  pub ends : EndRows d path columns (all_filled columns rows) most t.left
-  pub items_are : t.items ≡ row_blocks columns rows
+  pub takes : TakesRows d path table.braces rows lines t.left
+  pub fits : all_filled table.columns rows ≤ table.room
+  pub ends : EndRows d path (with_rows table rows) t.left
+  pub items_are : t.items ≡ row_blocks table.columns rows
 
 -- how many cells are filled into one table at the most (this project)
 abbrev pub most_filled : ℕ
@@ -126,8 +150,9 @@ pub record IsTable (d : Document) (path : List Container) (p : Place) (alignment
   pub named : NamesAlignments d.names index alignments
   pub cells : List (List (ℕ × Item))
   pub head_end : ℕ
-  pub are_cells : AreCells d (offset p) cells head_end
+  pub after : MathBraces
+  pub are_cells : AreCells d (spot (offset p) no_braces) cells (spot head_end after)
   pub body : List (ℕ × Item)
-  pub are_rows : AreRows d path (length alignments) (most_filled - filled (length alignments) cells) (drop 1 lines) (taking body t.left)
+  pub are_rows : AreRows d path (table_so_far (length alignments) (most_filled - filled (length alignments) cells) after) (drop 1 lines) (taking body t.left)
   pub items_are : t.items ≡ block_of (record { start = offset p; «end» = start_of (length d.text) t.left; body = Table index })
       (row_block TableHead (length alignments) (offset p) cells head_end ++ body)

@@ -5,7 +5,9 @@ use Rattle.first_pass_items.specs.declared.item.HeadingIndex.{HeadingIndex}
 use Rattle.first_pass_items.specs.declared.item.HeadingLevel.{HeadingLevel}
 use Rattle.first_pass_items.specs.declared.item.Item.{Item}
 use Rattle.first_pass_lines.specs.Places.{Place, offset, start_of}
+use Rattle.first_pass_tokens.specs.Braces.{no_braces}
 use Rattle.first_pass_tokens.specs.Chains.{is_backslash_break, close_break, cut}
+use Rattle.first_pass_tokens.specs.LineTokens.{spot}
 use Rattle.first_pass_attributes.specs.AttributeBlocks.{Braces}
 use Rattle.first_pass_grammar.specs.declared.kind.Container.{Container}
 use Rattle.first_pass_grammar.specs.Headings.{heading_braces, heading_attributes_of, chain_bytes, kept_before}
@@ -71,7 +73,7 @@ IsEnded d path start marker l t =
     MatchOption (underline_first path l.left) (t ≡ plain_text d start marker l) (λ underline. IsUnderlined d start marker l underline.1 t)
 
 abbrev pub IsPlainText : Document → List Container → ℕ → Option Item → List Place → Taken → Type 0
-IsPlainText d path start marker lines t = (l : TextLines) × AreTextLines d path start [] lines l × IsEnded d path start marker l t
+IsPlainText d path start marker lines t = (l : TextLines) × AreTextLines d path (spot start no_braces) [] lines l × IsEnded d path start marker l t
 
 -- A text that begins at a place is the table that its first line heads; the marker of a task list item before it is gone then. Else it is a heading that is
 -- underlined, or a paragraph (CommonMark 4.3, 4.8, GFM 4.10, and this project).

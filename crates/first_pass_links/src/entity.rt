@@ -30,7 +30,7 @@ pub fn scan_entity(bytes: &[u8]) -> (usize, Option<CowStr<'static>>)
 /// The reference that `bytes` begins with: how many bytes it has, and the character that it stands for.
 /// CommonMark 2.5.
 #[tactic(auto, unfolding(crate::specs::Entities::entity_at))]
-pub(crate) fn scan_reference(bytes: &[u8]) -> Option<(usize, char)>
+pub fn scan_reference(bytes: &[u8]) -> Option<(usize, char)>
     ensures value { result ≡ entity_at bytes.now }
     ensures within { IfSome result (λ e. e.0 ≤ length bytes.now) }
 {

@@ -1,14 +1,17 @@
 -- What is named stays named while more is named.
-use Rattle.std.proofs.Common.{◌≡◌, ℕ, false, List, length, subst}
+use Rattle.std.proofs.Common.{◌≡◌, ℕ, false, List, [], ◌++◌, length, Result, Ok, Err, OnOk, refl, sym, ap, subst, ◌∙◌, append_assoc}
+use Rattle.std.specs.declared.alloc.AllocError.{AllocError}
+use Rattle.std.proofs.lemmas.List.{append-nil}
 use Rattle.first_pass_items.specs.declared.cow_str.CowStr.{CowStr}
 use Rattle.first_pass_items.specs.declared.item.CowIndex.{CowIndex}
 use Rattle.first_pass_items.specs.CowText.{text_of}
 use Rattle.first_pass_links.specs.Escapes.{unescaped}
 use Rattle.first_pass_links.specs.Texts.{Borrows}
+use Rattle.first_pass_tokens.specs.NamedTexts.{AreMore}
 use Rattle.first_pass_grammar.specs.Names.{Names, Extends}
 use Rattle.first_pass_grammar.specs.CodeBlocks.{NamesInfo}
 pub use Rattle.first_pass_grammar.proofs.MoreNames.{extends_none, extends_both, extends_named, extends_alignments, text_last, still_aligned, alignments_last}
-use Rattle.first_pass_names.specs.TableEntries.{with_named}
+use Rattle.first_pass_names.specs.TableEntries.{with_named, AddsTexts}
 
 -- the same names
 pub extends_equal : (new old : Names) → new ≡ old → Extends new old
@@ -19,3 +22,32 @@ pub info_named : (old named more : Names) (ix : CowIndex) (cow : CowStr) (read i
     → text_of cow ≡ unescaped false read → (unescaped false read ≡ read → Borrows read cow) → Extends more named → NamesInfo more ix info
 info_named old named more ix cow read info at is same text borrowed e =
     subst (NamesInfo more ix) same (record { named = cow; at = text_last old named more ix cow at is e; text = text; borrowed = borrowed })
+
+-- where texts alone are named more
+pub extends_texts : (new old : Names) → AddsTexts new old → Extends new old
+extends_texts new old h = record {
+  more_texts = h.more;
+  texts = h.texts;
+  more_alignments = [];
+  alignments = h.alignments ∙ sym (append-nil old.alignments);
+  more_headings = [];
+  headings = h.headings ∙ sym (append-nil old.headings);
+}
+
+pub texts_none : (names : Names) → AddsTexts names names
+texts_none names = record { more = []; texts = sym (append-nil names.texts); alignments = refl; headings = refl }
+
+pub texts_both : (new mid old : Names) → AddsTexts new mid → AddsTexts mid old → AddsTexts new old
+texts_both new mid old e f = record {
+  more = f.more ++ e.more;
+  texts = e.texts ∙ ap (λ (xs : List CowStr). xs ++ e.more) f.texts ∙ append_assoc old.texts f.more e.more;
+  alignments = e.alignments ∙ f.alignments;
+  headings = e.headings ∙ f.headings;
+}
+
+-- the same of a call that names texts, where it has an answer
+pub more_extends : {A : Type 0} (new old : Names) (r : Result A AllocError) → new.alignments ≡ old.alignments → new.headings ≡ old.headings
+    → OnOk r (AreMore new.texts old.texts) → OnOk r (Extends new old)
+more_extends new old (Ok a) alignments headings more =
+    extends_texts new old (record { more = more.0; texts = more.1; alignments = alignments; headings = headings })
+more_extends new old (Err e) alignments headings more = tt

@@ -1,5 +1,5 @@
 -- What a contract sees of the tables beside a tree.
-use Rattle.std.specs.Prelude.{ℕ, false, List, [], map, Option, Some}
+use Rattle.std.specs.Prelude.{◌≡◌, ℕ, false, List, [], ◌++◌, map, Option, Some}
 use Rattle.std.specs.Option.{option_map, option_and_then}
 use Rattle.first_pass_items.specs.declared.cow_str.CowStr.{CowStr}
 use Rattle.first_pass_items.specs.CowText.{text_of}
@@ -63,3 +63,10 @@ names_of a = record {
 -- none
 abbrev pub no_names : Names
 no_names = record { texts = []; alignments = []; headings = [] }
+
+-- more texts stand after the old ones, so that each index names what it named, and no alignments or attributes are named more (this project)
+pub record AddsTexts (new old : Names) : Type 0 where
+  pub more : List CowStr
+  pub texts : new.texts ≡ old.texts ++ more
+  pub alignments : new.alignments ≡ old.alignments
+  pub headings : new.headings ≡ old.headings

@@ -24,7 +24,7 @@ use std::ops::{DerefStr, Index};
 /// nodes name by an index.
 #[derive(Drop)]
 pub struct Allocations<'a> {
-    texts: Vec<CowStr<'a>>,
+    pub(crate) texts: Vec<CowStr<'a>>,
     alignments: Vec<Vec<Alignment>>,
     headings: Vec<HeadingAttributes<'a>>,
     refdefs: RefDefs<'a>,

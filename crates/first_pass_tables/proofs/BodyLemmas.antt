@@ -14,27 +14,34 @@ use Rattle.first_pass_lines.specs.Lines.{line_len}
 use Rattle.first_pass_lines.specs.Places.{Place, line_place}
 use Rattle.first_pass_lines.proofs.LineFacts.{lines_at-line, lines_at-end, line_len-within}
 use Rattle.first_pass_lines.proofs.PlaceFacts.{line_end_boundary}
+use Rattle.first_pass_tokens.specs.Braces.{MathBraces, no_braces}
+use Rattle.first_pass_tokens.specs.LineTokens.{Spot, spot}
 use Rattle.first_pass_grammar.specs.declared.kind.Container.{Container}
-use Rattle.first_pass_grammar.specs.Leaves.{Document}
+use Rattle.first_pass_grammar.specs.Names.{Names, Extends}
+use Rattle.first_pass_grammar.specs.Leaves.{Document, document}
 use Rattle.first_pass_grammar.specs.Completion.{lines_from}
-use Rattle.first_pass_grammar.specs.Tables.{AreCells, filled, row_block, row_text, Taken, taking, AreRows, most_filled}
-use Rattle.first_pass_grammar.proofs.CountedRows.{is_row, CountedRows, counted, are_rows}
+use Rattle.first_pass_grammar.specs.Tables.{AreCells, filled, row_block, row_text, Taken, taking, FoundRow, HasCells, TableSoFar, table_so_far, AreRows, most_filled}
+use Rattle.first_pass_grammar.proofs.CountedRows.{is_row, with_row, CountedRows, counted, are_rows}
+use Rattle.first_pass_grammar.proofs.MoreNames.{extends_both}
 use Rattle.first_pass_grammar.proofs.RowEnds.{row_ends_at_place}
+use Rattle.first_pass_grammar.proofs.TextsMore.{cells_more}
 use Rattle.first_pass_open.specs.OpenBlock.{IsJustPushed, closed_by}
 use Rattle.first_pass_open.specs.Path.{path_of, path_in}
 use Rattle.first_pass_open.proofs.PathLemmas.{AreIn, path_in-append}
 use Rattle.first_pass_open.proofs.PlaceLemmas.{line_start_end}
-use Rattle.first_pass_tables.specs.Appends.{with_below, AddsHead, keeps_row, OpenTable, open_table, ReadsRow, ReadsRowLine, AppendsRows}
+use Rattle.first_pass_tables.specs.Appends.{with_below, AddsHead, keeps_row, OpenTable, open_table, so_far, ReadsRow, ReadsRowLine, AppendsRows}
 use Rattle.first_pass_tables.specs.RowsRead.{AppendsBody, BodySoFar}
 use Rattle.first_pass_tables.proofs.RowPlaces.{begins_row, in_table-append, row_within}
 use Rattle.first_pass_items.specs.declared.option_set.Options.{Options}
 
 -- a row ends where its line ends
-row_line : (d : Document) (path : List Container) (n start : ℕ) (cells : List (List (ℕ × Item))) (stop : ℕ) → IsUtf8 d.text → IsCharBoundary d.text n → row_text path (line_place n (drop n d.text)) ≡ Some start → AreCells d start cells stop
-    → stop ≡ n + line_len (drop n d.text)
+row_line : (d : Document) (path : List Container) (n : ℕ) (start : Spot) (cells : List (List (ℕ × Item))) (stop : Spot) → IsUtf8 d.text
+    → IsCharBoundary d.text n
+    → row_text path (line_place n (drop n d.text)) ≡ Some start.at → AreCells d start cells stop → stop.at ≡ n + line_len (drop n d.text)
 row_line d path n start cells stop utf8 boundary h are =
-    let b = begins_row d.text path n start utf8 boundary h in
-    row_ends_at_place d b.place cells stop b.stands (subst (λ k. AreCells d k cells stop) b.start_is are) ∙ b.ends ∙ line_start_end d.text n
+    let b = begins_row d.text path n start.at utf8 boundary h in
+    row_ends_at_place d b.place start.braces cells stop b.stands (subst (λ k. AreCells d (spot k start.braces) cells stop) b.start_is are) ∙ b.ends
+    ∙ line_start_end d.text n
 
 -- more nodes behind an open node's own open and close nothing
 pub same_path : (options : Options) (f g : Forest Item) (more : List (ℕ × Item)) → g.nodes ≡ f.nodes ++ more → g.spine ≡ f.spine → AreIn (length f.nodes) f.spine → path_of options g ≡ path_of options f
@@ -48,59 +55,78 @@ some_by None h = absurd (h refl)
 some_by (Some x) h = refl
 
 -- a row that is kept behind others is a row
-is_row_of : (t u : Bool) (columns most : ℕ) (cells : List (List (ℕ × Item))) → t ≡ true → keeps_row t columns most cells ≡ u → is_row columns most cells ≡ u
-is_row_of t u columns most cells e h = ap (λ t. keeps_row t columns most cells) (sym e) ∙ h
+is_row_of : (t u : Bool) (table : TableSoFar) (cells : List (List (ℕ × Item))) → t ≡ true → keeps_row t table.columns table.room cells ≡ u
+    → is_row table cells ≡ u
+is_row_of t u table cells e h = ap (λ t. keeps_row t table.columns table.room cells) (sym e) ∙ h
 
 both_true : (a b : Bool) → (a && b) ≡ true → b ≡ true
 both_true true b h = h
 both_true false b h = cc
 
-few_filled : (columns most : ℕ) (cells : List (List (ℕ × Item))) → is_row columns most cells ≡ true → filled columns cells ≤ most
-few_filled columns most cells h =
-    let t = both_true (nat_lt 0 (length cells)) (nat_le (filled columns cells) most) h in
-    let k : nat_le (filled columns cells) most ≡ true = t in
+few_filled : (table : TableSoFar) (cells : List (List (ℕ × Item))) → is_row table cells ≡ true → filled table.columns cells ≤ table.room
+few_filled table cells h =
+    let t = both_true (nat_lt 0 (length cells)) (nat_le (filled table.columns cells) table.room) h in
+    let k : nat_le (filled table.columns cells) table.room ≡ true = t in
     grind (arith, nat_tests, k)
 
 -- one more row, before the rows behind it
-row_more : (d : Document) (path : List Container) (columns most at next start : ℕ) (cells : List (List (ℕ × Item))) (more : Taken) → at < length d.text → next ≡ at + line_len (drop at d.text)
-    → row_text path (line_place at (drop at d.text)) ≡ Some start → AreCells d start cells next → is_row columns most cells ≡ true
-    → AreRows d path columns (most - filled columns cells) (lines_from d.text next) more
-    → AreRows d path columns most (lines_from d.text at) (taking (row_block TableRow columns start cells next ++ more.items) more.left)
+row_more : (d : Document) (path : List Container) (table : TableSoFar) (at : ℕ) (row : FoundRow) (more : Taken) → at < length d.text
+    → row.row_end ≡ at + line_len (drop at d.text) → HasCells d path (line_place at (drop at d.text)) table.braces row → is_row table row.cells ≡ true
+    → AreRows d path (with_row table row) (lines_from d.text row.row_end) more
+    → AreRows d path table (lines_from d.text at) (taking (row_block TableRow table.columns row.start row.cells row.row_end ++ more.items) more.left)
 unfolding CountedRows
-row_more d path columns most at next start cells more within next_is begins are is rest =
-    let t : Taken = taking (row_block TableRow columns start cells next ++ more.items) more.left in
-    let lines : List Place = line_place at (drop at d.text) ∷ lines_from d.text next in
-    let behind = counted d path columns (most - filled columns cells) (lines_from d.text next) more rest in
-    let all : AreRows d path columns most lines t =
-    are_rows d path columns most lines t (inr (start, cells, next, begins, are, inr (is, more, behind, refl))) in
-    subst (λ lines. AreRows d path columns most lines t) (sym (lines_at-line d.text at within ∙ ap (λ n. line_place at (drop at d.text) ∷ lines_from d.text n) (sym next_is))) all
+row_more d path table at row more within next_is has is rest =
+    let t : Taken = taking (row_block TableRow table.columns row.start row.cells row.row_end ++ more.items) more.left in
+    let lines : List Place = line_place at (drop at d.text) ∷ lines_from d.text row.row_end in
+    let behind = counted d path (with_row table row) (lines_from d.text row.row_end) more rest in
+    let all : AreRows d path table lines t = are_rows d path table lines t (inr (row, has, inr (is, more, behind, refl))) in
+    subst (λ lines. AreRows d path table lines t) (sym (lines_at-line d.text at within ∙ ap (λ n. line_place at (drop at d.text) ∷ lines_from d.text n)
+    (sym next_is))) all
 
 -- no row, before lines that are left
-row_none_by : (d : Document) (path : List Container) (columns most : ℕ) (line : Place) (lines : List Place) → row_text path line ≡ None → AreRows d path columns most (line ∷ lines) (taking [] (line ∷ lines))
+row_none_by : (d : Document) (path : List Container) (table : TableSoFar) (line : Place) (lines : List Place) → row_text path line ≡ None
+    → AreRows d path table (line ∷ lines) (taking [] (line ∷ lines))
 unfolding CountedRows
-row_none_by d path columns most line lines h = are_rows d path columns most (line ∷ lines) (taking [] (line ∷ lines)) (inl (h, refl))
+row_none_by d path table line lines h = are_rows d path table (line ∷ lines) (taking [] (line ∷ lines)) (inl (h, refl))
 
-row_over_by : (d : Document) (path : List Container) (columns most start stop : ℕ) (cells : List (List (ℕ × Item))) (line : Place) (lines : List Place) → row_text path line ≡ Some start → AreCells d start cells stop
-    → is_row columns most cells ≡ false → AreRows d path columns most (line ∷ lines) (taking [] (line ∷ lines))
+row_over_by : (d : Document) (path : List Container) (table : TableSoFar) (row : FoundRow) (line : Place) (lines : List Place)
+    → HasCells d path line table.braces row → is_row table row.cells ≡ false → AreRows d path table (line ∷ lines) (taking [] (line ∷ lines))
 unfolding CountedRows
-row_over_by d path columns most start stop cells line lines h are is =
-    are_rows d path columns most (line ∷ lines) (taking [] (line ∷ lines)) (inr (start, cells, stop, h, are, inl (is, refl)))
+row_over_by d path table row line lines has is = are_rows d path table (line ∷ lines) (taking [] (line ∷ lines)) (inr (row, has, inl (is, refl)))
 
-rows_none : (d : Document) (path : List Container) (columns most : ℕ) → AreRows d path columns most [] (taking [] [])
+rows_none : (d : Document) (path : List Container) (table : TableSoFar) → AreRows d path table [] (taking [] [])
 unfolding CountedRows
-rows_none d path columns most = are_rows d path columns most [] (taking [] []) refl
+rows_none d path table = are_rows d path table [] (taking [] []) refl
 
 -- no line is left, or one is
-left_by : (d : Document) (path : List Container) (columns most at : ℕ) → AreRows d path columns most (line_place at (drop at d.text) ∷ lines_from d.text (at + line_len (drop at d.text))) (taking [] (line_place at (drop at d.text) ∷ lines_from d.text (at + line_len (drop at d.text))))
-    → AreRows d path columns most (lines_from d.text at) (taking [] (lines_from d.text at))
-left_by d path columns most at h =
+left_by : (d : Document) (path : List Container) (table : TableSoFar) (at : ℕ)
+    → AreRows d path table (line_place at (drop at d.text) ∷ lines_from d.text (at + line_len (drop at d.text)))
+    (taking [] (line_place at (drop at d.text) ∷ lines_from d.text (at + line_len (drop at d.text))))
+    → AreRows d path table (lines_from d.text at) (taking [] (lines_from d.text at))
+left_by d path table at h =
     elim (cases_lt at (length d.text)) [
-      | inl within ↦ subst (λ lines. AreRows d path columns most lines (taking [] lines)) (sym (lines_at-line d.text at within)) h
-      | inr past ↦ subst (λ lines. AreRows d path columns most lines (taking [] lines)) (sym (lines_at-end d.text at past)) (rows_none d path columns most)
+      | inl within ↦ subst (λ lines. AreRows d path table lines (taking [] lines)) (sym (lines_at-line d.text at within)) h
+      | inr past ↦ subst (λ lines. AreRows d path table lines (taking [] lines)) (sym (lines_at-end d.text at past)) (rows_none d path table)
     ]
 
-module _ (d : Document) (columns start : ℕ) (old now new : OpenTable) (at : ℕ) (utf8 : IsUtf8 d.text) (there : AreIn (length old.tree.nodes) old.tree.spine)
-    (s : BodySoFar d columns start old now at) where
+-- no row is read yet
+pub body_none : (d : Document) (columns start : ℕ) (old : OpenTable) → (old.tree.current ≡ None → ⊥) → old.filled_in ≤ most_filled → IsCharBoundary d.text start
+    → BodySoFar d columns start old old start
+body_none d columns start old some few boundary = record {
+  body = [];
+  nodes = sym (append-nil old.tree.nodes);
+  spine = refl;
+  some = some;
+  few = few;
+  later = omega arith;
+  boundary = boundary;
+  goes_on = λ later e t rows. rows;
+}
+
+-- the rows are read under names that go on with those under which the first of them were
+module _ (d : Document) (before : Names) (columns start : ℕ) (old now new : OpenTable) (at : ℕ) (utf8 : IsUtf8 d.text)
+    (there : AreIn (length old.tree.nodes) old.tree.spine) (grown : Extends d.names before)
+    (s : BodySoFar (document d.text d.options before) columns start old now at) where
   path_is : path_of d.options now.tree ≡ path_of d.options old.tree
   path_is = same_path d.options old.tree now.tree (at_depth (length old.tree.spine + 1) s.body) s.nodes s.spine there
 
@@ -115,13 +141,17 @@ module _ (d : Document) (columns start : ℕ) (old now new : OpenTable) (at : �
       let here = begins begin h in
       let within : at < length d.text = row_within d.text (path_of d.options old.tree) at begin here in
       let stop_is : next ≡ r.row_end = a.3 in
-      let line : r.row_end ≡ at + line_len (drop at d.text) = row_line d (path_of d.options old.tree) at begin r.cells r.row_end utf8 s.boundary here r.are_cells in
+      let line : r.row_end ≡ at + line_len (drop at d.text) =
+      row_line d (path_of d.options old.tree) at (spot begin now.braces) r.cells (spot r.row_end r.after) utf8 s.boundary here r.are_cells in
       let next_is : next ≡ at + line_len (drop at d.text) = stop_is ∙ line in
       let block : List (ℕ × Item) = row_block TableRow columns begin r.cells next in
-      let are : AreCells d begin r.cells next = subst (AreCells d begin r.cells) (sym stop_is) r.are_cells in
+      let row : FoundRow = record { start = begin; cells = r.cells; row_end = next; after = new.braces } in
+      let are : AreCells d (spot begin now.braces) r.cells (spot next new.braces) =
+      subst (λ b. AreCells d (spot begin now.braces) r.cells (spot next b)) (sym a.5)
+      (subst (λ k. AreCells d (spot begin now.braces) r.cells (spot k r.after)) (sym stop_is) r.are_cells) in
       let new_is : new.tree ≡ _ = a.1 ∙ ap (λ e. added now.tree (row_block TableRow columns begin r.cells e)) (sym stop_is) in
-      let is = is_row_of (is_some now.tree.current) true columns (most_filled - now.filled_in) r.cells (some_by now.tree.current s.some) a.0 in
-      let fits = few_filled columns (most_filled - now.filled_in) r.cells is in
+      let is = is_row_of (is_some now.tree.current) true (so_far columns now) r.cells (some_by now.tree.current s.some) a.0 in
+      let fits = few_filled (so_far columns now) r.cells is in
       let few = s.few in
       let after : new.filled_in ≡ now.filled_in + filled columns r.cells = a.2 in
       let left : most_filled - new.filled_in ≡ most_filled - now.filled_in - filled columns r.cells = omega (arith, after) in
@@ -135,11 +165,15 @@ module _ (d : Document) (columns start : ℕ) (old now new : OpenTable) (at : �
           few = omega arith;
           later = omega arith;
           boundary = subst (IsCharBoundary d.text) (sym next_is) (line_end_boundary d.text at utf8 s.boundary within);
-          goes_on = λ t rows.
-              subst (λ items. AreRows d (path_of d.options old.tree) columns (most_filled - old.filled_in) (lines_from d.text start) (taking items t.left)) (sym (append_assoc s.body block t.items))
-              (s.goes_on (taking (block ++ t.items) t.left)
-              (row_more d (path_of d.options old.tree) columns (most_filled - now.filled_in) at next begin r.cells t within next_is here are is
-              (subst (λ most. AreRows d (path_of d.options old.tree) columns most (lines_from d.text next) t) left rows)));
+          goes_on = λ later e t rows.
+              let all : Document = document d.text d.options later in
+              let still : HasCells all (path_of d.options old.tree) (line_place at (drop at d.text)) now.braces row =
+              record { begins = here; are_cells = cells_more d.text d.options d.names later (spot begin now.braces) r.cells (spot next new.braces) e are } in
+              subst (λ items. AreRows all (path_of d.options old.tree) (so_far columns old) (lines_from d.text start) (taking items t.left))
+              (sym (append_assoc s.body block t.items))
+              (s.goes_on later (extends_both later d.names before e grown) (taking (block ++ t.items) t.left)
+              (row_more all (path_of d.options old.tree) (so_far columns now) at row t within next_is still is
+              (subst (λ most. AreRows all (path_of d.options old.tree) (table_so_far columns most new.braces) (lines_from d.text next) t) left rows)));
         },
         omega arith,
       )
@@ -152,25 +186,33 @@ module _ (d : Document) (columns start : ℕ) (old now new : OpenTable) (at : �
   body_more next ix (inr (begin, h, r)) = more_by next begin ix h r
 
   -- before what is no row
-  over_by : new ≡ now → AreRows d (path_of d.options old.tree) columns (most_filled - now.filled_in) (lines_from d.text at) (taking [] (lines_from d.text at)) → AppendsBody d columns start old new.tree at
+  over_by : new.tree ≡ now.tree → AreRows d (path_of d.options old.tree) (so_far columns now) (lines_from d.text at) (taking [] (lines_from d.text at))
+      → AppendsBody d columns start old new.tree at
   over_by same rows = record {
     body = s.body;
-    are_rows = subst (λ items. AreRows d (path_of d.options old.tree) columns (most_filled - old.filled_in) (lines_from d.text start) (taking items (lines_from d.text at))) (append-nil s.body) (s.goes_on (taking [] (lines_from d.text at)) rows);
-    nodes = ap (λ (t : OpenTable). t.tree.nodes) same ∙ s.nodes;
-    spine = ap (λ (t : OpenTable). t.tree.spine) same ∙ s.spine;
+    are_rows = subst (λ items. AreRows d (path_of d.options old.tree) (so_far columns old) (lines_from d.text start) (taking items (lines_from d.text at)))
+        (append-nil s.body)
+        (s.goes_on d.names grown (taking [] (lines_from d.text at)) rows);
+    nodes = ap (λ (f : Forest Item). f.nodes) same ∙ s.nodes;
+    spine = ap (λ (f : Forest Item). f.spine) same ∙ s.spine;
     later = s.later;
     boundary = s.boundary;
   }
 
   pub body_over : ReadsRowLine d columns at now new None → AppendsBody d columns start old new.tree at
   body_over (inl (none, answer, same)) =
-      over_by same (left_by d (path_of d.options old.tree) columns (most_filled - now.filled_in) at
-      (row_none_by d (path_of d.options old.tree) columns (most_filled - now.filled_in) (line_place at (drop at d.text)) (lines_from d.text (at + line_len (drop at d.text))) (subst (λ path. row_text path (line_place at (drop at d.text)) ≡ None) path_is none)))
+      over_by (ap (λ (t : OpenTable). t.tree) same) (left_by d (path_of d.options old.tree) (so_far columns now) at
+      (row_none_by d (path_of d.options old.tree) (so_far columns now) (line_place at (drop at d.text)) (lines_from d.text (at + line_len (drop at d.text)))
+      (subst (λ path. row_text path (line_place at (drop at d.text)) ≡ None) path_is none)))
   body_over (inr (begin, h, r)) =
       let a = r.adds in
-      over_by a.1 (left_by d (path_of d.options old.tree) columns (most_filled - now.filled_in) at
-      (row_over_by d (path_of d.options old.tree) columns (most_filled - now.filled_in) begin r.row_end r.cells (line_place at (drop at d.text)) (lines_from d.text (at + line_len (drop at d.text))) (begins begin h) r.are_cells
-      (is_row_of (is_some now.tree.current) false columns (most_filled - now.filled_in) r.cells (some_by now.tree.current s.some) a.0)))
+      let row : FoundRow = record { start = begin; cells = r.cells; row_end = r.row_end; after = r.after } in
+      let has : HasCells d (path_of d.options old.tree) (line_place at (drop at d.text)) now.braces row =
+      record { begins = begins begin h; are_cells = r.are_cells } in
+      over_by (ap (λ (t : OpenTable). t.tree) a.1) (left_by d (path_of d.options old.tree) (so_far columns now) at
+      (row_over_by d (path_of d.options old.tree) (so_far columns now) row (line_place at (drop at d.text))
+      (lines_from d.text (at + line_len (drop at d.text))) has
+      (is_row_of (is_some now.tree.current) false (so_far columns now) r.cells (some_by now.tree.current s.some) a.0)))
 
 -- what is left of the cells that may be filled in, behind those of a header row or as many as may be
 least_by : (n most : ℕ) (t u : Bool) → nat_lt most n ≡ t → most - (if is_lt (if t then Less else (if u then Equal else Greater)) then most else n) ≡ most - n
@@ -186,10 +228,16 @@ closed_as : (f g : Forest Item) (e : ℕ) (ix : TreeIndex) (rest s : List TreeIn
 closed_as f g e ix rest [] nodes is = cc
 closed_as f g e ix rest (i ∷ is) nodes same = ap (λ (ns : List (ℕ × Item)). with_end_at (record { nodes = ns; spine = is; current = Some i }) i e) nodes
 
-pub rows_closed : (d : Document) (columns head_start body_start missing some next : ℕ) (old headed bodied new : Forest Item) → (ix : TreeIndex) × IsJustPushed old ix → AreIn (length old.nodes) old.spine
-    → AddsHead d columns head_start old headed missing → most_filled - some ≡ most_filled - missing → AppendsBody d columns body_start (open_table headed some) bodied next → new ≡ closed_by bodied next bodied.spine
+pub rows_closed : (d : Document) (before : Names) (columns head_start body_start some next : ℕ) (old : Forest Item) (headed_table : OpenTable)
+    (bodied new : Forest Item)
+    → Extends d.names before → (ix : TreeIndex) × IsJustPushed old ix → AreIn (length old.nodes) old.spine
+    → AddsHead (document d.text d.options before) columns (spot head_start no_braces) old headed_table
+    → most_filled - some ≡ most_filled - headed_table.filled_in
+    → AppendsBody d columns body_start (open_table headed_table.tree some headed_table.braces) bodied next → new ≡ closed_by bodied next bodied.spine
     → AppendsRows d columns head_start body_start old new next
-rows_closed d columns head_start body_start missing some next old headed bodied new (ix, pushed) there head left body new_is =
+rows_closed d before columns head_start body_start some next old headed_table bodied new grown (ix, pushed) there head left body new_is =
+    let headed : Forest Item = headed_table.tree in
+    let after : MathBraces = headed_table.braces in
     let row : List (ℕ × Item) = row_block TableHead columns head_start head.cells head.row_end in
     let nodes : headed.nodes ≡ old.nodes ++ at_depth (length old.spine + 1) row = ap (λ (f : Forest Item). f.nodes) head.tree_is in
     let spine : headed.spine ≡ old.spine = ap (λ (f : Forest Item). f.spine) head.tree_is in
@@ -202,10 +250,13 @@ rows_closed d columns head_start body_start missing some next old headed bodied 
     record {
       cells = head.cells;
       head_end = head.row_end;
-      are_cells = head.are_cells;
+      after = after;
+      are_cells = cells_more d.text d.options before d.names (spot head_start no_braces) head.cells (spot head.row_end after) grown head.are_cells;
       body = body.body;
-      are_rows = subst (λ most. AreRows d (path_of d.options old) columns most (lines_from d.text body_start) (taking body.body (lines_from d.text next))) budget
-          (subst (λ path. AreRows d path columns (most_filled - some) (lines_from d.text body_start) (taking body.body (lines_from d.text next))) path body.are_rows);
+      are_rows = subst (λ most. AreRows d (path_of d.options old) (table_so_far columns most after) (lines_from d.text body_start)
+          (taking body.body (lines_from d.text next))) budget
+          (subst (λ path. AreRows d path (table_so_far columns (most_filled - some) after) (lines_from d.text body_start)
+          (taking body.body (lines_from d.text next))) path body.are_rows);
       tree_is = new_is ∙ ap (closed_by bodied next) (body.spine ∙ spine) ∙ closed_as bodied (with_below old (row ++ body.body)) next ix pushed.rest old.spine all pushed.innermost;
       later = body.later;
       boundary = body.boundary;

@@ -12,7 +12,8 @@ use Rattle.first_pass_tree.specs.Forest.{at_depth, block_of}
 use Rattle.first_pass_lines.specs.Lines.{is_white, at_line_end}
 use Rattle.first_pass_lines.specs.Places.{line_place}
 use Rattle.first_pass_lines.proofs.PlaceFacts.{line_is_place, white_keeps}
-use Rattle.first_pass_tokens.specs.LineTokens.{IsCell}
+use Rattle.first_pass_tokens.specs.Braces.{MathBraces}
+use Rattle.first_pass_tokens.specs.LineTokens.{Spot, IsCell}
 use Rattle.first_pass_tokens.specs.Order.{AreInOrder}
 use Rattle.first_pass_tokens.specs.TreeTokens.{leaves}
 use Rattle.first_pass_tokens.proofs.BytesLemmas.{few_in_cell}
@@ -21,10 +22,10 @@ use Rattle.first_pass_tokens.proofs.OrderLemmas.{order_from, cell_in_order, cell
 use Rattle.first_pass_grammar.specs.Counting.{own_nodes}
 use Rattle.first_pass_grammar.specs.Leaves.{Document}
 use Rattle.first_pass_grammar.specs.Order.{Extent, extent_of, extents, Row, Empty, Node, laid, IsBetween, Elsewhere, in_item, below, Fits}
-use Rattle.first_pass_grammar.specs.Tables.{cell_content, cell_start, cell_text, cell_block, AreCells, filled, side_by_side, row_cells, row_block}
+use Rattle.first_pass_grammar.specs.Tables.{cell_start, cell_text, cell_block, AreCells, filled, side_by_side, row_cells, row_block}
 use Rattle.first_pass_grammar.proofs.Orders.{beside, extents-append, extents-at_depth, laid-beside, laid-at_depth, fits-order, fits-later, fits-any, fits-beside, row_of, row_of-fits, length-block}
 use Rattle.first_pass_grammar.proofs.OwnNodes.{own_at_most, own_join, own_at_depth, AreCellsAt, own_filled}
-use Rattle.first_pass_grammar.proofs.RowEnds.{text_in_line, row_ends_its_line, cell_takes_a_byte}
+use Rattle.first_pass_grammar.proofs.RowEnds.{text_in_line, row_ends_its_line, begun_there, cell_takes_a_byte}
 use Rattle.first_pass_grammar.proofs.TableEnds.{cells_end}
 use Rattle.first_pass_open.proofs.PlaceLemmas.{place_end, line_start_end}
 
@@ -114,10 +115,11 @@ record OneCell (d : Document) (at stop : ℕ) (cell : List (ℕ × Item)) : Type
   between : AreBetween d.text at stop cell
   few : own_nodes cell ≤ 2 * (stop - at)
 
-one_cell : (d : Document) (at : ℕ) (tokens : List Item) (stop : ℕ) → IsUtf8 d.text → IsCharBoundary d.text at
-    → at_line_end (drop (cell_text d.text at) d.text) ≡ false → IsCell (cell_content d (cell_text d.text at)) tokens stop
-    → OneCell d at stop (cell_block (cell_start d.text at) stop tokens)
-one_cell d at tokens stop utf8 boundary on cell =
+one_cell : {after : MathBraces} (d : Document) (p : Spot) (tokens : List Item) (stop : ℕ) → IsUtf8 d.text → IsCharBoundary d.text p.at
+    → at_line_end (drop (cell_text d.text p.at) d.text) ≡ false → IsCell d.names.texts (begun_there d p) tokens stop after
+    → OneCell d p.at stop (cell_block (cell_start d.text p.at) stop tokens)
+one_cell d p tokens stop utf8 boundary on cell =
+    let at : ℕ = p.at in
     let text = text_in_line d.text at boundary.0 in
     let starts = start_boundary d.text at (slice_index d.text at == pipe) refl utf8 boundary in
     let begins = white_boundary d.text (cell_start d.text at) utf8 starts in
@@ -125,7 +127,7 @@ one_cell d at tokens stop utf8 boundary on cell =
     let e = cell_ends text.1 cell in
     let from : cell_text d.text at ≤ stop = e.from in
     let ends = cell_end_place text.1 cell in
-    let later = cell_takes_a_byte d at tokens stop boundary.0 on cell in
+    let later = cell_takes_a_byte d p tokens stop boundary.0 on cell in
     let order = order_from d.text (cell_start d.text at) (cell_text d.text at) stop tokens (cell_in_order utf8 begins text.1 cell) (omega arith) in
     let x : Item = record { start = cell_start d.text at; «end» = stop; body = TableCell } in
     let size = length-block x tokens in
@@ -158,35 +160,35 @@ kept_more d at next stop cell more one behind rest =
     let later = one.later in
     record { between = between-join d.text at next stop cell more one.between rest.between; few = omega arith }
 
-kept_cells : (d : Document) (columns at : ℕ) (cells : List (List (ℕ × Item))) («end» : ℕ) → IsUtf8 d.text → IsCharBoundary d.text at
-    → AreCells d at cells «end» → KeptCells d.text at «end» (side_by_side (take columns cells))
+kept_cells : (d : Document) (columns : ℕ) (p : Spot) (cells : List (List (ℕ × Item))) (to : Spot) → IsUtf8 d.text → IsCharBoundary d.text p.at
+    → AreCells d p cells to → KeptCells d.text p.at to.at (side_by_side (take columns cells))
 unfolding AreCells
-kept_cells d zero at cells stop utf8 boundary are = kept_none d.text at stop (cells_end d at cells stop boundary.0 are).0
-kept_cells d (suc columns) at [] stop utf8 boundary are = kept_none d.text at stop (cells_end d at [] stop boundary.0 are).0
-kept_cells d (suc columns) at (cell ∷ cells) stop utf8 boundary (on, tokens, next, is, same, more) =
-    let one = one_cell d at tokens next utf8 boundary on is in
-    let rest = kept_cells d columns next cells stop utf8 one.ends more in
-    let behind = (cells_end d next cells stop one.within more).0 in
-    subst (λ (c : List (ℕ × Item)). KeptCells d.text at stop (c ++ side_by_side (take columns cells))) (sym same)
-    (kept_more d at next stop (cell_block (cell_start d.text at) next tokens) (side_by_side (take columns cells)) one behind rest)
+kept_cells d zero p cells to utf8 boundary are = kept_none d.text p.at to.at (cells_end d p cells to boundary.0 are).0
+kept_cells d (suc columns) p [] to utf8 boundary are = kept_none d.text p.at to.at (cells_end d p [] to boundary.0 are).0
+kept_cells d (suc columns) p (cell ∷ cells) to utf8 boundary (on, tokens, next, is, same, more) =
+    let one = one_cell d p tokens next.at utf8 boundary on is in
+    let rest = kept_cells d columns next cells to utf8 one.ends more in
+    let behind = (cells_end d next cells to one.within more).0 in
+    subst (λ (c : List (ℕ × Item)). KeptCells d.text p.at to.at (c ++ side_by_side (take columns cells))) (sym same)
+    (kept_more d p.at next.at to.at (cell_block (cell_start d.text p.at) next.at tokens) (side_by_side (take columns cells)) one behind rest)
 
 -- a row that has a cell has a byte
-pub some_cells : (d : Document) (at : ℕ) (cells : List (List (ℕ × Item))) («end» : ℕ) → IsUtf8 d.text → IsCharBoundary d.text at
-    → AreCells d at cells «end» → 0 < length cells → at < «end»
+pub some_cells : (d : Document) (p : Spot) (cells : List (List (ℕ × Item))) (to : Spot) → IsUtf8 d.text → IsCharBoundary d.text p.at
+    → AreCells d p cells to → 0 < length cells → p.at < to.at
 unfolding AreCells
-some_cells d at [] stop utf8 boundary are some = absurd (omega arith)
-some_cells d at (cell ∷ cells) stop utf8 boundary (on, tokens, next, is, same, more) some =
-    let one = one_cell d at tokens next utf8 boundary on is in
+some_cells d p [] to utf8 boundary are some = absurd (omega arith)
+some_cells d p (cell ∷ cells) to utf8 boundary (on, tokens, next, is, same, more) some =
+    let one = one_cell d p tokens next.at utf8 boundary on is in
     let later = one.later in
-    let behind = cells_end d next cells stop one.within more in
+    let behind = cells_end d next cells to one.within more in
     omega (arith, behind.0)
 
 -- A row ends between characters.
-pub row_boundary : (d : Document) (at : ℕ) (cells : List (List (ℕ × Item))) («end» : ℕ) → IsUtf8 d.text → IsCharBoundary d.text at
-    → AreCells d at cells «end» → IsCharBoundary d.text «end»
-row_boundary d at cells stop utf8 boundary are =
-    subst (IsCharBoundary d.text) (line_start_end d.text at ∙ sym (row_ends_its_line d at cells stop boundary.0 are))
-    (place_end d.text (line_place at (drop at d.text)) utf8 (line_is_place d.text at boundary))
+pub row_boundary : (d : Document) (p : Spot) (cells : List (List (ℕ × Item))) (to : Spot) → IsUtf8 d.text → IsCharBoundary d.text p.at
+    → AreCells d p cells to → IsCharBoundary d.text to.at
+row_boundary d p cells to utf8 boundary are =
+    subst (IsCharBoundary d.text) (line_start_end d.text p.at ∙ sym (row_ends_its_line d p cells to boundary.0 are))
+    (place_end d.text (line_place p.at (drop p.at d.text)) utf8 (line_is_place d.text p.at boundary))
 
 -- the empty cells at a row's end
 empty_between : (text : List ℕ) (at n : ℕ) → IsCharBoundary text at → AreBetween text at at (side_by_side (replicate n (cell_block at at [])))
@@ -211,12 +213,14 @@ pub record OneRow (text : List ℕ) (from to : ℕ) (items : List (ℕ × Item))
   pub between : AreBetween text from to items
   pub few : own_nodes items ≤ 2 + 2 * (to - from)
 
-pub row_fits : (d : Document) (body : ItemBody) (columns start : ℕ) (cells : List (List (ℕ × Item))) («end» : ℕ) → IsUtf8 d.text
-    → IsCharBoundary d.text start → AreCells d start cells «end» → OneRow d.text start «end» (row_block body columns start cells «end»)
-row_fits d body columns start cells stop utf8 boundary are =
-    let kept = kept_cells d columns start cells stop utf8 boundary are in
-    let ends = row_boundary d start cells stop utf8 boundary are in
-    let order = (cells_end d start cells stop boundary.0 are).0 in
+pub row_fits : (d : Document) (body : ItemBody) (columns : ℕ) (p : Spot) (cells : List (List (ℕ × Item))) (to : Spot) → IsUtf8 d.text
+    → IsCharBoundary d.text p.at → AreCells d p cells to → OneRow d.text p.at to.at (row_block body columns p.at cells to.at)
+row_fits d body columns p cells to utf8 boundary are =
+    let start : ℕ = p.at in
+    let stop : ℕ = to.at in
+    let kept = kept_cells d columns p cells to utf8 boundary are in
+    let ends = row_boundary d p cells to utf8 boundary are in
+    let order = (cells_end d p cells to boundary.0 are).0 in
     let missing : List (List (ℕ × Item)) = replicate (filled columns cells) (cell_block stop stop []) in
     let parts = side-append (take columns cells) missing in
     let x : Item = record { start = start; «end» = stop; body = body } in

@@ -10,10 +10,14 @@ use Rattle.first_pass_items.specs.declared.item.Item.{Item}
 use Rattle.first_pass_tree.specs.Forest.{Forest, at_depth, added}
 use Rattle.first_pass_tree.proofs.Callers.{more-added}
 use Rattle.first_pass_lines.specs.Lines.{is_white, is_line_end, begins, eol_len, at_line_end}
-use Rattle.first_pass_tokens.specs.LineTokens.{ends_at, IsCell}
+use Rattle.first_pass_tokens.specs.LineTokens.{Spot, spot, ends_at, IsCell}
 use Rattle.first_pass_tokens.proofs.LineLemmas.{cell_ends}
-use Rattle.first_pass_grammar.specs.Leaves.{Document}
+use Rattle.first_pass_grammar.specs.Names.{Names, Extends}
+use Rattle.first_pass_grammar.specs.Leaves.{Document, document}
 use Rattle.first_pass_grammar.specs.Tables.{cell_content, cell_start, cell_text, cell_block, AreCells, side_by_side}
+use Rattle.first_pass_grammar.proofs.MoreNames.{extends_none, extends_both}
+use Rattle.first_pass_grammar.proofs.RowEnds.{begun_there}
+use Rattle.first_pass_grammar.proofs.TextsMore.{cell_later}
 use Rattle.first_pass_tables.specs.Appends.{AddsCell}
 use Rattle.first_pass_tables.specs.Reading.{GoOn, AreAppended, AreAllAppended}
 
@@ -37,12 +41,12 @@ pub end_found : (text bytes rest : List ℕ) (at : ℕ) (found : Option ℕ) →
 end_found text bytes rest at found same rest_is found_is = ap eol_len (ap (drop at) (sym same) ∙ sym rest_is) ∙ sym found_is
 
 -- no cell is read yet
-pub none_read : (d : Document) (start : ℕ) (f : Forest Item) → start ≤ length d.text → AreAppended d start f f start 0
+pub none_read : (d : Document) (start : Spot) (f : Forest Item) → start.at ≤ length d.text → AreAppended d start f f start 0
 none_read d start f within =
     record {
       cells = [];
       count_is = refl;
-      go_on = λ more stop h. h;
+      go_on = λ later e more to h. h;
       nodes = sym (append-nil f.nodes);
       spine = refl;
       none = λ h. refl;
@@ -71,59 +75,66 @@ none_of true x y z a b c = rw (a, b, c)
 none_of false x y z a b c = rw (a, b)
 
 -- a cell that begins with neither a line end nor a pipe has a byte
-not_empty : (d : Document) (text : ℕ) → eol_len (drop text d.text) ≡ None → (slice_index d.text text == pipe) ≡ false → ends_at (cell_content d text) text ≡ false
+not_empty : (d : Document) (text : Spot) → eol_len (drop text.at d.text) ≡ None → (slice_index d.text text.at == pipe) ≡ false
+    → ends_at (cell_content d text) text.at ≡ false
 unfolding ends_at
 not_empty d text none other =
-    let on = runs_on d.text text none in
-    none_of (has d.options tables) _ _ _ (lt-leb (length d.text) text on.0) on.1 other
+    let on = runs_on d.text text.at none in
+    none_of (has d.options tables) _ _ _ (lt-leb (length d.text) text.at on.0) on.1 other
 
 -- a cell ends behind the place where it was looked for
-further : (d : Document) (at cell text stop : ℕ) (tokens : List Item) (t : Bool) → (slice_index d.text at == pipe) ≡ t → cell ≡ (if t then at + 1 else at)
-    → cell ≤ text → text ≤ length d.text → eol_len (drop text d.text) ≡ None → IsCell (cell_content d text) tokens stop → (at < stop) × (stop ≤ length d.text)
+further : (d : Document) (at cell : ℕ) (text stop : Spot) (tokens : List Item) (t : Bool) → (slice_index d.text at == pipe) ≡ t
+    → cell ≡ (if t then at + 1 else at)
+    → cell ≤ text.at → text.at ≤ length d.text → eol_len (drop text.at d.text) ≡ None → IsCell d.names.texts (cell_content d text) tokens stop.at stop.braces
+    → (at < stop.at) × (stop.at ≤ length d.text)
 further d at cell text stop tokens true here begins order within none is =
     let ends = cell_ends within is in
-    let from : text ≤ stop = ends.from in
+    let from : text.at ≤ stop.at = ends.from in
     (omega arith, ends.within)
 further d at cell text stop tokens false here begins order within none is =
     let ends = cell_ends within is in
-    let from : text ≤ stop = ends.from in
-    elim (cases_lt at text) [
+    let from : text.at ≤ stop.at = ends.from in
+    elim (cases_lt at text.at) [
       | inl behind ↦ (omega arith, ends.within)
       | inr same ↦
-          let place : text ≡ at = omega arith in
-          let later : text < stop = ends.later (not_empty d text none (ap (λ (k : ℕ). slice_index d.text k == pipe) place ∙ here)) in
+          let place : text.at ≡ at = omega arith in
+          let later : text.at < stop.at = ends.later (not_empty d text none (ap (λ (k : ℕ). slice_index d.text k == pipe) place ∙ here)) in
           (omega arith, ends.within)
     ]
 
 -- the cells go on with one that is not at the line's end
-one_more : (d : Document) (start at stop : ℕ) (cells : List (List (ℕ × Item))) (tokens : List Item) → GoOn d start cells at
-    → eol_len (drop (cell_text d.text at) d.text) ≡ None → IsCell (cell_content d (cell_text d.text at)) tokens stop
-    → GoOn d start (cells ++ cell_block (cell_start d.text at) stop tokens ∷ []) stop
+one_more : (d : Document) (before : Names) (start at stop : Spot) (cells : List (List (ℕ × Item))) (tokens : List Item) → Extends d.names before
+    → GoOn (document d.text d.options before) start cells at
+    → eol_len (drop (cell_text d.text at.at) d.text) ≡ None → IsCell d.names.texts (begun_there d at) tokens stop.at stop.braces
+    → GoOn d start (cells ++ cell_block (cell_start d.text at.at) stop.at tokens ∷ []) stop
 unfolding AreCells
-one_more d start at stop cells tokens go_on none is more «end» h =
-    let cell = cell_block (cell_start d.text at) stop tokens in
-    let on : at_line_end (drop (cell_text d.text at) d.text) ≡ false = ap (λ (n : Option ℕ). is_some n) none in
-    subst (λ (all : List (List (ℕ × Item))). AreCells d start all «end») (sym (append_assoc cells (cell ∷ []) more))
-    (go_on (cell ∷ more) «end» (on, tokens, stop, is, refl, h))
+one_more d before start at stop cells tokens grown go_on none is later e more to h =
+    let cell = cell_block (cell_start d.text at.at) stop.at tokens in
+    let on : at_line_end (drop (cell_text d.text at.at) d.text) ≡ false = ap (λ (n : Option ℕ). is_some n) none in
+    let still = cell_later later d.names (begun_there d at) tokens stop.at e is in
+    subst (λ (all : List (List (ℕ × Item))). AreCells (document d.text d.options later) start all to) (sym (append_assoc cells (cell ∷ []) more))
+    (go_on later (extends_both later d.names before e grown) (cell ∷ more) to (on, tokens, stop, still, refl, h))
 
 -- one more cell is appended
-pub cell_read : (d : Document) (start at count cell text stop : ℕ) (old tree new : Forest Item) → AreAppended d start old tree at count → cell ≡ cell_start d.text at
-    → text ≡ cell_text d.text at → cell ≤ text → text ≤ length d.text → eol_len (drop text d.text) ≡ None → AddsCell d cell text tree new stop
-    → AreAppended d start old new stop (count + 1) × (at < stop)
-cell_read d start at count cell text stop old tree new far cell_is text_is order within none adds =
-    let is : IsCell (cell_content d (cell_text d.text at)) adds.tokens stop = subst (λ (k : ℕ). IsCell (cell_content d k) adds.tokens stop) text_is adds.cell in
-    let here : eol_len (drop (cell_text d.text at) d.text) ≡ None = ap (λ (k : ℕ). eol_len (drop k d.text)) (sym text_is) ∙ none in
-    let end = further d at cell text stop adds.tokens (slice_index d.text at == pipe) refl cell_is order within none adds.cell in
-    let block = cell_block (cell_start d.text at) stop adds.tokens in
+pub cell_read : (d : Document) (before : Names) (start at : Spot) (count cell text : ℕ) (stop : Spot) (old tree new : Forest Item) → Extends d.names before
+    → AreAppended (document d.text d.options before) start old tree at count → cell ≡ cell_start d.text at.at
+    → text ≡ cell_text d.text at.at → cell ≤ text → text ≤ length d.text → eol_len (drop text d.text) ≡ None
+    → AddsCell d cell (spot text at.braces) tree new stop → AreAppended d start old new stop (count + 1) × (at.at < stop.at)
+cell_read d before start at count cell text stop old tree new grown far cell_is text_is order within none adds =
+    let is : IsCell d.names.texts (begun_there d at) adds.tokens stop.at stop.braces =
+    subst (λ (k : ℕ). IsCell d.names.texts (cell_content d (spot k at.braces)) adds.tokens stop.at stop.braces) text_is adds.cell in
+    let here : eol_len (drop (cell_text d.text at.at) d.text) ≡ None = ap (λ (k : ℕ). eol_len (drop k d.text)) (sym text_is) ∙ none in
+    let end = further d at.at cell (spot text at.braces) stop adds.tokens (slice_index d.text at.at == pipe) refl cell_is order within none adds.cell in
+    let block = cell_block (cell_start d.text at.at) stop.at adds.tokens in
     let cells = far.cells ++ block ∷ [] in
-    let tree_is : new ≡ added tree block = adds.tree_is ∙ ap (λ (k : ℕ). added tree (cell_block k stop adds.tokens)) cell_is in
+    let tree_is : new ≡ added tree block = adds.tree_is ∙ ap (λ (k : ℕ). added tree (cell_block k stop.at adds.tokens)) cell_is in
     let count_is = far.count_is in
     let later = far.later in
-    let further : at < stop = end.0 in (
+    let further : at.at < stop.at = end.0 in (
       record {
         cells = cells;
         count_is = omega (arith, length-append far.cells (block ∷ []));
-        go_on = one_more d start at stop far.cells adds.tokens far.go_on here is;
+        go_on = one_more d before start at stop far.cells adds.tokens grown far.go_on here is;
         nodes = more-added old tree new (side_by_side far.cells) block far.nodes far.spine tree_is
             ∙ ap (λ (items : List (ℕ × Item)). old.nodes ++ at_depth (length old.spine + 1) items) (ap (λ (items : List (ℕ × Item)). side_by_side far.cells ++ items) (sym (side_one block)) ∙ sym (side_more far.cells (block ∷ [])));
         spine = ap (λ (f : Forest Item). f.spine) adds.tree_is ∙ far.spine;
@@ -135,17 +146,18 @@ cell_read d start at count cell text stop old tree new far cell_is text_is order
     )
 
 -- all cells are appended
-pub all_read : (d : Document) (start at count text n : ℕ) (old tree : Forest Item) → AreAppended d start old tree at count → text ≡ cell_text d.text at
-    → at ≤ text → text + n ≤ length d.text → eol_len (drop text d.text) ≡ Some n → AreAllAppended d start old tree (text + n) count
+pub all_read : (d : Document) (start at : Spot) (count text n : ℕ) (old tree : Forest Item) → AreAppended d start old tree at count
+    → text ≡ cell_text d.text at.at
+    → at.at ≤ text → text + n ≤ length d.text → eol_len (drop text d.text) ≡ Some n → AreAllAppended d start old tree (spot (text + n) at.braces) count
 unfolding AreCells
 all_read d start at count text n old tree far text_is order within some =
-    let here : eol_len (drop (cell_text d.text at) d.text) ≡ Some n = ap (λ (k : ℕ). eol_len (drop k d.text)) (sym text_is) ∙ some in
+    let here : eol_len (drop (cell_text d.text at.at) d.text) ≡ Some n = ap (λ (k : ℕ). eol_len (drop k d.text)) (sym text_is) ∙ some in
     let later = far.later in
     record {
       cells = far.cells;
       count_is = far.count_is;
-      are_cells = subst (λ (all : List (List (ℕ × Item))). AreCells d start all (text + n)) (append-nil far.cells)
-          (far.go_on [] (text + n) (n, here, ap (λ (k : ℕ). k + n) text_is));
+      are_cells = subst (λ (all : List (List (ℕ × Item))). AreCells d start all (spot (text + n) at.braces)) (append-nil far.cells)
+          (far.go_on d.names (extends_none d.names) [] (spot (text + n) at.braces) (n, here, ap (λ (k : ℕ). spot (k + n) at.braces) text_is));
       nodes = far.nodes;
       spine = far.spine;
       later = omega arith;

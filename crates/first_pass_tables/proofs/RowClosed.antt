@@ -10,6 +10,7 @@ use Rattle.first_pass_tree.specs.Forest.{Forest, at_depth, added, appended, popp
 use Rattle.first_pass_tree.proofs.Blocks.{at_depth-append, block-built}
 use Rattle.first_pass_tokens.specs.TreeTokens.{chained, leaves}
 use Rattle.first_pass_tokens.proofs.ChainLemmas.{chained-spine, chained-nodes}
+use Rattle.first_pass_tokens.specs.LineTokens.{Spot, spot}
 use Rattle.first_pass_grammar.specs.Leaves.{Document}
 use Rattle.first_pass_grammar.specs.Tables.{cell_block, AreCells, filled, side_by_side, row_cells, row_block, FoundRow, most_filled}
 use Rattle.first_pass_open.specs.OpenBlock.{IsJustPushed, opened_block, begun_item, closed_by}
@@ -37,11 +38,11 @@ empty_blocks : (n «end» : ℕ) → leaves (replicate n (empty_cell «end»)) �
 empty_blocks zero stop = refl
 empty_blocks (suc n) stop = ap (λ (items : List (ℕ × Item)). (0, empty_cell stop) ∷ items) (empty_blocks n stop)
 
-module _ (d : Document) (columns start stop count missing : ℕ) (body : ItemBody) (old opened read full : Forest Item)
-    (opened_is : opened ≡ opened_block old start body) (adds : AppendsCells d columns start opened read (stop, count))
-    (missing_is : missing ≡ columns - count) (full_is : full ≡ chained read (replicate missing (empty_cell stop))) where
+module _ (d : Document) (columns : ℕ) (start stop : Spot) (count missing : ℕ) (body : ItemBody) (old opened read full : Forest Item)
+    (opened_is : opened ≡ opened_block old start.at body) (adds : AppendsCells d columns start opened read (stop, count))
+    (missing_is : missing ≡ columns - count) (full_is : full ≡ chained read (replicate missing (empty_cell stop.at))) where
   spine_is : full.spine ≡ opened.spine
-  spine_is = ap (λ (f : Forest Item). f.spine) full_is ∙ chained-spine read (replicate missing (empty_cell stop)) ∙ adds.spine
+  spine_is = ap (λ (f : Forest Item). f.spine) full_is ∙ chained-spine read (replicate missing (empty_cell stop.at)) ∙ adds.spine
 
   pub spine_of_row : full.spine ≡ row_place old ∷ old.spine
   spine_of_row = spine_is ∙ ap (λ (f : Forest Item). f.spine) opened_is
@@ -52,27 +53,29 @@ module _ (d : Document) (columns start stop count missing : ℕ) (body : ItemBod
   pub missing_are : missing ≡ filled columns adds.cells
   missing_are = missing_is ∙ ap (λ (n : ℕ). columns - n) adds.count
 
-  nodes_are : full.nodes ≡ opened.nodes ++ at_depth (length opened.spine + 1) (row_cells columns adds.cells stop)
+  nodes_are : full.nodes ≡ opened.nodes ++ at_depth (length opened.spine + 1) (row_cells columns adds.cells stop.at)
   nodes_are =
       let depth = length opened.spine + 1 in
       let first = side_by_side (take columns adds.cells) in
-      let empty = replicate missing (empty_cell stop) in
+      let empty = replicate missing (empty_cell stop.at) in
       ap (λ (f : Forest Item). f.nodes) full_is ∙ chained-nodes read empty
       ∙ ap (λ (s : List TreeIndex). read.nodes ++ at_depth (length s + 1) (leaves empty)) adds.spine
       ∙ ap (λ (ns : List (ℕ × Item)). ns ++ at_depth depth (leaves empty)) adds.nodes
       ∙ append_assoc opened.nodes (at_depth depth first) (at_depth depth (leaves empty))
       ∙ ap (λ (ns : List (ℕ × Item)). opened.nodes ++ ns) (sym (at_depth-append depth first (leaves empty)))
-      ∙ ap (λ (items : List (ℕ × Item)). opened.nodes ++ at_depth depth (first ++ items)) (empty_blocks missing stop)
-      ∙ ap (λ (items : List (ℕ × Item)). opened.nodes ++ at_depth depth items) (sym (side_more (take columns adds.cells) (replicate missing (cell_block stop stop []))))
-      ∙ ap (λ (n : ℕ). opened.nodes ++ at_depth depth (side_by_side (take columns adds.cells ++ replicate n (cell_block stop stop [])))) missing_are
+      ∙ ap (λ (items : List (ℕ × Item)). opened.nodes ++ at_depth depth (first ++ items)) (empty_blocks missing stop.at)
+      ∙ ap (λ (items : List (ℕ × Item)). opened.nodes ++ at_depth depth items)
+      (sym (side_more (take columns adds.cells) (replicate missing (cell_block stop.at stop.at []))))
+      ∙ ap (λ (n : ℕ). opened.nodes ++ at_depth depth (side_by_side (take columns adds.cells ++ replicate n (cell_block stop.at stop.at [])))) missing_are
 
   -- the row is closed where it ends
-  pub row_closed : (new : Forest Item) → new ≡ closed_by full stop full.spine → new ≡ added old (row_block body columns start adds.cells stop)
+  pub row_closed : (new : Forest Item) → new ≡ closed_by full stop.at full.spine → new ≡ added old (row_block body columns start.at adds.cells stop.at)
   row_closed new new_is =
-      let x = begun_item start body in
+      let x = begun_item start.at body in
       let place = row_place old in
-      new_is ∙ ap (closed_by full stop) spine_of_row
-      ∙ block-built old (appended old x) opened full (popped full place old.spine) x (λ (y : Item). record y { «end» = stop }) (row_cells columns adds.cells stop) place
+      new_is ∙ ap (closed_by full stop.at) spine_of_row
+      ∙ block-built old (appended old x) opened full (popped full place old.spine) x (λ (y : Item). record y { «end» = stop.at })
+      (row_cells columns adds.cells stop.at) place
       refl opened_is nodes_are spine_is spine_of_row refl refl
 
 -- a row is kept by what its cells, and those that are missing, number
@@ -89,13 +92,13 @@ no_spine : (s v : List TreeIndex) (i : TreeIndex) → s ≡ i ∷ v → s ≡ []
 no_spine s v i a b = cc
 
 -- the row is closed and is to be dropped
-pub row_behind : (d : Document) (columns start : ℕ) (body : ItemBody) (old opened read back : Forest Item) (answer : ℕ × ℕ) (r : Option TreeIndex)
-    → opened ≡ opened_block old start body → AppendsCells d columns start opened read answer
+pub row_behind : (d : Document) (columns : ℕ) (start : Spot) (body : ItemBody) (old opened read back : Forest Item) (answer : Spot × ℕ) (r : Option TreeIndex)
+    → opened ≡ opened_block old start.at body → AppendsCells d columns start opened read answer
     → MatchOption r ((read.spine ≡ []) × (back ≡ read)) (λ ix. (read.spine ≡ ix ∷ back.spine) × (back ≡ popped read ix back.spine)) → HasMore old back
 row_behind d columns start body old opened read back answer None opened_is adds h =
     absurd (no_spine read.spine old.spine (row_place old) (adds.spine ∙ ap (λ (f : Forest Item). f.spine) opened_is) h.0)
 row_behind d columns start body old opened read back answer (Some ix) opened_is adds h =
-    let x = begun_item start body in
+    let x = begun_item start.at body in
     let rest = at_depth (length opened.spine + 1) (side_by_side (take columns adds.cells)) in
     record {
       x = x;
@@ -107,17 +110,18 @@ row_behind d columns start body old opened read back answer (Some ix) opened_is 
 
 -- the row is read
 pub row_read : (d : Document) (columns start stop : ℕ) (old new : OpenTable) (cells : List (List (ℕ × Item)))
-    (current : Option TreeIndex) (answer : Option (ℕ × TreeIndex)) → AreCells d start cells stop
+    (current : Option TreeIndex) (answer : Option (ℕ × TreeIndex)) → AreCells d (spot start old.braces) cells (spot stop new.braces)
     → keeps_row (is_some old.tree.current) columns (most_filled - old.filled_in) cells ≡ true → new.tree ≡ added old.tree (row_block TableRow columns start cells stop)
     → new.filled_in ≡ old.filled_in + filled columns cells → current ≡ new.tree.current → answer ≡ option_map (λ (row : TreeIndex). (stop, row)) current
     → ReadsRow d columns start old new answer
 row_read d columns start stop old new cells current answer are kept new_is after_is current_is answer_is =
-    let row : FoundRow = record { start = start; cells = cells; row_end = stop } in
+    let row : FoundRow = record { start = start; cells = cells; row_end = stop; after = new.braces } in
     let here : current ≡ Some (row_place old.tree) = current_is ∙ ap (λ (f : Forest Item). f.current) new_is in
     let is : answer ≡ Some (stop, row_place old.tree) = answer_is ∙ ap (option_map (λ (row : TreeIndex). (stop, row))) here in
     record {
       cells = cells;
       row_end = stop;
+      after = new.braces;
       are_cells = are;
-      adds = subst (AddsRow columns row old new) (sym is) (kept, new_is, after_is, refl, refl);
+      adds = subst (AddsRow columns row old new) (sym is) (kept, new_is, after_is, refl, refl, refl);
     }

@@ -9,7 +9,10 @@ use Rattle.first_pass_tree.specs.Forest.{Forest, IsForest, IsLastAt, IsChild, de
 use Rattle.first_pass_tree.proofs.Depths.{open-last, last-order}
 use Rattle.first_pass_tree.proofs.Callers.{child-kept}
 use Rattle.first_pass_tokens.specs.TreeTokens.{leaves}
-use Rattle.first_pass_grammar.specs.Leaves.{Document}
+use Rattle.first_pass_tokens.specs.Braces.{MathBraces}
+use Rattle.first_pass_tokens.specs.LineTokens.{Spot, spot}
+use Rattle.first_pass_grammar.specs.Names.{Names, Extends}
+use Rattle.first_pass_grammar.specs.Leaves.{Document, document}
 use Rattle.first_pass_grammar.specs.Tables.{cell_start, AreCells, side_by_side}
 use Rattle.first_pass_open.specs.OpenBlock.{IsJustPushed}
 use Rattle.first_pass_tables.specs.declared.row.CellsRead.{CellsRead}
@@ -56,7 +59,7 @@ pub dropped : (f g : Forest Item) → IsForest f → IsOpenNode f → HasMore f 
 dropped f g h n more = dropped_by f g f.current refl h n more
 
 -- the cells of a row that has some begin with the item of a cell
-more_by : (d : Document) (at stop : ℕ) (f g : Forest Item) (cells : List (List (ℕ × Item))) → 0 < length cells → AreCells d at cells stop
+more_by : (d : Document) (at stop : Spot) (f g : Forest Item) (cells : List (List (ℕ × Item))) → 0 < length cells → AreCells d at cells stop
     → g.nodes ≡ f.nodes ++ at_depth (length f.spine + 1) (side_by_side cells) → g.spine ≡ f.spine → HasMore f g
 unfolding AreCells
 more_by d at stop f g [] some are nodes spine = absurd (omega arith)
@@ -64,7 +67,7 @@ more_by d at stop f g (cell ∷ cells) some (on, tokens, next, is, same, more) n
     let depth = length f.spine + 1 in
     let all = ap (λ (c : List (ℕ × Item)). f.nodes ++ at_depth depth (c ++ side_by_side cells)) same in
     let z : depth + 0 ≡ depth = omega arith in
-    let x : Item = record { start = cell_start d.text at; «end» = next; body = TableCell } in
+    let x : Item = record { start = cell_start d.text at.at; «end» = next.at; body = TableCell } in
     let rest = at_depth depth (at_depth 1 (leaves tokens) ++ side_by_side cells) in
     record {
       x = x;
@@ -73,13 +76,14 @@ more_by d at stop f g (cell ∷ cells) some (on, tokens, next, is, same, more) n
       spine = spine;
     }
 
-pub has_more : (d : Document) (at stop count : ℕ) (f g : Forest Item) → 0 < count → AreAllAppended d at f g stop count → HasMore f g
+pub has_more : (d : Document) (at stop : Spot) (count : ℕ) (f g : Forest Item) → 0 < count → AreAllAppended d at f g stop count → HasMore f g
 has_more d at stop count f g some all =
     let count_is = all.count_is in
     more_by d at stop f g all.cells (omega arith) all.are_cells all.nodes all.spine
 
 -- the innermost open node, to which cells were appended since it was opened
-pub still_open_node : (d : Document) (start at count : ℕ) (old tree : Forest Item) (ix : TreeIndex) → IsJustPushed old ix → AreAppended d start old tree at count → IsOpenNode tree
+pub still_open_node : (d : Document) (start at : Spot) (count : ℕ) (old tree : Forest Item) (ix : TreeIndex) → IsJustPushed old ix
+    → AreAppended d start old tree at count → IsOpenNode tree
 still_open_node d start at count old tree ix pushed far =
     record {
       place = ix;
@@ -93,16 +97,18 @@ abbrev pub HaveSame : Forest Item → Forest Item → Type 0
 HaveSame f g = (f.nodes ≡ g.nodes) × (f.spine ≡ g.spine)
 
 -- the first cells of the row are kept, as many as there are columns
-pub first_kept : (d : Document) (columns start at count stop excess : ℕ) (old tree over new : Forest Item) → AreAppended d start old tree at count → count ≡ columns
+pub first_kept : (d : Document) (before : Names) (columns : ℕ) (start at : Spot) (count : ℕ) (stop : Spot) (excess : ℕ) (old tree over new : Forest Item)
+    → Extends d.names before
+    → AreAppended (document d.text d.options before) start old tree at count → count ≡ columns
     → AreAllAppended d at tree over stop excess → HaveSame new tree → AppendsCells d columns start old new (stop, count + excess)
-first_kept d columns start at count stop excess old tree over new far full all same =
+first_kept d before columns start at count stop excess old tree over new grown far full all same =
     let count_is = far.count_is in
     let more_is = all.count_is in
     let first : take columns (far.cells ++ all.cells) ≡ far.cells =
     ap (λ (n : ℕ). take n (far.cells ++ all.cells)) (sym full ∙ count_is) ∙ take-append_seam far.cells all.cells in
     record {
       cells = far.cells ++ all.cells;
-      are_cells = far.go_on all.cells stop all.are_cells;
+      are_cells = far.go_on d.names grown all.cells stop all.are_cells;
       count = omega (arith, length-append far.cells all.cells);
       nodes = same.0 ∙ far.nodes ∙ ap (λ (cells : List (List (ℕ × Item))). old.nodes ++ at_depth (length old.spine + 1) (side_by_side cells)) (sym first);
       spine = same.1 ∙ far.spine;
@@ -113,7 +119,7 @@ none_by n f g [] empty nodes = nodes ∙ append-nil f.nodes
 none_by n f g (cell ∷ cells) empty nodes = absurd (omega arith)
 
 -- no cell is appended
-pub none_more : (d : Document) (at stop count : ℕ) (f g : Forest Item) → count ≡ 0 → AreAllAppended d at f g stop count → HaveSame g f
+pub none_more : (d : Document) (at stop : Spot) (count : ℕ) (f g : Forest Item) → count ≡ 0 → AreAllAppended d at f g stop count → HaveSame g f
 none_more d at stop count f g empty all =
     let count_is = all.count_is in
     (none_by (length f.spine + 1) f g all.cells (omega arith) all.nodes, all.spine)
@@ -124,10 +130,11 @@ same_dropped f g new h n more is =
     let back = is ∙ dropped f g h n more in
     (ap (λ (t : Forest Item). t.nodes) back, ap (λ (t : Forest Item). t.spine) back)
 
-ended_by : (d : Document) (most start : ℕ) (old new : Forest Item) (read : CellsRead) (t : Bool) → read.ended ≡ t → length d.text < most
-    → AppendsSome d most start old new read → AreAllAppended d start old new read.at read.count
-ended_by d most start old new read true is short some = some.all is
-ended_by d most start old new read false is short some =
+ended_by : (d : Document) (most : ℕ) (start : Spot) (old new : Forest Item) (read : CellsRead) (after : MathBraces) (t : Bool) → read.ended ≡ t
+    → length d.text < most
+    → AppendsSome d most start old new (read, after) → AreAllAppended d start old new (spot read.at after) read.count
+ended_by d most start old new read after true is short some = some.all is
+ended_by d most start old new read after false is short some =
     let first = some.first is in
     let later = first.0.later in
     let within = first.0.within in
@@ -135,6 +142,6 @@ ended_by d most start old new read false is short some =
     absurd (omega arith)
 
 -- a row has fewer cells than the text has bytes
-pub ended_within : (d : Document) (most start : ℕ) (old new : Forest Item) (read : CellsRead) → length d.text < most → AppendsSome d most start old new read
-    → AreAllAppended d start old new read.at read.count
-ended_within d most start old new read short some = ended_by d most start old new read read.ended refl short some
+pub ended_within : (d : Document) (most : ℕ) (start : Spot) (old new : Forest Item) (read : CellsRead) (after : MathBraces) → length d.text < most
+    → AppendsSome d most start old new (read, after) → AreAllAppended d start old new (spot read.at after) read.count
+ended_within d most start old new read after short some = ended_by d most start old new read after read.ended refl short some

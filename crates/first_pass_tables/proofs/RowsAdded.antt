@@ -10,11 +10,13 @@ use Rattle.first_pass_tree.specs.Forest.{Forest}
 use Rattle.first_pass_lines.specs.Places.{start_of}
 use Rattle.first_pass_lines.proofs.LineFacts.{line_len-within}
 use Rattle.first_pass_lines.proofs.PlaceFacts.{start_of-lines}
+use Rattle.first_pass_tokens.specs.Braces.{no_braces}
+use Rattle.first_pass_tokens.specs.LineTokens.{Spot, spot}
 use Rattle.first_pass_grammar.specs.Completion.{lines_from}
 use Rattle.first_pass_grammar.specs.Leaves.{Document}
 use Rattle.first_pass_grammar.specs.OpenOrder.{within_top}
 use Rattle.first_pass_grammar.specs.Order.{Within, Elsewhere, FitsBetween}
-use Rattle.first_pass_grammar.specs.Tables.{AreCells, filled, row_block, taking, most_filled}
+use Rattle.first_pass_grammar.specs.Tables.{AreCells, filled, row_block, taking, table_so_far, most_filled}
 use Rattle.first_pass_grammar.proofs.Orders.{between-any}
 use Rattle.first_pass_grammar.proofs.OwnNodes.{own_join}
 use Rattle.first_pass_grammar.proofs.RowEnds.{row_ends_its_line}
@@ -27,11 +29,14 @@ use Rattle.first_pass_tables.proofs.CellsFit.{OneRow, between-order, between-joi
 use Rattle.first_pass_tables.proofs.RowsFit.{row_place, RowsBetween, rows_fit}
 
 -- a row fits wherever it stands, behind an offset before it
-row_fits_behind : (d : Document) (body : ItemBody) (columns start : ℕ) (cells : List (List (ℕ × Item))) (stop : ℕ) (w : Within) (from : ℕ) → IsUtf8 d.text
-    → IsCharBoundary d.text start → AreCells d start cells stop → from ≤ start → FitsBetween d.text w from stop (row_block body columns start cells stop)
-row_fits_behind d body columns start cells stop w from utf8 boundary are low =
+row_fits_behind : (d : Document) (body : ItemBody) (columns : ℕ) (p : Spot) (cells : List (List (ℕ × Item))) (to : Spot) (w : Within) (from : ℕ)
+    → IsUtf8 d.text
+    → IsCharBoundary d.text p.at → AreCells d p cells to → from ≤ p.at → FitsBetween d.text w from to.at (row_block body columns p.at cells to.at)
+row_fits_behind d body columns p cells to w from utf8 boundary are low =
+    let start : ℕ = p.at in
+    let stop : ℕ = to.at in
     let block : List (ℕ × Item) = row_block body columns start cells stop in
-    let row = row_fits d body columns start cells stop utf8 boundary are in
+    let row = row_fits d body columns p cells to utf8 boundary are in
     let few = row.few in
     let order = between-order d.text start stop block row.between in
     let wide = between-wider d.text from start stop stop block low (omega arith) row.between in
@@ -49,7 +54,8 @@ row_between d columns start old new (Some (stop, ix)) utf8 boundary r from low =
       items = block;
       tree_is = a.1;
       fits = subst (λ (n : ℕ). FitsBetween d.text (within_top old.tree) from n block) (sym a.3)
-          (row_fits_behind d TableRow columns start r.cells r.row_end (within_top old.tree) from utf8 boundary r.are_cells low);
+          (row_fits_behind d TableRow columns (spot start old.braces) r.cells (spot r.row_end r.after) (within_top old.tree) from utf8 boundary r.are_cells
+          low);
     }
 
 -- It ends in the text.
@@ -57,7 +63,7 @@ pub row_ends : (d : Document) (columns start : ℕ) (old new : OpenTable) (answe
     → ReadsRow d columns start old new answer → IfSome answer (λ r. r.0 ≤ length d.text)
 row_ends d columns start old new None within r = tt
 row_ends d columns start old new (Some (stop, ix)) within r =
-    let ends = (cells_end d start r.cells r.row_end within r.are_cells).1 in
+    let ends = (cells_end d (spot start old.braces) r.cells (spot r.row_end r.after) within r.are_cells).1 in
     let is : stop ≡ r.row_end = r.adds.3 in
     omega arith
 
@@ -101,11 +107,13 @@ pub rows_between : (d : Document) (columns head_start body_start next from : ℕ
 rows_between d columns head_start body_start next from old new utf8 head_begins body_begins r low behind =
     let text = d.text in
     let head : List (ℕ × Item) = row_block TableHead columns head_start r.cells r.head_end in
-    let ends : r.head_end ≡ line_end_at text head_start = row_ends_its_line d head_start r.cells r.head_end head_begins.0 r.are_cells in
-    let row = row_fits d TableHead columns head_start r.cells r.head_end utf8 head_begins r.are_cells in
+    let ends : r.head_end ≡ line_end_at text head_start =
+    row_ends_its_line d (spot head_start no_braces) r.cells (spot r.head_end r.after) head_begins.0 r.are_cells in
+    let row = row_fits d TableHead columns (spot head_start no_braces) r.cells (spot r.head_end r.after) utf8 head_begins r.are_cells in
     let stop : start_of (length text) (lines_from text next) ≡ next = start_of-lines text next r.boundary.0 in
     let rows = subst (λ (k : ℕ). RowsBetween text body_start k r.body) stop
-    (rows_fit d (path_of d.options old) columns (most_filled - filled columns r.cells) (lines_from text body_start) body_start (taking r.body (lines_from text next)) utf8 body_begins
+    (rows_fit d (path_of d.options old) (table_so_far columns (most_filled - filled columns r.cells) r.after) (lines_from text body_start) body_start
+    (taking r.body (lines_from text next)) utf8 body_begins
     refl r.are_rows) in
     let within = r.boundary.0 in
     let some : (head_start < r.head_end) ⊎ (next ≤ head_start) = elim (cases_lt head_start (length text)) [

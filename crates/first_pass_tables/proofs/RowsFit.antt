@@ -10,14 +10,15 @@ use Rattle.first_pass_lines.specs.Rest.{Rest, indent}
 use Rattle.first_pass_lines.specs.Places.{Place, line_rest, line_place, place_at, offset, line_end, IsPlaceOf, start_of}
 use Rattle.first_pass_lines.proofs.LineFacts.{lines_at-line, lines_at-end}
 use Rattle.first_pass_lines.proofs.PlaceFacts.{line_is_place, columns_line_end, start_of-lines}
+use Rattle.first_pass_tokens.specs.LineTokens.{Spot, spot}
 use Rattle.first_pass_grammar.specs.declared.kind.Container.{Container}
 use Rattle.first_pass_grammar.specs.Completion.{lines_from}
 use Rattle.first_pass_grammar.specs.Containers.{at_rest, after}
 use Rattle.first_pass_grammar.specs.Counting.{own_nodes}
 use Rattle.first_pass_grammar.specs.Kinds.{unindented, interrupts_with}
 use Rattle.first_pass_grammar.specs.Leaves.{Document}
-use Rattle.first_pass_grammar.specs.Tables.{AreCells, filled, row_block, row_text, Taken, taking, AreRows}
-use Rattle.first_pass_grammar.proofs.CountedRows.{CountedRows, counted}
+use Rattle.first_pass_grammar.specs.Tables.{AreCells, filled, row_block, row_text, Taken, taking, TableSoFar, AreRows}
+use Rattle.first_pass_grammar.proofs.CountedRows.{with_row, CountedRows, counted}
 use Rattle.first_pass_grammar.proofs.OwnNodes.{own_at_most, own_join}
 use Rattle.first_pass_grammar.proofs.RowEnds.{row_ends_at_place}
 use Rattle.first_pass_open.proofs.PlaceLemmas.{all_keep, after_keeps, line_start_end}
@@ -80,12 +81,14 @@ no_rows text n lines t within is e =
     subst (λ (z : Taken). RowsBetween text n (start_of (length text) z.left) z.items) (sym e)
     (record { between = between-none text n (start_of (length text) lines) (omega arith); few = omega arith })
 
-one_more_row : (d : Document) (columns n start : ℕ) (cells : List (List (ℕ × Item))) («end» to : ℕ) (more : List (ℕ × Item)) → IsUtf8 d.text
-    → IsCharBoundary d.text start → AreCells d start cells «end» → n ≤ start → 0 < length cells → RowsBetween d.text «end» to more
-    → RowsBetween d.text n to (row_block TableRow columns start cells «end» ++ more)
-one_more_row d columns n start cells stop to more utf8 boundary are behind some rest =
-    let row = row_fits d TableRow columns start cells stop utf8 boundary are in
-    let byte = some_cells d start cells stop utf8 boundary are some in
+one_more_row : (d : Document) (columns n : ℕ) (begin : Spot) (cells : List (List (ℕ × Item))) («end» : Spot) (to : ℕ) (more : List (ℕ × Item)) → IsUtf8 d.text
+    → IsCharBoundary d.text begin.at → AreCells d begin cells «end» → n ≤ begin.at → 0 < length cells → RowsBetween d.text «end».at to more
+    → RowsBetween d.text n to (row_block TableRow columns begin.at cells «end».at ++ more)
+one_more_row d columns n begin cells ended to more utf8 boundary are behind some rest =
+    let start : ℕ = begin.at in
+    let stop : ℕ = ended.at in
+    let row = row_fits d TableRow columns begin cells ended utf8 boundary are in
+    let byte = some_cells d begin cells ended utf8 boundary are some in
     let block : List (ℕ × Item) = row_block TableRow columns start cells stop in
     let later = between-order d.text stop to more rest.between in
     let own = own_join None block more in
@@ -97,28 +100,32 @@ one_more_row d columns n start cells stop to more utf8 boundary are behind some 
     }
 
 -- The rows of a table's body lie so between the first of its lines and the first line that is no row of it.
-counted_fit : (d : Document) (path : List Container) (columns most : ℕ) (lines : List Place) (n : ℕ) (t : Taken) → IsUtf8 d.text
-    → IsCharBoundary d.text n → lines ≡ lines_from d.text n → CountedRows d path columns most lines t
+counted_fit : (d : Document) (path : List Container) (table : TableSoFar) (lines : List Place) (n : ℕ) (t : Taken) → IsUtf8 d.text
+    → IsCharBoundary d.text n → lines ≡ lines_from d.text n → CountedRows d path table lines t
     → RowsBetween d.text n (start_of (length d.text) t.left) t.items
 unfolding CountedRows
-counted_fit d path columns most [] n t utf8 boundary is e = no_rows d.text n [] t boundary.0 is e
-counted_fit d path columns most (line ∷ lines) n t utf8 boundary is (inl (none, e)) = no_rows d.text n (line ∷ lines) t boundary.0 is e
-counted_fit d path columns most (line ∷ lines) n t utf8 boundary is (inr (start, cells, stop, at, are, inl (stops, e))) =
-    no_rows d.text n (line ∷ lines) t boundary.0 is e
-counted_fit d path columns most (line ∷ lines) n t utf8 boundary is (inr (start, cells, stop, at, are, inr (row, more, rest, e))) =
+counted_fit d path table [] n t utf8 boundary is e = no_rows d.text n [] t boundary.0 is e
+counted_fit d path table (line ∷ lines) n t utf8 boundary is (inl (none, e)) = no_rows d.text n (line ∷ lines) t boundary.0 is e
+counted_fit d path table (line ∷ lines) n t utf8 boundary is (inr (row, has, inl (stops, e))) = no_rows d.text n (line ∷ lines) t boundary.0 is e
+counted_fit d path table (line ∷ lines) n t utf8 boundary is (inr (row, has, inr (kept, more, rest, e))) =
+    let start : ℕ = row.start in
+    let cells : List (List (ℕ × Item)) = row.cells in
+    let begin : Spot = spot row.start table.braces in
+    let ended : Spot = spot row.row_end row.after in
+    let are = has.are_cells in
     let first = first_line d.text n line lines is in
-    let p = row_place d.text path n start utf8 boundary (ap (row_text path) (sym first.0) ∙ at) in
+    let p = row_place d.text path n start utf8 boundary (ap (row_text path) (sym first.0) ∙ has.begins) in
     let starts : IsCharBoundary d.text start = subst (IsCharBoundary d.text) (sym p.start_is) p.is.boundary in
-    let ends : stop ≡ n + line_len (drop n d.text) =
-    row_ends_at_place d p.place cells stop p.is (subst (λ (k : ℕ). AreCells d k cells stop) p.start_is are) ∙ p.ends in
-    let further = counted_fit d path columns (most - filled columns cells) lines stop more utf8 (row_boundary d start cells stop utf8 starts are)
+    let ends : row.row_end ≡ n + line_len (drop n d.text) =
+    row_ends_at_place d p.place table.braces cells ended p.is (subst (λ (k : ℕ). AreCells d (spot k table.braces) cells ended) p.start_is are) ∙ p.ends in
+    let further = counted_fit d path (with_row table row) lines row.row_end more utf8 (row_boundary d begin cells ended utf8 starts are)
     (first.1 ∙ ap (lines_from d.text) (sym ends)) rest in
-    let some = ltb-true 0 (length cells) (and_parts (nat_lt 0 (length cells)) (nat_le (filled columns cells) most) row).0 in
+    let some = ltb-true 0 (length cells) (and_parts (nat_lt 0 (length cells)) (nat_le (filled table.columns cells) table.room) kept).0 in
     subst (λ (z : Taken). RowsBetween d.text n (start_of (length d.text) z.left) z.items) (sym e)
-    (one_more_row d columns n start cells stop (start_of (length d.text) more.left) more.items utf8 starts are p.behind some further)
+    (one_more_row d table.columns n begin cells ended (start_of (length d.text) more.left) more.items utf8 starts are p.behind some further)
 
-pub rows_fit : (d : Document) (path : List Container) (columns most : ℕ) (lines : List Place) (n : ℕ) (t : Taken) → IsUtf8 d.text
-    → IsCharBoundary d.text n → lines ≡ lines_from d.text n → AreRows d path columns most lines t
+pub rows_fit : (d : Document) (path : List Container) (table : TableSoFar) (lines : List Place) (n : ℕ) (t : Taken) → IsUtf8 d.text
+    → IsCharBoundary d.text n → lines ≡ lines_from d.text n → AreRows d path table lines t
     → RowsBetween d.text n (start_of (length d.text) t.left) t.items
-rows_fit d path columns most lines n t utf8 boundary is h =
-    counted_fit d path columns most lines n t utf8 boundary is (counted d path columns most lines t h)
+rows_fit d path table lines n t utf8 boundary is h =
+    counted_fit d path table lines n t utf8 boundary is (counted d path table lines t h)

@@ -7,11 +7,13 @@ use Rattle.first_pass_tree.specs.Forest.{block_of}
 use Rattle.first_pass_lines.specs.Places.{Place, offset, IsPlaceOf, start_of}
 use Rattle.first_pass_lines.proofs.LineFacts.{lines_at-line, line_len-within}
 use Rattle.first_pass_lines.proofs.PlaceFacts.{line_end_boundary, start_of-lines}
+use Rattle.first_pass_tokens.specs.Braces.{no_braces}
+use Rattle.first_pass_tokens.specs.LineTokens.{spot}
 use Rattle.first_pass_grammar.specs.declared.kind.Container.{Container}
 use Rattle.first_pass_grammar.specs.Completion.{lines_from}
 use Rattle.first_pass_grammar.specs.Leaves.{Document}
 use Rattle.first_pass_grammar.specs.Order.{Within, Elsewhere, FitsBetween}
-use Rattle.first_pass_grammar.specs.Tables.{filled, row_block, taking, most_filled, IsTable}
+use Rattle.first_pass_grammar.specs.Tables.{filled, row_block, taking, table_so_far, most_filled, IsTable}
 use Rattle.first_pass_grammar.proofs.Orders.{between-any}
 use Rattle.first_pass_grammar.proofs.OwnNodes.{own_join}
 use Rattle.first_pass_grammar.proofs.RowEnds.{row_ends_its_line}
@@ -57,14 +59,15 @@ table_fits d path p alignments next items w from utf8 place further ends table l
     let mid : ℕ = line_end_at d.text start in
     let behind : ℕ = line_end_at d.text mid in
     let columns : ℕ = length alignments in
-    let head_end : table.head_end ≡ mid = row_ends_its_line d start table.cells table.head_end place.within table.are_cells in
-    let head = row_fits d TableHead columns start table.cells table.head_end utf8 place.boundary table.are_cells in
+    let head_end : table.head_end ≡ mid =
+    row_ends_its_line d (spot start no_braces) table.cells (spot table.head_end table.after) place.within table.are_cells in
+    let head = row_fits d TableHead columns (spot start no_braces) table.cells (spot table.head_end table.after) utf8 place.boundary table.are_cells in
     let size = line_len-within d.text mid further in
     let some = size.0 in
     let mid_boundary = line_end_boundary d.text start utf8 place.boundary (omega arith) in
     let behind_boundary = line_end_boundary d.text mid utf8 mid_boundary further in
     let stop : start_of (length d.text) (lines_from d.text next) ≡ next = start_of-lines d.text next ends.0 in
-    let rows = rows_fit d path columns (most_filled - filled columns table.cells) (drop 1 (lines_from d.text mid)) behind
+    let rows = rows_fit d path (table_so_far columns (most_filled - filled columns table.cells) table.after) (drop 1 (lines_from d.text mid)) behind
     (taking table.body (lines_from d.text next)) utf8 behind_boundary (others d.text mid further) table.are_rows in
     let x : Item = record { start = start; «end» = start_of (length d.text) (lines_from d.text next); body = Table table.index } in
     let block = block_between d.text from start table.head_end behind next x (row_block TableHead columns start table.cells table.head_end) table.body

@@ -14,18 +14,19 @@ use Rattle.first_pass_lines.specs.Lines.{line_len}
 use Rattle.first_pass_lines.specs.Places.{Place, offset, line_end, line_place, start_of, IsPlaceOf}
 use Rattle.first_pass_lines.proofs.LineFacts.{lines_at-line, lines_at-end}
 use Rattle.first_pass_lines.proofs.PlaceFacts.{line_is_place, start_of-lines}
+use Rattle.first_pass_tokens.specs.Braces.{no_braces}
+use Rattle.first_pass_tokens.specs.LineTokens.{spot}
 use Rattle.first_pass_grammar.specs.declared.kind.Container.{Container}
 use Rattle.first_pass_grammar.specs.Containers.{Context, context}
 use Rattle.first_pass_grammar.specs.Names.{Names, Extends, NamesAlignments}
 use Rattle.first_pass_grammar.specs.Leaves.{Document, document}
 use Rattle.first_pass_grammar.specs.Completion.{lines_from}
 use Rattle.first_pass_grammar.specs.TableHeads.{headed_table}
-use Rattle.first_pass_grammar.specs.Tables.{AreCells, filled, row_block, Taken, taking, AreRows, most_filled, IsTable}
+use Rattle.first_pass_grammar.specs.Tables.{AreCells, filled, row_block, Taken, taking, TableSoFar, table_so_far, AreRows, most_filled, IsTable}
 use Rattle.first_pass_grammar.specs.Texts.{IsPlainText, IsText}
 use Rattle.first_pass_grammar.specs.OpenOrder.{within_top}
-use Rattle.first_pass_grammar.proofs.CountedRows.{CountedRows, counted, are_rows}
 use Rattle.first_pass_grammar.proofs.HeadLines.{headed_has_line}
-use Rattle.first_pass_names.specs.TableEntries.{no_names}
+use Rattle.first_pass_grammar.proofs.TextsMore.{cells_more, rows_more}
 use Rattle.first_pass_open.specs.OpenBlock.{IsJustPushed, begun_item, opened_block}
 use Rattle.first_pass_open.proofs.BlockLemmas.{just_pushed}
 use Rattle.first_pass_open.specs.Path.{path_of, context_of}
@@ -36,29 +37,6 @@ use Rattle.first_pass_text.specs.Between.{AddsBetween}
 use Rattle.first_pass_tables.specs.Appends.{with_below, AppendsRows}
 use Rattle.first_pass_tables.specs.TextsAdded.{AddsText}
 use Rattle.first_pass_tables.proofs.TableFits.{table_fits}
-
--- cells and rows name nothing
-cells_renamed : (text : List ℕ) (options : Options) (m n : Names) (at : ℕ) (cells : List (List (ℕ × Item))) (stop : ℕ) → AreCells (document text options m) at cells stop → AreCells (document text options n) at cells stop
-unfolding AreCells
-cells_renamed text options m n at [] stop h = h
-cells_renamed text options m n at (cell ∷ cells) stop (on, tokens, next, is, same, more) = (on, tokens, next, is, same, cells_renamed text options m n next cells stop more)
-
-counted_renamed : (text : List ℕ) (options : Options) (m n : Names) (path : List Container) (columns most : ℕ) (lines : List Place) (t : Taken)
-    → CountedRows (document text options m) path columns most lines t → CountedRows (document text options n) path columns most lines t
-unfolding CountedRows
-counted_renamed text options m n path columns most [] t h = h
-counted_renamed text options m n path columns most (line ∷ lines) t (inl none) = inl none
-counted_renamed text options m n path columns most (line ∷ lines) t (inr (start, cells, stop, at, are, inl over)) =
-    inr (start, cells, stop, at, cells_renamed text options m n start cells stop are, inl over)
-counted_renamed text options m n path columns most (line ∷ lines) t (inr (start, cells, stop, at, are, inr (is, more, rest, e))) =
-    let further = counted_renamed text options m n path columns (most - filled columns cells) lines more rest in
-    inr (start, cells, stop, at, cells_renamed text options m n start cells stop are, inr (is, more, further, e))
-
-rows_renamed : (text : List ℕ) (options : Options) (m n : Names) (path : List Container) (columns most : ℕ) (lines : List Place) (t : Taken)
-    → AreRows (document text options m) path columns most lines t → AreRows (document text options n) path columns most lines t
-rows_renamed text options m n path columns most lines t h =
-    are_rows (document text options n) path columns most lines t
-    (counted_renamed text options m n path columns most lines t (counted (document text options m) path columns most lines t h))
 
 -- what a text is whose first line heads a table, or none
 text_by : (d : Document) (path : List Container) (p : Place) (marker : Option Item) (lines : List Place) (t : Taken) (o : Option (List Alignment)) → headed_table (context d.options path) p.rest.left ≡ o
@@ -122,7 +100,7 @@ body_at text bytes start mid body same mid_is body_is =
 
 -- a table that was added
 module _ (text : List ℕ) (options : Options) (names : Names) (start body next : ℕ) (ix : AlignmentIndex) (alignments : List Alignment) (old new : Forest Item)
-    (r : AppendsRows (document text options no_names) (length alignments) start body (opened_block old start (Table ix)) new next) where
+    (r : AppendsRows (document text options names) (length alignments) start body (opened_block old start (Table ix)) new next) where
   abbrev table_items : List (ℕ × Item)
   table_items = block_of (record { start = start; «end» = next; body = Table ix }) (row_block TableHead (length alignments) start r.cells r.head_end ++ r.body)
 
@@ -140,6 +118,7 @@ module _ (text : List ℕ) (options : Options) (names : Names) (start body next 
   table_is there named body_is more e p i at =
       let d = document text options more in
       let columns : ℕ = length alignments in
+      let table : TableSoFar = table_so_far columns (most_filled - filled columns r.cells) r.after in
       let left : List Place = lines_from text next in
       let path = path_of-opened options old (begun_item start (Table ix)) (record { 0 = length old.nodes }) refl there in
       let ends : start_of (length text) left ≡ next = start_of-lines text next r.boundary.0 in
@@ -150,11 +129,14 @@ module _ (text : List ℕ) (options : Options) (names : Names) (start body next 
         named = named more e;
         cells = r.cells;
         head_end = r.head_end;
-        are_cells = subst (λ k. AreCells d k r.cells r.head_end) (sym at) (cells_renamed text options no_names more start r.cells r.head_end r.are_cells);
+        after = r.after;
+        are_cells = subst (λ k. AreCells d (spot k no_braces) r.cells (spot r.head_end r.after)) (sym at)
+            (cells_more text options names more (spot start no_braces) r.cells (spot r.head_end r.after) e r.are_cells);
         body = r.body;
-        are_rows = subst (λ ls. AreRows d (path_of options old) columns (most_filled - filled columns r.cells) ls (taking r.body left)) lines
-            (subst (λ c. AreRows d c columns (most_filled - filled columns r.cells) (lines_from text body) (taking r.body left)) path
-            (rows_renamed text options no_names more (path_of options (opened_block old start (Table ix))) columns (most_filled - filled columns r.cells) (lines_from text body) (taking r.body left) r.are_rows));
+        are_rows = subst (λ ls. AreRows d (path_of options old) table ls (taking r.body left)) lines
+            (subst (λ c. AreRows d c table (lines_from text body) (taking r.body left)) path
+            (rows_more text options names more (path_of options (opened_block old start (Table ix))) table (lines_from text body) (taking r.body left) e
+            r.are_rows));
         items_are = ap (λ k. block_of (record { start = start; «end» = k; body = Table ix }) (row_block TableHead columns start r.cells r.head_end ++ r.body)) (sym ends)
             ∙ ap (λ k. block_of (record { start = k; «end» = start_of (length text) left; body = Table ix }) (row_block TableHead columns k r.cells r.head_end ++ r.body)) (sym at);
       }

@@ -1,32 +1,56 @@
 -- The rows of a table that were added are whole.
-use Rattle.std.proofs.Common.{◌≡◌, ℕ, ◌-◌, List, [], ◌∷◌, ◌++◌, map, None, refl, sym, ap, ◌∙◌, arith}
-use Rattle.std.proofs.lemmas.Option.{none-some}
+use Rattle.std.proofs.Common.{◌≡◌, ℕ, suc, ◌-◌, List, [], ◌∷◌, ◌++◌, map, refl, sym, ap, subst, ◌∙◌, arith}
 use Rattle.first_pass_items.specs.declared.item.Item.{Item}
 use Rattle.first_pass_items.specs.declared.item.ItemBody.{ItemBody}
-use Rattle.first_pass_items.specs.declared.item.ItemBody.TheVariants.{Table, TableHead}
+use Rattle.first_pass_items.specs.declared.item.ItemBody.TheVariants.{Table, TableHead, TableRow, TableCell}
 use Rattle.first_pass_tree.specs.Forest.{Forest}
-use Rattle.first_pass_grammar.specs.Names.{Names, index_of}
+use Rattle.first_pass_tokens.specs.Braces.{no_braces}
+use Rattle.first_pass_tokens.specs.LineTokens.{Spot, spot}
+use Rattle.first_pass_grammar.specs.Names.{Names}
 use Rattle.first_pass_grammar.specs.Leaves.{Document}
 use Rattle.first_pass_grammar.specs.Completion.{lines_from}
-use Rattle.first_pass_grammar.specs.Tables.{filled, row_block, taking, most_filled}
-use Rattle.first_pass_grammar.specs.WholeTables.{Mark, ARow, ACell, shown, marks, RowCells, row_marks, filled_in, HaveCells}
+use Rattle.first_pass_grammar.specs.Tables.{filled, row_block, taking, TableSoFar, table_so_far, most_filled}
+use Rattle.first_pass_grammar.specs.WholeTables.{Mark, ATable, ARow, ACell, shown, marks, RowCells, row_marks, filled_in, HaveCells}
 use Rattle.first_pass_grammar.proofs.HeadCells.{head_has_cells}
-use Rattle.first_pass_grammar.proofs.TableItems.{AreFreeNodes, both_nodes_free, cells_free, row_free, rows_free}
 use Rattle.first_pass_grammar.proofs.TableMarks.{marks-append, row_shows, rows_show}
 use Rattle.first_pass_open.specs.Path.{path_of}
 use Rattle.first_pass_tables.specs.Appends.{AppendsRows, AddsWholeRows}
 
--- nodes without an index show the same, whatever indices name
-shown_free : (m n : Names) (depth start «end» : ℕ) (b : ItemBody) → index_of b ≡ None → shown m depth start «end» b ≡ shown n depth start «end» b
-shown_free m n depth start end (Table ix) h = absurd (none-some _ (sym h))
-shown_free m n depth start end b h = refl
+-- none of these marks is a table's
+HasNoTable : List Mark → Type 0
+HasNoTable [] = Unit {0}
+HasNoTable (ATable depth columns ∷ marks) = ⊥
+HasNoTable (ARow depth «end» ∷ marks) = HasNoTable marks
+HasNoTable (ACell depth start ∷ marks) = HasNoTable marks
 
-marks_free : (m n : Names) (nodes : List (ℕ × Item)) → AreFreeNodes nodes → marks m nodes ≡ marks n nodes
+-- nodes among which no table is show the same, whatever indices name
+shown_free : (m n : Names) (depth start «end» : ℕ) (b : ItemBody) (more : List Mark) → HasNoTable (shown n depth start «end» b ++ more)
+    → (shown m depth start «end» b ≡ shown n depth start «end» b) × HasNoTable more
+unfolding HasNoTable
+shown_free m n depth start end (Table ix) more h = absurd h
+shown_free m n depth start end TableHead more h = (refl, h)
+shown_free m n depth start end TableRow more h = (refl, h)
+shown_free m n depth start end TableCell more h = (refl, h)
+shown_free m n depth start end b more h = (refl, h)
+
+marks_free : (m n : Names) (nodes : List (ℕ × Item)) → HasNoTable (marks n nodes) → marks m nodes ≡ marks n nodes
 unfolding marks
 marks_free m n [] h = refl
 marks_free m n (x ∷ nodes) h =
-    ap (λ (z : List Mark). z ++ marks m nodes) (shown_free m n x.0 x.1.start x.1.«end» x.1.body h.0)
-    ∙ ap (λ (z : List Mark). shown n x.0 x.1.start x.1.«end» x.1.body ++ z) (marks_free m n nodes h.1)
+    let first = shown_free m n x.0 x.1.start x.1.«end» x.1.body (marks n nodes) h in
+    ap (λ (z : List Mark). z ++ marks m nodes) first.0
+    ∙ ap (λ (z : List Mark). shown n x.0 x.1.start x.1.«end» x.1.body ++ z) (marks_free m n nodes first.1)
+
+-- no row is a table
+cells_no_table : (depth : ℕ) (starts : List ℕ) (more : List Mark) → HasNoTable more → HasNoTable (map (ACell depth) starts ++ more)
+unfolding HasNoTable
+cells_no_table depth [] more h = h
+cells_no_table depth (start ∷ starts) more h = cells_no_table depth starts more h
+
+rows_no_table : (depth : ℕ) (rows : List RowCells) → HasNoTable (row_marks depth rows)
+unfolding row_marks HasNoTable
+rows_no_table depth [] = tt
+rows_no_table depth (row ∷ rows) = cells_no_table (suc depth) row.starts (row_marks depth rows) (rows_no_table depth rows)
 
 -- the header row and the rows behind it
 pub added_whole : (d : Document) (columns head_start body_start : ℕ) (old new : Forest Item) (next : ℕ)
@@ -34,20 +58,21 @@ pub added_whole : (d : Document) (columns head_start body_start : ℕ) (old new 
 unfolding row_marks filled_in HaveCells
 added_whole d columns head_start body_start old new next r =
     let head : List (ℕ × Item) = row_block TableHead columns head_start r.cells r.head_end in
-    let most : ℕ = most_filled - filled columns r.cells in
-    let (starts, show, size, often) = row_shows d TableHead columns head_start head_start r.cells r.head_end refl r.are_cells in
-    let (rows, these, have, few) = rows_show d (path_of d.options old) columns most (lines_from d.text body_start) (taking r.body (lines_from d.text next)) r.are_rows in
+    let begin : Spot = spot head_start no_braces in
+    let stop : Spot = spot r.head_end r.after in
+    let table : TableSoFar = table_so_far columns (most_filled - filled columns r.cells) r.after in
+    let (starts, show, size, often) = row_shows d TableHead columns begin r.cells stop refl r.are_cells in
+    let (rows, these, have, few) = rows_show d (path_of d.options old) table (lines_from d.text body_start) (taking r.body (lines_from d.text next))
+    r.are_rows in
     let first : RowCells = record { «end» = r.head_end; starts = starts } in
-    let free = both_nodes_free head r.body
-    (row_free TableHead columns head_start r.cells r.head_end refl (cells_free d head_start r.cells r.head_end r.are_cells))
-    (rows_free d (path_of d.options old) columns most (lines_from d.text body_start) (taking r.body (lines_from d.text next)) r.are_rows) in
+    let all : marks d.names (head ++ r.body) ≡ row_marks 0 (first ∷ rows) =
+    marks-append d.names head r.body ∙ ap (λ (z : List Mark). z ++ marks d.names r.body) show
+    ∙ ap (λ (z : List Mark). (ARow 0 r.head_end ∷ map (ACell 1) starts) ++ z) these in
     record {
       items = head ++ r.body;
       tree_is = r.tree_is;
       rows = first ∷ rows;
-      show = λ names.
-          marks_free names d.names (head ++ r.body) free ∙ marks-append d.names head r.body ∙ ap (λ (z : List Mark). z ++ marks d.names r.body) show
-          ∙ ap (λ (z : List Mark). (ARow 0 r.head_end ∷ map (ACell 1) starts) ++ z) these;
+      show = λ names. marks_free names d.names (head ++ r.body) (subst HasNoTable (sym all) (rows_no_table 0 (first ∷ rows))) ∙ all;
       have_cells = (size, have);
-      few = λ on as_many. let least = head_has_cells d head_start r.cells r.head_end on r.are_cells in omega arith;
+      few = λ on as_many. let least = head_has_cells d begin r.cells stop on r.are_cells in omega arith;
     }

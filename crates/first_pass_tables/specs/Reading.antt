@@ -2,37 +2,43 @@
 use Rattle.std.specs.Prelude.{◌≡◌, ℕ, ◌+◌, ◌≤◌, true, false, List, ◌++◌, length, None}
 use Rattle.first_pass_items.specs.declared.item.Item.{Item}
 use Rattle.first_pass_tree.specs.Forest.{Forest, at_depth}
-use Rattle.first_pass_grammar.specs.Leaves.{Document}
+use Rattle.first_pass_tokens.specs.Braces.{MathBraces}
+use Rattle.first_pass_tokens.specs.LineTokens.{Spot, spot}
+use Rattle.first_pass_grammar.specs.Names.{Names, Extends}
+use Rattle.first_pass_grammar.specs.Leaves.{Document, document}
 use Rattle.first_pass_grammar.specs.Tables.{AreCells, side_by_side}
 use Rattle.first_pass_tables.specs.declared.row.CellsRead.{CellsRead}
 
--- cells go on from an offset with those that are looked for at another (this project)
-abbrev pub GoOn : Document → ℕ → List (List (ℕ × Item)) → ℕ → Type 0
-GoOn d start cells at = (more : List (List (ℕ × Item))) («end» : ℕ) → AreCells d at more «end» → AreCells d start (cells ++ more) «end»
+-- cells go on from a place with those that are looked for at another, with the brace contexts there, whatever more is named (this project)
+abbrev pub GoOn : Document → Spot → List (List (ℕ × Item)) → Spot → Type 0
+GoOn d start cells at =
+    (later : Names) → Extends later d.names → (more : List (List (ℕ × Item))) (to : Spot) → AreCells (document d.text d.options later) at more to
+    → AreCells (document d.text d.options later) start (cells ++ more) to
 
--- so many cells from an offset on stand in the innermost open node, and the next one is looked for at another (this project)
-pub record AreAppended (d : Document) (start : ℕ) (old new : Forest Item) (at count : ℕ) : Type 0 where
+-- so many cells from a place on stand in the innermost open node, and the next one is looked for at another (this project)
+pub record AreAppended (d : Document) (start : Spot) (old new : Forest Item) (at : Spot) (count : ℕ) : Type 0 where
   pub cells : List (List (ℕ × Item))
   pub count_is : count ≡ length cells
   pub go_on : GoOn d start cells at
   pub nodes : new.nodes ≡ old.nodes ++ at_depth (length old.spine + 1) (side_by_side cells)
   pub spine : new.spine ≡ old.spine
   pub none : new.current ≡ None → new.nodes ≡ old.nodes
-  pub later : start + count ≤ at
-  pub within : at ≤ length d.text
+  pub later : start.at + count ≤ at.at
+  pub within : at.at ≤ length d.text
 
--- all cells of a row that begins at an offset stand in the innermost open node (this project)
-pub record AreAllAppended (d : Document) (start : ℕ) (old new : Forest Item) («end» count : ℕ) : Type 0 where
+-- all cells of a row that begins at a place stand in the innermost open node (this project)
+pub record AreAllAppended (d : Document) (start : Spot) (old new : Forest Item) (to : Spot) (count : ℕ) : Type 0 where
   pub cells : List (List (ℕ × Item))
   pub count_is : count ≡ length cells
-  pub are_cells : AreCells d start cells «end»
+  pub are_cells : AreCells d start cells to
   pub nodes : new.nodes ≡ old.nodes ++ at_depth (length old.spine + 1) (side_by_side cells)
   pub spine : new.spine ≡ old.spine
-  pub later : start + count ≤ «end»
-  pub within : «end» ≤ length d.text
+  pub later : start.at + count ≤ to.at
+  pub within : to.at ≤ length d.text
 
--- The cells of the row that begins at an offset are appended, up to so many: all of them where the row ended, else as many as may be (this project).
-pub record AppendsSome (d : Document) (most start : ℕ) (old new : Forest Item) (read : CellsRead) : Type 0 where
-  pub few : read.count ≤ most
-  pub all : read.ended ≡ true → AreAllAppended d start old new read.at read.count
-  pub first : read.ended ≡ false → AreAppended d start old new read.at read.count × (read.count ≡ most)
+-- The cells of the row that begins at a place are appended, up to so many: all of them where the row ended, else as many as may be; it is answered how far
+-- they were read, and the brace contexts there (this project).
+pub record AppendsSome (d : Document) (most : ℕ) (start : Spot) (old new : Forest Item) (answer : CellsRead × MathBraces) : Type 0 where
+  pub few : answer.0.count ≤ most
+  pub all : answer.0.ended ≡ true → AreAllAppended d start old new (spot answer.0.at answer.1) answer.0.count
+  pub first : answer.0.ended ≡ false → AreAppended d start old new (spot answer.0.at answer.1) answer.0.count × (answer.0.count ≡ most)

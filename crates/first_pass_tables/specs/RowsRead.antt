@@ -1,23 +1,25 @@
 -- How far the rows of a table are read (private functions alone cite this).
-use Rattle.std.specs.Prelude.{◌≡◌, ℕ, ◌+◌, ◌-◌, ◌≤◌, List, ◌++◌, length, None, IsCharBoundary}
+use Rattle.std.specs.Prelude.{◌≡◌, ℕ, ◌+◌, ◌≤◌, List, ◌++◌, length, None, IsCharBoundary}
 use Rattle.first_pass_items.specs.declared.item.Item.{Item}
 use Rattle.first_pass_tree.specs.Forest.{Forest, at_depth}
-use Rattle.first_pass_grammar.specs.Leaves.{Document}
+use Rattle.first_pass_grammar.specs.Names.{Names, Extends}
+use Rattle.first_pass_grammar.specs.Leaves.{Document, document}
 use Rattle.first_pass_grammar.specs.Completion.{lines_from}
 use Rattle.first_pass_grammar.specs.Tables.{Taken, taking, AreRows, most_filled}
 use Rattle.first_pass_open.specs.Path.{path_of}
-use Rattle.first_pass_tables.specs.Appends.{OpenTable}
+use Rattle.first_pass_tables.specs.Appends.{OpenTable, so_far}
 
 -- The rows among the lines from an offset on stand in the open table, behind which another row may stand.
 pub record AppendsBody (d : Document) (columns start : ℕ) (old : OpenTable) (new : Forest Item) (next : ℕ) : Type 0 where
   pub body : List (ℕ × Item)
-  pub are_rows : AreRows d (path_of d.options old.tree) columns (most_filled - old.filled_in) (lines_from d.text start) (taking body (lines_from d.text next))
+  pub are_rows : AreRows d (path_of d.options old.tree) (so_far columns old) (lines_from d.text start) (taking body (lines_from d.text next))
   pub nodes : new.nodes ≡ old.tree.nodes ++ at_depth (length old.tree.spine + 1) body
   pub spine : new.spine ≡ old.tree.spine
   pub later : start ≤ next
   pub boundary : IsCharBoundary d.text next
 
--- Rows are read up to an offset, and the table is as it is now by then: what are the rows from there on, are with them the rows from the first on.
+-- Rows are read up to an offset, and the table is as it is now by then, with the brace contexts there: what are the rows from there on, whatever more is
+-- named, are with them the rows from the first on.
 pub record BodySoFar (d : Document) (columns start : ℕ) (old now : OpenTable) (at : ℕ) : Type 0 where
   pub body : List (ℕ × Item)
   pub nodes : now.tree.nodes ≡ old.tree.nodes ++ at_depth (length old.tree.spine + 1) body
@@ -26,5 +28,7 @@ pub record BodySoFar (d : Document) (columns start : ℕ) (old now : OpenTable) 
   pub few : now.filled_in ≤ most_filled
   pub later : start ≤ at
   pub boundary : IsCharBoundary d.text at
-  pub goes_on : (t : Taken) → AreRows d (path_of d.options old.tree) columns (most_filled - now.filled_in) (lines_from d.text at) t
-      → AreRows d (path_of d.options old.tree) columns (most_filled - old.filled_in) (lines_from d.text start) (taking (body ++ t.items) t.left)
+  pub goes_on : (later : Names) → Extends later d.names → (t : Taken)
+      → AreRows (document d.text d.options later) (path_of d.options old.tree) (so_far columns now) (lines_from d.text at) t
+      → AreRows (document d.text d.options later) (path_of d.options old.tree) (so_far columns old) (lines_from d.text start)
+      (taking (body ++ t.items) t.left)

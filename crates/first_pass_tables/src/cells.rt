@@ -3,18 +3,21 @@
 ghost use Rattle.std.specs.Prelude.{◌≡◌, ◌≤◌, length, replicate, IfOk, OnOk, IfSome};
 ghost use Rattle.first_pass_walk.specs.Walk.{MarksSpecial};
 ghost use Rattle.first_pass_tree.specs.Forest.{IsChild};
+ghost use Rattle.first_pass_tokens.specs.LineTokens.{spot};
 ghost use Rattle.first_pass_tokens.specs.TreeTokens.{chained};
-ghost use Rattle.first_pass_names.specs.TableEntries.{no_names};
+ghost use Rattle.first_pass_names.specs.TableEntries.{entries, names_of, AddsTexts};
 ghost use Rattle.first_pass_grammar.specs.Leaves.{document};
+ghost use Rattle.first_pass_grammar.specs.Names.{Extends};
 ghost use Rattle.first_pass_grammar.specs.Tables.{cell_start};
 ghost use Rattle.first_pass_tables.specs.Appends.{AddsCell, empty_cell, without_behind};
 
 use first_pass_items::item::{Item, ItemBody};
 use first_pass_lines::lines::begins;
 use first_pass_lines::places::rest_of;
+use first_pass_names::items::Allocations;
 use first_pass_open::open_block::{close_block, open_block};
 use first_pass_open::source::Source;
-use first_pass_tokens::line::append_cell;
+use first_pass_tokens::braces::BraceContexts;
 use first_pass_tokens::pieces::Content;
 use first_pass_tree::forest::Tree;
 use first_pass_tree::tree_index::TreeIndex;
@@ -35,19 +38,26 @@ pub fn cell_start(bytes: &[u8], at: usize) -> usize
 }
 
 /// Appends the cell that begins at the offset `start` into the text, and whose content begins at `text`, to the
-/// innermost open node, with its tokens; answers the offset at which it ends. The table is that of the special bytes;
-/// the error is want of memory (GFM 4.10).
+/// innermost open node, with its tokens; answers the offset at which it ends. The texts that tokens name are put among
+/// `allocs`; the table `lut` is that of the special bytes. `braces`, the brace contexts before the cell, become those
+/// after it. The error is want of memory (GFM 4.10).
 pub fn append_table_cell(
     source: Source<'_>,
     lut: &[bool; 256],
     tree: &mut Tree<Item>,
+    allocs: &mut Allocations<'_>,
+    braces: &mut BraceContexts,
     start: usize,
     text: usize,
 ) -> Result<usize, AllocError>
     requires within { text ≤ length source.text.now }
     requires marks { MarksSpecial lut.now source.options }
     ensures cell { IfOk result (λ stop.
-        AddsCell (document source.entry.text.now source.entry.options no_names) start text tree.old tree.new stop) }
+        AddsCell (document source.entry.text.now source.entry.options (names_of allocs.new)) start
+        (spot text braces.old) tree.old tree.new (spot stop braces.new)) }
+    ensures names { OnOk result (Extends (names_of allocs.new) (names_of allocs.old)) }
+    ensures texts { OnOk result (AddsTexts (names_of allocs.new) (names_of allocs.old)) }
+    ensures entries { OnOk result (entries allocs.new ≡ entries allocs.old) }
 {
     tree.is_forest();
     open_block(tree, start, ItemBody::TableCell)?;
@@ -57,7 +67,7 @@ pub fn append_table_cell(
         end: None,
         row: true,
     };
-    let end = append_cell(source.text, content, lut, tree)?;
+    let end = allocs.append_cell(source.text, content, lut, tree, braces)?;
     close_block(tree, end);
     Ok(end)
 }

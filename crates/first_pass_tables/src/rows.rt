@@ -5,8 +5,9 @@ ghost use Rattle.first_pass_lines.specs.Places.{line_place};
 ghost use Rattle.first_pass_walk.specs.Walk.{MarksSpecial};
 ghost use Rattle.first_pass_tree.specs.Forest.{in_table};
 ghost use Rattle.first_pass_tree.specs.declared.tree_index.TreeIndex.{TreeIndex};
-ghost use Rattle.first_pass_names.specs.TableEntries.{no_names};
+ghost use Rattle.first_pass_names.specs.TableEntries.{entries, names_of, AddsTexts};
 ghost use Rattle.first_pass_grammar.specs.Leaves.{document};
+ghost use Rattle.first_pass_grammar.specs.Names.{Extends};
 ghost use Rattle.first_pass_grammar.specs.Tables.{most_filled, row_text};
 ghost use Rattle.first_pass_open.specs.OpenBlock.{IsJustPushed};
 ghost use Rattle.first_pass_open.specs.Path.{path_of};
@@ -17,10 +18,12 @@ ghost use Rattle.first_pass_tables.specs.RowsRead.{AppendsBody};
 
 use crate::row::{MAX_AUTOCOMPLETED_CELLS, append_head_row, parse_table_row_inner};
 use first_pass_items::item::Item;
+use first_pass_names::items::Allocations;
 use first_pass_open::open_block::{close_block, go_on};
 use first_pass_open::place::Place;
 use first_pass_open::source::Source;
 use first_pass_text::interrupt::scan_paragraph_interrupt_no_table;
+use first_pass_tokens::braces::BraceContexts;
 use first_pass_tree::forest::Tree;
 use first_pass_tree::tree_index::TreeIndex;
 use std::alloc::{AllocError, Global};
@@ -57,12 +60,15 @@ fn scan_row_text(
 
 /// Appends the row of a table of `row_cells` columns that is in the line which begins at the offset `ix` into the text,
 /// to the table, the innermost open node; answers as `parse_table_row_inner`. `None` too where the line doesn't go on
-/// with all open containers, or its text would interrupt a paragraph, as any list item does here (GFM 4.10).
+/// with all open containers, or its text would interrupt a paragraph, as any list item does here (GFM 4.10). The texts
+/// that tokens name are put among `allocs`; `braces`, the brace contexts before the row, become those after its cells.
 pub fn parse_table_row(
     alloc: Global,
     source: Source<'_>,
     lut: &[bool; 256],
     tree: &mut Tree<Item>,
+    allocs: &mut Allocations<'_>,
+    braces: &mut BraceContexts,
     ix: usize,
     row_cells: usize,
     missing_empty_cells: &mut usize,
@@ -73,8 +79,12 @@ pub fn parse_table_row(
     requires table { in_table tree.old.nodes tree.old.spine ≡ true }
     requires few { missing_empty_cells.old ≤ most_filled }
     ensures row { IfOk result (λ row.
-        ReadsRowLine (document source.entry.text.now source.entry.options no_names) row_cells ix
-        (open_table tree.old missing_empty_cells.old) (open_table tree.new missing_empty_cells.new) row) }
+        ReadsRowLine (document source.entry.text.now source.entry.options (names_of allocs.new)) row_cells ix
+        (open_table tree.old missing_empty_cells.old braces.old)
+        (open_table tree.new missing_empty_cells.new braces.new) row) }
+    ensures names { OnOk result (Extends (names_of allocs.new) (names_of allocs.old)) }
+    ensures texts { OnOk result (AddsTexts (names_of allocs.new) (names_of allocs.old)) }
+    ensures entries { OnOk result (entries allocs.new ≡ entries allocs.old) }
     ensures fits { IfOk result (λ row. (from : ℕ) → from ≤ ix
         → IfSome row (λ r. AddsBetween source.entry.text.now from r.0 tree.old tree.new)) }
     ensures utf8 { OnOk result (IsUtf8 source.entry.text.now) }
@@ -82,18 +92,30 @@ pub fn parse_table_row(
     let Some(at) = scan_row_text(alloc, source, tree, ix)? else {
         return Ok(None);
     };
-    let row = parse_table_row_inner(source, lut, tree, at, row_cells, missing_empty_cells)?;
+    let row = parse_table_row_inner(
+        source,
+        lut,
+        tree,
+        allocs,
+        braces,
+        at,
+        row_cells,
+        missing_empty_cells,
+    )?;
     Ok(row)
 }
 
 // Appends the rows of a table of so many columns that are among the lines from the offset `start` on to the table, the
 // innermost open node, up to the first line that is none, where so many cells are filled in before them. Answers the
-// offset at which that line begins, or the text's length.
+// offset at which that line begins, or the text's length. The texts that tokens name are put among `allocs`; `braces`
+// are the brace contexts before the rows, and then those after the cells that were read.
 fn append_body(
     alloc: Global,
     source: Source<'_>,
     lut: &[bool; 256],
     tree: &mut Tree<Item>,
+    allocs: &mut Allocations<'_>,
+    braces: &mut BraceContexts,
     start: usize,
     columns: usize,
     filled: usize,
@@ -105,15 +127,28 @@ fn append_body(
     requires table { in_table tree.old.nodes tree.old.spine ≡ true }
     requires few { filled ≤ most_filled }
     ensures body { IfOk result (λ next.
-        AppendsBody (document source.entry.text.now source.entry.options no_names) columns start
-        (open_table tree.old filled) tree.new next) }
+        AppendsBody (document source.entry.text.now source.entry.options (names_of allocs.new)) columns start
+        (open_table tree.old filled braces.old) tree.new next) }
+    ensures names { OnOk result (Extends (names_of allocs.new) (names_of allocs.old)) }
+    ensures texts { OnOk result (AddsTexts (names_of allocs.new) (names_of allocs.old)) }
+    ensures entries { OnOk result (entries allocs.new ≡ entries allocs.old) }
     ensures utf8 { OnOk result (IsUtf8 source.entry.text.now) }
 {
     tree.is_forest();
     let mut missing = filled;
     let mut ix = start;
     'rows: loop {
-        match parse_table_row(alloc, source, lut, tree, ix, columns, &mut missing)? {
+        match parse_table_row(
+            alloc,
+            source,
+            lut,
+            tree,
+            allocs,
+            braces,
+            ix,
+            columns,
+            &mut missing,
+        )? {
             Some((next, _)) => ix = next,
             None => return Ok(ix),
         }
@@ -123,7 +158,8 @@ fn append_body(
 /// Appends the rows of a table of `table_cols` columns to the table, the innermost open node, which was just opened,
 /// and closes it behind them: the header row, which begins at the offset `head_start` into the text, and the rows among
 /// the lines from the offset `body_start` on, up to the first line that is none. Answers the offset at which that line
-/// begins, or the text's length; the error is want of memory (GFM 4.10).
+/// begins, or the text's length; the error is want of memory. The texts that tokens name are put among `allocs`. No
+/// brace context is open before the header row; the rows after it have those that it leaves (GFM 4.10).
 ///
 /// Each row has `table_cols` cells then. Where the line at `head_start` has as many columns as a header row, at most
 /// 262,144 of them are filled in (this project).
@@ -132,6 +168,7 @@ pub fn parse_table(
     source: Source<'_>,
     lut: &[bool; 256],
     tree: &mut Tree<Item>,
+    allocs: &mut Allocations<'_>,
     table_cols: usize,
     head_start: usize,
     body_start: usize,
@@ -142,19 +179,41 @@ pub fn parse_table(
     requires open { (ix : TreeIndex) × IsJustPushed tree.old ix }
     requires table { in_table tree.old.nodes tree.old.spine ≡ true }
     ensures rows { IfOk result (λ next.
-        AppendsRows (document source.entry.text.now source.entry.options no_names) table_cols head_start body_start
-        tree.old tree.new next) }
+        AppendsRows (document source.entry.text.now source.entry.options (names_of allocs.new)) table_cols head_start
+        body_start tree.old tree.new next) }
+    ensures names { OnOk result (Extends (names_of allocs.new) (names_of allocs.old)) }
+    ensures texts { OnOk result (AddsTexts (names_of allocs.new) (names_of allocs.old)) }
+    ensures entries { OnOk result (entries allocs.new ≡ entries allocs.old) }
     ensures fits { IfOk result (λ next. (from : ℕ) → from ≤ head_start
         → line_end_at source.entry.text.now head_start ≤ body_start
         → ClosesBetween source.entry.text.now from next tree.old tree.new) }
     ensures whole { IfOk result (λ next.
-        AddsWholeRows (document source.entry.text.now source.entry.options no_names) table_cols head_start tree.old
-        tree.new next) }
+        AddsWholeRows (document source.entry.text.now source.entry.options (names_of allocs.new)) table_cols head_start
+        tree.old tree.new next) }
 {
     tree.is_forest();
-    let missing = append_head_row(source, lut, tree, head_start, table_cols)?;
+    let mut braces = BraceContexts::new();
+    let missing = append_head_row(
+        source,
+        lut,
+        tree,
+        allocs,
+        &mut braces,
+        head_start,
+        table_cols,
+    )?;
     let filled = min(missing, MAX_AUTOCOMPLETED_CELLS);
-    let next = append_body(alloc, source, lut, tree, body_start, table_cols, filled)?;
+    let next = append_body(
+        alloc,
+        source,
+        lut,
+        tree,
+        allocs,
+        &mut braces,
+        body_start,
+        table_cols,
+        filled,
+    )?;
     close_block(tree, next);
     Ok(next)
 }

@@ -25,7 +25,8 @@ use first_pass_tree::forest::Tree;
 use std::alloc::{AllocError, Global};
 
 // Appends the table of these alignments, whose header row begins at the offset `start`, to the innermost open node.
-// Answers the offset at which the line begins that ends the table, or the text's length.
+// Answers the offset at which the line begins that ends the table, or the text's length. The alignments and the texts
+// that tokens name are put among `allocs`.
 fn append_table(
     alloc: Global,
     source: Source<'_>,
@@ -53,15 +54,16 @@ fn append_table(
     open_block(tree, start, ItemBody::Table(index))?;
     let bytes = source.text.as_bytes();
     let body = next_line(bytes, next_line(bytes, start));
-    let next = parse_table(alloc, source, lut, tree, columns, start, body)?;
+    let next = parse_table(alloc, source, lut, tree, allocs, columns, start, body)?;
     Ok(next)
 }
 
 /// Appends what stands for the text that begins at the offset `start_ix` into the text to the innermost open node: the
 /// table that its first line heads, with tables; else a heading that is underlined or a paragraph, with the marker of
 /// its task list item, if it has one, as its first child. Answers the offset at which the line begins that is behind
-/// it, or the text's length. The alignments of a table's columns, or the attributes of a heading, are put among
-/// `allocs`; `lut` is the table of the special bytes. The error is want of memory (CommonMark 4.3, 4.8, GFM 4.10).
+/// it, or the text's length. The alignments of a table's columns, or the attributes of a heading, and the texts that
+/// tokens name are put among `allocs`; `lut` is the table of the special bytes. The error is want of memory (CommonMark
+/// 4.3, 4.8, GFM 4.10).
 pub fn parse_paragraph<'a>(
     alloc: Global,
     source: Source<'a>,

@@ -16,7 +16,11 @@ use Rattle.first_pass_tokens.specs.Pieces.{Source}
 use Rattle.first_pass_tokens.specs.TreeTokens.{chained, AppendsLine}
 use Rattle.first_pass_tokens.proofs.ChainLemmas.{with_tokens-chained, joins_none-fresh, chained-spine, childless-chained, cut_siblings-chained}
 use Rattle.first_pass_grammar.specs.Headings.{before_attributes, heading_attributes_of, text_before_attributes}
+use Rattle.first_pass_items.specs.declared.cow_str.CowStr.{CowStr}
 use Rattle.first_pass_grammar.specs.Names.{Names, NamesAttributes, Extends}
+use Rattle.first_pass_grammar.proofs.MoreNames.{extends_both}
+use Rattle.first_pass_tokens.proofs.NamedTexts.{line_more}
+use Rattle.first_pass_tokens.specs.Braces.{MathBraces, no_braces}
 use Rattle.first_pass_grammar.specs.Leaves.{document, kept_len, heading_chain, heading_text_at, IsHeading}
 use Rattle.first_pass_attributes.specs.Attributes.{attributes_in}
 use Rattle.first_pass_attributes.specs.declared.attrs.HeadingAttributes.{HeadingAttributes}
@@ -38,8 +42,8 @@ chain_kept : (kept start : ℕ) (chain : List Item) → (kept ≡ 0 → ⊥) →
 unfolding heading_chain
 chain_kept kept start chain h = let t : (kept == 0) ≡ false = grind (arith, nat_tests, h) in rw t refl
 
-module _ (s : Source) (kept : ℕ) (old read last : Forest Item) (answer : ℕ × Option Item) (ix : TreeIndex) (pushed : IsJustPushed old ix)
-    (line : AppendsLine s old read answer) (last_is : last ≡ with_closed_break read answer.1) where
+module _ (texts : List CowStr) (s : Source) (kept : ℕ) (old read last : Forest Item) (answer : ℕ × Option Item) (ix : TreeIndex) (pushed : IsJustPushed old ix)
+    {after : MathBraces} (line : AppendsLine texts s old read answer after) (last_is : last ≡ with_closed_break read answer.1) where
   -- the chain of the line
   whole : List Item
   whole = close_break answer.1 (add_tokens [] line.tokens)
@@ -58,22 +62,24 @@ module _ (s : Source) (kept : ℕ) (old read last : Forest Item) (answer : ℕ �
   heading_open = ap (λ (f : Forest Item). slice_get f.spine 0) read_is ∙ ap (λ s. slice_get s 0) (chained-spine old whole ∙ pushed.innermost)
 
   -- nothing of the text is kept
-  pub heading_empty : (new : Forest Item) → new ≡ childless last ix → kept ≡ 0 → (content : List ℕ) → kept ≡ kept_len content → AppendsHeading s content old new
+  pub heading_empty : (new : Forest Item) → new ≡ childless last ix → kept ≡ 0 → (content : List ℕ) → kept ≡ kept_len content → AppendsHeading texts s content old new
   unfolding whole
   heading_empty new new_is none content kept_is = record {
     tokens = line.tokens;
     answer = answer;
+    after = after;
     line = line.line;
     tree_is = new_is ∙ ap (λ f. childless f ix) read_is ∙ childless-chained old whole ix pushed.last pushed.none
         ∙ ap (chained old) (sym (chain_none (kept_len content) s.start (close_break answer.1 (add_tokens [] line.tokens)) (sym kept_is ∙ none)));
   }
 
   -- some of it is kept
-  pub heading_cut : (new : Forest Item) → new ≡ cut_siblings last (s.start + kept) → (kept ≡ 0 → ⊥) → (content : List ℕ) → kept ≡ kept_len content → AppendsHeading s content old new
+  pub heading_cut : (new : Forest Item) → new ≡ cut_siblings last (s.start + kept) → (kept ≡ 0 → ⊥) → (content : List ℕ) → kept ≡ kept_len content → AppendsHeading texts s content old new
   unfolding whole
   heading_cut new new_is some content kept_is = record {
     tokens = line.tokens;
     answer = answer;
+    after = after;
     line = line.line;
     tree_is = new_is ∙ ap (λ f. cut_siblings f (s.start + kept)) read_is ∙ cut_siblings-chained old whole (s.start + kept) innermost pushed.none
         ∙ ap (chained old) (sym (chain_kept kept s.start (close_break answer.1 (add_tokens [] line.tokens)) some)
@@ -89,14 +95,14 @@ pub line_between : (text : List ℕ) (start to : ℕ) → to ≡ start + line_le
 line_between text start to e = let size : to - start ≡ line_len (drop start text) = omega arith in ap (λ n. take n (drop start text)) size
 
 -- The chain of an ATX heading's line that was read, and the attributes that were found.
-pub heading_read : (text : List ℕ) (options : Options) (names : Names) (start content_end read_to : ℕ) (found : Option HeadingAttributes) (index : Option HeadingIndex) (kept : ℕ) (front : List ℕ) (old new : Forest Item)
+pub heading_read : (text : List ℕ) (options : Options) (before names : Names) (start content_end read_to : ℕ) (found : Option HeadingAttributes) (index : Option HeadingIndex) (kept : ℕ) (front : List ℕ) (old new : Forest Item)
     → content_end ≡ start + length (before_attributes options (heading_line text start)) → option_map attributes_in found ≡ heading_attributes_of options (heading_line text start)
     → read_to ≡ (if is_some found then content_end else length text) → front ≡ take read_to text → kept ≡ kept_len (slice_range text start content_end)
-    → ((content : List ℕ) → kept ≡ kept_len content → AppendsHeading (record { options = options; whole = text; text = front; start = start; row = false }) content old new)
-    → ((more : Names) → Extends more names → NamesAttributes more index (option_map attributes_in found))
+    → ((content : List ℕ) → kept ≡ kept_len content → AppendsHeading names.texts (record { options = options; whole = text; text = front; start = start; row = false; braces = no_braces }) content old new)
+    → Extends names before → ((more : Names) → Extends more before → NamesAttributes more index (option_map attributes_in found))
     → (chain : List Item) × (new ≡ chained old chain)
     × ((more : Names) → Extends more names → (next : ℕ) → next ≡ start + line_len (drop start text) → IsHeading (document text options more) start index chain next)
-heading_read text options names start content_end read_to found index kept front old new ends given read front_is kept_is appends named =
+heading_read text options before names start content_end read_to found index kept front old new ends given read front_is kept_is appends grown named =
     let line : List ℕ = heading_line text start in
     let content = content_read options text start (line_len (drop start text)) content_end (line_len-fits (drop start text)) ends in
     let a = appends (before_attributes options line) (kept_is ∙ ap kept_len content) in
@@ -106,9 +112,11 @@ heading_read text options names start content_end read_to found index kept front
       λ more e next next_is. record {
         tokens = a.tokens;
         answer = a.answer;
-        line = subst (λ t. IsLine (record { options = options; whole = text; text = t; start = start; row = false }) a.tokens a.answer) text_is a.line;
+        after = a.after;
+        line = subst (λ t. IsLine more.texts (record { options = options; whole = text; text = t; start = start; row = false; braces = no_braces }) a.tokens a.answer a.after) text_is
+            (line_more (e.more_texts, e.texts) a.line);
         chain_is = refl;
-        named = subst (NamesAttributes more index) given (named more e);
+        named = subst (NamesAttributes more index) given (named more (extends_both more names before e grown));
         end_is = next_is;
       },
     )

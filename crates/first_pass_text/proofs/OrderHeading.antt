@@ -5,6 +5,9 @@ use Rattle.std.proofs.lemmas.Bool.{cond_both, cases_lt, eqb-true, eq-eqb, or_cas
 use Rattle.std.proofs.lemmas.Bool.Decides.{nat_tests}
 use Rattle.std.proofs.lemmas.List.{take_all, get_or-take, get_or_past}
 use Rattle.std.proofs.lemmas.List.Sums.{suffix_len-le-length}
+use Rattle.first_pass_items.specs.declared.cow_str.CowStr.{CowStr}
+use Rattle.first_pass_tokens.specs.Braces.{MathBraces, no_braces}
+use Rattle.first_pass_tokens.specs.LineTokens.{spot}
 use Rattle.first_pass_items.specs.declared.item.Item.{Item}
 use Rattle.first_pass_items.specs.declared.item.HeadingLevel.{HeadingLevel}
 use Rattle.first_pass_items.specs.declared.item.ItemBody.TheVariants.{Heading as HeadingBody, Rule}
@@ -200,7 +203,7 @@ kept_less content n (inr (inl aside)) = (let inside = aside.0 in omega arith)
 kept_less content n (inr (inr whole)) = (let all = whole.0 in omega arith)
 
 -- the escaped texts of a whole line, its last backslash among them
-line_stands : (s : Source) (tokens : List Item) (answer : ℕ × Option Item) → IsUtf8 s.text → IsCharBoundary s.text s.start → IsLine s tokens answer
+line_stands : {texts : List CowStr} {after : MathBraces} (s : Source) (tokens : List Item) (answer : ℕ × Option Item) → IsUtf8 s.text → IsCharBoundary s.text s.start → IsLine texts s tokens answer after
     → EscapesStand s.text s.start (close_break answer.1 (add_tokens [] tokens))
 line_stands s tokens answer utf8 boundary line =
     let stop : ℕ = text_end s line.content_end in
@@ -210,7 +213,7 @@ line_stands s tokens answer utf8 boundary line =
 
 -- The chain of a heading's line without its closing sequence is in order up to an offset that is not before the line's end, and has at most as many tokens as
 -- there are bytes up to there.
-line_fits : (s : Source) (tokens : List Item) (answer : ℕ × Option Item) (content : List ℕ) (next : ℕ) → IsUtf8 s.text → IsCharBoundary s.text s.start → IsLine s tokens answer → IsContent s.text s.start content
+line_fits : {texts : List CowStr} {after : MathBraces} (s : Source) (tokens : List Item) (answer : ℕ × Option Item) (content : List ℕ) (next : ℕ) → IsUtf8 s.text → IsCharBoundary s.text s.start → IsLine texts s tokens answer after → IsContent s.text s.start content
     → answer.0 ≤ next → s.start + length content ≤ next
     → (let chain : List Item = heading_chain (kept_len content) s.start (close_break answer.1 (add_tokens [] tokens)) in
     AreInOrder s.text s.start next chain × (length chain + s.start ≤ next))
@@ -237,21 +240,21 @@ heading_by : (d : Document) (start : ℕ) (index : Option HeadingIndex) (chain :
 heading_by d start index chain end_of_line None none utf8 boundary h =
     let text_is : text_before_attributes d.options d.text start (line_bytes d start) ≡ d.text =
     ap (λ (o : Option Braces). option_map_or (λ (block : Braces). take (start + block.opening) d.text) o d.text) none in
-    let line = subst (λ t. IsLine (record { options = d.options; whole = d.text; text = t; start = start; row = false }) h.tokens h.answer) text_is h.line in
+    let line = subst (λ t. IsLine d.names.texts (record { options = d.options; whole = d.text; text = t; start = start; row = false; braces = no_braces }) h.tokens h.answer h.after) text_is h.line in
     let ended = line_ends boundary.0 line in
     let place : h.answer.0 ≡ start + line_len (drop start d.text) = ended.place in
     let ends = h.end_is in
     let size = length-take-le (line_len (drop start d.text)) (drop start d.text) (line_len-fits (drop start d.text)) in
     let same : chain ≡ heading_chain (kept_len (line_bytes d start)) start (close_break h.answer.1 (add_tokens [] h.tokens)) =
     h.chain_is ∙ ap (λ xs. heading_chain (kept_len xs) start (close_break h.answer.1 (add_tokens [] h.tokens))) (before_none d.options (line_bytes d start) none) in
-    let fits = line_fits (content_at d start) h.tokens h.answer (line_bytes d start) end_of_line utf8 boundary line (line_content d.text start boundary.0) (omega arith) (omega arith) in
+    let fits = line_fits (content_at d (spot start no_braces)) h.tokens h.answer (line_bytes d start) end_of_line utf8 boundary line (line_content d.text start boundary.0) (omega arith) (omega arith) in
     (subst (AreInOrder d.text start end_of_line) (sym same) fits.0, subst (λ (xs : List Item). length xs + start ≤ end_of_line) (sym same) fits.1)
 heading_by d start index chain end_of_line (Some block) some utf8 boundary h =
     let bs : List ℕ = line_bytes d start in
     let front : List ℕ = take (start + block.opening) d.text in
     let text_is : text_before_attributes d.options d.text start bs ≡ front =
     ap (λ (o : Option Braces). option_map_or (λ (b : Braces). take (start + b.opening) d.text) o d.text) some in
-    let line = subst (λ t. IsLine (record { options = d.options; whole = d.text; text = t; start = start; row = false }) h.tokens h.answer) text_is h.line in
+    let line = subst (λ t. IsLine d.names.texts (record { options = d.options; whole = d.text; text = t; start = start; row = false; braces = no_braces }) h.tokens h.answer h.after) text_is h.line in
     let inside = braces_within d.options bs block some in
     let fits = line_len-fits (drop start d.text) in
     let size = length-take-le (line_len (drop start d.text)) (drop start d.text) fits in
@@ -270,7 +273,7 @@ heading_by d start index chain end_of_line (Some block) some utf8 boundary h =
     let same : chain ≡ heading_chain (kept_len (take block.opening bs)) start (close_break h.answer.1 (add_tokens [] h.tokens)) =
     h.chain_is ∙ ap (λ xs. heading_chain (kept_len xs) start (close_break h.answer.1 (add_tokens [] h.tokens))) content in
     let last : h.answer.0 ≤ length front = ended.within in
-    let all = line_fits (record { options = d.options; whole = d.text; text = front; start = start; row = false }) h.tokens h.answer (take block.opening bs) (start + block.opening) (front_utf8 d.text (start + block.opening) utf8 stop) first line
+    let all = line_fits (record { options = d.options; whole = d.text; text = front; start = start; row = false; braces = no_braces }) h.tokens h.answer (take block.opening bs) (start + block.opening) (front_utf8 d.text (start + block.opening) utf8 stop) first line
     (block_content d.text start (line_len (drop start d.text)) block.opening fits (omega arith) within) (omega arith) (omega arith) in
     let order = order_in_text d.text (start + block.opening) utf8 stop start (start + block.opening) _ all.0 in
     let few = all.1 in (

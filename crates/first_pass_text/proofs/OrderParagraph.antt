@@ -6,7 +6,8 @@ use Rattle.first_pass_tree.specs.Forest.{is_escaped}
 use Rattle.first_pass_lines.specs.Places.{Place, offset, line_rest, line_place, place_at, IsPlaceOf, start_of}
 use Rattle.first_pass_lines.proofs.LineFacts.{lines_at-line, lines_at-end, line_len-fits}
 use Rattle.first_pass_lines.proofs.PlaceFacts.{start_of-lines}
-use Rattle.first_pass_tokens.specs.LineTokens.{IsLine, IsBreak, is_break, EndsLine, text_end}
+use Rattle.first_pass_tokens.specs.Braces.{MathBraces, no_braces}
+use Rattle.first_pass_tokens.specs.LineTokens.{spot, IsLine, IsBreak, is_break, EndsLine, text_end}
 use Rattle.first_pass_tokens.specs.Chains.{add_tokens, close_break, cut}
 use Rattle.first_pass_tokens.specs.Order.{AreInOrder, HaveBytes}
 use Rattle.first_pass_tokens.proofs.BytesLemmas.{bytes_adds, bytes_closed, bytes_append, line_has_bytes}
@@ -71,12 +72,12 @@ record OneLine (d : Document) (from ix : ℕ) (chain tokens : List Item) (answer
   break_fits : IfSome answer.1 (StandsBehind d.text stop answer.0)
   broken : IfSome answer.1 (IsBreak ix answer.0)
 
-one_line : (d : Document) (from ix : ℕ) (chain tokens : List Item) (answer : ℕ × Option Item)
-    → IsUtf8 d.text → IsCharBoundary d.text ix → ChainStands d.text from ix chain → IsLine (content_at d ix) tokens answer → OneLine d from ix chain tokens answer
-one_line d from ix chain tokens answer utf8 boundary h line =
-    let stop : ℕ = text_end (content_at d ix) line.content_end in
-    let l : LineInOrder (content_at d ix) stop tokens answer = line_in_order utf8 boundary boundary.0 line in
-    let e : EndsLine (content_at d ix) answer = ends_line boundary.0 line in
+one_line : (d : Document) (from ix : ℕ) (b after : MathBraces) (chain tokens : List Item) (answer : ℕ × Option Item)
+    → IsUtf8 d.text → IsCharBoundary d.text ix → ChainStands d.text from ix chain → IsLine d.names.texts (content_at d (spot ix b)) tokens answer after → OneLine d from ix chain tokens answer
+one_line d from ix b after chain tokens answer utf8 boundary h line =
+    let stop : ℕ = text_end (content_at d (spot ix b)) line.content_end in
+    let l : LineInOrder (content_at d (spot ix b)) stop tokens answer = line_in_order utf8 boundary boundary.0 line in
+    let e : EndsLine (content_at d (spot ix b)) answer = ends_line boundary.0 line in
     let escapes = escapes_adds d.text from ix stop chain tokens h.0 h.1 l.tokens_fit (line_escapes line) in
     record {
       stop = stop;
@@ -120,17 +121,17 @@ text_stops d from ix chain tokens answer left t l behind e =
     })
 
 module _ (d : Document) (path : List Container) (utf8 : IsUtf8 d.text) (from : ℕ) where
-  lines_in_order : (lines : List Place) (ix : ℕ) (chain : List Item) (t : TextLines) → lines ≡ lines_from d.text (line_end_at d.text ix) → IsCharBoundary d.text ix → ChainStands d.text from ix chain
-      → AreTextLines d path ix chain lines t → TextInOrder d from t
+  lines_in_order : (lines : List Place) (ix : ℕ) (b : MathBraces) (chain : List Item) (t : TextLines) → lines ≡ lines_from d.text (line_end_at d.text ix) → IsCharBoundary d.text ix → ChainStands d.text from ix chain
+      → AreTextLines d path (spot ix b) chain lines t → TextInOrder d from t
   unfolding AreTextLines
-  lines_in_order [] ix chain t is boundary h (tokens, answer, line, e) =
-      let l = one_line d from ix chain tokens answer utf8 boundary h line in
+  lines_in_order [] ix b chain t is boundary h (tokens, answer, after, line, e) =
+      let l = one_line d from ix b after chain tokens answer utf8 boundary h line in
       text_stops d from ix chain tokens answer [] t l (is ∙ ap (lines_from d.text) (sym l.place)) e
-  lines_in_order (line ∷ lines) ix chain t is boundary h (tokens, answer, line_is, inl (stops, e)) =
-      let l = one_line d from ix chain tokens answer utf8 boundary h line_is in
+  lines_in_order (line ∷ lines) ix b chain t is boundary h (tokens, answer, after, line_is, inl (stops, e)) =
+      let l = one_line d from ix b after chain tokens answer utf8 boundary h line_is in
       text_stops d from ix chain tokens answer (line ∷ lines) t l (is ∙ ap (lines_from d.text) (sym l.place)) e
-  lines_in_order (line ∷ lines) ix chain t is boundary h (tokens, answer, line_is, inr (goes, more)) =
-      let l = one_line d from ix chain tokens answer utf8 boundary h line_is in
+  lines_in_order (line ∷ lines) ix b chain t is boundary h (tokens, answer, after, line_is, inr (goes, more)) =
+      let l = one_line d from ix b after chain tokens answer utf8 boundary h line_is in
       let n : ℕ = answer.0 in
       let first = first_line d.text n line lines (is ∙ ap (lines_from d.text) (sym l.place)) in
       let at : ℕ = offset (unindented (place_at n (front path (line_rest (drop n d.text))))) in
@@ -138,9 +139,9 @@ module _ (d : Document) (path : List Container) (utf8 : IsUtf8 d.text) (from : �
       let place : IsPlaceOf d.text (unindented (place_at n (front path (line_rest (drop n d.text))))) = (text_place d.text n path utf8 l.ends).0 in
       let chain_next : List Item = add_break answer.1 (add_tokens chain tokens) in
       let next = chain_break d.text from l.stop ix n answer.1 (add_tokens chain tokens) l.stands l.before l.break_fits l.broken in
-      lines_in_order lines at chain_next t (first.1 ∙ ap (lines_from d.text) (sym (line_end-text path d.text n utf8 l.ends))) place.boundary
+      lines_in_order lines at after chain_next t (first.1 ∙ ap (lines_from d.text) (sym (line_end-text path d.text n utf8 l.ends))) place.boundary
       (order_to d.text from n at chain_next next.0 (omega arith), next.1, next.2)
-      (subst (λ z. AreTextLines d path z chain_next lines t) at_is more)
+      (subst (λ z. AreTextLines d path (spot z after) chain_next lines t) at_is more)
 
 -- of the lines from an offset on, the first begins before the second does
 first_later : (text : List ℕ) (m : ℕ) → m ≤ length text → start_of (length text) (lines_from text m) ≤ start_of (length text) (drop 1 (lines_from text m))
@@ -168,9 +169,9 @@ text_later text left m is within = subst (λ (ls : List Place). start_of (length
 
 -- The chain of the lines of a text is in order from where the text begins.
 pub text_is_in_order : (d : Document) (path : List Container) (start : ℕ) (t : TextLines) → IsUtf8 d.text → IsCharBoundary d.text start
-    → AreTextLines d path start [] (lines_from d.text (line_end_at d.text start)) t → TextInOrder d start t
+    → AreTextLines d path (spot start no_braces) [] (lines_from d.text (line_end_at d.text start)) t → TextInOrder d start t
 text_is_in_order d path start t utf8 boundary lines =
-    lines_in_order d path utf8 start (lines_from d.text (line_end_at d.text start)) start [] t refl boundary (omega arith, tt, tt) lines
+    lines_in_order d path utf8 start (lines_from d.text (line_end_at d.text start)) start no_braces [] t refl boundary (omega arith, tt, tt) lines
 
 -- The chain, cut at an offset in it, with the last line's break behind it, is in order, and each of its tokens has a byte.
 pub cut_text_in_order : (d : Document) (start e : ℕ) (t : TextLines) → (h : TextInOrder d start t) → start ≤ e → e ≤ h.stop → IsCharBoundary d.text e

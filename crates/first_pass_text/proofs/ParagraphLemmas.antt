@@ -19,6 +19,12 @@ use Rattle.first_pass_tokens.specs.TreeTokens.{chained, with_tokens, JoinsNone, 
 use Rattle.first_pass_tokens.proofs.ChainLemmas.{add_text-some, with_tokens-chained, with_text-chained, appended-chained}
 use Rattle.first_pass_grammar.specs.Containers.{Context, context, after, front}
 use Rattle.first_pass_grammar.specs.Kinds.{unindented, interrupts, ends_paragraph, ends_text, underline_left, underline_of}
+use Rattle.first_pass_items.specs.declared.cow_str.CowStr.{CowStr}
+use Rattle.first_pass_grammar.specs.Names.{Names, Extends}
+use Rattle.first_pass_grammar.proofs.MoreNames.{extends_both}
+use Rattle.first_pass_tokens.proofs.NamedTexts.{line_more}
+use Rattle.first_pass_tokens.specs.Braces.{MathBraces, no_braces}
+use Rattle.first_pass_tokens.specs.LineTokens.{Spot, spot}
 use Rattle.first_pass_grammar.specs.Leaves.{Document, document, around, content_at, add_break, TextLines, text_lines, AreTextLines}
 use Rattle.first_pass_grammar.specs.Completion.{lines_from}
 use Rattle.first_pass_text.specs.Appends.{line_end_at, with_closed_break, AppendsLines}
@@ -93,44 +99,44 @@ line_end-text path text n u b =
     omega arith
 
 -- one more line of a text
-lines_more : (path : List Container) (d : Document) (ix n : ℕ) (chain tokens : List Item) (line_break : Option Item) (t : TextLines) → IsLine (content_at d ix) tokens (n, line_break) → n ≡ line_end_at d.text ix
+lines_more : (path : List Container) (d : Document) (ix : Spot) (n : ℕ) (after : MathBraces) (chain tokens : List Item) (line_break : Option Item) (t : TextLines) → IsLine d.names.texts (content_at d ix) tokens (n, line_break) after → n ≡ line_end_at d.text ix.at
     → ends_text (around d path) (line_rest (drop n d.text)) ≡ false → IsUtf8 d.text → IsCharBoundary d.text n
-    → (let at : ℕ = offset (unindented (place_at n (front path (line_rest (drop n d.text))))) in AreTextLines d path at (add_break line_break (add_tokens chain tokens)) (lines_from d.text (line_end_at d.text at)) t)
-    → AreTextLines d path ix chain (lines_from d.text (line_end_at d.text ix)) t
+    → (let at : ℕ = offset (unindented (place_at n (front path (line_rest (drop n d.text))))) in AreTextLines d path (spot at after) (add_break line_break (add_tokens chain tokens)) (lines_from d.text (line_end_at d.text at)) t)
+    → AreTextLines d path ix chain (lines_from d.text (line_end_at d.text ix.at)) t
 unfolding AreTextLines front
-lines_more path d ix n chain tokens line_break t line place goes u b more =
+lines_more path d ix n after chain tokens line_break t line place goes u b more =
     let within = text_within (around d path) d.text n goes in
     let first : lines_from d.text n ≡ line_place n (drop n d.text) ∷ lines_from d.text (line_end_at d.text n) = lines_at-line d.text n within in
-    let rest : AreTextLines d path (offset (unindented (place_at n (front path (line_rest (drop n d.text)))))) (add_break line_break (add_tokens chain tokens)) (lines_from d.text (line_end_at d.text n)) t =
-    subst (λ e. AreTextLines d path (offset (unindented (place_at n (front path (line_rest (drop n d.text)))))) (add_break line_break (add_tokens chain tokens)) (lines_from d.text e) t) (line_end-text path d.text n u b) more in
-    let all : AreTextLines d path ix chain (line_place n (drop n d.text) ∷ lines_from d.text (line_end_at d.text n)) t = (tokens, (n, line_break), line, inr (goes, rest)) in
+    let rest : AreTextLines d path (spot (offset (unindented (place_at n (front path (line_rest (drop n d.text)))))) after) (add_break line_break (add_tokens chain tokens)) (lines_from d.text (line_end_at d.text n)) t =
+    subst (λ e. AreTextLines d path (spot (offset (unindented (place_at n (front path (line_rest (drop n d.text)))))) after) (add_break line_break (add_tokens chain tokens)) (lines_from d.text e) t) (line_end-text path d.text n u b) more in
+    let all : AreTextLines d path ix chain (line_place n (drop n d.text) ∷ lines_from d.text (line_end_at d.text n)) t = (tokens, (n, line_break), after, line, inr (goes, rest)) in
     subst (λ lines. AreTextLines d path ix chain lines t) (sym first ∙ ap (lines_from d.text) place) all
 
 -- the last line of a text
-last_by : (path : List Container) (d : Document) (ix n : ℕ) (chain tokens : List Item) (line_break : Option Item) (lines : List Place) → IsLine (content_at d ix) tokens (n, line_break)
+last_by : (path : List Container) (d : Document) (ix : Spot) (n : ℕ) (after : MathBraces) (chain tokens : List Item) (line_break : Option Item) (lines : List Place) → IsLine d.names.texts (content_at d ix) tokens (n, line_break) after
     → (lines ≡ []) ⊎ ((more : List Place) × (lines ≡ line_place n (drop n d.text) ∷ more)) → ends_text (around d path) (line_rest (drop n d.text)) ≡ true
     → AreTextLines d path ix chain lines (text_lines (add_tokens chain tokens) line_break lines)
 unfolding AreTextLines front
-last_by path d ix n chain tokens line_break lines line (inl none) ends =
+last_by path d ix n after chain tokens line_break lines line (inl none) ends =
     let given : TextLines = text_lines (add_tokens chain tokens) line_break [] in
-    let p : AreTextLines d path ix chain [] given = (tokens, (n, line_break), line, refl) in
+    let p : AreTextLines d path ix chain [] given = (tokens, (n, line_break), after, line, refl) in
     subst (λ ls. AreTextLines d path ix chain ls (text_lines (add_tokens chain tokens) line_break ls)) (sym none) p
-last_by path d ix n chain tokens line_break lines line (inr (more, some)) ends =
+last_by path d ix n after chain tokens line_break lines line (inr (more, some)) ends =
     let here : List Place = line_place n (drop n d.text) ∷ more in
     let given : TextLines = text_lines (add_tokens chain tokens) line_break here in
-    let p : AreTextLines d path ix chain here given = (tokens, (n, line_break), line, inl (ends, refl)) in
+    let p : AreTextLines d path ix chain here given = (tokens, (n, line_break), after, line, inl (ends, refl)) in
     subst (λ ls. AreTextLines d path ix chain ls (text_lines (add_tokens chain tokens) line_break ls)) (sym some) p
 
-lines_last : (path : List Container) (d : Document) (ix n : ℕ) (chain tokens : List Item) (line_break : Option Item) → IsLine (content_at d ix) tokens (n, line_break) → n ≡ line_end_at d.text ix
+lines_last : (path : List Container) (d : Document) (ix : Spot) (n : ℕ) (after : MathBraces) (chain tokens : List Item) (line_break : Option Item) → IsLine d.names.texts (content_at d ix) tokens (n, line_break) after → n ≡ line_end_at d.text ix.at
     → ends_text (around d path) (line_rest (drop n d.text)) ≡ true
-    → AreTextLines d path ix chain (lines_from d.text (line_end_at d.text ix)) (text_lines (add_tokens chain tokens) line_break (lines_from d.text n))
-lines_last path d ix n chain tokens line_break line place ends =
+    → AreTextLines d path ix chain (lines_from d.text (line_end_at d.text ix.at)) (text_lines (add_tokens chain tokens) line_break (lines_from d.text n))
+lines_last path d ix n after chain tokens line_break line place ends =
     let lines : (lines_from d.text n ≡ []) ⊎ ((more : List Place) × (lines_from d.text n ≡ line_place n (drop n d.text) ∷ more)) =
     elim (cases_lt n (length d.text)) [
       | inl within ↦ inr (lines_from d.text (line_end_at d.text n), lines_at-line d.text n within)
       | inr past ↦ inl (lines_at-end d.text n past)
     ] in
-    subst (λ e. AreTextLines d path ix chain (lines_from d.text e) (text_lines (add_tokens chain tokens) line_break (lines_from d.text n))) place (last_by path d ix n chain tokens line_break (lines_from d.text n) line lines ends)
+    subst (λ e. AreTextLines d path ix chain (lines_from d.text e) (text_lines (add_tokens chain tokens) line_break (lines_from d.text n))) place (last_by path d ix n after chain tokens line_break (lines_from d.text n) line lines ends)
 
 -- the break behind a chain in the tree
 pub with_child-chained : (f : Forest Item) (chain : List Item) (line_break : Option Item) → with_child (chained f chain) line_break ≡ chained f (add_break line_break chain)
@@ -162,12 +168,12 @@ closed_behind m None chain plain = refl
 closed_behind m (Some x) chain plain = closed_if (is_backslash_break x.body) m x.start chain plain
 
 -- before the first line
-pub so_far_start : (d : Document) (start : ℕ) (old : Forest Item) → IsCharBoundary d.text start → LinesSoFar d start old old start
-so_far_start d start old boundary = record { chain = []; tree_is = refl; boundary = boundary; from = inl refl; goes_on = λ t p. p }
+pub so_far_start : (d : Document) (start : ℕ) (old : Forest Item) → IsCharBoundary d.text start → LinesSoFar d start old old (spot start no_braces)
+so_far_start d start old boundary = record { chain = []; tree_is = refl; boundary = boundary; from = inl refl; goes_on = λ more e t p. p }
 
 -- A line ends between characters.
-pub next_boundary : (d : Document) (ix n : ℕ) (line_break : Option Item) → IsUtf8 d.text → IsCharBoundary d.text ix → EndsLine (content_at d ix) (n, line_break) → IsCharBoundary d.text n
-next_boundary d ix n line_break utf8 boundary ends =
+pub next_boundary : (d : Document) (ix n : ℕ) (b : MathBraces) (line_break : Option Item) → IsUtf8 d.text → IsCharBoundary d.text ix → EndsLine (content_at d (spot ix b)) (n, line_break) → IsCharBoundary d.text n
+next_boundary d ix n b line_break utf8 boundary ends =
     let place : n ≡ line_end_at d.text ix = ends.place in
     let within : n ≤ length d.text = ends.within in
     let from : ix ≤ n = ends.from in
@@ -177,52 +183,58 @@ next_boundary d ix n line_break utf8 boundary ends =
     ]
 
 -- The tokens of a line open and close nothing.
-read_path : (d : Document) (start ix : ℕ) (old now read : Forest Item) (answer : ℕ × Option Item) → LinesSoFar d start old now ix → JoinsNone old
-    → AppendsLine (content_at d ix) now read answer → AreIn (length old.nodes) old.spine → path_of d.options read ≡ path_of d.options old
+read_path : {texts : List CowStr} {after : MathBraces} (d : Document) (start : ℕ) (ix : Spot) (old now read : Forest Item) (answer : ℕ × Option Item) → LinesSoFar d start old now ix → JoinsNone old
+    → AppendsLine texts (content_at d ix) now read answer after → AreIn (length old.nodes) old.spine → path_of d.options read ≡ path_of d.options old
 read_path d start ix old now read answer s apart line there =
     ap (path_of d.options) (line.tree_is ∙ ap (λ f. with_tokens f line.tokens) s.tree_is ∙ with_tokens-chained old s.chain line.tokens apart) ∙ path_of-chained d.options old (add_tokens s.chain line.tokens) there
 
 -- behind a line, where the text goes on
-pub so_far_more : (path : List Container) (d : Document) (start ix n at : ℕ) (old now read new : Forest Item) (line_break : Option Item) → path ≡ path_of d.options old → IsUtf8 d.text → LinesSoFar d start old now ix → JoinsNone old
-    → AppendsLine (content_at d ix) now read (n, line_break) → EndsLine (content_at d ix) (n, line_break)
+pub so_far_more : (path : List Container) (d : Document) (names : Names) (after : MathBraces) (start : ℕ) (ix : Spot) (n at : ℕ) (old now read new : Forest Item) (line_break : Option Item) → path ≡ path_of d.options old → IsUtf8 d.text → LinesSoFar d start old now ix → JoinsNone old
+    → Extends names d.names → AppendsLine names.texts (content_at d ix) now read (n, line_break) after → EndsLine (content_at d ix) (n, line_break)
     → ends_text (around d path) (line_rest (drop n d.text)) ≡ false → at ≡ offset (unindented (place_at n (front path (line_rest (drop n d.text))))) → IsPlaceOf d.text (unindented (place_at n (front path (line_rest (drop n d.text)))))
-    → new ≡ with_child read line_break → (LinesSoFar d start old new at) × (ix < at)
-so_far_more path d start ix n at old now read new line_break path_is u s apart line ends goes at_is i new_is =
-    let b = next_boundary d ix n line_break u s.boundary ends in
+    → new ≡ with_child read line_break → (LinesSoFar (document d.text d.options names) start old new (spot at after)) × (ix.at < at)
+so_far_more path d names after start ix n at old now read new line_break path_is u s apart grown line ends goes at_is i new_is =
+    let b = next_boundary d ix.at n ix.braces line_break u s.boundary ends in
     let within = text_within (around d path) d.text n goes in
-    let later : ix < length d.text → ix < n = ends.later in
-    let from : ix ≤ n = ends.from in
+    let later : ix.at < length d.text → ix.at < n = ends.later in
+    let from : ix.at ≤ n = ends.from in
     let chain : List Item = add_tokens s.chain line.tokens in
     let tree : read ≡ chained old chain = line.tree_is ∙ ap (λ f. with_tokens f line.tokens) s.tree_is ∙ with_tokens-chained old s.chain line.tokens apart in (
       record {
         chain = add_break line_break chain;
         tree_is = new_is ∙ ap (λ f. with_child f line_break) tree ∙ with_child-chained old chain line_break;
         boundary = subst (IsCharBoundary d.text) (sym at_is) i.boundary;
-        from = inr (elim s.from [ inl same ↦ (let e = ap (line_end_at d.text) same in let p : n ≡ line_end_at d.text ix = ends.place in omega arith) | inr past ↦ omega arith ]);
-        goes_on = λ t p. s.goes_on t (subst (λ c. AreTextLines d c ix s.chain (lines_from d.text (line_end_at d.text ix)) t) path_is
-            (lines_more path d ix n s.chain line.tokens line_break t line.line ends.place goes u b
-            (subst (λ z. AreTextLines d path z (add_break line_break chain) (lines_from d.text (line_end_at d.text z)) t) at_is
-            (subst (λ c. AreTextLines d c at (add_break line_break chain) (lines_from d.text (line_end_at d.text at)) t) (sym path_is) p))));
+        from = inr (elim s.from [ inl same ↦ (let e = ap (line_end_at d.text) same in let p : n ≡ line_end_at d.text ix.at = ends.place in omega arith) | inr past ↦ omega arith ]);
+        goes_on = λ more e t p.
+            let later : Document = document d.text d.options more in
+            s.goes_on more (extends_both more names d.names e grown) t (subst (λ c. AreTextLines later c ix s.chain (lines_from d.text (line_end_at d.text ix.at)) t) path_is
+            (lines_more path later ix n after s.chain line.tokens line_break t (line_more (e.more_texts, e.texts) line.line) ends.place goes u b
+            (subst (λ z. AreTextLines later path (spot z after) (add_break line_break chain) (lines_from d.text (line_end_at d.text z)) t) at_is
+            (subst (λ c. AreTextLines later c (spot at after) (add_break line_break chain) (lines_from d.text (line_end_at d.text at)) t) (sym path_is) p))));
       },
       omega arith,
     )
 
 -- behind the last line
-pub so_far_end : (path : List Container) (d : Document) (start ix n : ℕ) (old now read : Forest Item) (line_break : Option Item) (underline : Option HeadingLevel) → path ≡ path_of d.options old → LinesSoFar d start old now ix → JoinsNone old
-    → AppendsLine (content_at d ix) now read (n, line_break) → EndsLine (content_at d ix) (n, line_break)
+pub so_far_end : (path : List Container) (d : Document) (names : Names) (after : MathBraces) (start : ℕ) (ix : Spot) (n : ℕ) (old now read : Forest Item) (line_break : Option Item) (underline : Option HeadingLevel) → path ≡ path_of d.options old → LinesSoFar d start old now ix → JoinsNone old
+    → Extends names d.names → AppendsLine names.texts (content_at d ix) now read (n, line_break) after → EndsLine (content_at d ix) (n, line_break)
     → ends_text (around d path) (line_rest (drop n d.text)) ≡ true → IsCharBoundary d.text n → IfSome line_break (λ x. x.start < 2 ^ 63)
     → underline ≡ option_map (λ (found : ℕ × HeadingLevel). found.1) (underline_of path (line_rest (drop n d.text)))
-    → AppendsLines d start old read (record { next = n; line_break = line_break; underline = underline })
-so_far_end path d start ix n old now read line_break underline path_is s apart line ends stops boundary short said =
+    → AppendsLines (document d.text d.options names) start old read (record { next = n; line_break = line_break; underline = underline })
+so_far_end path d names after start ix n old now read line_break underline path_is s apart grown line ends stops boundary short said =
     let chain : List Item = add_tokens s.chain line.tokens in
     let tree : read ≡ chained old chain = line.tree_is ∙ ap (λ f. with_tokens f line.tokens) s.tree_is ∙ with_tokens-chained old s.chain line.tokens apart in
     let given : TextLines = text_lines chain line_break (lines_from d.text n) in
     record {
       chain = chain;
-      are = s.goes_on given (subst (λ c. AreTextLines d c ix s.chain (lines_from d.text (line_end_at d.text ix)) given) path_is (lines_last path d ix n s.chain line.tokens line_break line.line ends.place stops));
+      are = λ more e.
+          let later : Document = document d.text d.options more in
+          s.goes_on more (extends_both more names d.names e grown) given
+          (subst (λ c. AreTextLines later c ix s.chain (lines_from d.text (line_end_at d.text ix.at)) given) path_is
+          (lines_last path later ix n after s.chain line.tokens line_break (line_more (e.more_texts, e.texts) line.line) ends.place stops));
       tree_is = tree;
       underline = said ∙ ap (option_map (λ (found : ℕ × HeadingLevel). found.1)) (sym (underline_there path d.text n) ∙ ap (λ c. underline_first c (lines_from d.text n)) path_is);
-      later = elim s.from [ inl same ↦ (let e = ap (line_end_at d.text) same in let p : n ≡ line_end_at d.text ix = ends.place in omega arith) | inr past ↦ (let from : ix ≤ n = ends.from in omega arith) ];
+      later = elim s.from [ inl same ↦ (let e = ap (line_end_at d.text) same in let p : n ≡ line_end_at d.text ix.at = ends.place in omega arith) | inr past ↦ (let from : ix.at ≤ n = ends.from in omega arith) ];
       boundary = boundary;
       short = short;
     }
@@ -246,55 +258,59 @@ underlined_by None true v level next e f = cc
 underlined_by None false v level next e f = cc
 
 -- the backslash of a hard break is in the text
-pub break_fits : (d : Document) (ix n : ℕ) (line_break : Option Item) → length d.text < 2 ^ 63 → EndsLine (content_at d ix) (n, line_break) → IfSome line_break (λ x. x.start < 2 ^ 63)
+pub break_fits : (d : Document) (ix : Spot) (n : ℕ) (line_break : Option Item) → length d.text < 2 ^ 63 → EndsLine (content_at d ix) (n, line_break) → IfSome line_break (λ x. x.start < 2 ^ 63)
 break_fits d ix n None small ends = tt
 break_fits d ix n (Some x) small ends =
     let within : n ≤ length d.text = ends.within in
-    let b : IsBreak ix n x = ends.broken in
+    let b : IsBreak ix.at n x = ends.broken in
     let p = b.before in
     let q = b.to in
     omega arith
 
--- the content of a line from an offset on
-abbrev pub line_source : Options → List ℕ → ℕ → Source
-line_source options text start = record { options = options; whole = text; text = text; start = start; row = false }
+-- the content of a line from a place on
+abbrev pub line_source : Options → List ℕ → Spot → Source
+line_source options text p = record { options = options; whole = text; text = text; start = p.at; row = false; braces = p.braces }
 
 -- the same source, where the text and the options are still those
-pub same_line : (t u : List ℕ) (o w : Options) (ix : ℕ) (old new : Forest Item) (answer : ℕ × Option Item) → t ≡ u → o ≡ w
-    → AppendsLine (line_source o t ix) old new answer → AppendsLine (content_at (document u w no_names) ix) old new answer
-same_line t u o w ix old new answer e f line =
-    subst (λ z. AppendsLine (line_source z u ix) old new answer) f (subst (λ z. AppendsLine (line_source o z ix) old new answer) e line)
+pub same_line : (texts : List CowStr) (after : MathBraces) (t u : List ℕ) (o w : Options) (ix : Spot) (old new : Forest Item) (answer : ℕ × Option Item) → t ≡ u → o ≡ w
+    → AppendsLine texts (line_source o t ix) old new answer after → AppendsLine texts (content_at (document u w no_names) ix) old new answer after
+same_line texts after t u o w ix old new answer e f line =
+    subst (λ z. AppendsLine texts (line_source z u ix) old new answer after) f (subst (λ z. AppendsLine texts (line_source o z ix) old new answer after) e line)
 
-pub same_end : (t u : List ℕ) (o w : Options) (ix : ℕ) (answer : ℕ × Option Item) → t ≡ u → o ≡ w
+pub same_end : (t u : List ℕ) (o w : Options) (ix : Spot) (answer : ℕ × Option Item) → t ≡ u → o ≡ w
     → EndsLine (line_source o t ix) answer → EndsLine (content_at (document u w no_names) ix) answer
 same_end t u o w ix answer e f ends =
     subst (λ z. EndsLine (line_source z u ix) answer) f (subst (λ z. EndsLine (line_source o z ix) answer) e ends)
 
 -- the two steps, of a text that is held by other names before and after the line is read
-pub so_far_next : (first text now_text : List ℕ) (o w : Options) (start ix n at : ℕ) (old now read new : Forest Item) (line_break : Option Item) (found : NextLine) (path : List Container)
-    → text ≡ first → o ≡ w → now_text ≡ text → path ≡ path_of w read → AreIn (length old.nodes) old.spine → IsUtf8 first → LinesSoFar (document first w no_names) start old now ix → JoinsNone old
-    → AppendsLine (line_source o text ix) now read (n, line_break) → EndsLine (line_source o text ix) (n, line_break)
+pub so_far_next : (names later : Names) (after : MathBraces) (first text now_text : List ℕ) (o w : Options) (start : ℕ) (ix : Spot) (n at : ℕ) (old now read new : Forest Item) (line_break : Option Item) (found : NextLine) (path : List Container)
+    → text ≡ first → o ≡ w → now_text ≡ text → path ≡ path_of w read → AreIn (length old.nodes) old.spine → IsUtf8 first → LinesSoFar (document first w names) start old now ix → JoinsNone old
+    → Extends later names → AppendsLine later.texts (line_source o text ix) now read (n, line_break) after → EndsLine (line_source o text ix) (n, line_break)
     → found ≡ next_line_of (context w path) n (line_rest (drop n now_text)) → found ≡ More at
     → IsPlaceOf now_text (unindented (place_at n (front path (line_rest (drop n now_text))))) → new ≡ with_child read line_break
-    → (LinesSoFar (document first w no_names) start old new at) × (ix < at)
-so_far_next first text now_text o w start ix n at old now read new line_break found path same same_options kept path_is there u s apart line ends value is place new_is =
+    → (LinesSoFar (document first w later) start old new (spot at after)) × (ix.at < at)
+so_far_next names later after first text now_text o w start ix n at old now read new line_break found path same same_options kept path_is there u s apart grown line ends value is place new_is =
     let e : now_text ≡ first = kept ∙ same in
     let goes = goes_by _ _ _ _ _ (subst (λ t. found ≡ next_line_of (context w path) n (line_rest (drop n t))) e value) is in
-    so_far_more path (document first w no_names) start ix n at old now read new line_break (path_is ∙ read_path (document first w no_names) start ix old now read (n, line_break) s apart (same_line text first o w ix now read (n, line_break) same same_options line) there) u s apart (same_line text first o w ix now read (n, line_break) same same_options line)
+    let line_is = same_line later.texts after text first o w ix now read (n, line_break) same same_options line in
+    so_far_more path (document first w names) later after start ix n at old now read new line_break
+    (path_is ∙ read_path (document first w names) start ix old now read (n, line_break) s apart line_is there) u s apart grown line_is
     (same_end text first o w ix (n, line_break) same same_options ends) goes.0 goes.1 (subst (λ t. IsPlaceOf t (unindented (place_at n (front path (line_rest (drop n t)))))) e place) new_is
 
-pub so_far_stop : (first text now_text : List ℕ) (o w : Options) (start ix n : ℕ) (old now read : Forest Item) (line_break : Option Item) (underline : Option HeadingLevel) (path : List Container)
-    → text ≡ first → o ≡ w → now_text ≡ text → path ≡ path_of w read → AreIn (length old.nodes) old.spine → IsUtf8 first → LinesSoFar (document first w no_names) start old now ix → JoinsNone old
-    → AppendsLine (line_source o text ix) now read (n, line_break) → EndsLine (line_source o text ix) (n, line_break) → length first < 2 ^ 63
+pub so_far_stop : (names later : Names) (after : MathBraces) (first text now_text : List ℕ) (o w : Options) (start : ℕ) (ix : Spot) (n : ℕ) (old now read : Forest Item) (line_break : Option Item) (underline : Option HeadingLevel) (path : List Container)
+    → text ≡ first → o ≡ w → now_text ≡ text → path ≡ path_of w read → AreIn (length old.nodes) old.spine → IsUtf8 first → LinesSoFar (document first w names) start old now ix → JoinsNone old
+    → Extends later names → AppendsLine later.texts (line_source o text ix) now read (n, line_break) after → EndsLine (line_source o text ix) (n, line_break) → length first < 2 ^ 63
     → (ends_text (context w path) (line_rest (drop n now_text)) ≡ true) × (underline ≡ option_map (λ (u : ℕ × HeadingLevel). u.1) (underline_of path (line_rest (drop n now_text))))
     → IsCharBoundary text n
-    → AppendsLines (document first w no_names) start old read (record { next = n; line_break = line_break; underline = underline })
-so_far_stop first text now_text o w start ix n old now read line_break underline path same same_options kept path_is there u s apart line ends small said boundary =
+    → AppendsLines (document first w later) start old read (record { next = n; line_break = line_break; underline = underline })
+so_far_stop names later after first text now_text o w start ix n old now read line_break underline path same same_options kept path_is there u s apart grown line ends small said boundary =
     let e : now_text ≡ first = kept ∙ same in
     let stops = subst (λ t. (ends_text (context w path) (line_rest (drop n t)) ≡ true) × (underline ≡ option_map (λ (u : ℕ × HeadingLevel). u.1) (underline_of path (line_rest (drop n t))))) e said in
     let ended = same_end text first o w ix (n, line_break) same same_options ends in
-    so_far_end path (document first w no_names) start ix n old now read line_break underline (path_is ∙ read_path (document first w no_names) start ix old now read (n, line_break) s apart (same_line text first o w ix now read (n, line_break) same same_options line) there) s apart (same_line text first o w ix now read (n, line_break) same same_options line)
-    ended stops.0 (subst (λ t. IsCharBoundary t n) same boundary) (break_fits (document first w no_names) ix n line_break small ended) stops.1
+    let line_is = same_line later.texts after text first o w ix now read (n, line_break) same same_options line in
+    so_far_end path (document first w names) later after start ix n old now read line_break underline
+    (path_is ∙ read_path (document first w names) start ix old now read (n, line_break) s apart line_is there) s apart grown line_is
+    ended stops.0 (subst (λ t. IsCharBoundary t n) same boundary) (break_fits (document first w names) ix n line_break small ended) stops.1
 
 -- a paragraph just opened, with the marker of its task list item
 pub path_of-paragraph : (options : Options) (g p m : Forest Item) (x : Item) (ix : TreeIndex) (marker : Option Item) → container_of options x.body ≡ None → p ≡ pushed (appended g x) ix → m ≡ with_child p marker → ix.0 ≡ length g.nodes

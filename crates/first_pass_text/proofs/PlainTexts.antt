@@ -9,6 +9,7 @@ use Rattle.first_pass_lines.proofs.PlaceFacts.{start_of-lines}
 use Rattle.first_pass_grammar.specs.declared.kind.Container.{Container}
 use Rattle.first_pass_grammar.specs.Leaves.{Document, document, TextLines, text_lines, AreTextLines, paragraph_block, heading_block, marker_items, add_break}
 use Rattle.first_pass_grammar.specs.Names.{Names, Extends, NamesAttributes}
+use Rattle.first_pass_grammar.proofs.MoreNames.{extends_both}
 use Rattle.first_pass_grammar.specs.Headings.{heading_braces, heading_attributes_of, chain_bytes, kept_before}
 use Rattle.first_pass_grammar.specs.Containers.{at_rest, front}
 use Rattle.first_pass_grammar.specs.Kinds.{unindented}
@@ -25,6 +26,8 @@ use Rattle.first_pass_text.specs.Appends.{line_end_at, AddsPlainText, with_close
 use Rattle.first_pass_text.proofs.ParagraphLemmas.{underline_there, underline_within, with_closed_break-chained, closed_behind, path_of-paragraph}
 use Rattle.std.proofs.lemmas.Option.{same_Some}
 use Rattle.first_pass_tree.specs.declared.tree_index.TreeIndex.{TreeIndex}
+use Rattle.first_pass_tokens.specs.Braces.{no_braces}
+use Rattle.first_pass_tokens.specs.LineTokens.{spot}
 use Rattle.first_pass_tokens.specs.TreeTokens.{chained}
 use Rattle.first_pass_tokens.specs.Chains.{close_break, cut, add_tokens}
 use Rattle.first_pass_tokens.proofs.ChainLemmas.{joins_none-fresh, pushed-fresh}
@@ -51,16 +54,7 @@ closed_marked : (marker line_break : Option Item) (chain : List Item) → IfSome
 closed_marked None line_break chain plain = refl
 closed_marked (Some m) line_break chain plain = closed_behind m line_break chain plain
 
--- the chain of a text's lines names nothing
-pub renamed_lines : (text : List ℕ) (options : Options) (m n : Names) (path : List Container) (start : ℕ) (chain : List Item) (lines : List Place) (t : TextLines)
-    → AreTextLines (document text options m) path start chain lines t → AreTextLines (document text options n) path start chain lines t
-unfolding AreTextLines
-renamed_lines text options m n path start chain [] t h = h
-renamed_lines text options m n path start chain (line ∷ lines) t (k, a, i, inl x) = (k, a, i, inl x)
-renamed_lines text options m n path start chain (line ∷ lines) t (k, a, i, inr (h, more)) =
-    (k, a, i, inr (h, renamed_lines text options m n path (offset (unindented (at_rest line (front path line.rest)))) (add_break a.1 (add_tokens chain k)) lines t more))
-
--- nor do the children of a heading
+-- the children of a heading are those, whatever is named
 children_renamed : (text : List ℕ) (options : Options) (m n : Names) (start : ℕ) (marker : Option Item) (l : TextLines)
     → heading_children (document text options m) start marker l ≡ heading_children (document text options n) start marker l
 unfolding heading_children
@@ -77,13 +71,11 @@ abbrev given : List ℕ → ℕ → List Item → Option Item → TextLines
 given text next chain line_break = text_lines chain line_break (lines_from text next)
 
 module _ (text : List ℕ) (options : Options) (names : Names) (start n : ℕ) (marker : Option Item) (old new : Forest Item) (chain : List Item) (line_break : Option Item)
-    (are : AreTextLines (document text options no_names) (path_of options old) start [] (lines_from text (line_end_at text start)) (given text n chain line_break))
+    (are : (more : Names) → Extends more names
+    → AreTextLines (document text options more) (path_of options old) (spot start no_braces) [] (lines_from text (line_end_at text start)) (given text n chain line_break))
     (later : line_end_at text start ≤ n) (boundary : IsCharBoundary text n) where
   abbrev lines : TextLines
   lines = given text n chain line_break
-
-  these_lines : (more : Names) → AreTextLines (document text options more) (path_of options old) start [] (lines_from text (line_end_at text start)) lines
-  these_lines more = renamed_lines text options no_names more (path_of options old) start [] (lines_from text (line_end_at text start)) lines are
 
   -- where no underline follows
   pub paragraph_added : None ≡ option_map (λ (found : ℕ × HeadingLevel). found.1) (underline_first (path_of options old) (lines_from text n))
@@ -98,7 +90,7 @@ module _ (text : List ℕ) (options : Options) (names : Names) (start n : ℕ) (
             let same : t ≡ plain_text d start marker lines =
             ap (λ k. taking (paragraph_block start k (text_children marker lines)) (lines_from text n)) (sym (start_of-lines text n boundary.0)) in (
               lines,
-              these_lines more,
+              are more e,
               subst (λ o. MatchOption o (t ≡ plain_text d start marker lines) (λ underline. IsUnderlined d start marker lines underline.1 t)) (sym none) same,
             );
         tree_is = tree_is;
@@ -128,7 +120,7 @@ module _ (text : List ℕ) (options : Options) (names : Names) (start n : ℕ) (
             ∙ ap (λ ks. taking (heading_block start (start_of (length text) (drop 1 lines.left)) level index ks) (drop 1 lines.left))
             (children_renamed text options no_names more start marker lines) in (
               lines,
-              these_lines more,
+              are more e,
               subst (λ o. MatchOption o (t ≡ plain_text d start marker lines) (λ underline. IsUnderlined d start marker lines underline.1 t)) (sym some)
                   (index, named more e, same),
             );
@@ -142,20 +134,21 @@ abbrev pub opened_item : ℕ → Item
 opened_item start = record { start = start; «end» = 0; body = Paragraph }
 
 -- A paragraph stands open in the tree, with the marker of its task list item and the chain of its lines in it, but for the break behind the last of them.
-pub record StandsOpen (text : List ℕ) (options : Options) (start : ℕ) (marker : Option Item) (g r : Forest Item) (ix : TreeIndex) (end : TextEnd) : Type 0 where
+pub record StandsOpen (text : List ℕ) (options : Options) (names : Names) (start : ℕ) (marker : Option Item) (g r : Forest Item) (ix : TreeIndex) (end : TextEnd) : Type 0 where
   pub chain : List Item
   pub at : ix.0 ≡ length g.nodes
   pub tree_is : r ≡ chained (pushed (appended g (opened_item start)) ix) (marker_items marker ++ chain)
   pub plain : IfSome marker (λ y. is_text y.body ≡ false)
-  pub are : AreTextLines (document text options no_names) (path_of options g) start [] (lines_from text (line_end_at text start)) (given text end.next chain end.line_break)
+  pub are : (more : Names) → Extends more names
+      → AreTextLines (document text options more) (path_of options g) (spot start no_braces) [] (lines_from text (line_end_at text start)) (given text end.next chain end.line_break)
   pub said : end.underline ≡ option_map (λ (found : ℕ × HeadingLevel). found.1) (underline_first (path_of options g) (lines_from text end.next))
   pub later : line_end_at text start ≤ end.next
   pub boundary : IsCharBoundary text end.next
 
-pub stands_open : (text : List ℕ) (options : Options) (start : ℕ) (marker : Option Item) (g a p m r : Forest Item) (ix : TreeIndex) (end : TextEnd) → IsForest g
+pub stands_open : (text : List ℕ) (options : Options) (names : Names) (start : ℕ) (marker : Option Item) (g a p m r : Forest Item) (ix : TreeIndex) (end : TextEnd) → IsForest g
     → a ≡ appended g (opened_item start) → a.current ≡ Some ix → p ≡ pushed a ix → m ≡ with_child p marker → IfSome marker (λ y. is_text y.body ≡ false)
-    → AppendsLines (document text options no_names) start m r end → StandsOpen text options start marker g r ix end
-stands_open text options start marker g a p m r ix end forest a_is current p_is m_is plain read =
+    → AppendsLines (document text options names) start m r end → StandsOpen text options names start marker g r ix end
+stands_open text options names start marker g a p m r ix end forest a_is current p_is m_is plain read =
     let x : Item = opened_item start in
     let at = opened_at g a x ix a_is current in
     let opened = opened_is g a p x ix a_is p_is in
@@ -166,13 +159,15 @@ stands_open text options start marker g a p m r ix end forest a_is current p_is 
       at = at;
       tree_is = marked_chain (pushed (appended g x) ix) m r marker read.chain there read.tree_is;
       plain = plain;
-      are = subst (λ path. AreTextLines (document text options no_names) path start [] (lines_from text (line_end_at text start)) (given text end.next read.chain end.line_break)) same read.are;
+      are = λ more e. subst (λ path. AreTextLines (document text options more) path (spot start no_braces) [] (lines_from text (line_end_at text start))
+          (given text end.next read.chain end.line_break)) same (read.are more e);
       said = read.underline ∙ ap (λ path. option_map (λ (found : ℕ × HeadingLevel). found.1) (underline_first path (lines_from text end.next))) same;
       later = read.later;
       boundary = read.boundary;
     }
 
-module _ {text : List ℕ} {options : Options} {start : ℕ} {marker : Option Item} {g r : Forest Item} {ix : TreeIndex} {end : TextEnd} (t : StandsOpen text options start marker g r ix end) where
+module _ {text : List ℕ} {options : Options} {read_names : Names} {start : ℕ} {marker : Option Item} {g r : Forest Item} {ix : TreeIndex} {end : TextEnd}
+    (t : StandsOpen text options read_names start marker g r ix end) where
   abbrev read_lines : TextLines
   read_lines = given text end.next t.chain end.line_break
 
@@ -201,10 +196,10 @@ module _ {text : List ℕ} {options : Options} {start : ℕ} {marker : Option It
   pub text_open : (n : Forest Item) → n ≡ with_closed_break r end.line_break → IsSome (slice_get n.spine 0)
   text_open n is = still_open g n (opened_item start) (text_children marker read_lines) ix t.at (text_filled n is)
 
-  pub closed_paragraph : (n new : Forest Item) (names : Names) → n ≡ with_closed_break r end.line_break → None ≡ end.underline → new ≡ closed_by n end.next n.spine
-      → AddsPlainText (document text options names) start marker g new end.next
-  closed_paragraph n new names n_is none is =
-      paragraph_added text options names start end.next marker g new t.chain end.line_break t.are t.later t.boundary (none ∙ t.said)
+  pub closed_paragraph : (n new : Forest Item) → n ≡ with_closed_break r end.line_break → None ≡ end.underline → new ≡ closed_by n end.next n.spine
+      → AddsPlainText (document text options read_names) start marker g new end.next
+  closed_paragraph n new n_is none is =
+      paragraph_added text options read_names start end.next marker g new t.chain end.line_break t.are t.later t.boundary (none ∙ t.said)
       (block_closed g n (opened_item start) (text_children marker read_lines) ix t.at (text_filled n n_is) new end.next is)
 
   -- what is left of the chain of a heading, its last line ended, are its children
@@ -219,7 +214,7 @@ module _ {text : List ℕ} {options : Options} {start : ℕ} {marker : Option It
       ∙ sym (children_by (document text options no_names) start marker read_lines (Some block) some)
 
   -- a heading, whose attribute block is cut off, and whose last line is then ended
-  module _ (names : Names) (level : HeadingLevel) (broken : Bool) (h n : Forest Item) (broken_is : broken ≡ by_backslash end.line_break)
+  module _ (names : Names) (grown : Extends names read_names) (level : HeadingLevel) (broken : Bool) (h n : Forest Item) (broken_is : broken ≡ by_backslash end.line_break)
       (heads : BecomesHeading (document text options names) level broken ix r h) (n_is : n ≡ with_closed_break h end.line_break) where
     abbrev kids : List Item
     kids = heading_children (document text options no_names) start marker read_lines
@@ -247,6 +242,7 @@ module _ {text : List ℕ} {options : Options} {start : ℕ} {marker : Option It
     pub closed_heading : (new : Forest Item) (next : ℕ) → Some level ≡ end.underline → next ≡ line_end_at text end.next → IsUtf8 text → new ≡ closed_by n next n.spine
         → AddsPlainText (document text options names) start marker g new next
     closed_heading new next some next_is utf8 is =
-        heading_added text options names start end.next marker g new t.chain end.line_break t.are t.later t.boundary level heads.index next (some ∙ t.said) next_is
+        heading_added text options names start end.next marker g new t.chain end.line_break
+        (λ more e. t.are more (extends_both more names read_names e grown)) t.later t.boundary level heads.index next (some ∙ t.said) next_is
         (subst (IsCharBoundary text) (sym next_is) (line_stops text end.next utf8 t.boundary)) cut_off.1
         (block_closed g n heading_item kids ix t.at heading_filled new next is)

@@ -1,12 +1,14 @@
 -- What the leaf parsers append to the tree.
 use Rattle.std.specs.Prelude.{◌≡◌, ◌≤◌, ℕ, ◌+◌, List, [], take, drop, Option, Some, None, false, IsCharBoundary, if◌then◌else◌, ◌<◌, ◌^◌, IfSome}
+use Rattle.first_pass_items.specs.declared.cow_str.CowStr.{CowStr}
 use Rattle.first_pass_items.specs.declared.item.Item.{Item}
 use Rattle.first_pass_items.specs.declared.item.HeadingIndex.{HeadingIndex}
 use Rattle.first_pass_items.specs.declared.item.HeadingLevel.{HeadingLevel}
 use Rattle.first_pass_tree.specs.Forest.{Forest, added, with_text}
 use Rattle.first_pass_lines.specs.Lines.{line_len, level_number}
 use Rattle.first_pass_tokens.specs.Chains.{is_backslash_break, add_tokens, close_break}
-use Rattle.first_pass_tokens.specs.LineTokens.{IsLine}
+use Rattle.first_pass_tokens.specs.Braces.{MathBraces, no_braces}
+use Rattle.first_pass_tokens.specs.LineTokens.{spot, IsLine}
 use Rattle.first_pass_tokens.specs.Pieces.{Source}
 use Rattle.first_pass_tokens.specs.TreeTokens.{chained}
 use Rattle.first_pass_grammar.specs.Leaves.{Document, document, IsHeading, kept_len, heading_chain, heading_text_at, heading_block, text_lines, AreTextLines}
@@ -27,22 +29,26 @@ with_closed_break f (Some x) = if is_backslash_break x.body then with_text f x.s
 abbrev pub line_end_at : List ℕ → ℕ → ℕ
 line_end_at text at = at + line_len (drop at text)
 
--- The chain of the lines of a text that begins at an offset stands in the innermost open node, with the break behind the last of them apart; they leave those
--- from another offset on, the first of which is an underline or none (CommonMark 4.3, 4.8).
+-- The chain of the lines of a text that begins at an offset, whatever more is named, stands in the innermost open node, with the break after the last of them
+-- apart; they leave those from another offset on, the first of which is an underline or none (CommonMark 4.3, 4.8).
 pub record AppendsLines (d : Document) (start : ℕ) (old new : Forest Item) (end : TextEnd) : Type 0 where
   pub chain : List Item
-  pub are : AreTextLines d (path_of d.options old) start [] (lines_from d.text (line_end_at d.text start)) (text_lines chain end.line_break (lines_from d.text end.next))
+  pub are : (more : Names) → Extends more d.names
+      → AreTextLines (document d.text d.options more) (path_of d.options old) (spot start no_braces) [] (lines_from d.text (line_end_at d.text start))
+      (text_lines chain end.line_break (lines_from d.text end.next))
   pub tree_is : new ≡ chained old chain
   pub underline : end.underline ≡ option_map (λ found. found.1) (underline_first (path_of d.options old) (lines_from d.text end.next))
   pub later : line_end_at d.text start ≤ end.next
   pub boundary : IsCharBoundary d.text end.next
   pub short : IfSome end.line_break (λ x. x.start < 2 ^ 63)
 
--- The tokens of an ATX heading's line, which is read so and of which this is the text, stand in the innermost open node, without the closing sequence.
-pub record AppendsHeading (s : Source) (content : List ℕ) (old new : Forest Item) : Type 0 where
+-- The tokens of an ATX heading's line, which is read so and of which this is the text, stand in the innermost open node, without the closing sequence; each
+-- text that they name is among these.
+pub record AppendsHeading (texts : List CowStr) (s : Source) (content : List ℕ) (old new : Forest Item) : Type 0 where
   pub tokens : List Item
   pub answer : ℕ × Option Item
-  pub line : IsLine s tokens answer
+  pub after : MathBraces
+  pub line : IsLine texts s tokens answer after
   pub tree_is : new ≡ chained old (heading_chain (kept_len content) s.start (close_break answer.1 (add_tokens [] tokens)))
 
 -- What stands for the text that begins at an offset and heads no table, whatever more is named, is a last child of the innermost open node, and leaves the

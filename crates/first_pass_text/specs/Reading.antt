@@ -3,8 +3,11 @@ use Rattle.std.specs.Prelude.{◌≡◌, ◌⊎◌, ◌≤◌, ℕ, List, [], Is
 use Rattle.first_pass_items.specs.declared.item.Item.{Item}
 use Rattle.first_pass_tree.specs.Forest.{Forest}
 use Rattle.first_pass_lines.specs.Places.{offset, place_at}
+use Rattle.first_pass_tokens.specs.Braces.{no_braces}
+use Rattle.first_pass_tokens.specs.LineTokens.{Spot, spot}
 use Rattle.first_pass_tokens.specs.TreeTokens.{chained}
-use Rattle.first_pass_grammar.specs.Leaves.{Document, TextLines, AreTextLines}
+use Rattle.first_pass_grammar.specs.Leaves.{Document, document, TextLines, AreTextLines}
+use Rattle.first_pass_grammar.specs.Names.{Names, Extends}
 use Rattle.first_pass_grammar.specs.Completion.{lines_from}
 use Rattle.first_pass_text.specs.Appends.{line_end_at}
 use Rattle.first_pass_open.specs.Path.{path_of}
@@ -15,14 +18,16 @@ use Rattle.first_pass_text.specs.declared.interrupt.NextLine.TheVariants.{More, 
 use Rattle.first_pass_lines.specs.Rest.{Rest}
 use Rattle.first_pass_grammar.specs.Containers.{Context, front}
 
--- The lines of a text are read up to where the text of another begins: what they give from there on, is what all of them give.
-pub record LinesSoFar (d : Document) (start : ℕ) (old now : Forest Item) (at : ℕ) : Type 0 where
+-- The lines of a text are read up to where the text of another begins, with the brace contexts there: what they give from there on, whatever more is named, is
+-- what all of them give.
+pub record LinesSoFar (d : Document) (start : ℕ) (old now : Forest Item) (to : Spot) : Type 0 where
   pub chain : List Item
   pub tree_is : now ≡ chained old chain
-  pub boundary : IsCharBoundary d.text at
-  pub from : (at ≡ start) ⊎ (line_end_at d.text start ≤ at)
-  pub goes_on : (t : TextLines) → AreTextLines d (path_of d.options old) at chain (lines_from d.text (line_end_at d.text at)) t
-      → AreTextLines d (path_of d.options old) start [] (lines_from d.text (line_end_at d.text start)) t
+  pub boundary : IsCharBoundary d.text to.at
+  pub from : (to.at ≡ start) ⊎ (line_end_at d.text start ≤ to.at)
+  pub goes_on : (more : Names) → Extends more d.names → (t : TextLines)
+      → AreTextLines (document d.text d.options more) (path_of d.options old) to chain (lines_from d.text (line_end_at d.text to.at)) t
+      → AreTextLines (document d.text d.options more) (path_of d.options old) (spot start no_braces) [] (lines_from d.text (line_end_at d.text start)) t
 
 -- what the line that begins at an offset, and of which this is left, is to a text before it (CommonMark 4.3, 4.8)
 abbrev pub next_by : Option (ℕ × HeadingLevel) → Bool → ℕ → NextLine

@@ -10,6 +10,7 @@ ghost use Rattle.first_pass_grammar.specs.Leaves.{document, is_put_aside, kept_l
 ghost use Rattle.first_pass_text.specs.Between.{AddsBetween};
 ghost use Rattle.first_pass_text.specs.Appends.{AppendsHeading, AddsHeading};
 ghost use Rattle.first_pass_open.specs.OpenBlock.{IsJustPushed};
+ghost use Rattle.first_pass_tokens.specs.Braces.{no_braces};
 ghost use Rattle.first_pass_tokens.specs.Pieces.{source, text_upto};
 
 use crate::attributes::{extract_and_parse_heading_attribute_block, name_attributes};
@@ -20,7 +21,7 @@ use first_pass_lines::places::{next_line, rest_of};
 use first_pass_names::items::Allocations;
 use first_pass_open::open_block::close_block;
 use first_pass_open::source::Source;
-use first_pass_tokens::line::append_line;
+use first_pass_tokens::braces::BraceContexts;
 use first_pass_tokens::pieces::Content;
 use first_pass_tree::forest::Tree;
 use first_pass_tree::tree_index::TreeIndex;
@@ -130,18 +131,19 @@ pub fn parse_atx_heading<'a>(
         end: Some(read_to),
         row: false,
     };
-    heading_text(source.text, content, lut, tree, kept, heading_ix)?;
+    heading_text(source.text, content, lut, tree, allocs, kept, heading_ix)?;
     close_block(tree, end);
     Ok(end)
 }
 
 // Appends the chain of a heading whose text is this content, of which so many bytes are kept, to `node_ix`, the
-// innermost open node, which was just opened.
+// innermost open node, which was just opened. The texts that its tokens name are put among `allocs`.
 fn heading_text(
     whole: &str,
     content: Content,
     lut: &[bool; 256],
     tree: &mut Tree<Item>,
+    allocs: &mut Allocations<'_>,
     kept: usize,
     node_ix: TreeIndex,
 ) -> Result<(), AllocError>
@@ -150,10 +152,13 @@ fn heading_text(
     requires marks { MarksSpecial lut.now content.options }
     requires no_cell { content.row ≡ false }
     requires opened { IsJustPushed tree.old node_ix }
+    ensures names { OnOk result (Extends (names_of allocs.new) (names_of allocs.old)) }
+    ensures entries { OnOk result (entries allocs.new ≡ entries allocs.old) }
     ensures line { OnOk result ((bytes : List ℕ) → kept ≡ kept_len_of bytes
-        → AppendsHeading (source whole.now content) bytes tree.old tree.new) }
+        → AppendsHeading (names_of allocs.new).texts (source whole.now content no_braces) bytes tree.old tree.new) }
 {
-    let (_, line_break) = append_line(whole, content, lut, tree)?;
+    let mut braces = BraceContexts::new();
+    let (_, line_break) = allocs.append_line(whole, content, lut, tree, &mut braces)?;
     append_last_backslash(tree, line_break)?;
     if kept == 0 {
         tree.drop_children(node_ix);

@@ -3,7 +3,7 @@
 ghost use Rattle.std.specs.Prelude.{◌≡◌, ◌<◌, ◌^◌, ℕ, false, IfOk, IfSome, OnOk, IsUtf8, IsCharBoundary};
 ghost use Rattle.first_pass_walk.specs.Walk.{MarksSpecial};
 ghost use Rattle.first_pass_tokens.specs.TreeTokens.{JoinsNone};
-ghost use Rattle.first_pass_names.specs.TableEntries.{entries, names_of, no_names};
+ghost use Rattle.first_pass_names.specs.TableEntries.{entries, names_of};
 ghost use Rattle.first_pass_grammar.specs.Names.{Extends};
 ghost use Rattle.first_pass_grammar.specs.Texts.{by_backslash};
 ghost use Rattle.first_pass_grammar.specs.Leaves.{document};
@@ -19,7 +19,7 @@ use first_pass_lines::places::next_line;
 use first_pass_names::items::Allocations;
 use first_pass_open::open_block::close_block;
 use first_pass_open::source::Source;
-use first_pass_tokens::line::append_line;
+use first_pass_tokens::braces::BraceContexts;
 use first_pass_tokens::pieces::Content;
 use first_pass_tree::forest::Tree;
 use std::alloc::{AllocError, Global};
@@ -82,7 +82,8 @@ struct TextEnd {
 /// Appends the paragraph, or the heading that is underlined, whose first line's text begins at the offset `start_ix`
 /// into the text to the innermost open node of the tree, with the marker of its task list item, if it has one, as its
 /// first child. Answers the offset at which the line begins that is behind it, or the text's length (CommonMark 4.3,
-/// 4.8). The attributes of a heading are put among `allocs`; `lut` is the table of the special bytes.
+/// 4.8). The attributes of a heading and the texts that tokens name are put among `allocs`; `lut` is the table of the
+/// special bytes.
 pub fn parse_paragraph<'a>(
     alloc: Global,
     source: Source<'a>,
@@ -112,7 +113,7 @@ pub fn parse_paragraph<'a>(
     })?;
     let node_ix = tree.push()?;
     append_item(tree, tasklist_marker)?;
-    let end = append_text_lines(alloc, source, lut, tree, start_ix)?;
+    let end = append_text_lines(alloc, source, lut, tree, allocs, start_ix)?;
     let Some(level) = end.underline else {
         append_last_backslash(tree, end.line_break)?;
         close_block(tree, end.next);
@@ -127,23 +128,28 @@ pub fn parse_paragraph<'a>(
 }
 
 // Appends the chain of the lines of the text that begins at `start` to the innermost open node, but for the break
-// behind the last of them.
-fn append_text_lines(
+// after the last of them. The texts that its tokens name are put among `allocs`.
+fn append_text_lines<'a>(
     alloc: Global,
-    source: Source<'_>,
+    source: Source<'a>,
     lut: &[bool; 256],
     tree: &mut Tree<Item>,
+    allocs: &mut Allocations<'a>,
     start: usize,
 ) -> Result<TextEnd, AllocError>
     requires boundary { IsCharBoundary source.text.now start }
     requires marks { MarksSpecial lut.now source.options }
     requires apart { JoinsNone tree.old }
     ensures utf8 { OnOk result (IsUtf8 source.entry.text.now) }
+    ensures names { OnOk result (Extends (names_of allocs.new) (names_of allocs.old)) }
+    ensures entries { OnOk result (entries allocs.new ≡ entries allocs.old) }
     ensures lines { IfOk result (λ end.
-        AppendsLines (document source.entry.text.now source.entry.options no_names) start tree.old tree.new end) }
+        AppendsLines (document source.entry.text.now source.entry.options (names_of allocs.new)) start
+        tree.old tree.new end) }
 {
     source.is_short();
     tree.is_forest();
+    let mut braces = BraceContexts::new();
     let mut ix = start;
     'lines: loop {
         let content = Content {
@@ -152,7 +158,7 @@ fn append_text_lines(
             end: None,
             row: false,
         };
-        let (next, line_break) = append_line(source.text, content, lut, tree)?;
+        let (next, line_break) = allocs.append_line(source.text, content, lut, tree, &mut braces)?;
         match scan_next_line(alloc, source, next, tree)? {
             NextLine::More(at) => {
                 append_item(tree, line_break)?;

@@ -1,6 +1,8 @@
 -- Each token of a chain has a byte, so a chain in order has at most as many tokens as bytes.
 use Rattle.std.proofs.Common.{◌≡◌, ℕ, zero, suc, ◌+◌, ◌-◌, ◌≤◌, ◌<◌, ◌==◌, ◌&&◌, Bool, false, List, [], ◌∷◌, ◌++◌, length, Option, Some, None, nat_lt, min, if◌then◌else◌, refl, sym, ap, subst, arith}
 use Rattle.std.proofs.lemmas.Bool.{and_parts, cond_both, eqb-true, ltb-true}
+use Rattle.first_pass_items.specs.declared.cow_str.CowStr.{CowStr}
+use Rattle.first_pass_tokens.specs.Braces.{MathBraces, braces_after}
 use Rattle.first_pass_items.specs.declared.item.Item.{Item}
 use Rattle.first_pass_items.specs.declared.item.ItemBody.TheVariants.{MaybeEmphasis}
 use Rattle.std.proofs.lemmas.List.{length-append}
@@ -8,9 +10,9 @@ use Rattle.first_pass_tree.specs.declared.tree_index.TreeIndex.{TreeIndex}
 use Rattle.first_pass_tree.specs.Forest.{Forest, is_text, is_escaped, cut_item, modify, joins_at, with_end, appended}
 use Rattle.first_pass_tokens.specs.declared.pieces.Piece.{Piece}
 use Rattle.first_pass_tokens.specs.declared.pieces.Piece.TheVariants.{Left, Begins, Token, Run}
-use Rattle.first_pass_tokens.specs.Pieces.{Source, size}
+use Rattle.first_pass_tokens.specs.Pieces.{Source, found_at, size}
 use Rattle.first_pass_tokens.specs.Chains.{text_token, token, run_tokens, touches, add_token, add_tokens, add_text, is_backslash_break, close_break, cut}
-use Rattle.first_pass_tokens.specs.LineTokens.{ArePieces, IsLine, IsCell, add_piece, add_pieces, text_end, line_end_len, blanks_at_end}
+use Rattle.first_pass_tokens.specs.LineTokens.{Spot, spot, ArePieces, IsLine, IsCell, add_piece, add_pieces, text_end, line_end_len, blanks_at_end}
 use Rattle.first_pass_tokens.specs.TreeTokens.{with_token, with_tokens, AppendsLine, AppendsCell}
 use Rattle.first_pass_tokens.specs.Order.{AreInOrder, HaveBytes}
 use Rattle.first_pass_tokens.proofs.PieceFacts.{IsPieceAt}
@@ -57,11 +59,11 @@ bytes_piece text stop at (Begins dropped escaped) chain facts h = bytes_text (at
 bytes_piece text stop at (Token dropped n body) chain facts h = bytes_add chain (token (at + dropped) n body) (omega (arith, facts.some)) h
 bytes_piece text stop at (Run n opens closes) chain facts h = bytes_adds chain (run_tokens at n opens closes) (run_has_bytes at n opens closes) h
 
-bytes_pieces : (s : Source) (stop at : ℕ) (ps : List Piece) (end : ℕ) (chain : List Item) → ArePieces s at ps end → HaveBytes chain
+bytes_pieces : (texts : List CowStr) (s : Source) (stop at : ℕ) (b : MathBraces) (ps : List Piece) (to : Spot) (chain : List Item) → ArePieces texts s at b ps to → HaveBytes chain
     → HaveBytes (add_pieces stop at ps chain)
-bytes_pieces s stop at [] end chain are h = h
-bytes_pieces s stop at (p ∷ ps) end chain are h =
-    bytes_pieces s stop (at + size p) ps end (add_piece stop at p chain) are.2 (bytes_piece s.text stop at p chain (piece_of s at p are.0 are.1) h)
+bytes_pieces texts s stop at b [] to chain are h = h
+bytes_pieces texts s stop at b (p ∷ ps) to chain are h =
+    bytes_pieces texts s stop (at + size p) (braces_after (found_at s at) b) ps to (add_piece stop at p chain) are.2 (bytes_piece s.text stop at p chain (piece_of texts b s at p are.0 are.1) h)
 
 -- the backslash of the last line's break behind, or nothing
 pub bytes_closed : (break : Option Item) (chain : List Item) → HaveBytes chain → HaveBytes (close_break break chain)
@@ -75,14 +77,14 @@ bytes_append [] ys h k = k
 bytes_append (x ∷ xs) ys h k = (h.0, bytes_append xs ys h.1 k)
 
 -- the tokens of a cell
-pub cell_has_bytes : {s : Source} {tokens : List Item} {end : ℕ} → IsCell s tokens end → HaveBytes tokens
-cell_has_bytes {s} {tokens} {end} cell =
-    subst HaveBytes (sym cell.tokens_are) (bytes_pieces s (end - blanks_at_end s end) s.start cell.pieces end [] cell.division.divided tt)
+pub cell_has_bytes : {texts : List CowStr} {s : Source} {tokens : List Item} {end : ℕ} {after : MathBraces} → IsCell texts s tokens end after → HaveBytes tokens
+cell_has_bytes {texts} {s} {tokens} {end} {after} cell =
+    subst HaveBytes (sym cell.tokens_are) (bytes_pieces texts s (end - blanks_at_end s end) s.start s.braces cell.pieces (spot end after) [] cell.division.divided tt)
 
 -- the tokens of a line
-pub line_has_bytes : {s : Source} {tokens : List Item} {answer : ℕ × Option Item} → IsLine s tokens answer → HaveBytes tokens
-line_has_bytes {s} {tokens} {answer} line =
-    subst HaveBytes (sym line.tokens_are) (bytes_pieces s (text_end s line.content_end) s.start line.pieces line.content_end [] line.division.divided tt)
+pub line_has_bytes : {texts : List CowStr} {s : Source} {tokens : List Item} {answer : ℕ × Option Item} {after : MathBraces} → IsLine texts s tokens answer after → HaveBytes tokens
+line_has_bytes {texts} {s} {tokens} {answer} {after} line =
+    subst HaveBytes (sym line.tokens_are) (bytes_pieces texts s (text_end s line.content_end) s.start s.braces line.pieces (spot line.content_end after) [] line.division.divided tt)
 
 -- a chain that is cut has no more items than before
 pub cut_few : (e : ℕ) (chain : List Item) → length (cut e chain) ≤ length chain
@@ -121,31 +123,32 @@ few_piece stop at (Begins dropped escaped) chain some =
 few_piece stop at (Token dropped n body) chain some = (let few = few_add chain (token (at + dropped) n body) in omega arith)
 few_piece stop at (Run n opens closes) chain some = few_run at n opens closes chain
 
-few_by_pieces : (s : Source) (stop at : ℕ) (ps : List Piece) (end : ℕ) (chain : List Item) → ArePieces s at ps end
-    → length (add_pieces stop at ps chain) + at ≤ length chain + end
-few_by_pieces s stop at [] end chain is = omega arith
-few_by_pieces s stop at (p ∷ ps) end chain is =
-    let some = piece_some s.text at p (piece_of s at p is.0 is.1) in
+few_by_pieces : (texts : List CowStr) (s : Source) (stop at : ℕ) (b : MathBraces) (ps : List Piece) (to : Spot) (chain : List Item) → ArePieces texts s at b ps to
+    → length (add_pieces stop at ps chain) + at ≤ length chain + to.at
+few_by_pieces texts s stop at b [] to chain is = (let same : at ≡ to.at = ap (λ (t : Spot). t.at) is in omega arith)
+few_by_pieces texts s stop at b (p ∷ ps) to chain is =
+    let some = piece_some s.text at p (piece_of texts b s at p is.0 is.1) in
     let first = few_piece stop at p chain some in
-    let rest = few_by_pieces s stop (at + size p) ps end (add_piece stop at p chain) is.2 in
+    let rest = few_by_pieces texts s stop (at + size p) (braces_after (found_at s at) b) ps to (add_piece stop at p chain) is.2 in
     omega arith
 
 -- a content has at most as many tokens as bytes
-few_in_content : (s : Source) (pieces : List Piece) (end stop : ℕ) → ArePieces s s.start pieces end → length (add_pieces stop s.start pieces []) + s.start ≤ end
-few_in_content s pieces end stop are = (let few = few_by_pieces s stop s.start pieces end [] are in omega arith)
+few_in_content : (texts : List CowStr) (s : Source) (pieces : List Piece) (to : Spot) (stop : ℕ) → ArePieces texts s s.start s.braces pieces to
+    → length (add_pieces stop s.start pieces []) + s.start ≤ to.at
+few_in_content texts s pieces to stop are = (let few = few_by_pieces texts s stop s.start s.braces pieces to [] are in omega arith)
 
 -- A cell has at most as many tokens as bytes.
-pub few_in_cell : {s : Source} {tokens : List Item} {end : ℕ} → IsCell s tokens end → length tokens + s.start ≤ end
-few_in_cell {s} {tokens} {end} cell =
-    let few = few_in_content s cell.pieces end (end - blanks_at_end s end) cell.division.divided in
+pub few_in_cell : {texts : List CowStr} {s : Source} {tokens : List Item} {end : ℕ} {after : MathBraces} → IsCell texts s tokens end after → length tokens + s.start ≤ end
+few_in_cell {texts} {s} {tokens} {end} {after} cell =
+    let few = few_in_content texts s cell.pieces (spot end after) (end - blanks_at_end s end) cell.division.divided in
     let same = ap (λ (ts : List Item). length ts) cell.tokens_are in
     omega arith
 
 -- A line has at most as many tokens as bytes.
-pub few_in_line : {s : Source} {tokens : List Item} {answer : ℕ × Option Item} → IsLine s tokens answer → length tokens + s.start ≤ answer.0
-few_in_line {s} {tokens} {answer} line =
+pub few_in_line : {texts : List CowStr} {s : Source} {tokens : List Item} {answer : ℕ × Option Item} {after : MathBraces} → IsLine texts s tokens answer after → length tokens + s.start ≤ answer.0
+few_in_line {texts} {s} {tokens} {answer} {after} line =
     let end = line.content_end in
-    let few = few_in_content s line.pieces end (text_end s end) line.division.divided in
+    let few = few_in_content texts s line.pieces (spot end after) (text_end s end) line.division.divided in
     let same = ap (λ (ts : List Item). length ts) line.tokens_are in
     let answer_is : answer.0 ≡ end + line_end_len s end = ap (λ (a : ℕ × Option Item). a.0) line.answer_is in
     omega arith
@@ -173,16 +176,16 @@ few_tokens f (x ∷ xs) =
     omega arith
 
 -- what is appended of a line has at most as many nodes as bytes
-pub few_of_line : {s : Source} {old new : Forest Item} {answer : ℕ × Option Item} → AppendsLine s old new answer → length new.nodes ≤ length old.nodes + (answer.0 - s.start)
-few_of_line {s} {old} {new} {answer} line =
+pub few_of_line : {texts : List CowStr} {s : Source} {old new : Forest Item} {answer : ℕ × Option Item} {after : MathBraces} → AppendsLine texts s old new answer after → length new.nodes ≤ length old.nodes + (answer.0 - s.start)
+few_of_line {texts} {s} {old} {new} {answer} line =
     let few = few_in_line line.line in
     let tree = few_tokens old line.tokens in
     let same = ap (λ (f : Forest Item). length f.nodes) line.tree_is in
     omega arith
 
 -- and so has what is appended of a cell
-pub few_of_cell : {s : Source} {old new : Forest Item} {end : ℕ} → AppendsCell s old new end → length new.nodes ≤ length old.nodes + (end - s.start)
-few_of_cell {s} {old} {new} {end} cell =
+pub few_of_cell : {texts : List CowStr} {s : Source} {old new : Forest Item} {end : ℕ} {after : MathBraces} → AppendsCell texts s old new end after → length new.nodes ≤ length old.nodes + (end - s.start)
+few_of_cell {texts} {s} {old} {new} {end} cell =
     let few = few_in_cell cell.cell in
     let tree = few_tokens old cell.tokens in
     let same = ap (λ (f : Forest Item). length f.nodes) cell.tree_is in

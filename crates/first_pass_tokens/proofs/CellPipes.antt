@@ -2,15 +2,19 @@
 use Rattle.std.proofs.Common.{◌≡◌, ℕ, ◌+◌, ◌-◌, ◌≤◌, ◌<◌, true, false, List, [], ◌∷◌, slice_index, Some, None, sym, ap, ◌∙◌, inl, inr, arith, ◌==◌}
 use Rattle.std.proofs.lemmas.Bool.{cases_lt, eq-eqb, false≢true}
 use Rattle.first_pass_items.specs.OptionWords.{has, tables}
+use Rattle.first_pass_items.specs.declared.cow_str.CowStr.{CowStr}
+use Rattle.first_pass_tokens.specs.Braces.{MathBraces, braces_after}
 use Rattle.first_pass_items.specs.declared.item.Item.{Item}
 use Rattle.first_pass_items.specs.declared.item.ItemBody.{ItemBody}
-use Rattle.first_pass_items.specs.declared.item.ItemBody.TheVariants.{MaybeEmphasis, MaybeSmartQuote, SynthesizeChar, MaybeCode, MaybeHtml, MaybeLinkOpen, MaybeLinkClose, MaybeImage}
+use Rattle.first_pass_items.specs.declared.item.ItemBody.TheVariants.{MaybeEmphasis, MaybeMath, MaybeSmartQuote, SynthesizeChar, SynthesizeText, MaybeCode, MaybeHtml, MaybeLinkOpen, MaybeLinkClose, MaybeImage}
 use Rattle.first_pass_tokens.specs.declared.pieces.Piece.{Piece}
 use Rattle.first_pass_tokens.specs.declared.pieces.Piece.TheVariants.{Left, Begins, Token, Run}
-use Rattle.first_pass_tokens.specs.Pieces.{Source, piece_at, size}
-use Rattle.first_pass_tokens.specs.LineTokens.{ends_at, ArePieces, IsCell}
+use Rattle.first_pass_tokens.specs.Pieces.{Source, found_at, size}
+use Rattle.first_pass_tokens.specs.NamedTexts.{Becomes}
+use Rattle.first_pass_tokens.specs.LineTokens.{Spot, spot, ends_at, ArePieces, IsCell}
 use Rattle.first_pass_tokens.specs.MarkupBytes.{StandsOver, PipesAreEscaped, smart_char}
-use Rattle.first_pass_tokens.proofs.PieceFacts.{IsPieceAt, is_markup, delimiter_other, quote_other}
+use Rattle.first_pass_tokens.proofs.ReferenceBytes.{is_reference_byte, reference_at}
+use Rattle.first_pass_tokens.proofs.PieceFacts.{IsPieceAt, is_markup, run_same, delimiter_other, quote_other}
 use Rattle.first_pass_tokens.proofs.LineLemmas.{piece_of, not_ended_pipe}
 
 -- a byte of its own that is no pipe
@@ -27,10 +31,17 @@ markup_no_pipe text start n (MaybeEmphasis left opens closes) k kind over low hi
 markup_no_pipe text start n (MaybeSmartQuote quote opens closes) k kind over low high pipe =
     let here : k ≡ start = omega (arith, over.0) in
     absurd (false≢true (sym (quote_other quote over.2).1 ∙ eq-eqb quote 124 (sym over.1 ∙ sym (ap (slice_index text) here) ∙ pipe)))
+markup_no_pipe text start n (MaybeMath opens closes context) k kind over low high pipe = (let same = other_byte text start k 36 (omega (arith, over.0)) over.1 pipe in omega arith)
 markup_no_pipe text start n (SynthesizeChar c) k kind over low high pipe =
     let byte : over.byte ≡ 124 = sym (over.each k low (omega (arith, over.to))) ∙ pipe in
     let none : None ≡ Some c = ap (λ (b : ℕ). smart_char b over.n) (sym byte) ∙ over.char in
     absurd cc
+markup_no_pipe text start n (SynthesizeText ix) k kind (inl r) low high pipe =
+    let byte = (reference_at text start r.n r.char r.referred).bytes k low (omega (arith, r.to)) in
+    absurd (false≢true (sym (ap is_reference_byte pipe) ∙ byte))
+markup_no_pipe text start n (SynthesizeText ix) k kind (inr h) low high pipe =
+    let byte = run_same text start k low (omega (arith, h.to)) ∙ h.hyphens in
+    omega (arith, byte, pipe)
 markup_no_pipe text start n (MaybeCode m escaped) k kind over low high pipe =
     let byte = over.1.each k low (omega (arith, over.0)) in
     omega arith
@@ -62,24 +73,24 @@ pipe_inside text at (Token dropped n body) k facts other low high pipe =
     absurd (markup_no_pipe text (at + dropped) n body k facts.kind facts.over (omega (arith, facts.few)) (omega arith) pipe)
 
 module _ (s : Source) (row : s.row ≡ true) (on : has s.options tables ≡ true) where
-  pipe_in : (at : ℕ) (p : Piece) → ends_at s at ≡ false → p ≡ piece_at s at → (k : ℕ) → at ≤ k → k < at + size p → slice_index s.text k ≡ 124
+  pipe_in : (texts : List CowStr) (b : MathBraces) (at : ℕ) (p : Piece) → ends_at s at ≡ false → Becomes texts b (found_at s at) p → (k : ℕ) → at ≤ k → k < at + size p → slice_index s.text k ≡ 124
       → (at < k) × (slice_index s.text (k - 1) ≡ 92)
-  pipe_in at p runs is k low high pipe =
+  pipe_in texts b at p runs is k low high pipe =
       elim (cases_lt at k) [
-        | inl more ↦ (more, pipe_inside s.text at p k (piece_of s at p runs is) (not_ended_pipe s at row on runs) more high pipe)
+        | inl more ↦ (more, pipe_inside s.text at p k (piece_of texts b s at p runs is) (not_ended_pipe s at row on runs) more high pipe)
         | inr none ↦
             let same : at ≡ k = omega arith in
             absurd (false≢true (sym (not_ended_pipe s at row on runs) ∙ eq-eqb (slice_index s.text at) 124 (ap (slice_index s.text) same ∙ pipe)))
       ]
 
-  pipes_from : (at : ℕ) (ps : List Piece) (end : ℕ) → ArePieces s at ps end → PipesAreEscaped s.text at end
-  pipes_from at [] end same k low high pipe = absurd (omega arith)
-  pipes_from at (p ∷ ps) end are k low high pipe =
+  pipes_from : (texts : List CowStr) (at : ℕ) (b : MathBraces) (ps : List Piece) (to : Spot) → ArePieces texts s at b ps to → PipesAreEscaped s.text at to.at
+  pipes_from texts at b [] to is k low high pipe = (let same : at ≡ to.at = ap (λ (t : Spot). t.at) is in absurd (omega arith))
+  pipes_from texts at b (p ∷ ps) to are k low high pipe =
       elim (cases_lt k (at + size p)) [
-        | inl inside ↦ pipe_in at p are.0 are.1 k low inside pipe
-        | inr behind ↦ let rest = pipes_from (at + size p) ps end are.2 k behind high pipe in (omega (arith, rest.0), rest.1)
+        | inl inside ↦ pipe_in texts b at p are.0 are.1 k low inside pipe
+        | inr behind ↦ let rest = pipes_from texts (at + size p) (braces_after (found_at s at) b) ps to are.2 k behind high pipe in (omega (arith, rest.0), rest.1)
       ]
 
   -- the pipes of a cell
-  pub cell_pipes : {tokens : List Item} {end : ℕ} → IsCell s tokens end → PipesAreEscaped s.text s.start end
-  cell_pipes {tokens} {end} cell = pipes_from s.start cell.pieces end cell.division.divided
+  pub cell_pipes : {texts : List CowStr} {tokens : List Item} {end : ℕ} {after : MathBraces} → IsCell texts s tokens end after → PipesAreEscaped s.text s.start end
+  cell_pipes {texts} {tokens} {end} {after} cell = pipes_from texts s.start s.braces cell.pieces (spot end after) cell.division.divided

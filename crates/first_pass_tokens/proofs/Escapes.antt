@@ -3,14 +3,16 @@ use Rattle.std.proofs.Common.{◌≡◌, ℕ, ◌+◌, ◌-◌, ◌≤◌, ◌<�
 use Rattle.std.proofs.lemmas.Bool.{cond-true, cond-false, cond_both, cases_lt, and_parts, and_right, lt-ltb, le-ltb, ltb-true, eqb-true, ne_eqb, false≢true}
 use Rattle.std.proofs.lemmas.Str.{IsCharBoundary-before_ascii}
 use Rattle.first_pass_items.specs.Bytes.{backslash}
+use Rattle.first_pass_items.specs.declared.cow_str.CowStr.{CowStr}
+use Rattle.first_pass_tokens.specs.Braces.{MathBraces, braces_after}
 use Rattle.first_pass_items.specs.declared.item.Item.{Item}
 use Rattle.first_pass_items.specs.declared.item.ItemBody.TheVariants.{MaybeEmphasis}
 use Rattle.first_pass_tree.specs.Forest.{is_escaped, cut_item}
 use Rattle.first_pass_tokens.specs.declared.pieces.Piece.{Piece}
 use Rattle.first_pass_tokens.specs.declared.pieces.Piece.TheVariants.{Left, Begins, Token, Run}
-use Rattle.first_pass_tokens.specs.Pieces.{Source, size}
+use Rattle.first_pass_tokens.specs.Pieces.{Source, found_at, size}
 use Rattle.first_pass_tokens.specs.Chains.{text_token, token, run_tokens, touches, add_token, add_tokens, add_text, is_backslash_break, close_break, cut}
-use Rattle.first_pass_tokens.specs.LineTokens.{ArePieces, IsLine, add_piece, add_pieces, text_end}
+use Rattle.first_pass_tokens.specs.LineTokens.{Spot, spot, ArePieces, IsLine, add_piece, add_pieces, text_end}
 use Rattle.first_pass_tokens.specs.Order.{AreInOrder, HaveBytes}
 use Rattle.first_pass_tokens.proofs.PieceFacts.{IsPieceAt, markup_unescaped}
 use Rattle.first_pass_tokens.proofs.LineLemmas.{piece_of}
@@ -121,18 +123,18 @@ escapes_piece text from stop at (Token dropped n body) chain facts h k =
     escapes_add text from at chain (token (at + dropped) n body) h k (λ e. absurd (false≢true (sym (markup_unescaped body facts.kind) ∙ e)))
 escapes_piece text from stop at (Run n opens closes) chain facts h k = escapes_run text from at n opens closes chain h k
 
-escapes_pieces : (s : Source) (from stop at : ℕ) (ps : List Piece) (end : ℕ) (chain : List Item) → ArePieces s at ps end → EndsBy from at chain → EscapesStand s.text from chain
+escapes_pieces : (texts : List CowStr) (s : Source) (from stop at : ℕ) (b : MathBraces) (ps : List Piece) (to : Spot) (chain : List Item) → ArePieces texts s at b ps to → EndsBy from at chain → EscapesStand s.text from chain
     → EscapesStand s.text from (add_pieces stop at ps chain)
-escapes_pieces s from stop at [] end chain are h k = k
-escapes_pieces s from stop at (p ∷ ps) end chain are h k =
-    escapes_pieces s from stop (at + size p) ps end (add_piece stop at p chain) are.2 (ends_piece from stop at p chain h)
-    (escapes_piece s.text from stop at p chain (piece_of s at p are.0 are.1) h k)
+escapes_pieces texts s from stop at b [] to chain are h k = k
+escapes_pieces texts s from stop at b (p ∷ ps) to chain are h k =
+    escapes_pieces texts s from stop (at + size p) (braces_after (found_at s at) b) ps to (add_piece stop at p chain) are.2 (ends_piece from stop at p chain h)
+    (escapes_piece s.text from stop at p chain (piece_of texts b s at p are.0 are.1) h k)
 
 -- The escaped texts of a line stand behind their backslashes.
-pub line_escapes : {s : Source} {tokens : List Item} {answer : ℕ × Option Item} → IsLine s tokens answer → EscapesStand s.text s.start tokens
-line_escapes {s} {tokens} {answer} line =
+pub line_escapes : {texts : List CowStr} {s : Source} {tokens : List Item} {answer : ℕ × Option Item} {after : MathBraces} → IsLine texts s tokens answer after → EscapesStand s.text s.start tokens
+line_escapes {texts} {s} {tokens} {answer} {after} line =
     subst (EscapesStand s.text s.start) (sym line.tokens_are)
-    (escapes_pieces s s.start (text_end s line.content_end) s.start line.pieces line.content_end [] line.division.divided (omega arith) tt)
+    (escapes_pieces texts s s.start (text_end s line.content_end) s.start s.braces line.pieces (spot line.content_end after) [] line.division.divided (omega arith) tt)
 
 cut_first : (e : ℕ) (x : Item) (xs : List Item) → x.start < e → cut e (x ∷ xs) ≡ cut_item e x ∷ cut e xs
 cut_first e x xs before = cond-true _ _ _ (lt-ltb x.start e before)

@@ -1,4 +1,9 @@
+pub mod ReferenceBytes
+pub mod BraceLemmas
+pub mod DashLemmas
 pub mod PieceFacts
+pub mod NamedTexts
+pub mod AlikeLemmas
 pub mod BytesLemmas
 pub mod CellPipes
 pub mod ChainLemmas

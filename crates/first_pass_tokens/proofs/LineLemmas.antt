@@ -4,60 +4,43 @@ use Rattle.std.specs.List.{suffix_len, slice_range, prefix_len}
 use Rattle.std.specs.declared.alloc.AllocError.{AllocError}
 use Rattle.std.proofs.lemmas.List.{get_or-drop, get_or_past, drop-drop, at_drop_all, at_drop_more}
 use Rattle.std.proofs.lemmas.List.Sums.{suffix_len-le-length, suffix_len-take_yes, suffix_len-take_no, prefix_len_is, prefix_len_stops}
-use Rattle.std.proofs.lemmas.Bool.{true≢false, false≢true, cases_lt, cases_Bool, cond_both, cond-true, cond-false, eqb-true, or_parts, or_cases, and_parts, and_cases, lt-leb, le-leb, leb-false, leb-true, not_from_true, not_from_false}
+use Rattle.std.proofs.lemmas.Bool.{false≢true, cases_lt, cases_Bool, cond_both, cond-true, cond-false, eqb-true, or_parts, or_cases, and_parts, and_cases, lt-leb, le-leb, leb-false, leb-true, not_from_true, not_from_false}
 use Rattle.first_pass_items.specs.OptionWords.{has, tables}
 use Rattle.first_pass_items.specs.declared.item.Item.{Item}
 use Rattle.first_pass_tree.specs.Forest.{Forest}
 use Rattle.first_pass_lines.specs.Lines.{is_line_end, is_content, is_white, begins, eol_len, line_len}
 use Rattle.first_pass_tokens.specs.declared.pieces.Piece.{Piece}
 use Rattle.first_pass_tokens.specs.declared.pieces.Piece.TheVariants.{Left, Begins, Token, Run}
-use Rattle.first_pass_tokens.specs.Pieces.{Source, piece_at, size}
-use Rattle.first_pass_tokens.specs.LineTokens.{text_end, ends_at, ends_cell, ArePieces, IsDivision, IsLine, IsCell, IsBreak, EndsLine, EndsCell, add_piece, add_pieces, line_end_len, line_break, breaks_by_backslash, backslashes_at_end, blanks_at_end}
+use Rattle.first_pass_items.specs.declared.cow_str.CowStr.{CowStr}
+use Rattle.first_pass_tokens.specs.Braces.{MathBraces, braces_after}
+use Rattle.first_pass_tokens.specs.NamedTexts.{Becomes}
+use Rattle.first_pass_tokens.specs.Pieces.{Source, found_at, size}
+use Rattle.first_pass_tokens.specs.LineTokens.{Spot, spot, text_end, ends_at, ends_cell, ArePieces, IsDivision, IsLine, IsCell, IsBreak, EndsLine, EndsCell, add_piece, add_pieces, line_end_len, line_break, breaks_by_backslash, backslashes_at_end, blanks_at_end}
 use Rattle.first_pass_tokens.specs.TreeTokens.{AppendsLine, AppendsCell, with_tokens, chained, JoinsNone}
 use Rattle.first_pass_tokens.specs.Chains.{token, run_tokens, add_tokens, AreApart}
-use Rattle.first_pass_tokens.proofs.PieceFacts.{IsPieceAt, piece_facts, visible_plain, visible_fits}
+use Rattle.first_pass_tokens.proofs.PieceFacts.{IsPieceAt, found_facts, becomes_facts, visible_plain, visible_fits}
 use Rattle.first_pass_tokens.proofs.ChainLemmas.{add_token-apart, add_tokens-apart, add_text-apart, add_tokens-none, with_tokens-chained}
 
 -- one more piece
-pub are_more : (s : Source) (at : ℕ) (ps : List Piece) (mid : ℕ) → ArePieces s at ps mid → ends_at s mid ≡ false → ArePieces s at (ps ++ piece_at s mid ∷ []) (mid + size (piece_at s mid))
-are_more s at [] mid same on = (rw same on, ap (piece_at s) (sym same), ap (λ (x : ℕ). x + size (piece_at s mid)) same)
-are_more s at (p ∷ ps) mid h on = (h.0, h.1, are_more s (at + size p) ps mid h.2 on)
+pub are_more : (texts : List CowStr) (s : Source) (at : ℕ) (b : MathBraces) (ps : List Piece) (mid : Spot) (q : Piece) → ArePieces texts s at b ps mid
+    → ends_at s mid.at ≡ false → Becomes texts mid.braces (found_at s mid.at) q
+    → ArePieces texts s at b (ps ++ q ∷ []) (spot (mid.at + size q) (braces_after (found_at s mid.at) mid.braces))
+are_more texts s at b [] mid q same on is =
+    let Goes : Spot → Type 0 = λ (t : Spot). ArePieces texts s t.at t.braces (q ∷ []) (spot (mid.at + size q) (braces_after (found_at s mid.at) mid.braces)) in
+    subst Goes (sym same) (on, is, refl)
+are_more texts s at b (p ∷ ps) mid q h on is =
+    (h.0, h.1, are_more texts s (at + size p) (braces_after (found_at s at) b) ps mid q h.2 on is)
 
-pub add_pieces_more : (s : Source) (stop at : ℕ) (ps : List Piece) (mid : ℕ) (chain : List Item) (p : Piece) → ArePieces s at ps mid
-    → add_pieces stop at (ps ++ p ∷ []) chain ≡ add_piece stop mid p (add_pieces stop at ps chain)
-add_pieces_more s stop at [] mid chain p same = ap (λ (x : ℕ). add_piece stop x p chain) same
-add_pieces_more s stop at (q ∷ ps) mid chain p h = add_pieces_more s stop (at + size q) ps mid (add_piece stop at q chain) p h.2
+pub add_pieces_more : (texts : List CowStr) (s : Source) (stop at : ℕ) (b : MathBraces) (ps : List Piece) (mid : Spot) (chain : List Item) (p : Piece)
+    → ArePieces texts s at b ps mid → add_pieces stop at (ps ++ p ∷ []) chain ≡ add_piece stop mid.at p (add_pieces stop at ps chain)
+add_pieces_more texts s stop at b [] mid chain p same = ap (λ (t : Spot). add_piece stop t.at p chain) same
+add_pieces_more texts s stop at b (q ∷ ps) mid chain p h =
+    add_pieces_more texts s stop (at + size q) (braces_after (found_at s at) b) ps mid (add_piece stop at q chain) p h.2
 
 -- pieces go on behind the place where they begin
-pub pieces_reach : (s : Source) (at : ℕ) (ps : List Piece) (end : ℕ) → ArePieces s at ps end → at ≤ end
-pieces_reach s at [] end same = omega arith
-pieces_reach s at (p ∷ ps) end h = (let more = pieces_reach s (at + size p) ps end h.2 in omega arith)
-
--- a content has one division
-one_way : (s : Source) (at : ℕ) (ps : List Piece) (end : ℕ) (qs : List Piece) (stop : ℕ) → ArePieces s at ps end → ends_at s end ≡ true
-    → ArePieces s at qs stop → ends_at s stop ≡ true → (ps ≡ qs) × (end ≡ stop)
-one_way s at [] end [] stop h f k g = (refl, sym h ∙ k)
-one_way s at [] end (q ∷ qs) stop h f k g = absurd (true≢false (sym f ∙ ap (ends_at s) (sym h) ∙ k.0))
-one_way s at (p ∷ ps) end [] stop h f k g = absurd (true≢false (sym g ∙ ap (ends_at s) (sym k) ∙ h.0))
-one_way s at (p ∷ ps) end (q ∷ qs) stop h f k g =
-    let same : p ≡ q = h.1 ∙ sym k.1 in
-    let rest = one_way s (at + size p) ps end qs stop h.2 f (subst (λ (x : Piece). ArePieces s (at + size x) qs stop) (sym same) k.2) g in
-    (cc, rest.1)
-
-pub one_division : {s : Source} {ps qs : List Piece} {end stop : ℕ} → IsDivision s ps end → IsDivision s qs stop → (ps ≡ qs) × (end ≡ stop)
-one_division h k = one_way _ _ _ _ _ _ h.divided h.ended k.divided k.ended
-
--- a line has one list of tokens, and one answer
-pub one_line : {s : Source} {tokens others : List Item} {a b : ℕ × Option Item} → IsLine s tokens a → IsLine s others b → (tokens ≡ others) × (a ≡ b)
-one_line h k =
-    let same = one_division h.division k.division in
-    (h.tokens_are ∙ rw (same.0, same.1) (sym k.tokens_are), h.answer_is ∙ rw same.1 (sym k.answer_is))
-
--- a cell has one list of tokens, and one end
-pub one_cell : {s : Source} {tokens others : List Item} {a b : ℕ} → IsCell s tokens a → IsCell s others b → (tokens ≡ others) × (a ≡ b)
-one_cell h k =
-    let same = one_division h.division k.division in
-    (h.tokens_are ∙ rw (same.0, same.1) (sym k.tokens_are), same.1)
+pub pieces_reach : (texts : List CowStr) (s : Source) (at : ℕ) (b : MathBraces) (ps : List Piece) (to : Spot) → ArePieces texts s at b ps to → at ≤ to.at
+pieces_reach texts s at b [] to is = (let same : at ≡ to.at = ap (λ (t : Spot). t.at) is in omega arith)
+pieces_reach texts s at b (p ∷ ps) to h = (let more = pieces_reach texts s (at + size p) (braces_after (found_at s at) b) ps to h.2 in omega arith)
 
 -- where no content ends
 not_ended_cell : (s : Source) (at : ℕ) → ends_at s at ≡ false
@@ -82,8 +65,9 @@ not_ended_pipe s at row on runs =
     ]
 
 -- the piece at a place of a content
-pub piece_of : (s : Source) (at : ℕ) (p : Piece) → ends_at s at ≡ false → p ≡ piece_at s at → IsPieceAt s.text at p
-piece_of s at p on is = subst (IsPieceAt s.text at) (sym is) (piece_facts s at (not_ended s at on).0)
+pub piece_of : (texts : List CowStr) (b : MathBraces) (s : Source) (at : ℕ) (p : Piece) → ends_at s at ≡ false → Becomes texts b (found_at s at) p
+    → IsPieceAt s.text at p
+piece_of texts b s at p on is = becomes_facts texts b s.text at (found_at s at) p (found_facts s at (not_ended s at on).0) is
 
 -- a piece takes a byte at least
 pub piece_some : (text : List ℕ) (at : ℕ) (p : Piece) → IsPieceAt text at p → 0 < size p
@@ -123,19 +107,22 @@ pub record IsContent (text : List ℕ) (start end : ℕ) : Type 0 where
   pub within : end ≤ length text
   pub plain : (k : ℕ) → start ≤ k → k < end → is_line_end (slice_index text k) ≡ false
 
-content_from : (s : Source) (at : ℕ) (ps : List Piece) (end : ℕ) → at ≤ length s.text → ArePieces s at ps end → IsContent s.text at end
-content_from s at [] end within same = record { order = omega arith; within = omega arith; plain = λ k low high. absurd (omega arith) }
-content_from s at (p ∷ ps) end within h =
-    let first = piece_in_line s at p h.0 (piece_of s at p h.0 h.1) in
-    let rest = content_from s (at + size p) ps end first.fits h.2 in
+content_from : (texts : List CowStr) (s : Source) (at : ℕ) (b : MathBraces) (ps : List Piece) (to : Spot) → at ≤ length s.text → ArePieces texts s at b ps to → IsContent s.text at to.at
+content_from texts s at b [] to within is =
+    let same : at ≡ to.at = ap (λ (t : Spot). t.at) is in
+    record { order = omega arith; within = omega arith; plain = λ k low high. absurd (omega arith) }
+content_from texts s at b (p ∷ ps) to within h =
+    let first = piece_in_line s at p h.0 (piece_of texts b s at p h.0 h.1) in
+    let rest = content_from texts s (at + size p) (braces_after (found_at s at) b) ps to first.fits h.2 in
     record {
       order = omega (arith, rest.order);
       within = rest.within;
       plain = λ k low high. elim (cases_lt k (at + size p)) [ inl inside ↦ first.plain k low inside | inr behind ↦ rest.plain k behind high ];
     }
 
-pub content_of : {s : Source} {ps : List Piece} {end : ℕ} → s.start ≤ length s.text → IsDivision s ps end → IsContent s.text s.start end
-content_of within d = content_from _ _ _ _ within d.divided
+pub content_of : {texts : List CowStr} {s : Source} {ps : List Piece} {to : Spot} → s.start ≤ length s.text → IsDivision texts s ps to
+    → IsContent s.text s.start to.at
+content_of {texts} {s} {ps} {to} within d = content_from texts s s.start s.braces ps to within d.divided
 
 -- where a content ends
 pub ended_by : (s : Source) (end : ℕ) → ends_at s end ≡ true
@@ -293,8 +280,8 @@ break_in_line s end order within =
     (λ soft. record { from = order; before = omega arith; to = refl; kind = refl })))
 
 -- where a line ends
-pub ends_line : {s : Source} {tokens : List Item} {answer : ℕ × Option Item} → s.start ≤ length s.text → IsLine s tokens answer → EndsLine s answer
-ends_line {s} {tokens} {answer} within line =
+pub ends_line : {texts : List CowStr} {s : Source} {tokens : List Item} {answer : ℕ × Option Item} {after : MathBraces} → s.start ≤ length s.text → IsLine texts s tokens answer after → EndsLine s answer
+ends_line {texts} {s} {tokens} {answer} {after} within line =
     let end = line.content_end in
     let c = content_of within line.division in
     subst (λ (a : ℕ × Option Item). EndsLine s a) (sym line.answer_is) (record {
@@ -309,9 +296,9 @@ ends_line {s} {tokens} {answer} within line =
     })
 
 -- the same of what a call answers
-pub ends_line-if : (s : Source) (old new : Forest Item) (r : Result (ℕ × Option Item) AllocError) → s.start ≤ length s.text → IfOk r (λ a. AppendsLine s old new a) → IfOk r (λ a. EndsLine s a)
-ends_line-if s old new (Ok a) within h = ends_line within h.line
-ends_line-if s old new (Err e) within h = tt
+pub ends_line-if : (texts : List CowStr) (after : MathBraces) (s : Source) (old new : Forest Item) (r : Result (ℕ × Option Item) AllocError) → s.start ≤ length s.text → IfOk r (λ a. AppendsLine texts s old new a after) → IfOk r (λ a. EndsLine s a)
+ends_line-if texts after s old new (Ok a) within h = ends_line within h.line
+ends_line-if texts after s old new (Err e) within h = tt
 
 -- where a cell ends
 content_reach : (s : Source) (end : ℕ) → IsContent s.text s.start end → end ≤ s.start + prefix_len is_content (drop s.start s.text)
@@ -328,22 +315,22 @@ content_reach s end c =
       | inr whole ↦ omega arith
     ]
 
-begun : (s : Source) (at : ℕ) (ps : List Piece) (end : ℕ) → ArePieces s at ps end → ends_at s end ≡ true → ends_at s at ≡ false → at < end
-begun s at [] end same ended on = absurd (false≢true (sym on ∙ ap (ends_at s) same ∙ ended))
-begun s at (p ∷ ps) end h ended on =
-    let some = piece_some s.text at p (piece_of s at p h.0 h.1) in
-    let rest = pieces_reach s (at + size p) ps end h.2 in
+begun : (texts : List CowStr) (s : Source) (at : ℕ) (b : MathBraces) (ps : List Piece) (to : Spot) → ArePieces texts s at b ps to → ends_at s to.at ≡ true → ends_at s at ≡ false → at < to.at
+begun texts s at b [] to same ended on = absurd (false≢true (sym on ∙ ap (λ (t : Spot). ends_at s t.at) same ∙ ended))
+begun texts s at b (p ∷ ps) to h ended on =
+    let some = piece_some s.text at p (piece_of texts b s at p h.0 h.1) in
+    let rest = pieces_reach texts s (at + size p) (braces_after (found_at s at) b) ps to h.2 in
     omega arith
 
-pub cell_ends : {s : Source} {tokens : List Item} {end : ℕ} → s.start ≤ length s.text → IsCell s tokens end → EndsCell s end
-cell_ends {s} {tokens} {end} within cell =
+pub cell_ends : {texts : List CowStr} {s : Source} {tokens : List Item} {end : ℕ} {after : MathBraces} → s.start ≤ length s.text → IsCell texts s tokens end after → EndsCell s end
+cell_ends {texts} {s} {tokens} {end} {after} within cell =
     let c = content_of within cell.division in
     record {
       from = c.order;
       within = c.within;
       in_line = content_reach s end c;
       ended = cell.division.ended;
-      later = begun s s.start cell.pieces end cell.division.divided cell.division.ended;
+      later = begun texts s s.start s.braces cell.pieces (spot end after) cell.division.divided cell.division.ended;
     }
 
 -- no token of a line or a cell touches the one before it
@@ -356,25 +343,25 @@ add_pieces-apart stop at (Token dropped n body ∷ ps) chain h =
 add_pieces-apart stop at (Run n opens closes ∷ ps) chain h =
     add_pieces-apart stop (at + n) ps _ (add_tokens-apart chain (run_tokens at n opens closes) h)
 
-pub cell_apart : {s : Source} {tokens : List Item} {end : ℕ} → IsCell s tokens end → AreApart tokens
-cell_apart {s} {tokens} {end} cell = subst AreApart (sym cell.tokens_are) (add_pieces-apart (end - blanks_at_end s end) s.start cell.pieces [] tt)
+pub cell_apart : {texts : List CowStr} {s : Source} {tokens : List Item} {end : ℕ} {after : MathBraces} → IsCell texts s tokens end after → AreApart tokens
+cell_apart {texts} {s} {tokens} {end} {after} cell = subst AreApart (sym cell.tokens_are) (add_pieces-apart (end - blanks_at_end s end) s.start cell.pieces [] tt)
 
-pub line_apart : {s : Source} {tokens : List Item} {answer : ℕ × Option Item} → IsLine s tokens answer → AreApart tokens
-line_apart {s} line = subst AreApart (sym line.tokens_are) (add_pieces-apart (text_end s line.content_end) s.start line.pieces [] tt)
+pub line_apart : {texts : List CowStr} {s : Source} {tokens : List Item} {answer : ℕ × Option Item} {after : MathBraces} → IsLine texts s tokens answer after → AreApart tokens
+line_apart {texts} {s} line = subst AreApart (sym line.tokens_are) (add_pieces-apart (text_end s line.content_end) s.start line.pieces [] tt)
 
 -- the tokens of a line alone
-pub line_alone : {s : Source} {tokens : List Item} {answer : ℕ × Option Item} → IsLine s tokens answer → add_tokens [] tokens ≡ tokens
-line_alone {s} {tokens} line = add_tokens-none tokens (line_apart line)
+pub line_alone : {texts : List CowStr} {s : Source} {tokens : List Item} {answer : ℕ × Option Item} {after : MathBraces} → IsLine texts s tokens answer after → add_tokens [] tokens ≡ tokens
+line_alone {texts} {s} {tokens} line = add_tokens-none tokens (line_apart line)
 
 -- a cell appended behind a chain
-pub appended_cell : {s : Source} {old new : Forest Item} {end : ℕ} (f : Forest Item) (chain : List Item) (h : AppendsCell s old new end)
+pub appended_cell : {texts : List CowStr} {s : Source} {old new : Forest Item} {end : ℕ} {after : MathBraces} (f : Forest Item) (chain : List Item) (h : AppendsCell texts s old new end after)
     → old ≡ chained f chain → JoinsNone f → new ≡ chained f (add_tokens chain h.tokens)
 appended_cell f chain h is none = h.tree_is ∙ ap (λ (g : Forest Item). with_tokens g h.tokens) is ∙ with_tokens-chained f chain h.tokens none
 
 -- a cell appended where no text can be joined
-pub appended_cell_alone : {s : Source} {old new : Forest Item} {end : ℕ} (h : AppendsCell s old new end) → JoinsNone old → new ≡ chained old h.tokens
-appended_cell_alone {s} {old} h none = appended_cell old [] h refl none ∙ ap (chained old) (add_tokens-none h.tokens (cell_apart h.cell))
+pub appended_cell_alone : {texts : List CowStr} {s : Source} {old new : Forest Item} {end : ℕ} {after : MathBraces} (h : AppendsCell texts s old new end after) → JoinsNone old → new ≡ chained old h.tokens
+appended_cell_alone {texts} {s} {old} h none = appended_cell old [] h refl none ∙ ap (chained old) (add_tokens-none h.tokens (cell_apart h.cell))
 
 -- a line appended behind a chain
-pub appended_line : {s : Source} {old new : Forest Item} {answer : ℕ × Option Item} (f : Forest Item) (chain : List Item) (h : AppendsLine s old new answer) → old ≡ chained f chain → JoinsNone f → new ≡ chained f (add_tokens chain h.tokens)
+pub appended_line : {texts : List CowStr} {s : Source} {old new : Forest Item} {answer : ℕ × Option Item} {after : MathBraces} (f : Forest Item) (chain : List Item) (h : AppendsLine texts s old new answer after) → old ≡ chained f chain → JoinsNone f → new ≡ chained f (add_tokens chain h.tokens)
 appended_line f chain h is none = h.tree_is ∙ ap (λ (g : Forest Item). with_tokens g h.tokens) is ∙ with_tokens-chained f chain h.tokens none

@@ -7,13 +7,15 @@ use Rattle.std.proofs.lemmas.Str.{IsCharBoundary-after_ascii, IsCharBoundary-bef
 use Rattle.std.proofs.lemmas.Bool.{cases_lt, cases_Bool, cond_both, eqb-true, and_parts, false≢true}
 use Rattle.std.proofs.lemmas.Bool.Decides.{nat_tests}
 use Rattle.first_pass_items.specs.OptionWords.{has, tables}
+use Rattle.first_pass_items.specs.declared.cow_str.CowStr.{CowStr}
+use Rattle.first_pass_tokens.specs.Braces.{MathBraces, braces_after}
 use Rattle.first_pass_items.specs.declared.item.Item.{Item}
 use Rattle.first_pass_lines.specs.Lines.{is_line_end, is_white}
 use Rattle.first_pass_lines.proofs.PlaceFacts.{line_end_boundary}
 use Rattle.first_pass_tokens.specs.declared.pieces.Piece.{Piece}
 use Rattle.first_pass_tokens.specs.declared.pieces.Piece.TheVariants.{Left, Begins, Token, Run}
-use Rattle.first_pass_tokens.specs.Pieces.{Source}
-use Rattle.first_pass_tokens.specs.LineTokens.{ends_at, ends_cell, ArePieces, IsLine, IsCell, EndsLine, add_pieces, text_end, breaks_by_backslash, backslashes_at_end, blanks_at_end, line_end_len, break_of, line_break}
+use Rattle.first_pass_tokens.specs.Pieces.{Source, found_at}
+use Rattle.first_pass_tokens.specs.LineTokens.{Spot, spot, ends_at, ends_cell, ArePieces, IsLine, IsCell, EndsLine, add_pieces, text_end, breaks_by_backslash, backslashes_at_end, blanks_at_end, line_end_len, break_of, line_break}
 use Rattle.first_pass_tokens.specs.Chains.{text_token, token, run_tokens, touches, add_token, add_tokens, add_text, is_backslash_break, close_break}
 use Rattle.first_pass_tokens.specs.Order.{AreInOrder}
 use Rattle.first_pass_tokens.proofs.ChainLemmas.{add_text-none}
@@ -63,7 +65,7 @@ order_text text from mid a b escaped chain h behind order starts ends =
     (λ none. order_to text from mid b chain h (omega arith))
 
 -- a chain in order, the text that grows behind it, and pieces; texts stop at an offset
-module _ (s : Source) (utf8 : IsUtf8 s.text) (stop end from : ℕ) (stops : IsCharBoundary s.text stop) (last_text : IsTextEnd s end stop) where
+module _ (s : Source) (utf8 : IsUtf8 s.text) (stop : ℕ) (to : Spot) (from : ℕ) (stops : IsCharBoundary s.text stop) (last_text : IsTextEnd s to.at stop) where
   -- a visible byte stands between two characters
   place_before : (at : ℕ) → IsVisible (slice_index s.text at) → IsCharBoundary s.text at
   place_before at h = IsCharBoundary-before_ascii s.text at (at_byte s.text at (omega (arith, h.0))) (omega (arith, h.1))
@@ -88,32 +90,34 @@ module _ (s : Source) (utf8 : IsUtf8 s.text) (stop end from : ℕ) (stops : IsCh
             (run_in_order (at + 1) n opens closes (λ k low high. bytes k (omega arith) (omega arith))),
       )
 
-  pieces_in_order : (at : ℕ) (ps : List Piece) (begin : ℕ) (escaped : Bool) (chain : List Item) → ArePieces s at ps end → s.start ≤ begin → begin ≤ at
+  pieces_in_order : (texts : List CowStr) (at : ℕ) (b : MathBraces) (ps : List Piece) (begin : ℕ) (escaped : Bool) (chain : List Item) → ArePieces texts s at b ps to → s.start ≤ begin → begin ≤ at
       → (begin < at) ⊎ (escaped ≡ false) → begin ≤ stop
       → IsCharBoundary s.text begin → AreInOrder s.text from begin chain → AreInOrder s.text from stop (add_pieces stop at ps (add_text begin (min at stop) escaped chain))
-  pieces_in_order at [] begin escaped chain same low upto mark ahead starts h =
+  pieces_in_order texts at b [] begin escaped chain is low upto mark ahead starts h =
+      let same : at ≡ to.at = ap (λ (t : Spot). t.at) is in
+      let short = last_text.short in
       let here : min at stop ≡ stop = omega arith in
       rw here (order_text s.text from begin begin stop escaped chain h (omega arith) ahead starts stops)
-  pieces_in_order at (Left n ∷ ps) begin escaped chain pieces low upto mark ahead starts h =
+  pieces_in_order texts at b (Left n ∷ ps) begin escaped chain pieces low upto mark ahead starts h =
       subst (λ c. AreInOrder s.text from stop (add_pieces stop (at + n) ps c)) (sym (add_text_grows begin at n stop escaped chain upto mark ahead))
-      (pieces_in_order (at + n) ps begin escaped chain pieces.2 low (omega arith)
+      (pieces_in_order texts (at + n) (braces_after (found_at s at) b) ps begin escaped chain pieces.2 low (omega arith)
       (elim mark [ inl longer ↦ inl (omega arith) | inr plain ↦ inr plain ]) ahead starts h)
-  pieces_in_order at (Begins dropped mark_next ∷ ps) begin escaped chain pieces low upto mark ahead starts h =
-      let facts : IsEscape s.text at dropped = piece_of s at (Begins dropped mark_next) pieces.0 pieces.1 in
+  pieces_in_order texts at b (Begins dropped mark_next ∷ ps) begin escaped chain pieces low upto mark ahead starts h =
+      let facts : IsEscape s.text at dropped = piece_of texts b s at (Begins dropped mark_next) pieces.0 pieces.1 in
       let here = place_before at (facts.bytes at (omega arith) (omega arith)) in
       let behind = place_before (at + dropped) (facts.bytes (at + dropped) (omega arith) (omega arith)) in
-      let reach = pieces_reach s (at + (dropped + 1)) ps end pieces.2 in
+      let reach = pieces_reach texts s (at + (dropped + 1)) (braces_after (found_at s at) b) ps to pieces.2 in
       let backslash = facts.backslashes (at + dropped - 1) (omega (arith, facts.some)) (omega (arith, facts.some)) in
       let before : at + dropped ≤ stop = last_text.behind (at + dropped) (omega arith) (omega arith)
       (inr (omega (arith, facts.some), ap is_white backslash, inl (omega arith))) in
       let cut : min at stop ≡ at = omega arith in
-      pieces_in_order (at + (dropped + 1)) ps (at + dropped) mark_next (add_text begin (min at stop) escaped chain) pieces.2
+      pieces_in_order texts (at + (dropped + 1)) (braces_after (found_at s at) b) ps (at + dropped) mark_next (add_text begin (min at stop) escaped chain) pieces.2
       (omega arith) (omega arith) (inl (omega arith)) before behind
       (rw cut (order_to s.text from at (at + dropped) (add_text begin at escaped chain)
       (order_text s.text from begin begin at escaped chain h (omega arith) upto starts here) (omega arith)))
-  pieces_in_order at (Token dropped n body ∷ ps) begin escaped chain pieces low upto mark ahead starts h =
-      let facts : IsMarkup s.text at dropped n body = piece_of s at (Token dropped n body) pieces.0 pieces.1 in
-      let reach = pieces_reach s (at + (dropped + n)) ps end pieces.2 in
+  pieces_in_order texts at b (Token dropped n body ∷ ps) begin escaped chain pieces low upto mark ahead starts h =
+      let facts : IsMarkup s.text at dropped n body = piece_of texts b s at (Token dropped n body) pieces.0 pieces.1 in
+      let reach = pieces_reach texts s (at + (dropped + n)) (braces_after (found_at s at) b) ps to pieces.2 in
       let byte = facts.bytes (at + dropped + n - 1) (omega (arith, facts.some)) (omega (arith, facts.some)) in
       let before : at + dropped + n ≤ stop = last_text.behind (at + dropped + n) (omega arith) (omega arith)
       (inr (omega (arith, facts.some), visible_solid (slice_index s.text (at + dropped + n - 1)) byte, inr facts.last)) in
@@ -124,12 +128,12 @@ module _ (s : Source) (utf8 : IsUtf8 s.text) (stop end from : ℕ) (stops : IsCh
       let more = add_token (add_text begin at escaped chain) (token (at + dropped) n body) in
       let none = add_text-none (at + dropped + n) (min (at + (dropped + n)) stop) false more (omega arith) in
       rw cut (subst (λ c. AreInOrder s.text from stop (add_pieces stop (at + (dropped + n)) ps c)) none
-      (pieces_in_order (at + (dropped + n)) ps (at + dropped + n) false more pieces.2 (omega arith) (omega arith) (inr refl) before last
+      (pieces_in_order texts (at + (dropped + n)) (braces_after (found_at s at) b) ps (at + dropped + n) false more pieces.2 (omega arith) (omega arith) (inr refl) before last
       (order_add s.text from at (add_text begin at escaped chain) (token (at + dropped) n body)
       (order_text s.text from begin begin at escaped chain h (omega arith) upto starts here) (omega arith) (omega arith) first last)))
-  pieces_in_order at (Run n opens closes ∷ ps) begin escaped chain pieces low upto mark ahead starts h =
-      let facts : IsRun s.text at n = piece_of s at (Run n opens closes) pieces.0 pieces.1 in
-      let reach = pieces_reach s (at + n) ps end pieces.2 in
+  pieces_in_order texts at b (Run n opens closes ∷ ps) begin escaped chain pieces low upto mark ahead starts h =
+      let facts : IsRun s.text at n = piece_of texts b s at (Run n opens closes) pieces.0 pieces.1 in
+      let reach = pieces_reach texts s (at + n) (braces_after (found_at s at) b) ps to pieces.2 in
       let byte = facts.bytes (at + n - 1) (omega (arith, facts.some)) (omega (arith, facts.some)) in
       let same = facts.same (at + n - 1) (omega (arith, facts.some)) (omega (arith, facts.some)) in
       let before : at + n ≤ stop = last_text.behind (at + n) (omega arith) (omega arith)
@@ -144,7 +148,7 @@ module _ (s : Source) (utf8 : IsUtf8 s.text) (stop end from : ℕ) (stops : IsCh
       let more = add_tokens (add_text begin at escaped chain) (run_tokens at n opens closes) in
       let none = add_text-none (at + n) (min (at + n) stop) false more (omega arith) in
       rw cut (subst (λ c. AreInOrder s.text from stop (add_pieces stop (at + n) ps c)) none
-      (pieces_in_order (at + n) ps (at + n) false more pieces.2 (omega arith) (omega arith) (inr refl) before last
+      (pieces_in_order texts (at + n) (braces_after (found_at s at) b) ps (at + n) false more pieces.2 (omega arith) (omega arith) (inr refl) before last
       (order_adds s.text from at (at + n) (add_text begin at escaped chain) (run_tokens at n opens closes)
       (order_text s.text from begin begin at escaped chain h (omega arith) upto starts here) (run_in_order at n opens closes facts.bytes))))
 
@@ -301,32 +305,32 @@ pub record LineInOrder (s : Source) (stop : ℕ) (tokens : List Item) (answer : 
   pub break_fits : IfSome answer.1 (StandsBehind s.text stop answer.0)
 
 -- the tokens of a content whose texts stop at an offset
-content_in_order : (s : Source) (pieces : List Piece) (end stop : ℕ) → IsUtf8 s.text → IsCharBoundary s.text s.start → ArePieces s s.start pieces end
-    → IsTextEnd s end stop → IsPlaceFrom s.text s.start stop → AreInOrder s.text s.start stop (add_pieces stop s.start pieces [])
-content_in_order s pieces end stop utf8 boundary are last_text place =
+content_in_order : (texts : List CowStr) (s : Source) (pieces : List Piece) (to : Spot) (stop : ℕ) → IsUtf8 s.text → IsCharBoundary s.text s.start → ArePieces texts s s.start s.braces pieces to
+    → IsTextEnd s to.at stop → IsPlaceFrom s.text s.start stop → AreInOrder s.text s.start stop (add_pieces stop s.start pieces [])
+content_in_order texts s pieces to stop utf8 boundary are last_text place =
     let empty : add_text s.start (min s.start stop) false [] ≡ [] = add_text-none s.start (min s.start stop) false [] (omega arith) in
     subst (AreInOrder s.text s.start stop) (ap (add_pieces stop s.start pieces) empty)
-    (pieces_in_order s utf8 stop end s.start place.1 last_text s.start pieces s.start false [] are
+    (pieces_in_order s utf8 stop to s.start place.1 last_text texts s.start s.braces pieces s.start false [] are
     (omega arith) (omega arith) (inr refl) place.0 boundary (omega arith))
 
 -- The tokens of a cell are in order from its start up to its end, which stands between two characters.
-pub cell_in_order : {s : Source} {tokens : List Item} {end : ℕ} → IsUtf8 s.text → IsCharBoundary s.text s.start → s.start ≤ length s.text → IsCell s tokens end
+pub cell_in_order : {texts : List CowStr} {s : Source} {tokens : List Item} {end : ℕ} {after : MathBraces} → IsUtf8 s.text → IsCharBoundary s.text s.start → s.start ≤ length s.text → IsCell texts s tokens end after
     → AreInOrder s.text s.start end tokens
-cell_in_order {s} {tokens} {end} utf8 boundary within cell =
+cell_in_order {texts} {s} {tokens} {end} {after} utf8 boundary within cell =
     let c = content_of within cell.division in
     let stop = end - blanks_at_end s end in
     let finish = content_boundary s end c.within cell.division.ended in
     subst (AreInOrder s.text s.start end) (sym cell.tokens_are)
     (order_to s.text s.start stop end (add_pieces stop s.start cell.pieces [])
-    (content_in_order s cell.pieces end stop utf8 boundary cell.division.divided (cell_text_end s end c.within)
+    (content_in_order texts s cell.pieces (spot end after) stop utf8 boundary cell.division.divided (cell_text_end s end c.within)
     (blanks_by s end (blanks_at_end s end) refl c.order c.within finish)) (omega arith))
 
-pub cell_end_place : {s : Source} {tokens : List Item} {end : ℕ} → s.start ≤ length s.text → IsCell s tokens end → IsCharBoundary s.text end
-cell_end_place {s} {tokens} {end} within cell = content_boundary s end (content_of within cell.division).within cell.division.ended
+pub cell_end_place : {texts : List CowStr} {s : Source} {tokens : List Item} {end : ℕ} {after : MathBraces} → s.start ≤ length s.text → IsCell texts s tokens end after → IsCharBoundary s.text end
+cell_end_place {texts} {s} {tokens} {end} {after} within cell = content_boundary s end (content_of within cell.division).within cell.division.ended
 
 -- the tokens and the break of a line
-pub line_in_order : {s : Source} {tokens : List Item} {answer : ℕ × Option Item} → IsUtf8 s.text → IsCharBoundary s.text s.start → s.start ≤ length s.text → (line : IsLine s tokens answer) → LineInOrder s (text_end s line.content_end) tokens answer
-line_in_order {s} {tokens} {answer} utf8 boundary within line =
+pub line_in_order : {texts : List CowStr} {s : Source} {tokens : List Item} {answer : ℕ × Option Item} {after : MathBraces} → IsUtf8 s.text → IsCharBoundary s.text s.start → s.start ≤ length s.text → (line : IsLine texts s tokens answer after) → LineInOrder s (text_end s line.content_end) tokens answer
+line_in_order {texts} {s} {tokens} {answer} {after} utf8 boundary within line =
     let end = line.content_end in
     let c = content_of within line.division in
     let finish = content_boundary s end c.within line.division.ended in
@@ -338,14 +342,14 @@ line_in_order {s} {tokens} {answer} utf8 boundary within line =
     let break_is : answer.1 ≡ line_break s end = ap (λ (a : ℕ × Option Item). a.1) line.answer_is in
     record {
       tokens_fit = subst (AreInOrder s.text s.start (text_end s end)) (sym line.tokens_are)
-          (content_in_order s line.pieces end (text_end s end) utf8 boundary line.division.divided last_text place);
+          (content_in_order texts s line.pieces (spot end after) (text_end s end) utf8 boundary line.division.divided last_text place);
       before = omega arith;
       ends = next;
       break_fits = subst (λ (o : Option Item). IfSome o (StandsBehind s.text (text_end s end) answer.0)) (sym break_is) (break_stands s end answer.0 answer_is c.order c.within finish next);
     }
 
 -- the break alone: it begins where the line's tokens end or behind that, and ends with the line
-pub break_in_order : {s : Source} {tokens : List Item} {answer : ℕ × Option Item} → IsUtf8 s.text → IsCharBoundary s.text s.start → s.start ≤ length s.text → (line : IsLine s tokens answer) → IfSome answer.1 (StandsBehind s.text (text_end s line.content_end) answer.0)
+pub break_in_order : {texts : List CowStr} {s : Source} {tokens : List Item} {answer : ℕ × Option Item} {after : MathBraces} → IsUtf8 s.text → IsCharBoundary s.text s.start → s.start ≤ length s.text → (line : IsLine texts s tokens answer after) → IfSome answer.1 (StandsBehind s.text (text_end s line.content_end) answer.0)
 break_in_order utf8 boundary within line = (line_in_order utf8 boundary within line).break_fits
 
 -- a chain behind which the last line's break stands, closed
@@ -359,8 +363,8 @@ order_closed text from at next (Some x) chain h later behind =
     (λ b. order_to text from at next chain h later)
 
 -- the chain of a line alone
-pub closed_line_in_order : {s : Source} {tokens : List Item} {next : ℕ} {break : Option Item} → IsUtf8 s.text → IsCharBoundary s.text s.start → s.start ≤ length s.text → IsLine s tokens (next, break) → AreInOrder s.text s.start next (close_break break (add_tokens [] tokens))
-closed_line_in_order {s} {tokens} {next} {break} utf8 boundary within line =
+pub closed_line_in_order : {texts : List CowStr} {s : Source} {tokens : List Item} {next : ℕ} {break : Option Item} {after : MathBraces} → IsUtf8 s.text → IsCharBoundary s.text s.start → s.start ≤ length s.text → IsLine texts s tokens (next, break) after → AreInOrder s.text s.start next (close_break break (add_tokens [] tokens))
+closed_line_in_order {texts} {s} {tokens} {next} {break} utf8 boundary within line =
     let l = line_in_order utf8 boundary within line in
     order_closed s.text s.start (text_end s line.content_end) next break (add_tokens [] tokens)
     (order_adds s.text s.start s.start (text_end s line.content_end) [] tokens (omega arith) l.tokens_fit) l.before l.break_fits

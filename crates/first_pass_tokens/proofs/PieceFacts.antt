@@ -1,23 +1,32 @@
 -- The piece at a place, case by case: which bytes it has, and which token. What else is said of pieces rests on these facts alone.
-use Rattle.std.proofs.Common.{◌≡◌, ℕ, ◌+◌, ◌-◌, ◌≤◌, ◌<◌, ◌==◌, ◌&&◌, not, Bool, true, false, List, length, drop, get_or, slice_index, Option, Some, unwrap_or, refl, sym, ap, subst, ◌∙◌, inl, inr, arith, length-drop, ◌||◌, suc}
+use Rattle.std.proofs.Common.{◌≡◌, ℕ, ◌+◌, ◌-◌, ◌≤◌, ◌<◌, ◌==◌, ◌&&◌, not, Bool, true, false, List, length, drop, get_or, slice_index, Option, Some, unwrap_or, refl, sym, ap, subst, ◌∙◌, inl, inr, arith, length-drop, ◌||◌, suc, nat_lt, None}
+use Rattle.std.specs.Option.{option_map_or}
 use Rattle.std.specs.Char.{is_ascii_punctuation}
 use Rattle.std.specs.List.{prefix_len}
 use Rattle.std.proofs.lemmas.List.{get_or-drop, get_or_past}
 use Rattle.std.proofs.lemmas.List.Sums.{prefix_len_passes, prefix_len_stops, prefix_len_is, prefix_len-le-length}
-use Rattle.std.proofs.lemmas.Bool.{cases_lt, cases_Bool, cond_both, cond-false, and_parts, eqb-true, eq-eqb, ne_eqb, false≢true}
+use Rattle.std.proofs.lemmas.Bool.{cases_lt, cases_Bool, cond_both, cond-false, and_parts, eqb-true, eq-eqb, ltb-true, ne_eqb, false≢true}
 use Rattle.std.proofs.lemmas.Bool.Decides.{nat_tests}
+use Rattle.first_pass_items.specs.declared.cow_str.CowStr.{CowStr}
+use Rattle.first_pass_items.specs.declared.item.CowIndex.{CowIndex}
 use Rattle.first_pass_items.specs.declared.item.ItemBody.{ItemBody}
 use Rattle.first_pass_items.specs.declared.option_set.Options.{Options}
-use Rattle.first_pass_items.specs.declared.item.ItemBody.TheVariants.{Text, MaybeEmphasis, MaybeSmartQuote, SynthesizeChar, MaybeCode, MaybeHtml, MaybeLinkOpen, MaybeLinkClose, MaybeImage}
+use Rattle.first_pass_items.specs.declared.item.ItemBody.TheVariants.{Text, MaybeEmphasis, MaybeMath, MaybeSmartQuote, SynthesizeChar, SynthesizeText, MaybeCode, MaybeHtml, MaybeLinkOpen, MaybeLinkClose, MaybeImage}
 use Rattle.first_pass_tree.specs.Forest.{is_text, is_escaped}
 use Rattle.first_pass_lines.specs.Lines.{is_line_end, is_white}
+use Rattle.first_pass_links.specs.Entities.{entity_at}
 use Rattle.first_pass_walk.specs.Walk.{is_special}
 use Rattle.first_pass_flank.specs.declared.flank.DelimiterRun.{DelimiterRun}
 use Rattle.first_pass_flank.specs.Flank.{can_open, can_close}
+use Rattle.first_pass_tokens.specs.declared.pieces.Found.{Found}
+use Rattle.first_pass_tokens.specs.declared.pieces.Found.TheVariants.{Ready, Reference, Dashes, Dollar, OpenBrace, CloseBrace}
 use Rattle.first_pass_tokens.specs.declared.pieces.Piece.{Piece}
 use Rattle.first_pass_tokens.specs.declared.pieces.Piece.TheVariants.{Left, Begins, Token, Run}
 use Rattle.first_pass_tokens.specs.MarkupBytes.{AreBackquotes, StandsOver, smart_char}
-use Rattle.first_pass_tokens.specs.Pieces.{Source, piece_at, special_piece, backslash_piece, backslash_piece_in, backquote_piece, is_delimiter, is_too_long, run_in, run_size, is_quote, quote_piece, dot_piece, dash_piece, run_piece, delimiter_piece, bracket_piece, run_at}
+use Rattle.first_pass_tokens.specs.Braces.{MathBraces, dollar_context}
+use Rattle.first_pass_tokens.specs.NamedTexts.{Becomes}
+use Rattle.first_pass_tokens.specs.Pieces.{Source, found_at, special_found, reference_found, dash_found, dollar_found, special_piece, backslash_piece, backslash_piece_in, backquote_piece, is_delimiter, is_too_long, run_in, run_size, is_quote, quote_piece, dot_piece, dash_piece, run_piece, delimiter_piece, bracket_piece, run_at}
+use Rattle.first_pass_tokens.proofs.ReferenceBytes.{is_reference_byte, reference_at}
 
 -- a visible character of ASCII
 abbrev pub IsVisible : ℕ → Type 0
@@ -27,11 +36,13 @@ IsVisible b = (32 < b) × (b < 127)
 abbrev pub AreVisible : List ℕ → ℕ → ℕ → Type 0
 AreVisible text at n = (k : ℕ) → at ≤ k → k < at + n → IsVisible (slice_index text k)
 
--- a token of possible code, HTML, links or images
+-- a token that is no text
 abbrev pub is_markup : ItemBody → Bool
 is_markup (MaybeEmphasis left opens closes) = true
+is_markup (MaybeMath opens closes context) = true
 is_markup (MaybeSmartQuote quote opens closes) = true
 is_markup (SynthesizeChar c) = true
+is_markup (SynthesizeText ix) = true
 is_markup (MaybeCode n escaped) = true
 is_markup MaybeHtml = true
 is_markup MaybeLinkOpen = true
@@ -470,7 +481,7 @@ dash_facts text at within is =
       other = ap (λ (x : ℕ). x == 96) is;
     }))
 
--- the piece at a special byte
+-- the piece at a special byte that is no ampersand and no hyphen
 special_facts : (s : Source) (at : ℕ) → at < length s.text → IsPieceAt s.text at (special_piece s at)
 unfolding special_piece
 special_facts s at within =
@@ -480,8 +491,7 @@ special_facts s at within =
     (λ h₁. cond_both (b == 96) _ _ holds (λ h. backquote_facts s.text at within (eqb-true b 96 h))
     (λ h₂. cond_both (is_delimiter b) _ _ holds (λ h. delimiter_facts s at within h)
     (λ h₃. cond_both (is_quote b) _ _ holds (λ h. quote_facts s at within h)
-    (λ h₄. cond_both (b == 46) _ _ holds (λ h. dot_facts s.text at within (eqb-true b 46 h))
-    (λ h₅. cond_both (b == 45) _ _ holds (λ h. dash_facts s.text at within (eqb-true b 45 h)) (λ h₆. bracket_facts s.text at within h₂))))))
+    (λ h₄. cond_both (b == 46) _ _ holds (λ h. dot_facts s.text at within (eqb-true b 46 h)) (λ h₅. bracket_facts s.text at within h₂)))))
 
 -- a byte that is not special is not that special byte
 pub off : (b c : ℕ) (options : Options) → is_special options c ≡ true → is_special options b ≡ false → (b == c) ≡ false
@@ -495,9 +505,90 @@ special_backquote : (options : Options) → is_special options 96 ≡ true
 unfolding is_special
 special_backquote options = refl
 
--- the piece at a place of the text
-pub piece_facts : (s : Source) (at : ℕ) → at < length s.text → IsPieceAt s.text at (piece_at s at)
-unfolding piece_at
-piece_facts s at within =
-    cond_both (is_special s.options (slice_index s.text at)) (special_piece s at) (Left 1) (IsPieceAt s.text at)
-    (λ b. special_facts s at within) (λ b. one_left s.text at within (off (slice_index s.text at) 96 s.options (special_backquote s.options) b))
+-- the bytes of what stands at a place
+abbrev pub IsFoundAt : List ℕ → ℕ → Found → Type 0
+IsFoundAt text at (Ready piece) = IsPieceAt text at piece
+IsFoundAt text at (Reference n c) = entity_at (drop at text) ≡ Some (n, c)
+IsFoundAt text at (Dashes n) = (n ≡ run_at text at) × (3 < n) × (slice_index text at ≡ 45)
+IsFoundAt text at (Dollar opens closes) = slice_index text at ≡ 36
+IsFoundAt text at OpenBrace = IsLeft text at 1
+IsFoundAt text at CloseBrace = IsLeft text at 1
+
+reference_facts : (text : List ℕ) (at : ℕ) → at < length text → slice_index text at ≡ 38 → (o : Option (ℕ × ℕ)) → entity_at (drop at text) ≡ o
+    → IsFoundAt text at (option_map_or (λ (e : ℕ × ℕ). Reference e.0 e.1) o (Ready (Left 1)))
+reference_facts text at within is (Some e) same = same
+reference_facts text at within is None same = one_left text at within (ap (λ (x : ℕ). x == 96) is)
+
+dashes_facts : (text : List ℕ) (at : ℕ) → at < length text → slice_index text at ≡ 45 → IsFoundAt text at (dash_found text at)
+unfolding dash_found
+dashes_facts text at within is =
+    cond_both (nat_lt 3 (run_at text at)) (Dashes (run_at text at)) (Ready (dash_piece text at)) (IsFoundAt text at)
+    (λ many. (refl, ltb-true 3 (run_at text at) many, is)) (λ few. dash_facts text at within is)
+
+special_found_facts : (s : Source) (at : ℕ) → at < length s.text → IsFoundAt s.text at (special_found s at)
+unfolding special_found reference_found dollar_found
+special_found_facts s at within =
+    let holds : Found → Type 0 = IsFoundAt s.text at in
+    let b = slice_index s.text at in
+    cond_both (b == 38) (reference_found s.text at) _ holds (λ h. reference_facts s.text at within (eqb-true b 38 h) (entity_at (drop at s.text)) refl)
+    (λ h₁. cond_both (b == 45) (dash_found s.text at) _ holds (λ h. dashes_facts s.text at within (eqb-true b 45 h))
+    (λ h₂. cond_both (b == 36) (dollar_found s at) _ holds (λ h. eqb-true b 36 h)
+    (λ h₃. cond_both (b == 123) OpenBrace _ holds (λ h. one_left s.text at within (ap (λ (x : ℕ). x == 96) (eqb-true b 123 h)))
+    (λ h₄. cond_both (b == 125) CloseBrace _ holds (λ h. one_left s.text at within (ap (λ (x : ℕ). x == 96) (eqb-true b 125 h)))
+    (λ h₅. special_facts s at within)))))
+
+-- what stands at a place of the text
+pub found_facts : (s : Source) (at : ℕ) → at < length s.text → IsFoundAt s.text at (found_at s at)
+unfolding found_at
+found_facts s at within =
+    cond_both (is_special s.options (slice_index s.text at)) (special_found s at) (Ready (Left 1)) (IsFoundAt s.text at)
+    (λ b. special_found_facts s at within) (λ b. one_left s.text at within (off (slice_index s.text at) 96 s.options (special_backquote s.options) b))
+
+reference_visible : (b : ℕ) → is_reference_byte b ≡ true → IsVisible b
+reference_visible b h = (grind (arith, nat_tests, h), grind (arith, nat_tests, h))
+
+reference_solid : (b : ℕ) → is_reference_byte b ≡ true → (b == 92) ≡ false
+reference_solid b h = grind (arith, nat_tests, h)
+
+-- a token that names a text
+reference_token : (text : List ℕ) (at n c : ℕ) (ix : CowIndex) → entity_at (drop at text) ≡ Some (n, c) → IsMarkup text at 0 n (SynthesizeText ix)
+reference_token text at n c ix e =
+    let r = reference_at text at n c e in
+    let here : at ≡ at + 0 = omega arith in
+    record {
+      some = r.some;
+      few = omega arith;
+      bytes = λ k low high. reference_visible _ (r.bytes k low (omega (arith, high)));
+      last = reference_solid _ (r.bytes (at + 0 + n - 1) (omega (arith, r.some)) (omega (arith, r.some)));
+      kind = refl;
+      over = inl (record { n = n; char = c; to = refl; referred = ap (λ (k : ℕ). entity_at (drop k text)) (sym here) ∙ e });
+    }
+
+dashes_token : (text : List ℕ) (at n : ℕ) (ix : CowIndex) → n ≡ run_at text at → 3 < n → slice_index text at ≡ 45 → IsMarkup text at 0 n (SynthesizeText ix)
+dashes_token text at n ix run many is =
+    let alike : (k : ℕ) → at ≤ k → k < at + n → slice_index text k ≡ 45 = λ k low high. run_same text at k low (omega (arith, run, high)) ∙ is in
+    let here : at + 0 ≡ at = omega arith in
+    record {
+      some = omega (arith, many);
+      few = omega arith;
+      bytes = λ k low high. let byte = alike k low (omega (arith, high)) in (omega (arith, byte), omega (arith, byte));
+      last = let byte = alike (at + 0 + n - 1) (omega (arith, many)) (omega (arith, many)) in ap (λ (x : ℕ). x == 92) byte;
+      kind = refl;
+      over = inr (record {
+        to = ap (λ (k : ℕ). at + 0 + k) run ∙ ap (λ (k : ℕ). at + 0 + run_at text k) (sym here);
+        many = subst (λ (k : ℕ). 3 < k) (run ∙ ap (run_at text) (sym here)) many;
+        hyphens = ap (slice_index text) here ∙ is;
+      });
+    }
+
+-- the piece of what stands at a place
+pub becomes_facts : (texts : List CowStr) (b : MathBraces) (text : List ℕ) (at : ℕ) (found : Found) (p : Piece) → IsFoundAt text at found
+    → Becomes texts b found p → IsPieceAt text at p
+becomes_facts texts b text at (Ready piece) p facts is = subst (IsPieceAt text at) (sym is) facts
+becomes_facts texts b text at (Reference n c) p facts is = subst (IsPieceAt text at) (sym is.2) (reference_token text at n c is.0 facts)
+becomes_facts texts b text at (Dashes n) p facts is = subst (IsPieceAt text at) (sym is.2) (dashes_token text at n is.0 facts.0 facts.1 facts.2)
+becomes_facts texts b text at (Dollar opens closes) p facts is =
+    subst (IsPieceAt text at) (sym is)
+    (one_byte text at 36 (MaybeMath opens closes (dollar_context b)) facts (omega arith, omega arith) refl refl (refl, facts))
+becomes_facts texts b text at OpenBrace p facts is = subst (IsPieceAt text at) (sym is) facts
+becomes_facts texts b text at CloseBrace p facts is = subst (IsPieceAt text at) (sym is) facts

@@ -3,6 +3,8 @@ use Rattle.std.proofs.Common.{ℕ, zero, suc, ◌≡◌, ◌⊎◌, ◌+◌, ◌
 use Rattle.std.specs.List.{suffix_len, slice_range}
 use Rattle.std.specs.declared.alloc.AllocError.{AllocError}
 use Rattle.std.proofs.lemmas.Bool.{cases_lt, cases_Bool, lt-leb, le-leb, or_from, or_parts, or_left, and_right, cond_both, cond-true, cond-false, and_parts, eqb-true}
+use Rattle.first_pass_items.specs.declared.cow_str.CowStr.{CowStr}
+use Rattle.first_pass_tokens.specs.Braces.{MathBraces, braces_after}
 use Rattle.first_pass_items.specs.declared.item.Item.{Item}
 use Rattle.first_pass_items.specs.declared.option_set.Options.{Options}
 use Rattle.first_pass_tree.specs.Forest.{Forest, appended, with_text}
@@ -12,12 +14,16 @@ use Rattle.first_pass_tokens.specs.declared.line.Pending.{Pending}
 use Rattle.first_pass_tokens.specs.declared.pieces.Piece.{Piece}
 use Rattle.first_pass_tokens.specs.declared.pieces.Piece.TheVariants.{Left, Begins, Token, Run}
 use Rattle.first_pass_tokens.specs.Chains.{token, run_tokens, add_token, add_tokens, add_text}
-use Rattle.first_pass_tokens.specs.Pieces.{Source, piece_at, special_piece, size, EndsSolid}
-use Rattle.first_pass_tokens.specs.LineTokens.{ends_at, ArePieces, add_piece, add_pieces, text_end, breaks_by_backslash, backslashes_at_end, blanks_at_end, line_end_len, line_break}
+use Rattle.first_pass_tokens.specs.declared.pieces.Found.{Found}
+use Rattle.first_pass_tokens.specs.declared.pieces.Found.TheVariants.{Ready, Reference, Dashes, Dollar, OpenBrace, CloseBrace}
+use Rattle.first_pass_tokens.specs.NamedTexts.{Becomes, AreMore}
+use Rattle.first_pass_tokens.specs.Pieces.{Source, found_at, special_found, size, EndsSolid, FoundSolid}
+use Rattle.first_pass_tokens.specs.LineTokens.{Spot, spot, ends_at, ArePieces, add_piece, add_pieces, text_end, breaks_by_backslash, backslashes_at_end, blanks_at_end, line_end_len, line_break}
 use Rattle.first_pass_tokens.specs.TreeTokens.{with_tokens, AppendsLine, AppendsCell}
 use Rattle.first_pass_tokens.specs.Pending.{pending_after, tree_after, IsReadTo}
 use Rattle.first_pass_tokens.proofs.PieceFacts.{IsPieceAt, IsMarkup, IsRun, delimiter_other, markup_plain, visible_solid, off}
 use Rattle.first_pass_tokens.proofs.ChainLemmas.{add_text-none, add_text-joined, with_tokens-text, with_tokens-add, with_tokens-adds, with_token-plain}
+use Rattle.first_pass_tokens.proofs.NamedTexts.{pieces_more}
 use Rattle.first_pass_tokens.proofs.LineLemmas.{are_more, add_pieces_more, end_bounded, piece_of}
 
 -- the text that is not appended begins with the content, or behind a byte that is no white space, and no backslash if the text is empty
@@ -26,9 +32,9 @@ BeginsText text start begin at =
     (begin ≡ start) ⊎ ((0 < begin) × (is_white (slice_index text (begin - 1)) ≡ false) × ((begin < at) ⊎ ((slice_index text (begin - 1) == 92) ≡ false)))
 
 -- The content is read up to a place: the chain then, and a text that is not appended yet.
-pub record SoFar (z : Source) (chain : List Item) (pending : Pending) (at : ℕ) : Type 0 where
+pub record SoFar (texts : List CowStr) (z : Source) (chain : List Item) (pending : Pending) (at : ℕ) (b : MathBraces) : Type 0 where
   pub pieces : List Piece
-  pub divided : ArePieces z z.start pieces at
+  pub divided : ArePieces texts z z.start z.braces pieces (spot at b)
   pub from : z.start ≤ pending.begin
   pub upto : pending.begin ≤ at
   pub within : at ≤ length z.text
@@ -57,20 +63,20 @@ unfolding is_special
 plain_cell options b plain = (or_parts (begins_cell options b) _ (or_parts (begins_token b) _ plain).1).0
 
 -- a byte that is not special is a piece by itself, and ends no content
-plain_piece : (z : Source) (at : ℕ) → at < length z.text → is_special z.options (slice_index z.text at) ≡ false → (ends_at z at ≡ false) × (piece_at z at ≡ Left 1)
-unfolding ends_at piece_at
+plain_piece : (z : Source) (at : ℕ) → at < length z.text → is_special z.options (slice_index z.text at) ≡ false → (ends_at z at ≡ false) × (found_at z at ≡ Ready (Left 1))
+unfolding ends_at found_at
 plain_piece z at within plain =
     let b = slice_index z.text at in
     let line = or_from _ _ (off b 10 z.options (special_lf z.options) plain) (off b 13 z.options (special_cr z.options) plain) in
     let cell = and_right z.row _ (plain_cell z.options b plain) in
     (or_from _ _ (lt-leb (length z.text) at within) (or_from _ _ line cell), cond-false _ _ _ plain)
 
--- the piece at a special byte
-pub piece_special : (z : Source) (at : ℕ) → is_special z.options (slice_index z.text at) ≡ true → special_piece z at ≡ piece_at z at
-unfolding piece_at
-piece_special z at special = sym (cond-true _ _ _ special)
+-- what stands at a special byte
+pub found_special : (z : Source) (at : ℕ) → is_special z.options (slice_index z.text at) ≡ true → special_found z at ≡ found_at z at
+unfolding found_at
+found_special z at special = sym (cond-true _ _ _ special)
 
-pub so_far_start : (z : Source) → z.start ≤ length z.text → SoFar z [] (record { begin = z.start; escaped = false }) z.start
+pub so_far_start : {texts : List CowStr} (z : Source) → z.start ≤ length z.text → SoFar texts z [] (record { begin = z.start; escaped = false }) z.start z.braces
 so_far_start z within = record {
   pieces = [];
   divided = refl;
@@ -117,19 +123,21 @@ shown_here begin at stop escaped chain order =
     let here : min at stop ≡ at = omega arith in
     ap (λ (x : ℕ). add_text begin x escaped chain) here
 
-module _ (z : Source) (chain : List Item) (pending : Pending) (at : ℕ) (s : SoFar z chain pending at) (on : ends_at z at ≡ false) where
-  divided_on : (p : Piece) → p ≡ piece_at z at → ArePieces z z.start (s.pieces ++ p ∷ []) (at + size p)
-  divided_on p is = subst (λ (q : Piece). ArePieces z z.start (s.pieces ++ q ∷ []) (at + size q)) (sym is) (are_more z z.start s.pieces at s.divided on)
+module _ {texts : List CowStr} (z : Source) (chain : List Item) (pending : Pending) (at : ℕ) (b : MathBraces) (s : SoFar texts z chain pending at b) (on : ends_at z at ≡ false) where
+  divided_on : (p : Piece) → Becomes texts b (found_at z at) p
+      → ArePieces texts z z.start z.braces (s.pieces ++ p ∷ []) (spot (at + size p) (braces_after (found_at z at) b))
+  divided_on p is = are_more texts z z.start z.braces s.pieces (spot at b) p s.divided on is
 
   shown_on : (p : Piece) (stop : ℕ) → pending.begin ≤ stop → add_pieces stop z.start (s.pieces ++ p ∷ []) [] ≡ add_piece stop at p (add_text pending.begin (min at stop) pending.escaped chain)
-  shown_on p stop ahead = add_pieces_more z stop z.start s.pieces at [] p s.divided ∙ ap (add_piece stop at p) (s.shown stop ahead)
+  shown_on p stop ahead = add_pieces_more texts z stop z.start z.braces s.pieces (spot at b) [] p s.divided ∙ ap (add_piece stop at p) (s.shown stop ahead)
 
   -- the same, where the text before the piece is appended
   shown_past : (p : Piece) (stop : ℕ) → at ≤ stop → add_pieces stop z.start (s.pieces ++ p ∷ []) [] ≡ add_piece stop at p (add_text pending.begin at pending.escaped chain)
   shown_past p stop past = shown_on p stop (omega (arith, s.upto)) ∙ ap (add_piece stop at p) (shown_here pending.begin at stop pending.escaped chain past)
 
   -- one more piece
-  pub so_far_piece : (p : Piece) → p ≡ piece_at z at → at + size p ≤ length z.text → EndsSolid z.text at p → SoFar z (chain_after at p pending chain) (pending_after at p pending) (at + size p)
+  pub so_far_piece : (p : Piece) → Becomes texts b (found_at z at) p → at + size p ≤ length z.text → EndsSolid z.text at p
+      → SoFar texts z (chain_after at p pending chain) (pending_after at p pending) (at + size p) (braces_after (found_at z at) b)
   so_far_piece (Left n) is fits ends = record {
     pieces = s.pieces ++ Left n ∷ [];
     divided = divided_on (Left n) is;
@@ -151,7 +159,7 @@ module _ (z : Source) (chain : List Item) (pending : Pending) (at : ℕ) (s : So
     shown = λ stop ahead. shown_past (Begins dropped escaped) stop (omega arith);
   }
   so_far_piece (Token dropped n body) is fits ends =
-      let facts : IsMarkup z.text at dropped n body = piece_of z at (Token dropped n body) on is in
+      let facts : IsMarkup z.text at dropped n body = piece_of texts b z at (Token dropped n body) on is in
       record {
         pieces = s.pieces ++ Token dropped n body ∷ [];
         divided = divided_on (Token dropped n body) is;
@@ -166,7 +174,7 @@ module _ (z : Source) (chain : List Item) (pending : Pending) (at : ℕ) (s : So
             ∙ sym (add_text-none (at + dropped + n) (min (at + (dropped + n)) stop) false _ (omega arith));
       }
   so_far_piece (Run n opens closes) is fits ends =
-      let facts : IsRun z.text at n = piece_of z at (Run n opens closes) on is in
+      let facts : IsRun z.text at n = piece_of texts b z at (Run n opens closes) on is in
       record {
         pieces = s.pieces ++ Run n opens closes ∷ [];
         divided = divided_on (Run n opens closes) is;
@@ -187,25 +195,26 @@ module _ (z : Source) (chain : List Item) (pending : Pending) (at : ℕ) (s : So
       }
 
 -- n bytes that are single pieces
-so_far_bytes : (z : Source) (chain : List Item) (pending : Pending) (n at : ℕ) → SoFar z chain pending at → at + n ≤ length z.text
-    → ((k : ℕ) → at ≤ k → k < at + n → (ends_at z k ≡ false) × (piece_at z k ≡ Left 1)) → SoFar z chain pending (at + n)
-so_far_bytes z chain pending zero at s fits single =
+so_far_bytes : {texts : List CowStr} (z : Source) (chain : List Item) (pending : Pending) (n at : ℕ) (b : MathBraces) → SoFar texts z chain pending at b → at + n ≤ length z.text
+    → ((k : ℕ) → at ≤ k → k < at + n → (ends_at z k ≡ false) × (found_at z k ≡ Ready (Left 1))) → SoFar texts z chain pending (at + n) b
+so_far_bytes {texts} z chain pending zero at b s fits single =
     let here : at ≡ at + 0 = omega arith in
-    subst (SoFar z chain pending) here s
-so_far_bytes z chain pending (suc n) at s fits single =
+    subst (λ (k : ℕ). SoFar texts z chain pending k b) here s
+so_far_bytes {texts} z chain pending (suc n) at b s fits single =
     let first = single at (omega arith) (omega arith) in
-    let more = so_far_piece z chain pending at s first.0 (Left 1) (sym first.1) (omega arith) (omega arith) in
-    let rest = so_far_bytes z chain pending n (at + 1) more (omega arith) (λ k low high. single k (omega arith) (omega arith)) in
+    let more = so_far_piece z chain pending at b s first.0 (Left 1) (subst (λ (f : Found). Becomes texts b f (Left 1)) (sym first.1) refl) (omega arith) (omega arith) in
+    let same = subst (λ (f : Found). SoFar texts z chain pending (at + 1) (braces_after f b)) first.1 more in
+    let rest = so_far_bytes z chain pending n (at + 1) b same (omega arith) (λ k low high. single k (omega arith) (omega arith)) in
     let here : at + 1 + n ≡ at + suc n = omega arith in
-    subst (SoFar z chain pending) here rest
+    subst (λ (k : ℕ). SoFar texts z chain pending k b) here rest
 
 -- up to a place that no special byte stands before
-so_far_upto : (z : Source) (chain : List Item) (pending : Pending) (at to : ℕ) → SoFar z chain pending at → at ≤ to → to ≤ length z.text
-    → ((k : ℕ) → at ≤ k → k < to → is_special z.options (slice_index z.text k) ≡ false) → SoFar z chain pending to
-so_far_upto z chain pending at to s order within plain =
+so_far_upto : {texts : List CowStr} (z : Source) (chain : List Item) (pending : Pending) (at to : ℕ) (b : MathBraces) → SoFar texts z chain pending at b → at ≤ to
+    → to ≤ length z.text → ((k : ℕ) → at ≤ k → k < to → is_special z.options (slice_index z.text k) ≡ false) → SoFar texts z chain pending to b
+so_far_upto {texts} z chain pending at to b s order within plain =
     let there : at + (to - at) ≡ to = omega arith in
-    subst (SoFar z chain pending) there
-    (so_far_bytes z chain pending (to - at) at s (omega arith) (λ k low high. plain_piece z k (omega arith) (plain k low (omega arith))))
+    subst (λ (k : ℕ). SoFar texts z chain pending k b) there
+    (so_far_bytes z chain pending (to - at) at b s (omega arith) (λ k low high. plain_piece z k (omega arith) (plain k low (omega arith))))
 
 -- the text that is left begins before the white space at the end
 begins_before_white : (z : Source) (begin end : ℕ) → z.start ≤ begin → begin ≤ end → end ≤ length z.text
@@ -257,17 +266,50 @@ pub cell_text_end : (z : Source) (end : ℕ) → end ≤ length z.text → IsTex
 cell_text_end z end within = record { short = omega arith; behind = λ begin low high begins. begins_before_white z begin end low high within begins }
 
 -- The content is read up to a place, and its tokens up to there are in the tree, but for a text that is not appended yet.
-pub record IsRead (z : Source) (old tree : Forest Item) (pending : Pending) (at : ℕ) : Type 0 where
+pub record IsRead (texts : List CowStr) (z : Source) (old tree : Forest Item) (pending : Pending) (to : Spot) : Type 0 where
   pub tokens : List Item
-  pub read : SoFar z tokens pending at
+  pub read : SoFar texts z tokens pending to.at to.braces
   pub tree_is : tree ≡ with_tokens old tokens
 
-pub read_start : (z : Source) (old : Forest Item) → z.start ≤ length z.text → IsRead z old old (record { begin = z.start; escaped = false }) z.start
+pub read_start : {texts : List CowStr} (z : Source) (old : Forest Item) → z.start ≤ length z.text
+    → IsRead texts z old old (record { begin = z.start; escaped = false }) (spot z.start z.braces)
 read_start z old within = record { tokens = []; read = so_far_start z within; tree_is = refl }
 
-pub read_upto : {z : Source} {old tree : Forest Item} {pending : Pending} (at to : ℕ) → IsRead z old tree pending at → at ≤ to → to ≤ length z.text
-    → ((k : ℕ) → at ≤ k → k < to → is_special z.options (slice_index z.text k) ≡ false) → IsRead z old tree pending to
-read_upto {z} {old} {tree} {pending} at to r order within plain = record { tokens = r.tokens; read = so_far_upto z r.tokens pending at to r.read order within plain; tree_is = r.tree_is }
+pub read_upto : {texts : List CowStr} {z : Source} {old tree : Forest Item} {pending : Pending} (at to : ℕ) (b : MathBraces) → IsRead texts z old tree pending (spot at b)
+    → at ≤ to → to ≤ length z.text → ((k : ℕ) → at ≤ k → k < to → is_special z.options (slice_index z.text k) ≡ false)
+    → IsRead texts z old tree pending (spot to b)
+read_upto {texts} {z} {old} {tree} {pending} at to b r order within plain =
+    record { tokens = r.tokens; read = so_far_upto z r.tokens pending at to b r.read order within plain; tree_is = r.tree_is }
+
+-- the same, while more is named
+pub read_more : {new old : List CowStr} {z : Source} {before tree : Forest Item} {pending : Pending} {to : Spot} → AreMore new old → IsRead old z before tree pending to
+    → IsRead new z before tree pending to
+read_more {new} {old} {z} {before} {tree} {pending} {to} more r =
+    let s = r.read in
+    record {
+      tokens = r.tokens;
+      read = record {
+        pieces = s.pieces;
+        divided = pieces_more new old z z.start z.braces s.pieces (spot to.at to.braces) more s.divided;
+        from = s.from;
+        upto = s.upto;
+        within = s.within;
+        mark = s.mark;
+        begins = s.begins;
+        shown = s.shown;
+      };
+      tree_is = r.tree_is;
+    }
+
+-- the piece of what stands there ends as that does
+pub becomes_solid : (texts : List CowStr) (b : MathBraces) (text : List ℕ) (at : ℕ) (found : Found) (p : Piece) → Becomes texts b found p → FoundSolid text at found
+    → EndsSolid text at p
+becomes_solid texts b text at (Ready piece) p is solid = subst (EndsSolid text at) (sym is) solid
+becomes_solid texts b text at (Reference n c) p is solid = subst (EndsSolid text at) (sym is.2) solid
+becomes_solid texts b text at (Dashes n) p is solid = subst (EndsSolid text at) (sym is.2) solid
+becomes_solid texts b text at (Dollar opens closes) p is solid = subst (EndsSolid text at) (sym is) (omega arith)
+becomes_solid texts b text at OpenBrace p is solid = subst (EndsSolid text at) (sym is) (omega arith)
+becomes_solid texts b text at CloseBrace p is solid = subst (EndsSolid text at) (sym is) (omega arith)
 
 -- the tree behind a piece has the chain behind it
 tree_is_after : (text : List ℕ) (old tree : Forest Item) (chain : List Item) (pending : Pending) (at : ℕ) (p : Piece) → IsPieceAt text at p
@@ -290,20 +332,23 @@ tree_is_after text old tree chain pending at (Run n opens closes) facts order sa
     ap (λ (f : Forest Item). with_tokens f (run_tokens at n opens closes)) before
     ∙ sym (with_tokens-adds old (add_text pending.begin at pending.escaped chain) (run_tokens at n opens closes))
 
-pub read_piece : {z : Source} {old tree new : Forest Item} {pending next : Pending} {at to : ℕ} (p : Piece) → IsRead z old tree pending at → ends_at z at ≡ false → p ≡ piece_at z at → at + size p ≤ length z.text → EndsSolid z.text at p
-    → new ≡ tree_after at p pending tree → next ≡ pending_after at p pending → to ≡ at + size p → IsRead z old new next to
-read_piece {z} {old} {tree} {new} {pending} {next} {at} p r on is fits ends tree_new next_is to_is =
+pub read_piece : {texts : List CowStr} {z : Source} {old tree new : Forest Item} {pending next : Pending} {at : ℕ} {b : MathBraces} {to : Spot} (p : Piece)
+    → IsRead texts z old tree pending (spot at b) → ends_at z at ≡ false → Becomes texts b (found_at z at) p → at + size p ≤ length z.text → EndsSolid z.text at p
+    → new ≡ tree_after at p pending tree → next ≡ pending_after at p pending → to ≡ spot (at + size p) (braces_after (found_at z at) b)
+    → IsRead texts z old new next to
+read_piece {texts} {z} {old} {tree} {new} {pending} {next} {at} {b} p r on is fits ends tree_new next_is to_is =
     rw (next_is, to_is) (record {
       tokens = chain_after at p pending r.tokens;
-      read = so_far_piece z r.tokens pending at r.read on p is fits ends;
-      tree_is = tree_new ∙ tree_is_after z.text old tree r.tokens pending at p (piece_of z at p on is) r.read.upto r.tree_is;
+      read = so_far_piece z r.tokens pending at b r.read on p is fits ends;
+      tree_is = tree_new ∙ tree_is_after z.text old tree r.tokens pending at p (piece_of texts b z at p on is) r.read.upto r.tree_is;
     })
 
 -- the whole content
-pub read_all : (z : Source) (old tree : Forest Item) (pending : Pending) (end : ℕ) → IsRead z old tree pending end
-    → ends_at z end ≡ true → IsReadTo z old tree end pending
-read_all z old tree pending end r ended =
+pub read_all : {texts : List CowStr} (z : Source) (old tree : Forest Item) (pending : Pending) (to : Spot) → IsRead texts z old tree pending to
+    → ends_at z to.at ≡ true → IsReadTo texts z old tree to pending
+read_all z old tree pending to r ended =
     let s = r.read in
+    let end = to.at in
     record {
       pieces = s.pieces;
       division = record { divided = s.divided; ended = ended };
@@ -317,27 +362,31 @@ read_all z old tree pending end r ended =
     }
 
 -- a line whose content is read, once the text that is pending is appended
-read_line : (z : Source) (old tree new : Forest Item) (pending : Pending) (end : ℕ) → z.row ≡ false → IsReadTo z old tree end pending
-    → new ≡ with_text tree pending.begin (text_end z end) pending.escaped → AppendsLine z old new (end + line_end_len z end, line_break z end)
-read_line z old tree new pending end plain r new_is = record {
+read_line : {texts : List CowStr} (z : Source) (old tree new : Forest Item) (pending : Pending) (end : ℕ) (after : MathBraces) → z.row ≡ false
+    → IsReadTo texts z old tree (spot end after) pending → new ≡ with_text tree pending.begin (text_end z end) pending.escaped
+    → AppendsLine texts z old new (end + line_end_len z end, line_break z end) after
+read_line z old tree new pending end after plain r new_is = record {
   tokens = add_pieces (text_end z end) z.start r.pieces [];
   line = record { no_cell = plain; pieces = r.pieces; content_end = end; division = r.division; tokens_are = refl; answer_is = refl };
   tree_is = new_is ∙ r.appended (text_end z end) r.before_break (text_end_within z end);
 }
 
 -- the same of what a line's end answers
-pub read_ended : (z : Source) (old tree new : Forest Item) (pending : Pending) (end : ℕ) (r : Result (ℕ × Option Item) AllocError)
-    → z.row ≡ false → IsReadTo z old tree end pending
-    → OnOk r ((w : List ℕ) → new ≡ with_text tree pending.begin (text_end (record z { whole = w }) end) pending.escaped)
-    → IfOk r (λ a. (w : List ℕ) → a ≡ (end + line_end_len (record z { whole = w }) end, line_break (record z { whole = w }) end)) → IfOk r (λ a. AppendsLine z old new a)
-read_ended z old tree new pending end (Ok a) plain read new_is is =
-    subst (λ (b : ℕ × Option Item). AppendsLine z old new b) (sym (is z.whole)) (read_line z old tree new pending end plain read (new_is z.whole))
-read_ended z old tree new pending end (Err e) plain read new_is is = tt
+pub read_ended : {texts : List CowStr} (z : Source) (old tree new : Forest Item) (pending : Pending) (end : ℕ) (after : MathBraces) (r : Result (ℕ × Option Item) AllocError)
+    → z.row ≡ false → IsReadTo texts z old tree (spot end after) pending
+    → OnOk r ((w : List ℕ) (b : MathBraces) → new ≡ with_text tree pending.begin (text_end (record z { whole = w; braces = b }) end) pending.escaped)
+    → IfOk r (λ a. (w : List ℕ) (b : MathBraces) → a ≡ (end + line_end_len (record z { whole = w; braces = b }) end, line_break (record z { whole = w; braces = b }) end))
+    → IfOk r (λ a. AppendsLine texts z old new a after)
+read_ended {texts} z old tree new pending end after (Ok a) plain read new_is is =
+    subst (λ (c : ℕ × Option Item). AppendsLine texts z old new c after) (sym (is z.whole z.braces))
+    (read_line z old tree new pending end after plain read (new_is z.whole z.braces))
+read_ended z old tree new pending end after (Err e) plain read new_is is = tt
 
 -- a cell whose content is read, once the text that is pending is appended
-pub read_cell : (z : Source) (old tree new : Forest Item) (pending : Pending) (end : ℕ) → IsReadTo z old tree end pending
-    → new ≡ with_text tree pending.begin (end - blanks_at_end z end) pending.escaped → AppendsCell z old new end
-read_cell z old tree new pending end r new_is = record {
+pub read_cell : {texts : List CowStr} (z : Source) (old tree new : Forest Item) (pending : Pending) (end : ℕ) (after : MathBraces)
+    → IsReadTo texts z old tree (spot end after) pending → new ≡ with_text tree pending.begin (end - blanks_at_end z end) pending.escaped
+    → AppendsCell texts z old new end after
+read_cell z old tree new pending end after r new_is = record {
   tokens = add_pieces (end - blanks_at_end z end) z.start r.pieces [];
   cell = record { pieces = r.pieces; division = r.division; tokens_are = refl };
   tree_is = new_is ∙ r.appended (end - blanks_at_end z end) r.before_white (omega arith);

@@ -1,4 +1,7 @@
 pub mod Pieces
+pub mod Braces
+pub mod NamedTexts
+pub mod Alike
 pub mod MarkupBytes
 pub mod Chains
 pub mod LineTokens

@@ -10,7 +10,10 @@ use Rattle.first_pass_lines.specs.Lines.{is_line_end, is_content, is_white, line
 use Rattle.first_pass_tokens.specs.declared.pieces.Piece.{Piece}
 use Rattle.first_pass_tokens.specs.declared.pieces.Piece.TheVariants.{Left, Begins, Token, Run}
 use Rattle.first_pass_tokens.specs.Chains.{token, run_tokens, add_token, add_tokens, add_text}
-use Rattle.first_pass_tokens.specs.Pieces.{Source, piece_at, size}
+use Rattle.first_pass_items.specs.declared.cow_str.CowStr.{CowStr}
+use Rattle.first_pass_tokens.specs.Pieces.{Source, found_at, size}
+use Rattle.first_pass_tokens.specs.Braces.{MathBraces, braces_after}
+use Rattle.first_pass_tokens.specs.NamedTexts.{Becomes}
 
 -- with tables, a pipe ends the content of a cell (GFM 4.10)
 abbrev pub ends_cell : Source → ℕ → Bool
@@ -20,15 +23,25 @@ ends_cell s b = s.row && (has s.options tables && b == pipe)
 unfoldable pub ends_at : Source → ℕ → Bool
 ends_at s at = nat_le (length s.text) at || (is_line_end (slice_index s.text at) || ends_cell s (slice_index s.text at))
 
--- the pieces of a content from one place up to another: each is the piece that begins at its place, and the next one begins behind it (this project)
-abbrev pub ArePieces : Source → ℕ → List Piece → ℕ → Type 0
-ArePieces s at [] end = at ≡ end
-ArePieces s at (p ∷ ps) end = (ends_at s at ≡ false) × (p ≡ piece_at s at) × ArePieces s (at + size p) ps end
+-- a place, with the brace contexts before it (this project)
+pub record Spot : Type 0 where
+  pub at : ℕ
+  pub braces : MathBraces
 
--- the content up to the end of its line, divided into its pieces (this project)
-pub record IsDivision (s : Source) (pieces : List Piece) (end : ℕ) : Type 0 where
-  pub divided : ArePieces s s.start pieces end
-  pub ended : ends_at s end ≡ true
+abbrev pub spot : ℕ → MathBraces → Spot
+spot at braces = record { at = at; braces = braces }
+
+-- the pieces of a content from one place up to another: each is that of what stands at its place, its text among these, and the next one begins after it, with
+-- the brace contexts after it (this project)
+abbrev pub ArePieces : List CowStr → Source → ℕ → MathBraces → List Piece → Spot → Type 0
+ArePieces texts s at braces [] to = spot at braces ≡ to
+ArePieces texts s at braces (p ∷ ps) to =
+    (ends_at s at ≡ false) × Becomes texts braces (found_at s at) p × ArePieces texts s (at + size p) (braces_after (found_at s at) braces) ps to
+
+-- the content up to the end of its line, divided into its pieces, their texts among these (this project)
+pub record IsDivision (texts : List CowStr) (s : Source) (pieces : List Piece) (to : Spot) : Type 0 where
+  pub divided : ArePieces texts s s.start s.braces pieces to
+  pub ended : ends_at s to.at ≡ true
 
 -- the chain with the text or the tokens of a piece after it, no text past an offset; a dropped backslash is in neither (CommonMark 2.4)
 abbrev pub add_piece : ℕ → ℕ → Piece → List Item → List Item
@@ -77,21 +90,21 @@ line_break s end =
     if nat_le (length s.text) end then None
     else Some (break_of end (end + line_end_len s end) (breaks_by_backslash s end) (blanks_at_end s end))
 
--- The tokens of the line whose content begins there, which is no cell's, and the answer: where the line ends, behind its line end, and its break
--- (CommonMark 2.4, 6.1, 6.3 to 6.8).
-pub record IsLine (s : Source) (tokens : List Item) (answer : ℕ × Option Item) : Type 0 where
+-- The tokens of the line whose content begins there, which is no cell's, each text that they name among these; and the answer: where the line ends, after its
+-- line end, and its break; and the brace contexts after it (CommonMark 2.4, 2.5, 6.1 to 6.8).
+pub record IsLine (texts : List CowStr) (s : Source) (tokens : List Item) (answer : ℕ × Option Item) (after : MathBraces) : Type 0 where
   pub no_cell : s.row ≡ false
   pub pieces : List Piece
   pub content_end : ℕ
-  pub division : IsDivision s pieces content_end
+  pub division : IsDivision texts s pieces (spot content_end after)
   pub tokens_are : tokens ≡ add_pieces (text_end s content_end) s.start pieces []
   pub answer_is : answer ≡ (content_end + line_end_len s content_end, line_break s content_end)
 
--- The tokens of the cell whose content begins there, and where the content ends: at a pipe that is not escaped, or with its line. White space at its end
--- is in no text, and no break is behind it (GFM 4.10).
-pub record IsCell (s : Source) (tokens : List Item) (end : ℕ) : Type 0 where
+-- The tokens of the cell whose content begins there, each text that they name among these; and where the content ends: at a pipe that is not escaped, or with
+-- its line, with the brace contexts there. White space at its end is in no text, and no break is after it (GFM 4.10).
+pub record IsCell (texts : List CowStr) (s : Source) (tokens : List Item) (end : ℕ) (after : MathBraces) : Type 0 where
   pub pieces : List Piece
-  pub division : IsDivision s pieces end
+  pub division : IsDivision texts s pieces (spot end after)
   pub tokens_are : tokens ≡ add_pieces (end - blanks_at_end s end) s.start pieces []
 
 -- a soft or a hard break (CommonMark 6.7, 6.8)

@@ -1,10 +1,11 @@
 -- Which bytes the tokens of possible markup stand over.
-use Rattle.std.specs.Prelude.{◌≡◌, ℕ, ◌+◌, ◌-◌, ◌==◌, ◌<◌, ◌≤◌, true, false, List, [], ◌∷◌, slice_index, Option, Some, None, if◌then◌else◌}
-use Rattle.first_pass_items.specs.Bytes.{exclamation_mark, hyphen, full_stop, less_than, left_bracket, backslash, right_bracket, backquote, pipe}
+use Rattle.std.specs.Prelude.{◌≡◌, ◌⊎◌, ℕ, ◌+◌, ◌-◌, ◌==◌, ◌<◌, ◌≤◌, true, false, List, [], ◌∷◌, drop, slice_index, Option, Some, None, if◌then◌else◌}
+use Rattle.first_pass_items.specs.Bytes.{exclamation_mark, dollar_sign, hyphen, full_stop, less_than, left_bracket, backslash, right_bracket, backquote, pipe}
 use Rattle.first_pass_items.specs.declared.item.Item.{Item}
 use Rattle.first_pass_items.specs.declared.item.ItemBody.{ItemBody}
-use Rattle.first_pass_items.specs.declared.item.ItemBody.TheVariants.{MaybeEmphasis, MaybeSmartQuote, SynthesizeChar, MaybeCode, MaybeHtml, MaybeLinkOpen, MaybeLinkClose, MaybeImage}
+use Rattle.first_pass_items.specs.declared.item.ItemBody.TheVariants.{MaybeEmphasis, MaybeMath, MaybeSmartQuote, SynthesizeChar, SynthesizeText, MaybeCode, MaybeHtml, MaybeLinkOpen, MaybeLinkClose, MaybeImage}
 use Rattle.first_pass_tree.specs.Forest.{is_text}
+use Rattle.first_pass_links.specs.Entities.{entity_at}
 use Rattle.first_pass_tokens.specs.Pieces.{is_delimiter, is_quote, run_at}
 
 -- so many backquotes from an offset on, and none after them (CommonMark 6.1, backtick string)
@@ -28,13 +29,28 @@ pub record StandFor (text : List ℕ) (start «end» c : ℕ) : Type 0 where
   pub each : (k : ℕ) → start ≤ k → k < start + n → slice_index text k ≡ byte
   pub char : smart_char byte n ≡ Some c
 
+-- the bytes from one offset up to another are the reference that begins there (CommonMark 2.5)
+pub record IsReferred (text : List ℕ) (start «end» : ℕ) : Type 0 where
+  pub n : ℕ
+  pub char : ℕ
+  pub to : «end» ≡ start + n
+  pub referred : entity_at (drop start text) ≡ Some (n, char)
+
+-- the bytes from one offset up to another are all the hyphens in a row there, four or more (this project)
+pub record AreHyphens (text : List ℕ) (start «end» : ℕ) : Type 0 where
+  pub to : «end» ≡ start + run_at text start
+  pub many : 3 < run_at text start
+  pub hyphens : slice_index text start ≡ hyphen
+
 -- a token of possible markup stands over what its kind says: a delimiter, from which on so many stand in a row; all of some backquotes, after a backslash
--- where it says so; the quote that it says; the bytes that stand for its character; `<`; `![`, `[` or `]`
--- (CommonMark 6.1 to 6.6; smart punctuation: this project)
+-- where it says so; the quote that it says; a dollar sign; the bytes that stand for its character, or for its text; `<`; `![`, `[` or `]`
+-- (CommonMark 2.5, 6.1 to 6.6; smart punctuation: this project)
 abbrev pub StandsOver : List ℕ → ℕ → ℕ → ItemBody → Type 0
 StandsOver text start end (MaybeEmphasis left opens closes) = (end ≡ start + 1) × (is_delimiter (slice_index text start) ≡ true) × (left ≡ run_at text start)
+StandsOver text start end (MaybeMath opens closes context) = (end ≡ start + 1) × (slice_index text start ≡ dollar_sign)
 StandsOver text start end (MaybeSmartQuote quote opens closes) = (end ≡ start + 1) × (slice_index text start ≡ quote) × (is_quote quote ≡ true)
 StandsOver text start end (SynthesizeChar c) = StandFor text start end c
+StandsOver text start end (SynthesizeText ix) = IsReferred text start end ⊎ AreHyphens text start end
 StandsOver text start end (MaybeCode n escaped) = (end ≡ start + n) × AreBackquotes text start n × (escaped ≡ true → slice_index text (start - 1) ≡ backslash)
 StandsOver text start end MaybeHtml = (end ≡ start + 1) × (slice_index text start ≡ less_than)
 StandsOver text start end MaybeImage = (end ≡ start + 2) × (slice_index text start ≡ exclamation_mark) × (slice_index text (start + 1) ≡ left_bracket)

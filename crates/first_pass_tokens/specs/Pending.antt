@@ -1,12 +1,13 @@
 -- The text that is pending between two pieces of a content: it began before, and may go on behind. Contracts of private functions alone cite this.
 use Rattle.std.specs.Prelude.{◌≡◌, ℕ, ◌+◌, ◌-◌, ◌≤◌, false, List, []}
+use Rattle.first_pass_items.specs.declared.cow_str.CowStr.{CowStr}
 use Rattle.first_pass_items.specs.declared.item.Item.{Item}
 use Rattle.first_pass_tree.specs.Forest.{Forest, appended, with_text}
 use Rattle.first_pass_tokens.specs.declared.pieces.Piece.{Piece}
 use Rattle.first_pass_tokens.specs.declared.pieces.Piece.TheVariants.{Left, Begins, Token, Run}
 use Rattle.first_pass_tokens.specs.declared.line.Pending.{Pending}
 use Rattle.first_pass_tokens.specs.Pieces.{Source}
-use Rattle.first_pass_tokens.specs.LineTokens.{IsDivision, add_pieces, text_end, blanks_at_end}
+use Rattle.first_pass_tokens.specs.LineTokens.{Spot, IsDivision, add_pieces, text_end, blanks_at_end}
 use Rattle.first_pass_tokens.specs.TreeTokens.{with_tokens}
 use Rattle.first_pass_tokens.specs.Chains.{token, run_tokens}
 
@@ -27,10 +28,10 @@ tree_after at (Run n opens closes) p f = with_tokens (with_text f p.begin at p.e
 
 -- A content is read up to its end, where a text is pending. Up to whatever offset that text goes on, the tree then has the content's tokens up to there; and it
 -- begins before the white space at the content's end, and before the backslash that breaks a line there (this project).
-pub record IsReadTo (s : Source) (old new : Forest Item) (end : ℕ) (p : Pending) : Type 0 where
+pub record IsReadTo (texts : List CowStr) (s : Source) (old new : Forest Item) (to : Spot) (p : Pending) : Type 0 where
   pub pieces : List Piece
-  pub division : IsDivision s pieces end
-  pub before_break : p.begin ≤ text_end s end
-  pub before_white : p.begin ≤ end - blanks_at_end s end
-  pub appended : (stop : ℕ) → p.begin ≤ stop → stop ≤ end
+  pub division : IsDivision texts s pieces to
+  pub before_break : p.begin ≤ text_end s to.at
+  pub before_white : p.begin ≤ to.at - blanks_at_end s to.at
+  pub appended : (stop : ℕ) → p.begin ≤ stop → stop ≤ to.at
       → with_text new p.begin stop p.escaped ≡ with_tokens old (add_pieces stop s.start pieces [])

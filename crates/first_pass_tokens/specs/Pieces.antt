@@ -1,38 +1,45 @@
 -- The pieces that the content of a line is divided into. Places are offsets into the text.
-use Rattle.std.specs.Prelude.{◌≡◌, ℕ, ◌+◌, ◌-◌, ◌==◌, ◌<◌, ◌&&◌, ◌||◌, not, Bool, true, false, List, take, drop, slice_index, Option, Some, None, unwrap_or, nat_lt, if◌then◌else◌}
+use Rattle.std.specs.Prelude.{◌≡◌, ℕ, ◌+◌, ◌-◌, ◌==◌, ◌<◌, ◌&&◌, ◌||◌, not, Bool, true, false, List, take, drop, slice_index, length, Option, Some, None, unwrap_or, nat_lt, if◌then◌else◌}
+use Rattle.std.specs.Option.{option_map_or}
 use Rattle.std.specs.Char.{is_ascii_punctuation}
 use Rattle.std.specs.List.{prefix_len, slice_range}
-use Rattle.first_pass_items.specs.Bytes.{exclamation_mark, quotation_mark, apostrophe, hyphen, full_stop, less_than, left_bracket, backslash, right_bracket, backquote, pipe, asterisk, underscore, circumflex, tilde}
+use Rattle.first_pass_lines.specs.Lines.{is_ascii_white}
+use Rattle.first_pass_items.specs.Bytes.{exclamation_mark, quotation_mark, dollar_sign, ampersand, apostrophe, hyphen, full_stop, less_than, left_bracket, backslash, right_bracket, backquote, left_brace, pipe, right_brace, asterisk, underscore, circumflex, tilde}
 use Rattle.first_pass_flank.specs.declared.flank.DelimiterRun.{DelimiterRun}
 use Rattle.first_pass_flank.specs.Flank.{first_char, last_char, ends_with_pipe, can_open, can_close}
 use Rattle.first_pass_items.specs.declared.item.ItemBody.TheVariants.{MaybeCode, MaybeHtml, MaybeLinkOpen, MaybeLinkClose, MaybeImage, MaybeSmartQuote, SynthesizeChar}
 use Rattle.first_pass_items.specs.declared.option_set.Options.{Options}
+use Rattle.first_pass_links.specs.Entities.{entity_at}
 use Rattle.first_pass_walk.specs.Walk.{is_special}
+use Rattle.first_pass_tokens.specs.declared.pieces.Found.{Found}
+use Rattle.first_pass_tokens.specs.declared.pieces.Found.TheVariants.{Ready, Reference, Dashes, Dollar, OpenBrace, CloseBrace}
 use Rattle.first_pass_tokens.specs.declared.pieces.Piece.{Piece}
 use Rattle.first_pass_tokens.specs.declared.pieces.Piece.TheVariants.{Left, Begins, Token, Run}
 use Rattle.first_pass_tokens.specs.declared.pieces.Content.{Content}
+use Rattle.first_pass_tokens.specs.Braces.{MathBraces}
 
--- a content: the options that it is read under, the whole text that it stands in, that text up to where no content is left, where it begins, and whether it is
--- that of a cell in a table's row (this project)
+-- a content: the options that it is read under, the whole text that it stands in, that text up to where no content is left, where it begins, whether it is that
+-- of a cell in a table's row, and the brace contexts before it (this project)
 pub record Source : Type 0 where
   pub options : Options
   pub whole : List ℕ
   pub text : List ℕ
   pub start : ℕ
   pub row : Bool
+  pub braces : MathBraces
 
 -- a text up to an offset, or all of it (this project)
 abbrev pub text_upto : List ℕ → Option ℕ → List ℕ
 text_upto text None = text
 text_upto text (Some e) = take e text
 
--- the content that begins there in a whole text, of which this much is left to it (this project)
-abbrev pub content_in : List ℕ → List ℕ → Content → Source
-content_in whole text c = record { options = c.options; whole = whole; text = text; start = c.start; row = c.row }
+-- the content that begins there in a whole text, of which this much is left to it, after these brace contexts (this project)
+abbrev pub content_in : List ℕ → List ℕ → Content → MathBraces → Source
+content_in whole text c braces = record { options = c.options; whole = whole; text = text; start = c.start; row = c.row; braces = braces }
 
--- the content that begins there in a text (this project)
-abbrev pub source : List ℕ → Content → Source
-source whole c = content_in whole (text_upto whole c.«end») c
+-- the content that begins there in a text, after these brace contexts (this project)
+abbrev pub source : List ℕ → Content → MathBraces → Source
+source whole c braces = content_in whole (text_upto whole c.«end») c braces
 
 -- how many bytes like the one at a place stand there in a row (CommonMark 6.1, backtick string)
 unfoldable pub run_at : List ℕ → ℕ → ℕ
@@ -111,7 +118,7 @@ quote_piece s at = quote_token (run_in s at (run_size s.text at))
 unfoldable pub dot_piece : List ℕ → ℕ → Piece
 dot_piece text at = if slice_index text (at + 1) == full_stop && slice_index text (at + 2) == full_stop then Token 0 3 (SynthesizeChar 0x2026) else Left 1
 
--- at a hyphen: a run of two is an en dash, U+2013, a run of three an em dash, U+2014, and any other is left over (this project)
+-- at a hyphen: a run of two is an en dash, U+2013, a run of three an em dash, U+2014, else the run is left over (this project)
 unfoldable pub dash_piece : List ℕ → ℕ → Piece
 dash_piece text at =
     if run_at text at == 2 then Token 0 2 (SynthesizeChar 0x2013)
@@ -127,7 +134,8 @@ bracket_piece text at =
     else (if slice_index text at == right_bracket then Token 0 1 (MaybeLinkClose true)
     else Left 1)))
 
--- at a special byte: the first case that fits, else the byte is left over (CommonMark 2.4, 6.1 to 6.6; smart punctuation: this project)
+-- at any other special byte: the first case that fits, else the byte is left over (CommonMark 2.4, 6.1 to 6.6; smart punctuation:
+-- this project)
 unfoldable pub special_piece : Source → ℕ → Piece
 special_piece s at =
     if slice_index s.text at == backslash then backslash_piece_in s.row s.text at
@@ -135,12 +143,38 @@ special_piece s at =
     else (if is_delimiter (slice_index s.text at) then delimiter_piece s at
     else (if is_quote (slice_index s.text at) then quote_piece s at
     else (if slice_index s.text at == full_stop then dot_piece s.text at
-    else (if slice_index s.text at == hyphen then dash_piece s.text at
-    else bracket_piece s.text at)))))
+    else bracket_piece s.text at))))
 
--- the piece that begins at a place: a byte that is not special is left over (CommonMark 6, textual content)
-unfoldable pub piece_at : Source → ℕ → Piece
-piece_at s at = if is_special s.options (slice_index s.text at) then special_piece s at else Left 1
+-- at an ampersand: a reference, where one stands there, else the byte is left over (CommonMark 2.5)
+unfoldable pub reference_found : List ℕ → ℕ → Found
+reference_found text at = option_map_or (λ (e : ℕ × ℕ). Reference e.0 e.1) (entity_at (drop at text)) (Ready (Left 1))
+
+-- at a hyphen: a run of four and more stands for a text (this project)
+unfoldable pub dash_found : List ℕ → ℕ → Found
+dash_found text at = if nat_lt 3 (run_at text at) then Dashes (run_at text at) else Ready (dash_piece text at)
+
+-- a byte that is no white space stands there in a text (this project)
+abbrev pub is_solid_at : List ℕ → ℕ → Bool
+is_solid_at text at = nat_lt at (length text) && not (is_ascii_white (slice_index text at))
+
+-- at a dollar sign: it can open where no white space follows, and close where none stands before it in the content, up to where no content is left
+-- (math; this project)
+unfoldable pub dollar_found : Source → ℕ → Found
+dollar_found s at = Dollar (is_solid_at s.text (at + 1)) (nat_lt s.start at && is_solid_at s.text (at - 1))
+
+-- what stands at a special byte (CommonMark 2.4, 2.5, 6.1 to 6.6; smart punctuation and math: this project)
+unfoldable pub special_found : Source → ℕ → Found
+special_found s at =
+    if slice_index s.text at == ampersand then reference_found s.text at
+    else (if slice_index s.text at == hyphen then dash_found s.text at
+    else (if slice_index s.text at == dollar_sign then dollar_found s at
+    else (if slice_index s.text at == left_brace then OpenBrace
+    else (if slice_index s.text at == right_brace then CloseBrace
+    else Ready (special_piece s at)))))
+
+-- what stands at a place: a byte that is not special is left over (CommonMark 6, textual content)
+unfoldable pub found_at : Source → ℕ → Found
+found_at s at = if is_special s.options (slice_index s.text at) then special_found s at else Ready (Left 1)
 
 -- how many bytes a piece takes (this project)
 abbrev pub size : Piece → ℕ
@@ -149,9 +183,27 @@ size (Begins dropped escaped) = dropped + 1
 size (Token dropped n body) = dropped + n
 size (Run n opens closes) = n
 
+-- how many bytes stand there (this project)
+abbrev pub found_size : Found → ℕ
+found_size (Ready piece) = size piece
+found_size (Reference n c) = n
+found_size (Dashes n) = n
+found_size (Dollar opens closes) = 1
+found_size OpenBrace = 1
+found_size CloseBrace = 1
+
 -- a piece is not empty, what it drops before a text ends with a backslash, and a token has bytes of its own (this project)
 abbrev pub EndsSolid : List ℕ → ℕ → Piece → Type 0
 EndsSolid text at (Left n) = 0 < n
 EndsSolid text at (Begins dropped escaped) = (0 < dropped) × (slice_index text (at + dropped - 1) ≡ backslash)
 EndsSolid text at (Token dropped n body) = 0 < n
 EndsSolid text at (Run n opens closes) = 0 < n
+
+-- the same of what stands at a place (this project)
+abbrev pub FoundSolid : List ℕ → ℕ → Found → Type 0
+FoundSolid text at (Ready piece) = EndsSolid text at piece
+FoundSolid text at (Reference n c) = 0 < n
+FoundSolid text at (Dashes n) = 0 < n
+FoundSolid text at (Dollar opens closes) = Unit
+FoundSolid text at OpenBrace = Unit
+FoundSolid text at CloseBrace = Unit

@@ -6,14 +6,19 @@ ghost use Rattle.first_pass_items.specs.Bytes.{backslash};
 ghost use Rattle.first_pass_lines.specs.Lines.{is_white as is_white_byte};
 ghost use Rattle.first_pass_walk.specs.Walk.{MarksSpecial};
 ghost use Rattle.first_pass_tree.specs.Forest.{with_text};
+ghost use Rattle.first_pass_tokens.specs.Braces.{MathBraces};
+ghost use Rattle.first_pass_tokens.specs.NamedTexts.{AreMore};
 ghost use Rattle.first_pass_tokens.specs.Pieces.{source, content_in, text_upto, size};
-ghost use Rattle.first_pass_tokens.specs.LineTokens.{line_end_len, text_end, break_of, line_break, ends_at, EndsLine, EndsCell};
+ghost use Rattle.first_pass_tokens.specs.LineTokens.{spot, line_end_len, text_end, break_of, line_break, ends_at, EndsLine, EndsCell};
 ghost use Rattle.first_pass_tokens.specs.TreeTokens.{with_tokens, AppendsLine, AppendsCell};
 ghost use Rattle.first_pass_tokens.specs.Chains.{run_tokens};
 ghost use Rattle.first_pass_tokens.specs.Pending.{pending_after, tree_after, IsReadTo};
 
-use crate::pieces::{Content, Piece, piece_len, special_piece};
+use crate::braces::BraceContexts;
+use crate::named::named_piece;
+use crate::pieces::{Content, Piece, piece_len, special_found};
 use bitflags::Flags;
+use first_pass_items::cow_str::CowStr;
 use first_pass_items::item::{Item, ItemBody};
 use first_pass_items::option_set::Options;
 use first_pass_lines::lines::{is_line_end, is_white};
@@ -21,9 +26,11 @@ use first_pass_tree::forest::Tree;
 use first_pass_walk::walk::next_special_in_words;
 use std::alloc::AllocError;
 
-/// Appends the tokens of one line to the innermost open node: the texts and the tokens of possible code,
-/// emphasis, HTML, links and images (CommonMark 6.1 to 6.6) of a content, up to the first line end, or the
-/// end that is set, or the text's end. `lut` is the table of the bytes that are special under its options.
+/// Appends the tokens of one line to the innermost open node: the texts, the references (CommonMark 2.5) and the
+/// tokens of possible code, emphasis, HTML, links and images (6.1 to 6.6) of a content, up to the first line end, or
+/// the end that is set, or the text's end. `lut` is the table of the bytes that are special under its options. What a
+/// reference or a run of four and more hyphens stands for is put after `texts`, those that tokens name by an index, and
+/// `braces`, the brace contexts before the line, become those after it.
 ///
 /// Returns the offset after the line's line end, and the line break there (CommonMark 6.7, 6.8), which
 /// is not appended; `None` where no line end is left. A backslash before ASCII punctuation
@@ -34,17 +41,21 @@ pub fn append_line(
     content: Content,
     lut: &[bool; 256],
     tree: &mut Tree<Item>,
+    texts: &mut Vec<CowStr<'_>>,
+    braces: &mut BraceContexts,
 ) -> Result<(usize, Option<Item>), AllocError>
     requires set { IfSome content.«end» (λ e. e ≤ length whole.now) }
     requires within { content.start ≤ length (text_upto whole.now content.«end») }
     requires marks { MarksSpecial lut.now content.options }
     requires no_cell { content.row ≡ false }
     ensures utf8 { IsUtf8 whole.now }
-    ensures line { IfOk result (λ answer. AppendsLine (source whole.now content) tree.old tree.new answer) }
-    ensures ends { IfOk result (λ answer. EndsLine (source whole.now content) answer) }
+    ensures line { IfOk result (λ answer.
+        AppendsLine texts.new.items (source whole.now content braces.old) tree.old tree.new answer braces.new) }
+    ensures more { OnOk result (AreMore texts.new.items texts.old.items) }
+    ensures ends { IfOk result (λ answer. EndsLine (source whole.now content braces.old) answer) }
 {
     let text = text_upto(whole, content.end);
-    let (end, pending) = append_pieces(whole, text, content, lut, tree)?;
+    let (end, pending) = append_pieces(whole, text, content, lut, tree, texts, braces)?;
     end_line(text, content, end, pending, tree)
 }
 
@@ -62,16 +73,20 @@ pub fn append_cell(
     content: Content,
     lut: &[bool; 256],
     tree: &mut Tree<Item>,
+    texts: &mut Vec<CowStr<'_>>,
+    braces: &mut BraceContexts,
 ) -> Result<usize, AllocError>
     requires set { IfSome content.«end» (λ e. e ≤ length whole.now) }
     requires within { content.start ≤ length (text_upto whole.now content.«end») }
     requires marks { MarksSpecial lut.now content.options }
     ensures utf8 { IsUtf8 whole.now }
-    ensures cell { IfOk result (λ end. AppendsCell (source whole.now content) tree.old tree.new end) }
-    ensures ends { IfOk result (λ end. EndsCell (source whole.now content) end) }
+    ensures cell { IfOk result (λ end.
+        AppendsCell texts.new.items (source whole.now content braces.old) tree.old tree.new end braces.new) }
+    ensures more { OnOk result (AreMore texts.new.items texts.old.items) }
+    ensures ends { IfOk result (λ end. EndsCell (source whole.now content braces.old) end) }
 {
     let text = text_upto(whole, content.end);
-    let (end, pending) = append_pieces(whole, text, content, lut, tree)?;
+    let (end, pending) = append_pieces(whole, text, content, lut, tree, texts, braces)?;
     let blanks = blanks_at_end(text, content.start, end);
     tree.append_text(pending.begin, end - blanks, pending.escaped)?;
     Ok(end)
@@ -105,11 +120,16 @@ fn append_pieces(
     content: Content,
     lut: &[bool; 256],
     tree: &mut Tree<Item>,
+    texts: &mut Vec<CowStr<'_>>,
+    braces: &mut BraceContexts,
 ) -> Result<(usize, Pending), AllocError>
     requires front { text.now ≡ text_upto whole.now content.«end» }
     requires within { content.start ≤ length text.now }
     requires marks { MarksSpecial lut.now content.options }
-    ensures read { IfOk result (λ answer. IsReadTo (content_in whole.now text.now content) tree.old tree.new answer.0 answer.1) }
+    ensures read { IfOk result (λ answer.
+        IsReadTo texts.new.items (content_in whole.now text.now content braces.old) tree.old tree.new
+        (spot answer.0 braces.new) answer.1) }
+    ensures more { OnOk result (AreMore texts.new.items texts.old.items) }
     ensures order { IfOk result (λ answer. content.start ≤ answer.0) }
     ensures within { IfOk result (λ answer. answer.0 ≤ length text.now) }
 {
@@ -122,7 +142,8 @@ fn append_pieces(
         if ends_at(text, content, at) {
             return Ok((at, pending));
         }
-        let piece = special_piece(whole, text, content.start, content.row, at);
+        let found = special_found(whole, text, content.start, content.row, at);
+        let piece = named_piece(texts, braces, found)?;
         append_piece(tree, &mut pending, at, piece)?;
         from = at + piece_len(piece);
     }
@@ -134,7 +155,7 @@ fn append_pieces(
 #[tactic(auto, unfolding(crate::specs::LineTokens::ends_at))]
 fn ends_at(text: &[u8], content: Content, at: usize) -> bool
     requires { at < length text.now }
-    ensures { (w : List ℕ) → result ≡ ends_at (content_in w text.now content) at }
+    ensures { (w : List ℕ) (b : MathBraces) → result ≡ ends_at (content_in w text.now content b) at }
 {
     let byte = text[at];
     is_line_end(byte)
@@ -221,10 +242,13 @@ fn end_line(
 ) -> Result<(usize, Option<Item>), AllocError>
     requires order { content.start ≤ end }
     requires within { end ≤ length text.now }
-    ensures tree { OnOk result ((w : List ℕ) → tree.new
-        ≡ with_text tree.old pending.begin (text_end (content_in w text.now content) end) pending.escaped) }
-    ensures answer { IfOk result (λ answer. (w : List ℕ) → answer
-        ≡ (end + line_end_len (content_in w text.now content) end, line_break (content_in w text.now content) end)) }
+    ensures tree { OnOk result ((w : List ℕ) (b : MathBraces) → tree.new
+        ≡ with_text tree.old pending.begin (text_end (content_in w text.now content b) end) pending.escaped) }
+    ensures answer { IfOk result (λ answer. (w : List ℕ) (b : MathBraces) → answer
+        ≡ (
+          end + line_end_len (content_in w text.now content b) end,
+          line_break (content_in w text.now content b) end,
+        )) }
 {
     let next = end + line_end_len(text, end);
     let by_backslash = breaks_by_backslash(text, content.start, end, next);
@@ -301,7 +325,7 @@ fn blanks_at_end(text: &[u8], start: usize, end: usize) -> usize
 #[tactic(auto, unfolding(crate::specs::LineTokens::line_end_len))]
 fn line_end_len(text: &[u8], end: usize) -> usize
     requires { end ≤ length text.now }
-    ensures value { (w : List ℕ) (c : Content) → result ≡ line_end_len (content_in w text.now c) end }
+    ensures value { (w : List ℕ) (c : Content) (b : MathBraces) → result ≡ line_end_len (content_in w text.now c b) end }
     ensures fits { end + result ≤ length text.now }
 {
     if end >= text.len() {

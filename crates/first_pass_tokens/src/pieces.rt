@@ -1,13 +1,16 @@
 //! The pieces that the content of a line is divided into: which one begins at a place.
 
 ghost use Rattle.std.specs.Prelude.{◌≡◌, ◌||◌, ◌+◌, ◌<◌, ◌≤◌, ◌^◌, true, length, slice_index, take, ℕ, List, Bool, IsCharBoundary};
-ghost use Rattle.first_pass_items.specs.Bytes.{backslash, backquote, hyphen, full_stop};
-ghost use Rattle.first_pass_tokens.specs.Pieces.{special_piece, backslash_piece, backslash_piece_in, backquote_piece, is_delimiter, char_before, run_in, run_size, is_quote, quote_piece, dot_piece, dash_piece, run_piece, delimiter_piece, bracket_piece, run_at, size, EndsSolid};
+ghost use Rattle.first_pass_items.specs.Bytes.{ampersand, backslash, backquote, hyphen, full_stop};
+ghost use Rattle.first_pass_tokens.specs.Braces.{MathBraces};
+ghost use Rattle.first_pass_tokens.specs.Pieces.{is_solid_at, dollar_found, special_found, reference_found, dash_found, found_size, FoundSolid, special_piece, backslash_piece, backslash_piece_in, backquote_piece, is_delimiter, char_before, run_in, run_size, is_quote, quote_piece, dot_piece, run_piece, delimiter_piece, bracket_piece, run_at, size, EndsSolid};
 
 use first_pass_flank::flank::{DelimiterRun, ends_with_pipe, first_char, last_char};
 use first_pass_items::item::ItemBody;
 use first_pass_items::option_set::Options;
+use first_pass_lines::lines::is_ascii_white;
 use first_pass_lines::places::rest_of;
+use first_pass_links::entity::scan_reference;
 
 /// The content of a line of text, or of a cell in a table's row.
 #[derive(Clone, Copy, Drop)]
@@ -35,20 +38,114 @@ pub enum Piece {
     Run(usize, bool, bool),
 }
 
-/// The piece at a special byte of a content; `at` is its offset into the text `whole`, and `text` is that text up to the
-/// content's end. A run of `*`, `_`, `^` or at most two `~` that can open or close is a token for each of them
-/// (CommonMark 6.2, GFM 6.5). All backquotes in a row are a token of possible code (CommonMark 6.1), `<` with no
-/// backslash after it is one of possible HTML or an autolink (6.5, 6.6), `[`, `]` and `![` are tokens of possible links
-/// and images (6.3, 6.4). With smart punctuation a quote is a token, and three full stops, two hyphens or three are a
-/// token of the character that they stand for. A backslash before backquotes or other ASCII punctuation is dropped (2.4). In a row of a table
-/// a backslash before a pipe is dropped, and so are two of them (GFM 4.10). Any other byte is left over.
-#[tactic(auto, unfolding(crate::specs::Pieces::special_piece))]
-pub fn special_piece(whole: &str, text: &[u8], start: usize, row: bool, at: usize) -> Piece
+/// What stands at a place of a content: a piece, or what `named_piece` makes one of, with the texts that tokens name and
+/// the brace contexts.
+#[derive(Clone, Copy, Drop)]
+pub enum Found {
+    /// A piece that names no text.
+    Ready(Piece),
+    /// A reference of so many bytes to a character.
+    Reference(usize, char),
+    /// So many hyphens in a row, four or more.
+    Dashes(usize),
+    /// A dollar sign, of possible math: whether it can open and close.
+    Dollar(bool, bool),
+    /// `{`, which opens a brace context.
+    OpenBrace,
+    /// `}`, which closes one.
+    CloseBrace,
+}
+
+/// What stands at a special byte of a content: a reference (CommonMark 2.5), four or more hyphens with smart
+/// punctuation, a dollar sign or a brace with math, or a piece (see `special_piece`). `at` is the byte's offset into
+/// the text `whole`, and `text` is that text up to the content's end.
+#[inline(always)]
+#[tactic(auto, unfolding(crate::specs::Pieces::special_found))]
+pub fn special_found(whole: &str, text: &[u8], start: usize, row: bool, at: usize) -> Found
     requires front { text.now ≡ take (length text.now) whole.now }
     requires within { at < length text.now }
     requires order { start ≤ at }
-    ensures value { (o : Options) → result ≡ special_piece
-        (record { options = o; whole = whole.now; text = text.now; start = start; row = row }) at }
+    ensures value { (o : Options) (b : MathBraces) → result ≡ special_found
+        (record { options = o; whole = whole.now; text = text.now; start = start; row = row; braces = b }) at }
+    ensures fits { at + found_size result ≤ length text.now }
+    ensures ends { FoundSolid text.now at result }
+{
+    match text[at] {
+        b'&' => reference_found(text, at),
+        b'-' => dash_found(text, at),
+        b'$' => dollar_found(text, start, at),
+        b'{' => Found::OpenBrace,
+        b'}' => Found::CloseBrace,
+        _ => Found::Ready(special_piece(whole, text, start, row, at)),
+    }
+}
+
+// What stands at a dollar sign.
+#[tactic(auto, unfolding(crate::specs::Pieces::dollar_found))]
+fn dollar_found(text: &[u8], start: usize, at: usize) -> Found
+    requires { at < length text.now }
+    ensures value { (o : Options) (b : MathBraces) (w : List ℕ) (row : Bool) → result ≡ dollar_found
+        (record { options = o; whole = w; text = text.now; start = start; row = row; braces = b }) at }
+    ensures one { found_size result ≡ 1 }
+    ensures ends { FoundSolid text.now at result }
+{
+    let opens = is_solid_at(text, at + 1);
+    let closes = start < at && is_solid_at(text, at - 1);
+    Found::Dollar(opens, closes)
+}
+
+// Whether a byte that is no white space stands at a place.
+fn is_solid_at(text: &[u8], at: usize) -> bool
+    ensures { result ≡ is_solid_at text.now at }
+{
+    at < text.len() && !is_ascii_white(text[at])
+}
+
+// What stands at an ampersand.
+#[tactic(auto, unfolding(crate::specs::Pieces::reference_found))]
+fn reference_found(text: &[u8], at: usize) -> Found
+    requires { at < length text.now }
+    ensures value { result ≡ reference_found text.now at }
+    ensures fits { at + found_size result ≤ length text.now }
+    ensures ends { FoundSolid text.now at result }
+{
+    match scan_reference(rest_of(text, at)) {
+        Some((len, character)) => Found::Reference(len, character),
+        None => Found::Ready(Piece::Left(1)),
+    }
+}
+
+// What stands at a hyphen.
+#[tactic(auto, unfolding(crate::specs::Pieces::dash_found, crate::specs::Pieces::dash_piece))]
+fn dash_found(text: &[u8], at: usize) -> Found
+    requires within { at < length text.now }
+    requires here { slice_index text.now at ≡ hyphen }
+    ensures value { result ≡ dash_found text.now at }
+    ensures fits { at + found_size result ≤ length text.now }
+    ensures ends { FoundSolid text.now at result }
+{
+    match run_len(text, at) {
+        2 => Found::Ready(Piece::Token(0, 2, ItemBody::SynthesizeChar('\u{2013}'))),
+        3 => Found::Ready(Piece::Token(0, 3, ItemBody::SynthesizeChar('\u{2014}'))),
+        n if n > 3 => Found::Dashes(n),
+        n => Found::Ready(Piece::Left(n)),
+    }
+}
+
+// The piece at any other special byte of a content; `at` is its offset into the text `whole`, and `text` is that text
+// up to the content's end. A run of `*`, `_`, `^` or at most two `~` that can open or close is a token for each of them
+// (CommonMark 6.2, GFM 6.5). All backquotes in a row are a token of possible code (CommonMark 6.1), `<` with no
+// backslash after it is one of possible HTML or an autolink (6.5, 6.6), `[`, `]` and `![` are tokens of possible links
+// and images (6.3, 6.4). With smart punctuation a quote is a token, and three full stops are a token of the character
+// that they stand for. A backslash before backquotes or other ASCII punctuation is dropped (2.4). In a row of a table a
+// backslash before a pipe is dropped, and so are two of them (GFM 4.10). Any other byte is left over.
+#[tactic(auto, unfolding(crate::specs::Pieces::special_piece))]
+fn special_piece(whole: &str, text: &[u8], start: usize, row: bool, at: usize) -> Piece
+    requires front { text.now ≡ take (length text.now) whole.now }
+    requires within { at < length text.now }
+    requires order { start ≤ at }
+    ensures value { (o : Options) (b : MathBraces) → result ≡ special_piece
+        (record { options = o; whole = whole.now; text = text.now; start = start; row = row; braces = b }) at }
     ensures fits { at + size result ≤ length text.now }
     ensures ends { EndsSolid text.now at result }
 {
@@ -58,7 +155,6 @@ pub fn special_piece(whole: &str, text: &[u8], start: usize, row: bool, at: usiz
         b'*' | b'_' | b'~' | b'^' => delimiter_piece(whole, text, start, row, at),
         b'"' | b'\'' => quote_piece(whole, text, start, row, at),
         b'.' => dot_piece(text, at),
-        b'-' => dash_piece(text, at),
         _ => bracket_piece(text, at),
     }
 }
@@ -133,8 +229,8 @@ fn delimiter_piece(whole: &str, text: &[u8], start: usize, row: bool, at: usize)
     requires within { at < length text.now }
     requires order { start ≤ at }
     requires here { is_delimiter (slice_index text.now at) ≡ true }
-    ensures value { (o : Options) → result ≡ delimiter_piece
-        (record { options = o; whole = whole.now; text = text.now; start = start; row = row }) at }
+    ensures value { (o : Options) (b : MathBraces) → result ≡ delimiter_piece
+        (record { options = o; whole = whole.now; text = text.now; start = start; row = row; braces = b }) at }
     ensures fits { at + size result ≤ length text.now }
     ensures ends { EndsSolid text.now at result }
 {
@@ -164,8 +260,9 @@ fn run_in(whole: &str, text: &[u8], start: usize, row: bool, at: usize) -> Delim
     requires within { at < length text.now }
     requires order { start ≤ at }
     requires here { is_delimiter (slice_index text.now at) || is_quote (slice_index text.now at) ≡ true }
-    ensures value { (o : Options) → result ≡ run_in
-        (record { options = o; whole = whole.now; text = text.now; start = start; row = row }) at (run_size text.now at) }
+    ensures value { (o : Options) (b : MathBraces) → result ≡ run_in
+        (record { options = o; whole = whole.now; text = text.now; start = start; row = row; braces = b })
+        at (run_size text.now at) }
     ensures some { 0 < result.size }
     ensures fits { at + result.size ≤ length text.now }
 {
@@ -201,8 +298,8 @@ fn quote_piece(whole: &str, text: &[u8], start: usize, row: bool, at: usize) -> 
     requires within { at < length text.now }
     requires order { start ≤ at }
     requires here { is_quote (slice_index text.now at) ≡ true }
-    ensures value { (o : Options) → result ≡ quote_piece
-        (record { options = o; whole = whole.now; text = text.now; start = start; row = row }) at }
+    ensures value { (o : Options) (b : MathBraces) → result ≡ quote_piece
+        (record { options = o; whole = whole.now; text = text.now; start = start; row = row; braces = b }) at }
     ensures fits { at + size result ≤ length text.now }
     ensures ends { EndsSolid text.now at result }
 {
@@ -230,28 +327,12 @@ fn dot_piece(text: &[u8], at: usize) -> Piece
     }
 }
 
-// The piece at a hyphen.
-#[tactic(auto, unfolding(crate::specs::Pieces::dash_piece))]
-fn dash_piece(text: &[u8], at: usize) -> Piece
-    requires within { at < length text.now }
-    requires here { slice_index text.now at ≡ hyphen }
-    ensures value { result ≡ dash_piece text.now at }
-    ensures fits { at + size result ≤ length text.now }
-    ensures ends { EndsSolid text.now at result }
-{
-    match run_len(text, at) {
-        2 => Piece::Token(0, 2, ItemBody::SynthesizeChar('\u{2013}')),
-        3 => Piece::Token(0, 3, ItemBody::SynthesizeChar('\u{2014}')),
-        n => Piece::Left(n),
-    }
-}
-
 // The character before a place of a content, if it is not its first.
 #[tactic(auto, unfolding(crate::specs::Pieces::char_before))]
 fn char_before(whole: &str, start: usize, at: usize) -> Option<char>
     requires { IsCharBoundary whole.now at }
-    ensures { (o : Options) (text : List ℕ) (row : Bool) → result ≡ char_before
-        (record { options = o; whole = whole.now; text = text; start = start; row = row }) at }
+    ensures { (o : Options) (b : MathBraces) (text : List ℕ) (row : Bool) → result ≡ char_before
+        (record { options = o; whole = whole.now; text = text; start = start; row = row; braces = b }) at }
 {
     if start < at {
         last_char(&whole[..at])

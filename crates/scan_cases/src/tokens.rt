@@ -8,6 +8,7 @@ use first_pass_cases::answer::Answer;
 use first_pass_cases::given::Given;
 use first_pass_items::item::{Item, ItemBody};
 use first_pass_items::option_set::Options;
+use first_pass_tokens::braces::BraceContexts;
 use first_pass_tokens::line::{append_cell, append_line};
 use first_pass_tokens::pieces::Content;
 use first_pass_tree::forest::Tree;
@@ -35,9 +36,19 @@ pub fn answer_tokens(
 fn paragraph(alloc: Global, text: &str, options: Options) -> Result<Tree<Item>, AllocError> {
     let lut = special_bytes(&options);
     let mut tree = opened(alloc, ItemBody::Paragraph)?;
+    let mut texts = Vec::new(alloc);
+    let mut braces = BraceContexts::new();
     let mut at = 0;
     while at < text.len() {
-        let (next, line_break) = append_line(text, content(options, at, false), &lut, &mut tree)?;
+        let content = content(options, at, false);
+        let (next, line_break) = append_line(
+            text,
+            content,
+            &lut,
+            &mut tree,
+            &mut texts,
+            &mut braces,
+        )?;
         if let Some(item) = line_break {
             tree.append(item)?;
         }
@@ -51,9 +62,12 @@ fn paragraph(alloc: Global, text: &str, options: Options) -> Result<Tree<Item>, 
 fn row(alloc: Global, text: &str, options: Options) -> Result<Tree<Item>, AllocError> {
     let lut = special_bytes(&options);
     let mut tree = opened(alloc, ItemBody::TableRow)?;
+    let mut texts = Vec::new(alloc);
+    let mut braces = BraceContexts::new();
     let mut at = 0;
     while at < text.len() {
-        at = append_cell(text, content(options, at, true), &lut, &mut tree)?;
+        let content = content(options, at, true);
+        at = append_cell(text, content, &lut, &mut tree, &mut texts, &mut braces)?;
         tree.append(Item {
             start: at,
             end: at,
@@ -113,6 +127,8 @@ fn name(body: &ItemBody) -> &'static str {
         ItemBody::MaybeCode(1, false) => "MaybeCode(1,false)",
         ItemBody::MaybeCode(1, true) => "MaybeCode(1,true)",
         ItemBody::MaybeCode(2, true) => "MaybeCode(2,true)",
+        ItemBody::MaybeMath(true, true, 255) => "MaybeMath(true,true,255)",
+        ItemBody::SynthesizeText(_) => "SynthesizeText",
         ItemBody::MaybeHtml => "MaybeHtml",
         ItemBody::MaybeLinkOpen => "MaybeLinkOpen",
         ItemBody::MaybeLinkClose(true) => "MaybeLinkClose(true)",

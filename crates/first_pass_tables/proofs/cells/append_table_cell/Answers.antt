@@ -1,8 +1,7 @@
-use Rattle.std.proofs.Common.{ℕ, List, true, length, refl, ap, subst, ◌∙◌}
+use Rattle.std.proofs.Common.{length, refl, ap, ◌∙◌}
 use Rattle.first_pass_items.specs.declared.item.Item.{Item}
 use Rattle.first_pass_items.specs.declared.item.ItemBody.TheVariants.{TableCell}
 use Rattle.first_pass_tree.specs.Forest.{Forest}
-use Rattle.first_pass_tokens.specs.LineTokens.{IsCell}
 use Rattle.first_pass_tokens.specs.TreeTokens.{chained}
 use Rattle.first_pass_tokens.proofs.ChainLemmas.{joins_none-fresh}
 use Rattle.first_pass_tokens.proofs.LineLemmas.{appended_cell_alone}
@@ -18,16 +17,15 @@ close_block-requires c =
     let filled = appended_cell_alone cell (joins_none-fresh c.open_block.new.tree (ap (λ (f : Forest Item). f.current) opened)) ∙ ap (λ v. chained v cell.tokens) opened in
     still_open g c.append_cell.new.tree (begun_item c.args.start TableCell) cell.tokens (record { 0 = length g.nodes }) refl filled
 
-pub returns : goal.returns
-returns c =
+pub returns-clause-cell : goal.returns-clause-cell
+returns-clause-cell c =
     let g = c.args.tree.now in
     let opened = c.in_ok-open_block.ensures in
     let cell = c.in_ok-end.ensures.cell in
     let filled = appended_cell_alone cell (joins_none-fresh c.open_block.new.tree (ap (λ (f : Forest Item). f.current) opened)) ∙ ap (λ v. chained v cell.tokens) opened in
     record {
-      cell = record {
-        tokens = cell.tokens;
-        cell = cell.cell;
-        tree_is = block_closed g c.append_cell.new.tree (begun_item c.args.start TableCell) cell.tokens (record { 0 = length g.nodes }) refl filled c.close_block.new.tree c.in_ok-end.end c.close_block.ensures;
-      };
+      tokens = cell.tokens;
+      cell = cell.cell;
+      tree_is = block_closed g c.append_cell.new.tree (begun_item c.args.start TableCell) cell.tokens (record { 0 = length g.nodes }) refl filled
+          c.close_block.new.tree c.in_ok-end.end c.close_block.ensures;
     }

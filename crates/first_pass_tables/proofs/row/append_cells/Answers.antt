@@ -2,8 +2,10 @@ use Rattle.std.proofs.Common.{Option, IfSome, subst, sym, ap, ◌∙◌, arith}
 use Rattle.first_pass_items.specs.declared.item.Item.{Item}
 use Rattle.first_pass_tree.specs.Forest.{Forest, IsChild}
 use Rattle.first_pass_tree.specs.declared.tree_index.TreeIndex.{TreeIndex}
-use Rattle.first_pass_names.specs.TableEntries.{no_names}
+use Rattle.first_pass_names.specs.TableEntries.{names_of}
+use Rattle.first_pass_tokens.specs.LineTokens.{Spot, spot}
 use Rattle.first_pass_grammar.specs.Leaves.{document}
+use Rattle.first_pass_names.proofs.NameLemmas.{extends_both, texts_both}
 use Rattle.first_pass_tables.specs.Appends.{without_behind}
 use Rattle.first_pass_tables.proofs.RowDrops.{HaveSame, has_more, none_more, current_is_child, same_dropped, still_open_node, first_kept, ended_within}
 use Rattle.first_pass_tables.proofs.row.append_cells.Goals as goal
@@ -11,18 +13,21 @@ use Rattle.first_pass_tables.proofs.row.append_cells.Goals.{then-excess-gt0, els
 
 pub drop_behind-requires : goal.drop_behind-requires
 drop_behind-requires c =
-    let d = document c.args.source.text.now c.args.source.options no_names in
+    let d = document c.args.source.text.now c.args.source.options (names_of c.append_some_cells-2.new.allocs) in
     let tree = c.append_some_cells.new.tree in
     let over = c.append_some_cells-2.new.tree in
     let short = c.is_short.ensures in
     let some = c.if-excess-gt0.true in
-    let all = ended_within d _ c.in_ok-kept.kept.at tree over c.in_ok-excess.excess (omega arith) c.in_ok-excess.ensures.cells in
+    let mid : Spot = spot c.in_ok-kept.kept.at c.append_some_cells.new.braces in
+    let all = ended_within d _ mid tree over c.in_ok-excess.excess c.append_some_cells-2.new.braces (omega arith) c.in_ok-excess.ensures.cells in
     subst (λ (o : Option TreeIndex). IfSome o (λ ix. IsChild over ix)) (sym c.cur-last.ensures)
-    (current_is_child tree over c.is_forest.ensures (has_more d c.in_ok-kept.kept.at c.in_ok-excess.excess.at c.in_ok-excess.excess.count tree over (omega arith) all))
+    (current_is_child tree over c.is_forest.ensures (has_more d mid (spot c.in_ok-excess.excess.at c.append_some_cells-2.new.braces)
+    c.in_ok-excess.excess.count tree over (omega arith) all))
 
 pub returns-clause-cells : goal.returns-clause-cells
 returns-clause-cells c =
-    let d = document c.args.source.text.now c.args.source.options no_names in
+    let before = document c.args.source.text.now c.args.source.options (names_of c.append_some_cells.new.allocs) in
+    let d = document c.args.source.text.now c.args.source.options (names_of c.append_some_cells-2.new.allocs) in
     let old = c.args.tree.now in
     let tree = c.append_some_cells.new.tree in
     let over = c.append_some_cells-2.new.tree in
@@ -31,17 +36,31 @@ returns-clause-cells c =
     let excess = c.in_ok-excess.excess in
     let short = c.is_short.ensures in
     let far = c.in_ok-kept.ensures.cells.first c.if-kept.false in
-    let all = ended_within d _ c.in_ok-kept.kept.at tree over c.in_ok-excess.excess (omega arith) c.in_ok-excess.ensures.cells in
-    let node = still_open_node d c.args.start kept.at kept.count old tree c.requires.fresh.0 c.requires.fresh.1 far.0 in
+    let start : Spot = spot c.args.start c.args.braces.now in
+    let mid : Spot = spot kept.at c.append_some_cells.new.braces in
+    let stop : Spot = spot excess.at c.append_some_cells-2.new.braces in
+    let all = ended_within d _ mid tree over excess c.append_some_cells-2.new.braces (omega arith) c.in_ok-excess.ensures.cells in
+    let node = still_open_node before start mid kept.count old tree c.requires.fresh.0 c.requires.fresh.1 far.0 in
     let same : HaveSame new tree =
     elim c.if-excess-gt0.branch [
       | then-excess-gt0 w ↦
           let some = w.if-excess-gt0.true in
-          same_dropped tree over new c.is_forest.ensures node (has_more d kept.at excess.at excess.count tree over (omega arith) all)
+          same_dropped tree over new c.is_forest.ensures node (has_more d mid stop excess.count tree over (omega arith) all)
           (w.tree-is ∙ w.drop_behind.ensures ∙ ap (without_behind over) c.cur-last.ensures)
       | else-excess-gt0 w ↦
           let none = w.if-excess-gt0.false in
-          let same = none_more d kept.at excess.at excess.count tree over (omega arith) all in
+          let same = none_more d mid stop excess.count tree over (omega arith) all in
           (ap (λ (f : Forest Item). f.nodes) w.tree-is ∙ same.0, ap (λ (f : Forest Item). f.spine) w.tree-is ∙ same.1)
     ] in
-    first_kept d c.args.columns c.args.start kept.at kept.count excess.at excess.count old tree over new far.0 far.1 all same
+    first_kept d (names_of c.append_some_cells.new.allocs) c.args.columns start mid kept.count stop excess.count old tree over new
+    c.in_ok-excess.ensures.names far.0 far.1 all same
+
+pub returns-clause-names : goal.returns-clause-names
+returns-clause-names c =
+    extends_both (names_of c.append_some_cells-2.new.allocs) (names_of c.append_some_cells.new.allocs) (names_of c.args.allocs.now) c.in_ok-excess.ensures.names
+    c.in_ok-kept.ensures.names
+
+pub returns-clause-texts : goal.returns-clause-texts
+returns-clause-texts c =
+    texts_both (names_of c.append_some_cells-2.new.allocs) (names_of c.append_some_cells.new.allocs) (names_of c.args.allocs.now) c.in_ok-excess.ensures.texts
+    c.in_ok-kept.ensures.texts

@@ -1,5 +1,6 @@
 use Rattle.first_pass_items.specs.declared.item.ItemBody.TheVariants.{TableHead}
-use Rattle.first_pass_names.specs.TableEntries.{no_names}
+use Rattle.first_pass_names.specs.TableEntries.{names_of}
+use Rattle.first_pass_tokens.specs.LineTokens.{spot}
 use Rattle.first_pass_grammar.specs.Leaves.{document}
 use Rattle.first_pass_tables.proofs.RowClosed.{row_place, row_opened, row_is_open, missing_are, row_closed}
 use Rattle.first_pass_tables.proofs.row.append_head_row.Goals as goal
@@ -10,23 +11,26 @@ append_cells-requires-clause-fresh c =
 
 pub close_block-requires : goal.close_block-requires
 close_block-requires c =
-    row_is_open (document c.args.source.text.now c.args.source.options no_names) c.args.columns c.args.start c.in_ok-end.end c.in_ok-end.count c.saturating_sub-missing.result
+    row_is_open (document c.args.source.text.now c.args.source.options (names_of c.append_cells.new.allocs)) c.args.columns
+    (spot c.args.start c.args.braces.now) (spot c.in_ok-end.end c.append_cells.new.braces) c.in_ok-end.count c.saturating_sub-missing.result
     TableHead c.args.tree.now c.open_block.new.tree c.append_cells.new.tree c.fill_row.new.tree c.in_ok-open_block.ensures c.in_ok-end.ensures.cells
     c.saturating_sub-missing.ensures c.in_ok-fill_row.ensures
 
-pub returns : goal.returns
-returns c =
-    let d = document c.args.source.text.now c.args.source.options no_names in
+pub returns-clause-head : goal.returns-clause-head
+returns-clause-head c =
+    let d = document c.args.source.text.now c.args.source.options (names_of c.append_cells.new.allocs) in
     let adds = c.in_ok-end.ensures.cells in
     record {
-      head = record {
-        cells = adds.cells;
-        row_end = c.in_ok-end.end;
-        are_cells = adds.are_cells;
-        missing_is = missing_are d c.args.columns c.args.start c.in_ok-end.end c.in_ok-end.count c.saturating_sub-missing.result TableHead c.args.tree.now
-            c.open_block.new.tree c.append_cells.new.tree c.fill_row.new.tree c.in_ok-open_block.ensures adds c.saturating_sub-missing.ensures c.in_ok-fill_row.ensures;
-        tree_is = row_closed d c.args.columns c.args.start c.in_ok-end.end c.in_ok-end.count c.saturating_sub-missing.result TableHead c.args.tree.now
-            c.open_block.new.tree c.append_cells.new.tree c.fill_row.new.tree c.in_ok-open_block.ensures adds c.saturating_sub-missing.ensures c.in_ok-fill_row.ensures
-            c.close_block.new.tree c.close_block.ensures;
-      };
+      cells = adds.cells;
+      row_end = c.in_ok-end.end;
+      are_cells = adds.are_cells;
+      missing_is = missing_are d c.args.columns (spot c.args.start c.args.braces.now) (spot c.in_ok-end.end c.append_cells.new.braces) c.in_ok-end.count
+          c.saturating_sub-missing.result TableHead c.args.tree.now
+          c.open_block.new.tree c.append_cells.new.tree c.fill_row.new.tree c.in_ok-open_block.ensures adds c.saturating_sub-missing.ensures
+          c.in_ok-fill_row.ensures;
+      tree_is = row_closed d c.args.columns (spot c.args.start c.args.braces.now) (spot c.in_ok-end.end c.append_cells.new.braces) c.in_ok-end.count
+          c.saturating_sub-missing.result TableHead c.args.tree.now
+          c.open_block.new.tree c.append_cells.new.tree c.fill_row.new.tree c.in_ok-open_block.ensures adds c.saturating_sub-missing.ensures
+          c.in_ok-fill_row.ensures
+          c.close_block.new.tree c.close_block.ensures;
     }

@@ -1,10 +1,22 @@
-use Rattle.std.proofs.Common.{◌≡◌, ◌≤◌, ◌<◌, ◌+◌, ℕ, List, length, ap, ◌∙◌, arith}
-use Rattle.first_pass_names.specs.TableEntries.{no_names}
+use Rattle.std.proofs.Common.{◌≡◌, ◌≤◌, ◌<◌, ◌+◌, ℕ, List, length, refl, ap, ◌∙◌, arith}
+use Rattle.first_pass_names.specs.TableEntries.{names_of}
+use Rattle.first_pass_tokens.specs.LineTokens.{spot}
 use Rattle.first_pass_grammar.specs.Leaves.{document}
 use Rattle.first_pass_grammar.specs.Tables.{cell_start}
 use Rattle.first_pass_tables.specs.Reading.{AreAppended}
-use Rattle.first_pass_tables.proofs.RowCells.{content_found, end_found, cell_read, all_read}
+use Rattle.first_pass_names.proofs.NameLemmas.{extends_texts, texts_none, texts_both}
+use Rattle.first_pass_tables.proofs.RowCells.{none_read, content_found, end_found, cell_read, all_read}
 use Rattle.first_pass_tables.proofs.row.append_some_cells.Goals as goal
+
+pub loop-count-init : goal.loop-count-init
+loop-count-init c =
+    record {
+      read = none_read (document c.args.source.text.now c.args.source.options (names_of c.args.allocs.now)) (spot c.args.start c.args.braces.now)
+          c.args.tree.now c.requires.within;
+      few = omega arith;
+      grown = texts_none (names_of c.args.allocs.now);
+      entries = refl;
+    }
 
 pub returns-in-Some-clause-cells : goal.returns-in-Some-clause-cells
 returns-in-Some-clause-cells c =
@@ -20,9 +32,11 @@ returns-in-Some-clause-cells c =
     let order : at ≤ cell = c.cell_start-cell.ensures.order in
     let eol = c.in-Some.ensures.within in
     record {
-      few = c.loop-count.invariant.1;
-      all = λ ended. all_read (document text c.args.source.options no_names) c.args.start at c.loop-count.count from c.in-Some.eol c.args.tree.now c.loop-count.tree
-          c.loop-count.invariant.0 (content_found text bytes c.rest_of.result.now at cell c.scan_whitespace_no_nl.result same c.cell_start-cell.ensures.value c.rest_of.ensures.value c.scan_whitespace_no_nl.ensures.value)
+      few = c.loop-count.invariant.few;
+      all = λ ended. all_read (document text c.args.source.options (names_of c.loop-count.allocs)) (spot c.args.start c.args.braces.now)
+          (spot at c.loop-count.braces) c.loop-count.count from c.in-Some.eol c.args.tree.now c.loop-count.tree
+          c.loop-count.invariant.read (content_found text bytes c.rest_of.result.now at cell c.scan_whitespace_no_nl.result same
+          c.cell_start-cell.ensures.value c.rest_of.ensures.value c.scan_whitespace_no_nl.ensures.value)
           (omega arith) (omega arith)
           (end_found text bytes c.rest_of-in-loop-count.result.now from c.scan_eol.result same c.rest_of-in-loop-count.ensures.value c.scan_eol.ensures.value ∙ c.in-Some.is);
       first = λ ended. cc;
@@ -30,7 +44,10 @@ returns-in-Some-clause-cells c =
 
 -- one more cell is appended, and ends further on
 one_read : (c : goal.In_ok-at)
-    → AreAppended (document c.args.source.text.now c.args.source.options no_names) c.args.start c.args.tree.now c.append_table_cell.new.tree c.in_ok-at.at (c.loop-count.count + 1)
+    → AreAppended (document c.args.source.text.now c.args.source.options (names_of c.append_table_cell.new.allocs)) (spot c.args.start c.args.braces.now)
+    c.args.tree.now c.append_table_cell.new.tree
+    (spot c.in_ok-at.at c.append_table_cell.new.braces)
+    (c.loop-count.count + 1)
     × (c.loop-count.at < c.in_ok-at.at)
 one_read c =
     let text = c.args.source.text.now in
@@ -41,8 +58,11 @@ one_read c =
     let same = c.as_bytes-bytes.ensures.value in
     let size : length bytes ≡ length text = ap length same in
     let whole = c.rest_of-in-loop-count.ensures.whole in
-    cell_read (document text c.args.source.options no_names) c.args.start at c.loop-count.count cell from c.in_ok-at.at c.args.tree.now c.loop-count.tree c.append_table_cell.new.tree
-    c.loop-count.invariant.0 (c.cell_start-cell.ensures.value ∙ ap (λ (bs : List ℕ). cell_start bs at) same)
+    cell_read (document text c.args.source.options (names_of c.append_table_cell.new.allocs)) (names_of c.loop-count.allocs)
+    (spot c.args.start c.args.braces.now) (spot at c.loop-count.braces)
+    c.loop-count.count cell from (spot c.in_ok-at.at c.append_table_cell.new.braces) c.args.tree.now
+    c.loop-count.tree c.append_table_cell.new.tree c.in_ok-at.ensures.names c.loop-count.invariant.read
+    (c.cell_start-cell.ensures.value ∙ ap (λ (bs : List ℕ). cell_start bs at) same)
     (content_found text bytes c.rest_of.result.now at cell c.scan_whitespace_no_nl.result same c.cell_start-cell.ensures.value c.rest_of.ensures.value c.scan_whitespace_no_nl.ensures.value)
     (omega arith) (omega arith)
     (end_found text bytes c.rest_of-in-loop-count.result.now from c.scan_eol.result same c.rest_of-in-loop-count.ensures.value c.scan_eol.ensures.value ∙ c.in_default.is)
@@ -58,4 +78,16 @@ loop-count-smaller c =
 pub loop-count-preserved : goal.loop-count-preserved
 loop-count-preserved c =
     let test = c.loop-count-test.true in
-    ((one_read c).0, omega arith)
+    record {
+      read = (one_read c).0;
+      few = omega arith;
+      grown = texts_both (names_of c.append_table_cell.new.allocs) (names_of c.loop-count.allocs) (names_of c.args.allocs.now) c.in_ok-at.ensures.texts
+          c.loop-count.invariant.grown;
+      entries = c.in_ok-at.ensures.entries ∙ c.loop-count.invariant.entries;
+    }
+
+pub returns-in-Some-clause-names : goal.returns-in-Some-clause-names
+returns-in-Some-clause-names c = extends_texts (names_of c.loop-count.allocs) (names_of c.args.allocs.now) c.loop-count.invariant.grown
+
+pub returns-clause-names : goal.returns-clause-names
+returns-clause-names c = extends_texts (names_of c.loop-count.allocs) (names_of c.args.allocs.now) c.loop-count.invariant.grown

@@ -1,5 +1,5 @@
-use Rattle.std.proofs.Common.{◌-◌, length}
-use Rattle.first_pass_names.specs.TableEntries.{no_names}
+use Rattle.std.proofs.Common.{◌≡◌, ◌-◌, length}
+use Rattle.first_pass_names.specs.TableEntries.{entries, names_of, AddsTexts}
 use Rattle.first_pass_grammar.specs.Leaves.{document}
 use Rattle.first_pass_tables.specs.Appends.{open_table}
 use Rattle.first_pass_tables.specs.RowsRead.{BodySoFar}
@@ -7,7 +7,12 @@ use Rattle.first_pass_tables.proofs.rows.append_body.Given as goal
 
 -- the rows are read up to here
 abbrev pub invariant-rows : goal.invariant-rows
-invariant-rows l = BodySoFar (document l.source.text.now l.source.options no_names) l.columns l.start (open_table l.initial.tree l.filled) (open_table l.tree l.missing) l.ix
+invariant-rows l = record {
+  read : BodySoFar (document l.source.text.now l.source.options (names_of l.allocs)) l.columns l.start (open_table l.initial.tree l.filled l.initial.braces)
+      (open_table l.tree l.missing l.braces) l.ix;
+  grown : AddsTexts (names_of l.allocs) (names_of l.initial.allocs);
+  entries : entries l.allocs ≡ entries l.initial.allocs;
+}
 
 abbrev pub decreases-rows : goal.decreases-rows
 decreases-rows l = length l.source.text.now - l.ix

@@ -1,4 +1,6 @@
 use Rattle.std.proofs.Common.{ℕ, Option, IfSome, IsCharBoundary, sym, subst, ◌∙◌, arith}
+use Rattle.first_pass_names.specs.TableEntries.{names_of}
+use Rattle.first_pass_names.proofs.NameLemmas.{extends_none}
 use Rattle.first_pass_open.specs.Path.{path_of}
 use Rattle.first_pass_tables.proofs.RowsFit.{row_place}
 use Rattle.first_pass_tables.proofs.rows.parse_table_row.Goals as goal
@@ -10,3 +12,6 @@ returns-clause-fits c = λ from low.
     let behind = place.behind in
     let begins = subst (λ (o : Option ℕ). IfSome o (λ n. IsCharBoundary text n)) c.in-Some.is c.in_ok-at.ensures.place in
     c.in_ok-row.ensures.fits begins from (omega arith)
+
+pub returns-in_default-clause-names : goal.returns-in_default-clause-names
+returns-in_default-clause-names c = extends_none (names_of c.args.allocs.now)

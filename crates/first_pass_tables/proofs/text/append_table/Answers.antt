@@ -3,8 +3,8 @@ use Rattle.first_pass_items.specs.declared.item.Item.{Item}
 use Rattle.first_pass_tree.specs.Forest.{Forest, in_table}
 use Rattle.first_pass_grammar.specs.Names.{Names, Extends, NamesAlignments}
 use Rattle.first_pass_grammar.specs.Leaves.{document}
-use Rattle.first_pass_names.specs.TableEntries.{no_names, names_of}
-use Rattle.first_pass_names.proofs.NameLemmas.{extends_none, extends_alignments, alignments_last}
+use Rattle.first_pass_names.specs.TableEntries.{names_of}
+use Rattle.first_pass_names.proofs.NameLemmas.{extends_none, extends_both, extends_alignments, alignments_last}
 use Rattle.first_pass_open.proofs.PathLemmas.{open_are_in}
 use Rattle.first_pass_tables.specs.Appends.{AppendsRows}
 use Rattle.first_pass_tables.proofs.TextsAre.{opened_table, opened_alone, line_bounds, body_at, table_text, table_between}
@@ -23,23 +23,40 @@ parse_table-requires-clause-open c = opened_alone c.args.tree.now c.open_block.n
 pub parse_table-requires-clause-table : goal.parse_table-requires-clause-table
 parse_table-requires-clause-table c = subst (λ (f : Forest Item). in_table f.nodes f.spine ≡ true) (sym c.in_ok-open_block.ensures) (opened_table c.args.tree.now c.args.start c.in_ok-index.index)
 
+-- what is named once the table's rows are read goes on with its alignments
+grown_table : (c : goal.In_ok-next) → Extends (names_of c.parse_table.new.allocs) (names_of c.allocate_alignment.new.self)
+grown_table c = c.in_ok-next.ensures.names
+
+-- later names name its alignments
+named_yet : (c : goal.In_ok-next) (more : Names) → Extends more (names_of c.parse_table.new.allocs)
+    → NamesAlignments more c.in_ok-index.index c.args.alignments.items
+named_yet c more e =
+    let named = names_of c.allocate_alignment.new.self in
+    alignments_last (names_of c.args.allocs.now) named more c.in_ok-index.index c.args.alignments.items c.in_ok-index.ensures.index c.in_ok-index.ensures.names
+    (extends_both more (names_of c.parse_table.new.allocs) named e (grown_table c))
+
 pub returns-clause-names : goal.returns-clause-names
-returns-clause-names c = extends_alignments (names_of c.args.allocs.now) (names_of c.allocate_alignment.new.self) c.args.alignments.items c.in_ok-index.ensures.names
+returns-clause-names c =
+    let named = names_of c.allocate_alignment.new.self in
+    extends_both (names_of c.parse_table.new.allocs) named (names_of c.args.allocs.now) c.in_ok-next.ensures.names
+    (extends_alignments (names_of c.args.allocs.now) named c.args.alignments.items c.in_ok-index.ensures.names)
 
 pub returns-clause-block : goal.returns-clause-block
 returns-clause-block c = λ marker.
     let text = c.args.source.text.now in
     let body_is = body_at text c.as_bytes-bytes.result.now c.args.start c.next_line.result c.next_line-body.result c.as_bytes-bytes.ensures.value c.next_line.ensures.value c.next_line-body.ensures.value in
     let old = c.args.tree.now in
-    let names = names_of c.allocate_alignment.new.self in
+    let names = names_of c.parse_table.new.allocs in
     let ix = c.in_ok-index.index in
     let alignments = c.args.alignments.items in
     let opened = c.in_ok-open_block.ensures in
-    let rows = subst (λ (f : Forest Item). AppendsRows (document text c.args.source.options no_names) (length alignments) c.args.start c.next_line-body.result f c.parse_table.new.tree c.in_ok-next.next) opened
-    (subst (λ n. AppendsRows (document text c.args.source.options no_names) n c.args.start c.next_line-body.result c.open_block.new.tree c.parse_table.new.tree c.in_ok-next.next) (c.len-columns.ensures ∙ c.args.alignments.ok.0) c.in_ok-next.ensures.rows) in
+    let rows = subst (λ (f : Forest Item). AppendsRows (document text c.args.source.options names) (length alignments) c.args.start c.next_line-body.result f
+    c.parse_table.new.tree c.in_ok-next.next) opened
+    (subst (λ n. AppendsRows (document text c.args.source.options names) n c.args.start c.next_line-body.result c.open_block.new.tree c.parse_table.new.tree
+    c.in_ok-next.next) (c.len-columns.ensures ∙ c.args.alignments.ok.0) c.in_ok-next.ensures.rows) in
     let there = open_are_in old.nodes old.spine c.is_forest.ensures.opened in
-    let named : (more : Names) → Extends more names → NamesAlignments more ix alignments = λ more e. alignments_last (names_of c.args.allocs.now) names more ix alignments c.in_ok-index.ensures.index c.in_ok-index.ensures.names e in
-    table_text text c.args.source.options names c.args.start c.next_line-body.result c.in_ok-next.next ix alignments old c.parse_table.new.tree rows there named body_is c.requires.headed marker
+    table_text text c.args.source.options names c.args.start c.next_line-body.result c.in_ok-next.next ix alignments old c.parse_table.new.tree rows there
+    (named_yet c) body_is c.requires.headed marker
 
 pub returns-clause-fits : goal.returns-clause-fits
 returns-clause-fits c = λ from low.
@@ -47,12 +64,14 @@ returns-clause-fits c = λ from low.
     let body_is = body_at text c.as_bytes-bytes.result.now c.args.start c.next_line.result c.next_line-body.result c.as_bytes-bytes.ensures.value c.next_line.ensures.value c.next_line-body.ensures.value in
     let utf8 = subst IsUtf8 c.as_bytes-bytes.ensures.value c.as_bytes-bytes.ensures.utf8 in
     let old = c.args.tree.now in
-    let names = names_of c.allocate_alignment.new.self in
+    let names = names_of c.parse_table.new.allocs in
     let ix = c.in_ok-index.index in
     let alignments = c.args.alignments.items in
     let opened = c.in_ok-open_block.ensures in
-    let rows = subst (λ (f : Forest Item). AppendsRows (document text c.args.source.options no_names) (length alignments) c.args.start c.next_line-body.result f c.parse_table.new.tree c.in_ok-next.next) opened
-    (subst (λ n. AppendsRows (document text c.args.source.options no_names) n c.args.start c.next_line-body.result c.open_block.new.tree c.parse_table.new.tree c.in_ok-next.next) (c.len-columns.ensures ∙ c.args.alignments.ok.0) c.in_ok-next.ensures.rows) in
+    let rows = subst (λ (f : Forest Item). AppendsRows (document text c.args.source.options names) (length alignments) c.args.start c.next_line-body.result f
+    c.parse_table.new.tree c.in_ok-next.next) opened
+    (subst (λ n. AppendsRows (document text c.args.source.options names) n c.args.start c.next_line-body.result c.open_block.new.tree c.parse_table.new.tree
+    c.in_ok-next.next) (c.len-columns.ensures ∙ c.args.alignments.ok.0) c.in_ok-next.ensures.rows) in
     let there = open_are_in old.nodes old.spine c.is_forest.ensures.opened in
-    let named : (more : Names) → Extends more names → NamesAlignments more ix alignments = λ more e. alignments_last (names_of c.args.allocs.now) names more ix alignments c.in_ok-index.ensures.index c.in_ok-index.ensures.names e in
-    table_between text c.args.source.options names c.args.start c.next_line-body.result c.in_ok-next.next ix alignments old c.parse_table.new.tree rows there named body_is c.requires.headed (extends_none names) utf8 c.requires.boundary from low
+    table_between text c.args.source.options names c.args.start c.next_line-body.result c.in_ok-next.next ix alignments old c.parse_table.new.tree rows there
+    (named_yet c) body_is c.requires.headed (extends_none names) utf8 c.requires.boundary from low

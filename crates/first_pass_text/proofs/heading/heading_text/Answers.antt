@@ -1,25 +1,37 @@
+use Rattle.std.proofs.Common.{◌≡◌, ℕ, List, Option, subst}
+use Rattle.first_pass_items.specs.declared.cow_str.CowStr.{CowStr}
+use Rattle.first_pass_items.specs.declared.item.Item.{Item}
+use Rattle.first_pass_tree.specs.Forest.{Forest}
+use Rattle.first_pass_tokens.specs.declared.pieces.Content.{Content}
+use Rattle.first_pass_tokens.specs.TreeTokens.{AppendsLine}
+use Rattle.first_pass_tokens.specs.Braces.{MathBraces, no_braces}
 use Rattle.first_pass_tokens.specs.Pieces.{Source, source}
+use Rattle.first_pass_names.specs.TableEntries.{names_of}
 use Rattle.first_pass_text.proofs.HeadingLemmas.{heading_open, heading_empty, heading_cut}
 use Rattle.first_pass_text.proofs.heading.heading_text.Goals as goal
 
+-- the line is read after no brace contexts
+begun : {texts : List CowStr} {whole : List ℕ} (content : Content) {braces after : MathBraces} {old new : Forest Item} {answer : ℕ × Option Item} → braces ≡ no_braces
+    → AppendsLine texts (source whole content braces) old new answer after → AppendsLine texts (source whole content no_braces) old new answer after
+begun {texts} {whole} content {braces} {after} {old} {new} {answer} none line =
+    subst (λ (b : MathBraces). AppendsLine texts (source whole content b) old new answer after) none line
+
 pub drop_children-requires : goal.drop_children-requires
 drop_children-requires c =
-    let s : Source = source c.args.whole.now c.args.content in
-    heading_open s c.args.kept c.args.tree.now c.append_line.new.tree c.append_last_backslash.new.tree (c.in_ok-line_break.field-0-0, c.in_ok-line_break.line_break) c.args.node_ix c.requires.opened
-    c.in_ok-line_break.ensures.line c.in_ok-append_last_backslash.ensures
+    let s : Source = source c.args.whole.now c.args.content no_braces in
+    heading_open (names_of c.append_line.new.self).texts s c.args.kept c.args.tree.now c.append_line.new.tree c.append_last_backslash.new.tree (c.in_ok-line_break.field-0-0, c.in_ok-line_break.line_break) c.args.node_ix c.requires.opened
+    (begun c.args.content c.new-braces.ensures c.in_ok-line_break.ensures.line) c.in_ok-append_last_backslash.ensures
 
-pub returns-then-kept-eq0 : goal.returns-then-kept-eq0
-returns-then-kept-eq0 c =
-    let s : Source = source c.args.whole.now c.args.content in
-    record {
-      line = heading_empty s c.args.kept c.args.tree.now c.append_line.new.tree c.append_last_backslash.new.tree (c.in_ok-line_break.field-0-0, c.in_ok-line_break.line_break) c.args.node_ix c.requires.opened
-          c.in_ok-line_break.ensures.line c.in_ok-append_last_backslash.ensures c.drop_children.new.self c.drop_children.ensures c.if-kept-eq0.true;
-    }
+pub returns-then-kept-eq0-clause-line : goal.returns-then-kept-eq0-clause-line
+returns-then-kept-eq0-clause-line c =
+    let s : Source = source c.args.whole.now c.args.content no_braces in
+    heading_empty (names_of c.append_line.new.self).texts s c.args.kept c.args.tree.now c.append_line.new.tree c.append_last_backslash.new.tree
+    (c.in_ok-line_break.field-0-0, c.in_ok-line_break.line_break) c.args.node_ix c.requires.opened
+    (begun c.args.content c.new-braces.ensures c.in_ok-line_break.ensures.line) c.in_ok-append_last_backslash.ensures c.drop_children.new.self c.drop_children.ensures c.if-kept-eq0.true
 
-pub returns : goal.returns
-returns c =
-    let s : Source = source c.args.whole.now c.args.content in
-    record {
-      line = heading_cut s c.args.kept c.args.tree.now c.append_line.new.tree c.append_last_backslash.new.tree (c.in_ok-line_break.field-0-0, c.in_ok-line_break.line_break) c.args.node_ix c.requires.opened
-          c.in_ok-line_break.ensures.line c.in_ok-append_last_backslash.ensures c.truncate_siblings.new.self c.truncate_siblings.ensures c.if-kept-eq0.false;
-    }
+pub returns-clause-line : goal.returns-clause-line
+returns-clause-line c =
+    let s : Source = source c.args.whole.now c.args.content no_braces in
+    heading_cut (names_of c.append_line.new.self).texts s c.args.kept c.args.tree.now c.append_line.new.tree c.append_last_backslash.new.tree
+    (c.in_ok-line_break.field-0-0, c.in_ok-line_break.line_break) c.args.node_ix c.requires.opened
+    (begun c.args.content c.new-braces.ensures c.in_ok-line_break.ensures.line) c.in_ok-append_last_backslash.ensures c.truncate_siblings.new.self c.truncate_siblings.ensures c.if-kept-eq0.false

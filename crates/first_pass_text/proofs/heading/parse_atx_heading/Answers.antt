@@ -8,6 +8,7 @@ use Rattle.first_pass_tokens.specs.TreeTokens.{chained}
 use Rattle.first_pass_grammar.specs.Headings.{before_attributes, heading_attributes_of}
 use Rattle.first_pass_grammar.specs.Leaves.{document, kept_len, heading_chain, heading_text_at, IsHeading}
 use Rattle.first_pass_names.specs.TableEntries.{names_of}
+use Rattle.first_pass_grammar.proofs.MoreNames.{extends_both}
 use Rattle.first_pass_text.specs.Appends.{line_end_at}
 use Rattle.first_pass_text.proofs.OrderHeading.{heading_fits}
 use Rattle.first_pass_text.proofs.HeadingLemmas.{heading_read, heading_line_end, line_between}
@@ -51,13 +52,13 @@ returns-clause-block c =
       | then-is_some w ↦ w.read_to-is ∙ ap (λ t. if t then c.in_ok-content_end.content_end else length text) (sym w.if-is_some.true ∙ c.is_some.ensures)
       | else-is_some w ↦ w.read_to-is ∙ ap length bytes ∙ ap (λ t. if t then c.in_ok-content_end.content_end else length text) (sym w.if-is_some.false ∙ c.is_some.ensures)
     ] in
-    let (chain, tree_is, heads) = heading_read text options (names_of c.name_attributes.new.allocs) start c.in_ok-content_end.content_end c.if-is_some.read_to c.in_ok-content_end.attributes c.in_ok-index.index
+    let (chain, tree_is, heads) = heading_read text options (names_of c.name_attributes.new.allocs) (names_of c.heading_text.new.allocs) start c.in_ok-content_end.content_end c.if-is_some.read_to c.in_ok-content_end.attributes c.in_ok-index.index
     c.kept_len-kept.result (take c.if-is_some.read_to text) c.push.new.self c.heading_text.new.tree
     (c.in_ok-content_end.ensures.content ∙ ap (λ xs. start + length (before_attributes options xs)) between)
     (c.in_ok-content_end.ensures.attributes ∙ ap (heading_attributes_of options) between)
     read refl
     (c.kept_len-kept.ensures.value ∙ ap (λ xs. kept_len (slice_range xs start c.in_ok-content_end.content_end)) bytes)
-    c.in_ok-heading_text.ensures.line c.in_ok-index.ensures.named in
+    c.in_ok-heading_text.ensures.line c.in_ok-heading_text.ensures.names c.in_ok-index.ensures.named in
     let begins : start ≡ heading_text_at text c.args.start (level_number c.args.atx_level) =
     c.heading_text_start-header_start.ensures.value ∙ ap (λ t. heading_text_at t c.args.start (level_number c.args.atx_level)) bytes in
     record {
@@ -71,5 +72,10 @@ returns-clause-block c =
 pub returns-clause-fits : goal.returns-clause-fits
 returns-clause-fits c from behind starts =
     let u = subst IsUtf8 c.as_bytes-bytes.ensures.value c.as_bytes-bytes.ensures.utf8 in
-    heading_fits c.args.source.text.now c.args.source.options (names_of c.name_attributes.new.allocs) c.args.start c.args.atx_level c.args.tree.now c.close_block.new.tree c.next_line-end.result u starts
+    heading_fits c.args.source.text.now c.args.source.options (names_of c.heading_text.new.allocs) c.args.start c.args.atx_level c.args.tree.now c.close_block.new.tree c.next_line-end.result u starts
     c.requires.heading (returns-clause-block c) from behind
+
+pub returns-clause-names : goal.returns-clause-names
+returns-clause-names c =
+    extends_both (names_of c.heading_text.new.allocs) (names_of c.name_attributes.new.allocs) (names_of c.args.allocs.now) c.in_ok-heading_text.ensures.names
+    c.in_ok-index.ensures.names

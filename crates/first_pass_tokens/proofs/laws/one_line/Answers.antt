@@ -1,5 +1,5 @@
-use Rattle.first_pass_tokens.proofs.LineLemmas.{one_line}
+use Rattle.first_pass_tokens.proofs.AlikeLemmas.{one_line}
 use Rattle.first_pass_tokens.proofs.laws.one_line.Goals as goal
 
 pub returns : goal.returns
-returns c = λ s tokens others a b h k. one_line h k
+returns c = λ texts more s tokens others a b d e h k. one_line texts more s tokens others a b d e h k

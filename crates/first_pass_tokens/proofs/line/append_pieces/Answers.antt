@@ -1,51 +1,67 @@
-use Rattle.std.proofs.Common.{◌+◌, length, sym, ◌∙◌, ap, arith}
-use Rattle.first_pass_tokens.specs.Pieces.{Source, content_in}
-use Rattle.first_pass_tokens.proofs.SoFar.{IsRead, read_start, read_upto, read_piece, read_all, piece_special, ended_by_text}
+use Rattle.std.proofs.Common.{◌+◌, length, sym, ◌∙◌, ap, subst, arith}
+use Rattle.first_pass_tokens.specs.Pieces.{Source, content_in, size}
+use Rattle.first_pass_tokens.specs.Braces.{braces_after}
+use Rattle.first_pass_tokens.specs.LineTokens.{spot}
+use Rattle.first_pass_tokens.specs.NamedTexts.{Becomes}
+use Rattle.first_pass_tokens.proofs.SoFar.{IsRead, read_start, read_upto, read_more, read_piece, read_all, becomes_solid, found_special, ended_by_text}
+use Rattle.first_pass_tokens.proofs.NamedTexts.{more_none, more_both}
 use Rattle.first_pass_tokens.proofs.RunPlaces.{front_upto}
 use Rattle.first_pass_walk.proofs.WalkFacts.{spares_words}
 use Rattle.first_pass_tokens.proofs.line.append_pieces.Goals as goal
 use Rattle.first_pass_tokens.proofs.line.append_pieces.Goals.{In_default, In-Some}
 
 -- the content is read up to the next special place
-upto_special : (c : In-Some) → IsRead (content_in c.args.whole.now c.args.text.now c.args.content) c.args.tree.now c.loop-at.tree c.loop-at.pending c.in-Some.at
+upto_special : (c : In-Some) → IsRead c.loop-at.texts.items (content_in c.args.whole.now c.args.text.now c.args.content c.args.braces.now) c.args.tree.now c.loop-at.tree c.loop-at.pending (spot c.in-Some.at c.loop-at.braces)
 upto_special c =
     let found = c.in-Some.ensures.found in
-    read_upto c.loop-at.from c.in-Some.at c.loop-at.invariant.read found.from (omega (arith, found.within))
+    read_upto c.loop-at.from c.in-Some.at c.loop-at.braces c.loop-at.invariant.read found.from (omega (arith, found.within))
     (λ k low high. sym (c.requires.marks _ (omega (arith, c.type_inv.text k))) ∙ found.least k low high)
 
 -- and up to the text's end, where none is left
-upto_end : (c : In_default) → IsRead (content_in c.args.whole.now c.args.text.now c.args.content) c.args.tree.now c.loop-at.tree c.loop-at.pending (length c.args.text.now)
+upto_end : (c : In_default) → IsRead c.loop-at.texts.items (content_in c.args.whole.now c.args.text.now c.args.content c.args.braces.now) c.args.tree.now c.loop-at.tree c.loop-at.pending (spot (length c.args.text.now) c.loop-at.braces)
 upto_end c =
-    read_upto c.loop-at.from _ c.loop-at.invariant.read c.loop-at.invariant.read.read.within (omega arith)
+    read_upto c.loop-at.from _ c.loop-at.braces c.loop-at.invariant.read c.loop-at.invariant.read.read.within (omega arith)
     (λ k low high. sym (c.requires.marks _ (omega (arith, c.type_inv.text k))) ∙ c.in_default.ensures.none k low high)
 
 pub loop-at-init : goal.loop-at-init
-loop-at-init c = record { read = read_start (content_in c.args.whole.now c.args.text.now c.args.content) c.args.tree.now c.requires.within }
+loop-at-init c = record {
+  read = read_start (content_in c.args.whole.now c.args.text.now c.args.content c.args.braces.now) c.args.tree.now c.requires.within;
+  more = more_none c.args.texts.now.items;
+}
 
 pub loop-at-preserved : goal.loop-at-preserved
 loop-at-preserved c =
-    let z : Source = content_in c.args.whole.now c.args.text.now c.args.content in
+    let z : Source = content_in c.args.whole.now c.args.text.now c.args.content c.args.braces.now in
+    let at = c.in-Some.at in
+    let texts = c.named_piece.new.texts.items in
     let found = c.in-Some.ensures.found in
-    let piece = c.special_piece-piece in
-    let special = sym (c.requires.marks _ (omega (arith, c.type_inv.text c.in-Some.at))) ∙ found.marked in
+    let piece = c.in_ok-piece in
+    let special = sym (c.requires.marks _ (omega (arith, c.type_inv.text at))) ∙ found.marked in
+    let here = c.special_found-found.ensures.value c.args.content.options c.args.braces.now ∙ found_special z at special in
+    let is = subst (λ f. Becomes texts c.loop-at.braces f piece.piece) here piece.ensures.becomes in
+    let more = piece.ensures.more in
     record {
-      read = read_piece piece.result (upto_special (goal.at.loop-at-preserved c).In-Some) (sym (c.ends_at.ensures c.args.whole.now) ∙ c.if-ends_at.false)
-          (piece.ensures.value c.args.content.options ∙ piece_special z c.in-Some.at special) piece.ensures.fits piece.ensures.ends
-          c.in_ok-append_piece.ensures.tree c.in_ok-append_piece.ensures.pending (ap (λ n. c.in-Some.at + n) c.piece_len.ensures);
+      read = read_piece piece.piece (read_more more (upto_special (goal.at.loop-at-preserved c).In-Some)) (sym (c.ends_at.ensures c.args.whole.now c.args.braces.now) ∙ c.if-ends_at.false)
+          is (omega (arith, c.special_found-found.ensures.fits, piece.ensures.size))
+          (becomes_solid _ _ z.text at _ piece.piece piece.ensures.becomes c.special_found-found.ensures.ends)
+          c.in_ok-append_piece.ensures.tree c.in_ok-append_piece.ensures.pending
+          (ap (λ n. spot (at + n) c.named_piece.new.braces) c.piece_len.ensures
+          ∙ ap (spot (at + size piece.piece)) (piece.ensures.braces ∙ ap (λ f. braces_after f c.loop-at.braces) here));
+      more = more_both texts c.loop-at.texts.items c.args.texts.now.items more c.loop-at.invariant.more;
     }
 
 pub returns-then-ends_at-clause-read : goal.returns-then-ends_at-clause-read
 returns-then-ends_at-clause-read c =
-    read_all (content_in c.args.whole.now c.args.text.now c.args.content) _ _ _ c.in-Some.at
-    (upto_special (goal.at.returns-then-ends_at-clause-read c).In-Some) (sym (c.ends_at.ensures c.args.whole.now) ∙ c.if-ends_at.true)
+    read_all (content_in c.args.whole.now c.args.text.now c.args.content c.args.braces.now) _ _ _ (spot c.in-Some.at c.loop-at.braces)
+    (upto_special (goal.at.returns-then-ends_at-clause-read c).In-Some) (sym (c.ends_at.ensures c.args.whole.now c.args.braces.now) ∙ c.if-ends_at.true)
 
 pub returns-clause-read : goal.returns-clause-read
 returns-clause-read c =
-    let z : Source = content_in c.args.whole.now c.args.text.now c.args.content in
-    read_all z _ _ _ (length c.args.text.now) (upto_end (goal.at.returns-clause-read c).In_default) (ended_by_text z)
+    let z : Source = content_in c.args.whole.now c.args.text.now c.args.content c.args.braces.now in
+    read_all z _ _ _ (spot (length c.args.text.now) c.loop-at.braces) (upto_end (goal.at.returns-clause-read c).In_default) (ended_by_text z)
 
-pub special_piece-piece-requires-clause-front : goal.special_piece-piece-requires-clause-front
-special_piece-piece-requires-clause-front c = front_upto c.args.whole.now c.args.text.now c.args.content.«end» c.requires.front
+pub special_found-found-requires-clause-front : goal.special_found-found-requires-clause-front
+special_found-found-requires-clause-front c = front_upto c.args.whole.now c.args.text.now c.args.content.«end» c.requires.front
 
 pub next_special_in_words-requires : goal.next_special_in_words-requires
 next_special_in_words-requires c = spares_words c.args.content.options c.args.lut.now c.requires.marks

@@ -35,7 +35,7 @@ returns-clause-order c = λ ends boundary at low o.
     let before = o.later in
     let e : ℕ = reached old.empty_item at in
     let low' : e ≤ at = before in
-    let to = ordered_cell text options c.args.start c.args.end old.tree new.tree stop e c.in_ok-stop.ensures.utf8 (both_ends text c.args.start c.args.end c.requires.end ends) boundary c.is_forest.ensures h (omega arith) o.ordered in
+    let to = ordered_cell text options self.braces c.args.start c.args.end old.tree new.tree stop e c.in_ok-stop.ensures.utf8 (both_ends text c.args.start c.args.end c.requires.end ends) boundary c.is_forest.ensures h (omega arith) o.ordered in
     ordered_none text new stop refl to.within to
 
 pub returns-clause-few : goal.returns-clause-few

@@ -3,21 +3,18 @@ use Rattle.std.proofs.lemmas.List.{length-take-le}
 use Rattle.first_pass_lines.specs.Lines.{line_len}
 use Rattle.first_pass_grammar.specs.Names.{Extends}
 use Rattle.first_pass_names.specs.TableEntries.{names_of, with_alignments}
-use Rattle.first_pass_names.proofs.NameLemmas.{extends_none, extends_alignments}
+use Rattle.first_pass_names.proofs.NameLemmas.{extends_both, extends_alignments}
 use Rattle.first_pass_tokens.specs.Pieces.{text_upto}
 use Rattle.first_pass_tables.proofs.TextsAre.{line_bounds}
 use Rattle.first_pass.specs.Views.{allocs_of}
 use Rattle.first_pass.proofs.OrderLemmas.{ordered_at_later}
 use Rattle.first_pass.proofs.state.FirstPass.append_possible_head.Goals as goal
 
-pub returns-in_default-clause-names : goal.returns-in_default-clause-names
-returns-in_default-clause-names c =
-    subst (λ a. Extends (names_of a) (names_of (allocs_of c.args.self.now))) (sym c.in_ok-next.ensures.line.allocs) (extends_none (names_of (allocs_of c.args.self.now)))
-
 pub returns-clause-names : goal.returns-clause-names
 returns-clause-names c =
-    extends_alignments (names_of (allocs_of c.args.self.now)) (names_of c.allocate_alignment.new.self) c.in-Some.alignments.items
-    (c.in_ok-index.ensures.names ∙ ap (λ a. with_alignments (names_of a) c.in-Some.alignments.items) c.in_ok-next.ensures.line.allocs)
+    extends_both (names_of c.allocate_alignment.new.self) (names_of (allocs_of c.append_content.new.self)) (names_of (allocs_of c.args.self.now))
+    (extends_alignments (names_of (allocs_of c.append_content.new.self)) (names_of c.allocate_alignment.new.self) c.in-Some.alignments.items c.in_ok-index.ensures.names)
+    c.in_ok-next.ensures.names
 
 pub returns-clause-boundary : goal.returns-clause-boundary
 returns-clause-boundary c = λ whole boundary.

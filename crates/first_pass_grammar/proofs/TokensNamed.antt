@@ -1,0 +1,49 @@
+-- Each text that the tokens of a line or a cell name is among those that it is read with.
+use Rattle.std.proofs.Common.{◌≡◌, ℕ, ◌<◌, false, List, length, sym, subst}
+use Rattle.std.proofs.lemmas.Bool.{true≢false}
+use Rattle.std.proofs.lemmas.Option.{slice_get_within}
+use Rattle.first_pass_items.specs.declared.cow_str.CowStr.{CowStr}
+use Rattle.first_pass_items.specs.declared.item.ItemBody.{ItemBody}
+use Rattle.first_pass_items.specs.declared.item.ItemBody.TheVariants.{SynthesizeText}
+use Rattle.first_pass_tokens.specs.declared.pieces.Found.{Found}
+use Rattle.first_pass_tokens.specs.declared.pieces.Found.TheVariants.{Ready, Reference, Dashes, Dollar, OpenBrace, CloseBrace}
+use Rattle.first_pass_tokens.specs.declared.pieces.Piece.{Piece}
+use Rattle.first_pass_tokens.specs.declared.pieces.Piece.TheVariants.{Left, Begins, Token, Run}
+use Rattle.first_pass_tokens.specs.Braces.{MathBraces}
+use Rattle.first_pass_tokens.specs.NamedTexts.{Becomes}
+use Rattle.first_pass_tokens.specs.Pieces.{Source, found_at}
+use Rattle.first_pass_tokens.proofs.AlikeLemmas.{names_text, NamesNone, ReadyNamesNone, found_none}
+
+-- a kind that names a text names one of these
+abbrev pub NamesWithin : List CowStr → ItemBody → Type 0
+NamesWithin texts (SynthesizeText ix) = ix.0 < length texts
+NamesWithin texts _ = Unit {0}
+
+-- a piece whose token names a text names one of these
+abbrev pub PieceWithin : List CowStr → Piece → Type 0
+PieceWithin texts (Left n) = Unit {0}
+PieceWithin texts (Begins dropped escaped) = Unit {0}
+PieceWithin texts (Token dropped n body) = NamesWithin texts body
+PieceWithin texts (Run n opens closes) = Unit {0}
+
+none_within : (texts : List CowStr) (body : ItemBody) → names_text body ≡ false → NamesWithin texts body
+none_within texts (SynthesizeText ix) h = absurd (true≢false h)
+none_within texts _ h = tt
+
+ready_within : (texts : List CowStr) (p : Piece) → NamesNone p → PieceWithin texts p
+ready_within texts (Left n) h = tt
+ready_within texts (Begins dropped escaped) h = tt
+ready_within texts (Token dropped n body) h = none_within texts body h
+ready_within texts (Run n opens closes) h = tt
+
+becomes_within : (texts : List CowStr) (b : MathBraces) (found : Found) (p : Piece) → ReadyNamesNone found → Becomes texts b found p → PieceWithin texts p
+becomes_within texts b (Ready piece) p none is = subst (PieceWithin texts) (sym is) (ready_within texts piece none)
+becomes_within texts b (Reference n c) p none is = subst (PieceWithin texts) (sym is.2) (slice_get_within texts is.0.0 is.1.0 is.1.1)
+becomes_within texts b (Dashes n) p none is = subst (PieceWithin texts) (sym is.2) (slice_get_within texts is.0.0 is.1.0 is.1.1)
+becomes_within texts b (Dollar opens closes) p none is = subst (PieceWithin texts) (sym is) tt
+becomes_within texts b OpenBrace p none is = subst (PieceWithin texts) (sym is) tt
+becomes_within texts b CloseBrace p none is = subst (PieceWithin texts) (sym is) tt
+
+-- what stands at a place names a text of these, if it names one
+pub piece_within : (texts : List CowStr) (b : MathBraces) (s : Source) (at : ℕ) (p : Piece) → Becomes texts b (found_at s at) p → PieceWithin texts p
+piece_within texts b s at p is = becomes_within texts b (found_at s at) p (found_none s at) is

@@ -1,0 +1,8 @@
+use Rattle.std.proofs.Common.{refl}
+use Rattle.first_pass_names.specs.TableEntries.{names_of}
+use Rattle.first_pass_names.proofs.NameLemmas.{more_extends}
+use Rattle.first_pass_names.proofs.items.Allocations.append_cell.Goals as goal
+
+pub returns-clause-names : goal.returns-clause-names
+returns-clause-names c =
+    more_extends (names_of (record c.args.self.now { texts = c.append_cell.new.texts })) (names_of c.args.self.now) c.append_cell.result refl refl c.append_cell.ensures.more

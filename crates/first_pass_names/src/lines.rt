@@ -1,0 +1,76 @@
+//! The tokens of lines and of cells, with the texts that they name among those of the tables.
+
+ghost use Rattle.std.specs.Prelude.{◌≡◌, ◌≤◌, length, false, IfOk, IfSome, OnOk, IsUtf8};
+ghost use Rattle.first_pass_walk.specs.Walk.{MarksSpecial};
+ghost use Rattle.first_pass_tokens.specs.LineTokens.{EndsLine, EndsCell};
+ghost use Rattle.first_pass_tokens.specs.Pieces.{source, text_upto};
+ghost use Rattle.first_pass_tokens.specs.TreeTokens.{AppendsLine, AppendsCell};
+ghost use Rattle.first_pass_grammar.specs.Names.{Extends};
+ghost use Rattle.first_pass_names.specs.TableEntries.{entries, names_of, AddsTexts};
+
+use crate::items::Allocations;
+use first_pass_items::item::Item;
+use first_pass_tokens::braces::BraceContexts;
+use first_pass_tokens::line;
+use first_pass_tokens::pieces::Content;
+use first_pass_tree::forest::Tree;
+use std::alloc::AllocError;
+
+impl<'a> Allocations<'a> {
+    /// Appends the tokens of one line to the innermost open node, and puts the texts that they name after those of the
+    /// tables: see `first_pass_tokens::line::append_line`. `braces`, the brace contexts before the line, become those
+    /// after it. Returns the offset after the line's line end, and the line break there (CommonMark 6.7, 6.8), which is
+    /// not appended. The error is want of memory.
+    #[inline(always)]
+    pub fn append_line(
+        &mut self,
+        whole: &str,
+        content: Content,
+        lut: &[bool; 256],
+        tree: &mut Tree<Item>,
+        braces: &mut BraceContexts,
+    ) -> Result<(usize, Option<Item>), AllocError>
+        requires set { IfSome content.«end» (λ e. e ≤ length whole.now) }
+        requires within { content.start ≤ length (text_upto whole.now content.«end») }
+        requires marks { MarksSpecial lut.now content.options }
+        requires no_cell { content.row ≡ false }
+        ensures utf8 { IsUtf8 whole.now }
+        ensures line { IfOk result (λ answer.
+            AppendsLine (names_of self.new).texts (source whole.now content braces.old) tree.old tree.new answer
+            braces.new) }
+        ensures ends { IfOk result (λ answer. EndsLine (source whole.now content braces.old) answer) }
+        ensures names { OnOk result (Extends (names_of self.new) (names_of self.old)) }
+        ensures texts { OnOk result (AddsTexts (names_of self.new) (names_of self.old)) }
+        ensures entries { entries self.new ≡ entries self.old }
+    {
+        line::append_line(whole, content, lut, tree, &mut self.texts, braces)
+    }
+
+    /// Appends the tokens of one cell of a table's row to the innermost open node, and puts the texts that they name
+    /// after those of the tables: see `first_pass_tokens::line::append_cell`. `braces`, the brace contexts before the
+    /// cell, become those after it. Returns the offset where the content ends: that of the pipe, the line end or the
+    /// text's end (GFM 4.10). The error is want of memory.
+    #[inline(always)]
+    pub fn append_cell(
+        &mut self,
+        whole: &str,
+        content: Content,
+        lut: &[bool; 256],
+        tree: &mut Tree<Item>,
+        braces: &mut BraceContexts,
+    ) -> Result<usize, AllocError>
+        requires set { IfSome content.«end» (λ e. e ≤ length whole.now) }
+        requires within { content.start ≤ length (text_upto whole.now content.«end») }
+        requires marks { MarksSpecial lut.now content.options }
+        ensures utf8 { IsUtf8 whole.now }
+        ensures cell { IfOk result (λ end.
+            AppendsCell (names_of self.new).texts (source whole.now content braces.old) tree.old tree.new end
+            braces.new) }
+        ensures ends { IfOk result (λ end. EndsCell (source whole.now content braces.old) end) }
+        ensures names { OnOk result (Extends (names_of self.new) (names_of self.old)) }
+        ensures texts { OnOk result (AddsTexts (names_of self.new) (names_of self.old)) }
+        ensures entries { entries self.new ≡ entries self.old }
+    {
+        line::append_cell(whole, content, lut, tree, &mut self.texts, braces)
+    }
+}

@@ -1,0 +1,79 @@
+-- Texts that tokens name stay named while more is named, and each token of a line names one of them, if it names a text.
+use Rattle.std.proofs.Common.{◌≡◌, ℕ, zero, suc, ◌+◌, List, [], ◌∷◌, ◌++◌, length, slice_get, Option, Some, refl, sym, ap, ◌∙◌, append_assoc}
+use Rattle.std.proofs.lemmas.List.{append-nil}
+use Rattle.first_pass_items.specs.declared.cow_str.CowStr.{CowStr}
+use Rattle.first_pass_tokens.specs.Braces.{MathBraces, braces_after}
+use Rattle.first_pass_items.specs.declared.item.CowIndex.{CowIndex}
+use Rattle.first_pass_items.specs.declared.item.Item.{Item}
+use Rattle.first_pass_tree.specs.Forest.{Forest}
+use Rattle.first_pass_tokens.specs.declared.pieces.Found.{Found}
+use Rattle.first_pass_tokens.specs.declared.pieces.Found.TheVariants.{Ready, Reference, Dashes, Dollar, OpenBrace, CloseBrace}
+use Rattle.first_pass_tokens.specs.declared.pieces.Piece.{Piece}
+use Rattle.first_pass_tokens.specs.Pieces.{Source, found_at, size}
+use Rattle.first_pass_tokens.specs.NamedTexts.{NamesAmong, Becomes, AreMore}
+use Rattle.first_pass_tokens.specs.LineTokens.{Spot, ArePieces, IsDivision, IsLine, IsCell}
+use Rattle.first_pass_tokens.specs.TreeTokens.{AppendsLine, AppendsCell}
+
+pub more_none : (texts : List CowStr) → AreMore texts texts
+more_none texts = ([], sym (append-nil texts))
+
+pub more_both : (new mid old : List CowStr) → AreMore new mid → AreMore mid old → AreMore new old
+more_both new mid old e f = (f.0 ++ e.0, e.1 ∙ ap (λ (xs : List CowStr). xs ++ e.0) f.1 ∙ append_assoc old f.0 e.0)
+
+got_front : (xs ys : List CowStr) (k : ℕ) (cow : CowStr) → slice_get xs k ≡ Some cow → slice_get (xs ++ ys) k ≡ Some cow
+got_front [] ys k cow h = cc
+got_front (x ∷ xs) ys zero cow h = h
+got_front (x ∷ xs) ys (suc k) cow h = got_front xs ys k cow h
+
+got_last : (xs : List CowStr) (cow : CowStr) → slice_get (xs ++ cow ∷ []) (length xs) ≡ Some cow
+got_last [] cow = refl
+got_last (x ∷ xs) cow = got_last xs cow
+
+pub among_more : (new old : List CowStr) (ix : CowIndex) (text : List ℕ) → AreMore new old → NamesAmong old ix text → NamesAmong new ix text
+among_more new old ix text more named = (named.0, ap (λ (xs : List CowStr). slice_get xs ix.0) more.1 ∙ got_front old more.0 ix.0 named.0 named.1, named.2)
+
+pub among_last : (new old : List CowStr) (ix : CowIndex) (cow : CowStr) → ix.0 ≡ length old → new ≡ old ++ cow ∷ [] → slice_get new ix.0 ≡ Some cow
+among_last new old ix cow at is = ap (slice_get new) at ∙ ap (λ (xs : List CowStr). slice_get xs (length old)) is ∙ got_last old cow
+
+pub becomes_more : (new old : List CowStr) (b : MathBraces) (found : Found) (p : Piece) → AreMore new old → Becomes old b found p → Becomes new b found p
+becomes_more new old b (Ready piece) p more is = is
+becomes_more new old b (Reference n c) p more is = (is.0, among_more new old is.0 _ more is.1, is.2)
+becomes_more new old b (Dashes n) p more is = (is.0, among_more new old is.0 _ more is.1, is.2)
+becomes_more new old b (Dollar opens closes) p more is = is
+becomes_more new old b OpenBrace p more is = is
+becomes_more new old b CloseBrace p more is = is
+
+pub pieces_more : (new old : List CowStr) (s : Source) (at : ℕ) (b : MathBraces) (ps : List Piece) (to : Spot) → AreMore new old → ArePieces old s at b ps to
+    → ArePieces new s at b ps to
+pieces_more new old s at b [] to more h = h
+pieces_more new old s at b (p ∷ ps) to more h = (
+  h.0,
+  becomes_more new old b (found_at s at) p more h.1,
+  pieces_more new old s (at + size p) (braces_after (found_at s at) b) ps to more h.2,
+)
+
+division_more : {new old : List CowStr} {s : Source} {ps : List Piece} {to : Spot} → AreMore new old → IsDivision old s ps to → IsDivision new s ps to
+division_more {new} {old} {s} {ps} {to} more d = record { divided = pieces_more new old s s.start s.braces ps to more d.divided; ended = d.ended }
+
+-- a line stays one while more is named, and so does a cell
+pub line_more : {new old : List CowStr} {s : Source} {tokens : List Item} {answer : ℕ × Option Item} {after : MathBraces} → AreMore new old → IsLine old s tokens answer after
+    → IsLine new s tokens answer after
+line_more more line = record {
+  no_cell = line.no_cell;
+  pieces = line.pieces;
+  content_end = line.content_end;
+  division = division_more more line.division;
+  tokens_are = line.tokens_are;
+  answer_is = line.answer_is;
+}
+
+pub cell_more : {new old : List CowStr} {s : Source} {tokens : List Item} {end : ℕ} {after : MathBraces} → AreMore new old → IsCell old s tokens end after → IsCell new s tokens end after
+cell_more more cell = record { pieces = cell.pieces; division = division_more more cell.division; tokens_are = cell.tokens_are }
+
+pub appends_line_more : {new old : List CowStr} {s : Source} {before later : Forest Item} {answer : ℕ × Option Item} {after : MathBraces} → AreMore new old
+    → AppendsLine old s before later answer after → AppendsLine new s before later answer after
+appends_line_more more h = record { tokens = h.tokens; line = line_more more h.line; tree_is = h.tree_is }
+
+pub appends_cell_more : {new old : List CowStr} {s : Source} {before later : Forest Item} {end : ℕ} {after : MathBraces} → AreMore new old
+    → AppendsCell old s before later end after → AppendsCell new s before later end after
+appends_cell_more more h = record { tokens = h.tokens; cell = cell_more more h.cell; tree_is = h.tree_is }

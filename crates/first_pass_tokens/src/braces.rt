@@ -1,0 +1,101 @@
+//! Brace contexts: between which braces a dollar sign stands.
+
+ghost use Rattle.std.specs.Prelude.{◌≡◌};
+ghost use Rattle.first_pass_tokens.specs.Braces.{no_braces, dollar_context, after_dollar, after_open, after_close};
+
+use std::marker::Model;
+
+/// How many brace contexts are told apart; braces that are nested deeper are only counted.
+pub const MATH_BRACE_CONTEXT_MAX_NESTING: usize = 25;
+
+/// The brace contexts of a block, which tell what stands between the same braces: possible math begins and ends with
+/// dollar signs of one context. They take no memory.
+#[derive(Drop)]
+pub struct BraceContexts {
+    stack: [u8; 26],
+    len: usize,
+    next: usize,
+}
+
+impl Model for BraceContexts {
+    ghost use Rattle.std.specs.Prelude.{◌≤◌, take};
+    ghost use Rattle.first_pass_tokens.specs.Braces.{MathBraces};
+
+    ghost Value = { MathBraces };
+
+    ghost view = { λ b. record { stack = take b.len b.stack; next = b.next } };
+
+    ghost invariant = { λ b. b.len ≤ 26 };
+}
+
+impl BraceContexts {
+    /// Those at a block's start: none is open.
+    pub fn new() -> BraceContexts
+        ensures { result ≡ no_braces }
+    {
+        BraceContexts {
+            stack: [0; 26],
+            len: 0,
+            next: 0,
+        }
+    }
+
+    /// The number of the context that a dollar sign stands in.
+    #[tactic(auto, unfolding(crate::specs::Braces::dollar_context))]
+    pub fn dollar(&self) -> u8
+        ensures { result ≡ dollar_context self.now }
+    {
+        if self.len > MATH_BRACE_CONTEXT_MAX_NESTING {
+            (self.next % 256) as u8
+        } else if self.len == 0 {
+            255
+        } else {
+            self.stack[self.len - 1]
+        }
+    }
+
+    /// Goes past a dollar sign.
+    #[tactic(auto, unfolding(crate::specs::Braces::after_dollar))]
+    pub fn pass_dollar(&mut self)
+        ensures { self.new ≡ after_dollar self.old }
+    {
+        if self.len == 0 {
+            self.stack[0] = 255;
+            self.len = 1;
+        }
+    }
+
+    /// Goes past `{`.
+    #[tactic(auto, unfolding(crate::specs::Braces::after_open))]
+    pub fn open(&mut self)
+        ensures { self.new ≡ after_open self.old }
+    {
+        if self.len > MATH_BRACE_CONTEXT_MAX_NESTING {
+            self.next = self.next.saturating_add(1);
+        } else if self.len > 0 {
+            self.stack[self.len] = (self.next % 256) as u8;
+            self.next = if self.len == MATH_BRACE_CONTEXT_MAX_NESTING {
+                MATH_BRACE_CONTEXT_MAX_NESTING
+            } else {
+                self.next.saturating_add(1)
+            };
+            self.len += 1;
+        }
+    }
+
+    /// Goes past `}`.
+    #[tactic(auto, unfolding(crate::specs::Braces::after_close))]
+    pub fn close(&mut self)
+        ensures { self.new ≡ after_close self.old }
+    {
+        if self.len == 1 {
+            self.stack[0] = self.stack[0].wrapping_sub(1);
+        } else if self.len > MATH_BRACE_CONTEXT_MAX_NESTING
+            && self.next > MATH_BRACE_CONTEXT_MAX_NESTING
+        {
+            self.next -= 1;
+        } else {
+            self.len = self.len.saturating_sub(1);
+        }
+    }
+}
