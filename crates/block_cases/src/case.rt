@@ -34,7 +34,7 @@ pub fn read_case(alloc: Global, group: &str) -> Result<Result<Case<'_>, &'static
     }))
 }
 
-/// The word of the options, if the first line has one, and the lines behind it.
+/// The word of the options, if the first line has one, and the lines after it.
 fn read_options(group: &str) -> (Option<&str>, &str) {
     match group.strip_prefix("options ") {
         Some(behind) => match behind.split_once('\n') {
@@ -45,7 +45,7 @@ fn read_options(group: &str) -> (Option<&str>, &str) {
     }
 }
 
-/// The text that lines behind bars show, joined by line ends, or `None` where one has no bar.
+/// The text that lines after bars show, joined by line ends, or `None` where one has no bar.
 fn read_text(alloc: Global, above: &str) -> Result<Option<String>, AllocError> {
     let mut text = String::new(alloc);
     let mut is_first = true;

@@ -13,7 +13,7 @@
 //!
 //! - The first line has the word that `blocks` is given, the decimal value of the option bits. Without one there is no
 //!   such line.
-//! - The text follows, each line behind a bar. A text that ends with a line end has a last line with nothing but the
+//! - The text follows, each line after a bar. A text that ends with a line end has a last line with nothing but the
 //!   bar; `|` alone is the empty text.
 //! - The tree follows as `blocks` prints it.
 //! - In text and tree a control character stands as its picture (see `first_pass_cases::pictures`), and so does a

@@ -202,7 +202,7 @@ mark_shorter options line r s marker x is rest some =
     let same = ap (λ (q : Rest). length q.left) rest in
     omega arith
 
--- an item with something behind its markers, which stand up to two offsets
+-- an item with something after its markers, which stand up to two offsets
 pub container_count : (text : List ℕ) (line low mid at : ℕ) (first old new : List (ℕ × Item)) (marker : Option Item)
     → GrowsBy line low first old → own_nodes new ≤ own_nodes old + 2 → line ≤ low → low < mid → mid ≤ at
     → ((x : Item) → marker ≡ Some x → StandsBefore text mid at (Some x) × (mid < at)) → GrowsIn text line first new at (task_text marker)

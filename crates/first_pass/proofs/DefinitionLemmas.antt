@@ -111,7 +111,7 @@ found_here first now at answer found source reading said is =
     let w = found_by _ answer found (IsReference (in_table (tree_of now).nodes (tree_of now).spine) at) said is in
     (w.0, sym (same_reference first now at source reading) ∙ w.1, subst (λ (z : Reading). IsReference (in_table z.tree.nodes z.tree.spine) at w.0 found) reading w.2)
 
--- whether the next line goes on with the run, by what is answered of it
+-- whether the next line continues the run, by what the call returns
 pub stops_by : (t : Bool) (x : Rest) (o : Option Rest) → o ≡ (if t then None else Some x) → o ≡ None → t ≡ true
 stops_by true x o h is = refl
 stops_by false x o h is = cc
@@ -128,14 +128,14 @@ rest_there text bytes next b is =
     let there : length text - length bytes ≡ next = omega arith in
     record { within = omega arith; are = is ∙ ap (λ n. drop n text) (sym there); boundary = subst (IsCharBoundary text) (sym there) b }
 
--- whether a run ends before the line that these bytes begin with, and what is left of it behind its columns
+-- whether a run ends before the line that these bytes begin with, and what is left of it after its columns
 abbrev pub stops_at : Context → List ℕ → Bool
 stops_at around bs = ends_tag around (line_rest bs) || is_blank_rest (all_taken (front around.path (line_rest bs)))
 
 abbrev pub rest_at : Context → List ℕ → Rest
 rest_at around bs = all_taken (front around.path (line_rest bs))
 
--- A line that goes on with a run is there.
+-- A line that continues a run is there.
 pub line_is_there : (text : List ℕ) (around : Context) (next : ℕ) → stops_at around (drop next text) ≡ false → next < length text
 line_is_there text around next goes =
     elim (cases_lt next (length text)) [
@@ -144,6 +144,6 @@ line_is_there text around next goes =
           absurd (true≢false (sym none ∙ goes)))
     ]
 
--- what is answered of the next line, as it is said of the text
+-- what the call returns of the next line, as it is said of the text
 pub answered : (around around' : Context) (bs bs' : List ℕ) (o : Option Rest) → around ≡ around' → bs ≡ bs' → o ≡ (if stops_at around bs then None else Some (rest_at around bs)) → o ≡ (if stops_at around' bs' then None else Some (rest_at around' bs'))
 answered around around' bs bs' o a b h = subst (λ z. o ≡ (if stops_at around' z then None else Some (rest_at around' z))) b (subst (λ z. o ≡ (if stops_at z bs then None else Some (rest_at z bs))) a h)

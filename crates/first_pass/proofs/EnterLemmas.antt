@@ -1,4 +1,4 @@
--- A line entered behind what it goes on with: a blank line read, or the place where blocks begin in it.
+-- A line entered after what it continues: a blank line read, or the place where blocks begin in it.
 use Rattle.std.proofs.Common.{◌≡◌, ℕ, zero, suc, ◌+◌, ◌<◌, ◌==◌, nat_lt, Bool, true, false, not, ◌||◌, ◌&&◌, List, [], ◌∷◌, length, map, drop, slice_get, Option, Some, None, is_some, refl, sym, ap, subst, ◌∙◌, arith, if◌then◌else◌}
 use Rattle.std.proofs.lemmas.Bool.Decides.{nat_tests}
 use Rattle.std.specs.List.{prefix_len}
@@ -87,7 +87,7 @@ blank_behind_item : (n : ℕ) (o : Option Rest) → is_blank_behind (option_and_
 blank_behind_item n None h = h
 blank_behind_item n (Some q) h = item_blank n q h
 
--- a line that is blank behind what an item takes is blank behind what is around it
+-- a line that is blank after what an item takes is blank after what is around it
 pub blank_behind : (n : ℕ) (path : List Container) (r : Rest) → is_blank_behind (after (ListItem n ∷ path) r) ≡ true → is_blank_behind (after (ListItem 0 ∷ path) r) ≡ true
 unfolding after
 blank_behind n path r h = ap is_blank_behind (after_zero path r) ∙ blank_behind_item n (after path r) h
@@ -144,7 +144,7 @@ opens_blank d path p lines h =
     (subst (λ o. OpensQuote d path p lines (option_map (at_rest p) o) (OpensLeaf BlankLine Line lines)) (sym (no_quote p.rest h))
     (Blank, blank_kind d.options p.rest h, refl))
 
--- inside a line that all open containers go on with
+-- inside a line that all open containers continue
 pub ready_enter : (d : Document) (defined : Tables) (f : Forest Item) (run : Bool) (line : Place) (lines : List Place) (r : Rest) → after (path_of d.options f) line.rest ≡ Some r → ReadyAt d defined f run Line (line ∷ lines) → ReadyAt d defined f run (Inside (at_rest line r)) lines
 ready_enter d defined f run line lines r is ready =
     let path = open_path d.options f.nodes f.spine ready.frames ready.are_open in
@@ -314,7 +314,7 @@ module _ (d : Document) (defined : Tables) (r : Reading) (line : Place) (lines :
   blank_with None none h ready = ready_blank d defined r (at_rest line rest) lines h none (ready_enter d defined r.tree r.blank line lines rest goes ready)
   blank_with (Some e) some h ready = ready_emptied e ready some h
 
-  -- a blank line read that all open containers go on with
+  -- a blank line read that all open containers continue
   pub ready_blank_line : is_blank_rest rest ≡ true → Ready d defined r (line ∷ lines) → Ready d defined (blank_read r) lines
   unfolding Ready
   ready_blank_line h ready = blank_with r.empty_item refl h ready
@@ -350,7 +350,7 @@ module _ (d : Document) (defined : Tables) (r : Reading) (line : Place) (lines :
   entered_with None h ready = ready_enter d defined r.tree r.blank line lines rest goes ready
   entered_with (Some e) h ready = subst (λ (q : Reading). ReadyAt d defined q.tree q.blank (Inside (at_rest line rest)) lines) (sym (finished_is e ready r.blank refl)) (emptied_ends e ready r.blank refl h ready.ready)
 
-  -- the place in a line that isn't blank, where all open containers go on with it
+  -- the place in a line that isn't blank, where all open containers continue it
   pub ready_line : is_blank_rest rest ≡ false → Ready d defined r (line ∷ lines) → ReadyAt d defined (item_finished r).tree (item_finished r).blank (Inside (at_rest line rest)) lines
   unfolding Ready item_finished
   ready_line h ready = entered_with r.empty_item h ready

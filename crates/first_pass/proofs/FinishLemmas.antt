@@ -27,7 +27,7 @@ use Rattle.first_pass.proofs.PopLemmas.{list_popped, leave_list}
 use Rattle.first_pass.proofs.StateLemmas.{popped_is, popped_paths, popped_spine, same_path}
 use Rattle.first_pass_items.specs.declared.option_set.Options.{Options}
 
--- the nodes go on at a place in a line, and no list is innermost
+-- the nodes continue at a place in a line, and no list is innermost
 abbrev pub ReadyPlain : Document → Tables → Forest Item → Bool → Place → List Place → Type 0
 ReadyPlain d defined f run p lines = (q : ReadyAt d defined f run (Inside p) lines) × IsPlain q.frames
 

@@ -1,4 +1,4 @@
--- A blank line that an HTML block hands on: the block ends behind what the containers take of it, and reading goes on at its start.
+-- A blank line that an HTML block hands on: the block ends after what the containers take of it, and reading continues at its start.
 use Rattle.std.proofs.Common.{◌≡◌, ◌⊎◌, inl, inr, ℕ, ◌+◌, ◌<◌, ◌≤◌, Bool, true, false, List, [], ◌∷◌, length, drop, Option, Some, None, IsUtf8, IsCharBoundary, refl, sym, ap, subst, ◌∙◌, arith, if◌then◌else◌}
 use Rattle.std.proofs.lemmas.Bool.{cases_lt}
 use Rattle.std.specs.Option.{option_map}
@@ -29,7 +29,7 @@ use Rattle.first_pass.proofs.OrderSteps.{ordered_tree, place_before_end}
 use Rattle.first_pass.proofs.LineLemmas.{finished_none}
 use Rattle.first_pass_items.specs.declared.option_set.Options.{Options}
 
--- An extent ends where the lines begin that it leaves, or behind what a path takes of the first of them, which is blank.
+-- An extent ends where the lines begin that it leaves, or after what a path takes of the first of them, which is blank.
 abbrev pub StopsBlank : ℕ → List Container → Extent → Type 0
 StopsBlank n path e =
     (e.«end» ≡ start_of n e.left)
@@ -57,7 +57,7 @@ html_stops n path p lines = stops_behind n path lines
 pub path_added : (options : Options) (f : Forest Item) (items : List (ℕ × Item)) → IsForest f → path_of options (added f items) ≡ path_of options f
 path_added options f items forest = path_in-append options f.nodes (at_depth (length f.spine + 1) items) f.spine (open_are_in f.nodes f.spine forest.opened)
 
--- no blank line counts behind what a new block ends
+-- no blank line counts after what a new block ends
 noted_blank : (r : Reading) (t : Bool) → r.blank ≡ t → (gap_noted r).blank ≡ false
 noted_blank r true is = rw is refl
 noted_blank r false is = rw is refl
@@ -70,7 +70,7 @@ line_by : (path : List Container) (line q : Place) (o : Option Rest) → option_
 line_by path line q None h = cc
 line_by path line q (Some r) h = let e : at_rest line r ≡ q = cc in (r, refl, sym e)
 
--- What is remembered behind such a block is in order up to where reading goes on, or the blank line is handed on there.
+-- What is remembered after such a block is in order up to where reading continues, or the blank line is handed on there.
 pub ordered_stopped : (options : Options) (text : List ℕ) (r : Reading) (path : List Container) (e : Extent) (next : ℕ) → IsCharBoundary text next → r.empty_item ≡ None → path_of options r.tree ≡ path → StopsBlank (length text) path e → lines_from text next ≡ e.left
     → IsOrderedAt text r e.«end» → IsOrderedFrom options text r next
 ordered_stopped options text r path e next b none path_is (inl h) left o =
@@ -90,7 +90,7 @@ ordered_stopped options text r path e next b none path_is (inr (line, lines, q, 
       ordered = subst (IsOrderedTo text r.tree) there (ordered_tree text r e.«end» none o);
     })
 
--- A line that is handed on goes on with all that is open, and is blank behind that.
+-- A line that is handed on continues all that is open, and is blank after that.
 pub handed_whole : (options : Options) (text : List ℕ) (r : Reading) (at kept : ℕ) (line left : Rest) → line ≡ line_rest (drop at text) → kept ≤ length r.tree.spine → after (path_in options r.tree.nodes (outer kept r.tree.spine)) line ≡ Some left
     → ((m : ℕ) → kept < m → m ≤ length r.tree.spine → after (path_in options r.tree.nodes (outer m r.tree.spine)) line ≡ None) → IsHandedOn options text r at → (kept ≡ length r.tree.spine) × (is_blank_rest left ≡ true)
 handed_whole options text r at kept line left is within took stops h =
@@ -115,7 +115,7 @@ handed_read options text r at u b h =
     let within = (line_len-within text at h.within).1 in
     ordered_blank_read text r (offset (place_at at h.rest)) (at + line_len (drop at text)) (omega arith) within (ordered_none text r (offset (place_at at h.rest)) h.none (omega arith) h.ordered)
 
--- A line is entered where what the line doesn't go on with was closed: a blank line is read,
+-- A line is entered where what the line doesn't continue was closed: a blank line is read,
 pub ordered_blank_line : (options : Options) (text : List ℕ) (old closed : Reading) (at : ℕ) → IsUtf8 text → at < length text → IsCharBoundary text at → (IsOrderedAt text old at → IsOrderedAt text closed at) → (IsHandedOn options text old at → closed ≡ old)
     → IsOrderedFrom options text old at → IsOrderedAt text (blank_read closed) (at + line_len (drop at text))
 ordered_blank_line options text old closed at u w b closes same (inl o) =

@@ -160,7 +160,7 @@ module _ (text : List ℕ) (options : Options) (names : Names) (p : Place) (old 
     opens = λ more extends. opens_heading text options names more (path_of options old) old new p at next level at_is place h extends;
   }
 
--- behind a leaf block of a kind
+-- after a leaf block of a kind
 pub ready_kind : (text : List ℕ) (options : Options) (defined : Tables) (own names : Names) (r : Reading) (new : Forest Item) (p : Place) (kind : Kind) (gap : Bool) (next : ℕ) → IsForest r.tree → IsKind options p.rest kind → is_paragraph kind ≡ false → Extends names own
     → AddsKind (document text options own) p kind gap (list_finished p.line r).tree new next → r.empty_item ≡ None → ReadyLeaf (document text options names) defined r p (lines_from text (line_end p))
     → (empty : Option ℕ) (blank : Bool) → empty ≡ None → blank ≡ gap → Ready (document text options names) defined (remembered new empty blank) (lines_from text next)

@@ -1,4 +1,4 @@
--- A leaf block that a pass added at a place, from what the parser of its kind says of the offset behind the columns.
+-- A leaf block that a pass added at a place, from what the parser of its kind says of the offset after the columns.
 use Rattle.std.proofs.Common.{◌≡◌, ℕ, ◌≤◌, false, List, IsUtf8, IsCharBoundary, sym, ap, subst, ◌∙◌, arith}
 use Rattle.first_pass_items.specs.declared.option_set.Options.{Options}
 use Rattle.first_pass_lines.specs.Places.{Place, offset, line_end, IsPlaceOf}
@@ -26,7 +26,7 @@ use Rattle.first_pass.proofs.KindBlocks.{adds_so}
 pub found_says : (options : Options) (p : Place) (leaf l : MarkedLeaf) (columns at : ℕ) → leaf ≡ l → IsFoundAt options p (Marked leaf) columns at → Says p.rest (marked_kind l)
 found_says options p leaf l columns at is f = subst (Says p.rest) (ap marked_kind is) (kind_says options p.rest (marked_kind leaf) f.kind)
 
--- the offset behind the columns stands between characters
+-- the offset after the columns stands between characters
 pub found_boundary : (text : List ℕ) (p : Place) (at : ℕ) → IsUtf8 text → IsPlaceOf text p → at ≡ offset (unindented p) → IsCharBoundary text at
 found_boundary text p at u i is = let j = all_keep text p.line p.rest u i in subst (IsCharBoundary text) (sym is) j.boundary
 

@@ -69,7 +69,7 @@ block_away None at block left closes = tt
 block_away (Some (ListBody flags list number)) at block left closes = closes
 block_away (Some b) at block left closes = tt
 
--- the items of a block behind the nodes
+-- the items of a block after the nodes
 with_block : (d : Document) (defined : Tables) (f : Forest Item) (frames : List Frame) (items : List (ℕ × Item)) (gap : Bool) (left : List Place) → AreOpen f.nodes f.spine frames
     → (let os : List ℕ = map (λ (i : TreeIndex). i.0) f.spine in AreBelow (length f.nodes) os → CompletesAt d defined gap frames (f.nodes ++ at_depth (suc (length os)) items) os Line left → ReadyAt d defined (added f items) gap Line left)
 with_block d defined f frames items gap left o below k =
@@ -97,7 +97,7 @@ added_block d defined r new p lines left at block closes forest opens new_is non
     let k = completes-block d defined frames f.nodes os p lines left block done.ready.1 opens' done.ready.0.completes in
     subst (λ z. ReadyAt d (told defined block.definitions) z block.gap Line left) (sym new_is) (with_block d (told defined block.definitions) f frames block.items block.gap left done.ready.0.are_open done.ready.0.completes.below k)
 
--- the same behind the tag of a block quote, where a new block ends nothing
+-- the same after the tag of a block quote, where a new block ends nothing
 lazy_block : (d : Document) (defined : Tables) (r : Reading) (new : Forest Item) (p : Place) (lines left : List Place) (at : ℕ) (block : LeafBlock) → OpensBlockAt d (path_of d.options r.tree) p lines (OpensLeaf (Block block) Line left)
     → new ≡ added (list_finished at r).tree block.items → r.empty_item ≡ None → ReadyLazy d defined r p lines → ReadyAt d (told defined block.definitions) new block.gap Line left
 lazy_block d defined r new p lines left at block opens new_is none lazy =
@@ -177,7 +177,7 @@ opens_rule d path p at next size at_is next_is =
     ap (λ k. OpensLeaf (leaf_block (ThematicBreak size) p (rule_block k size) false) Line (lines_from d.text next)) at_is
     ∙ ap (λ n. OpensLeaf (leaf_block (ThematicBreak size) p (rule_block (offset (unindented p)) size) false) Line (lines_from d.text n)) next_is
 
--- what stands for a text, behind a task list item marker or not, is what opens at its place
+-- what stands for a text, after a task list item marker or not, is what opens at its place
 opens_text : (d : Document) (path : List Container) (p : Place) (at next : ℕ) (marker : Option Item) (items : List (ℕ × Item)) → at ≡ offset (unindented p) → IsPlaceOf d.text (unindented p) → IsTextAt d path at marker items next
     → OpensText d path p (lines_from d.text (line_end p)) marker (OpensLeaf (leaf_block Paragraph p items false) Line (lines_from d.text next))
 unfolding OpensText
@@ -197,15 +197,15 @@ pub kind_in_other : (around : Context) (p : Place) (kind : Kind) → is_paragrap
 kind_in_other around p Paragraph h = absurd (true≢false h)
 kind_in_other around p kind h = refl
 
--- nor does a paragraph behind no definition
+-- nor does a paragraph after no definition
 kind_in_text : (around : Context) (p : Place) → definition_at around (unindented p) ≡ None → kind_in around p Paragraph ≡ Paragraph
 kind_in_text around p none = ap (λ (x : Option LinkEntry). if is_some x then LinkDefinitions else Paragraph) none
 
--- the same behind a definition
+-- the same after a definition
 kind_in_run : (around : Context) (p : Place) (x : LinkEntry) → definition_at around (unindented p) ≡ Some x → kind_in around p Paragraph ≡ LinkDefinitions
 kind_in_run around p x some = ap (λ (x : Option LinkEntry). if is_some x then LinkDefinitions else Paragraph) some
 
--- what opens behind link definitions, or behind none
+-- what opens after link definitions, or after none
 text_opens : (d : Document) (path : List Container) (p : Place) (lines : List Place) (xs : List LinkEntry) (b : Beyond) (o : Opening)
     → IsRun (around d path) (unindented p) lines xs b → OpensBeyond d path xs b o → OpensAs d path p lines (kind_in (around d path) p Paragraph) o
 unfolding IsRun OpensAs OpensRun OpensText
@@ -214,12 +214,12 @@ text_opens d path p lines [] b o (none, is) opens =
 text_opens d path p lines (x ∷ xs) b o (here, more) opens =
     subst (λ k. OpensAs d path p lines k o) (sym (kind_in_run (around d path) p x here)) (x ∷ xs, b, (here, more), opens)
 
--- what stands for a text at a place, behind link definitions or none
+-- what stands for a text at a place, after link definitions or none
 opens_flow : (d : Document) (path : List Container) (q : Place) (at next : ℕ) (xs : List LinkEntry) (items : List (ℕ × Item)) → at ≡ offset q → IsPlaceOf d.text q → IsTextAt d path at None items next
     → OpensBeyond d path xs (FlowsOn q (lines_from d.text (line_end q))) (OpensLeaf (Block (flowing_block q xs items)) Line (lines_from d.text next))
 opens_flow d path q at next xs items at_is place is = (taking items (lines_from d.text next), is q place (sym at_is), refl)
 
--- behind a text, which stands behind link definitions or none
+-- after a text, which stands after link definitions or none
 pub ready_flows : (d : Document) (defined : Tables) (r : Reading) (new : Forest Item) (p q : Place) (at next : ℕ) (xs : List LinkEntry) (items : List (ℕ × Item)) → IsForest r.tree → IsKind d.options p.rest Paragraph → IsPlaceOf d.text q → at ≡ offset q
     → IsRun (context_of d.options r.tree) (unindented p) (lines_from d.text (line_end p)) xs (FlowsOn q (lines_from d.text (line_end q))) → IsTextAt d (path_of d.options (list_finished at r).tree) at None items next
     → new ≡ added (list_finished at r).tree items → r.empty_item ≡ None
@@ -242,7 +242,7 @@ added_nothing d defined f run left ready =
       completes = subst (λ ns. CompletesAt d defined run ready.frames ns (map (λ (i : TreeIndex). i.0) f.spine) Line left) same ready.completes;
     }
 
--- behind link definitions with no paragraph behind them, the last of which begins at a place
+-- after link definitions with no paragraph after them, the last of which begins at a place
 pub ready_ended : (d : Document) (defined : Tables) (r : Reading) (p q : Place) (next : ℕ) (xs : List LinkEntry) → IsForest r.tree → IsKind d.options p.rest Paragraph
     → IsRun (context_of d.options r.tree) (unindented p) (lines_from d.text (line_end p)) xs (Ended q (lines_from d.text next)) → r.empty_item ≡ None
     → ReadyLeaf d defined r p (lines_from d.text (line_end p)) → Ready d (told defined xs) (list_finished q.line r) (lines_from d.text next)
@@ -257,7 +257,7 @@ ready_ended d defined r p q next xs forest kind run none ready =
     ready_plain d (told defined xs) now left (list_finished_none q.line r)
     (subst (λ t. ReadyAt d (told defined xs) now.tree t Line left) (sym (list_finished_blank q.line r)) (added_nothing d (told defined xs) now.tree false left done))
 
--- behind the text of a task list item
+-- after the text of a task list item
 pub ready_text : (d : Document) (defined : Tables) (r : Reading) (new : Forest Item) (p : Place) (at next : ℕ) (marker : Item) (items : List (ℕ × Item)) → at ≡ offset (unindented p) → IsPlaceOf d.text (unindented p)
     → IsTextAt d (path_of d.options r.tree) at (Some marker) items next → new ≡ added r.tree items → r.empty_item ≡ None
     → ReadyText d defined r marker p (lines_from d.text (line_end p)) → Ready d defined (remembered new r.empty_item r.blank) (lines_from d.text next)

@@ -22,7 +22,7 @@ use Rattle.first_pass.proofs.NamedLemmas.{block_added, list_finished_named, kind
 use Rattle.first_pass.proofs.WholeKept.{list_finished_whole, block_whole, kind_whole}
 use Rattle.first_pass.proofs.CountLemmas.{list_finished_count, block_count, leaf_left, left_before}
 
--- What is said of a leaf block that was read: reading goes on behind it, and at most four nodes of the tree's own are new for each of its bytes.
+-- What is said of a leaf block that was read: reading continues after it, and at most four nodes of the tree's own are new for each of its bytes.
 pub record IsLeafRead (old new : FirstPass) (p : Place) (next : ℕ) : Type 0 where
   pub read : ReadsLeaf old new p next
   pub few : GrowsBy (offset p) next (tree_of old).nodes (tree_of new).nodes

@@ -24,7 +24,7 @@ use Rattle.first_pass_open.proofs.PlaceLemmas.{after_keeps, line_start_end}
 use Rattle.first_pass.proofs.EnterLemmas.{ready_blank_line, ready_line}
 use Rattle.first_pass_items.specs.declared.option_set.Options.{Options}
 
--- a line and those behind it, of which the containers that don't go on with it are closed
+-- a line and those after it, of which the containers that don't continue it are closed
 pub record IsAtLine (d : Document) (defined : Tables) (old new : Reading) (start : ℕ) (r : Rest) : Type 0 where
   pub goes : after (path_of d.options new.tree) (line_rest (drop start d.text)) ≡ Some r
   pub ready : Ready d defined old (lines_from d.text start) → Ready d defined new (line_place start (drop start d.text) ∷ lines_from d.text (start + line_len (drop start d.text)))
@@ -70,7 +70,7 @@ finished_none r = none_by r r.empty_item refl
 pub same_place : (text : List ℕ) (p q : Place) → p ≡ q → IsPlaceOf text q → IsPlaceOf text p
 same_place text p q same i = subst (IsPlaceOf text) (sym same) i
 
--- the place in the line behind what it goes on with
+-- the place in the line after what it continues
 pub line_kept : (options : Options) (text bytes rest : List ℕ) (start kept : ℕ) (f : Forest Item) (line r : Rest) → IsUtf8 bytes → bytes ≡ text → rest ≡ drop start bytes → line ≡ line_rest rest → IsCharBoundary text start → after (path_in options f.nodes (outer kept f.spine)) line ≡ Some r
     → IsPlaceOf text (place_at start r) × (line_end (place_at start r) ≡ start + line_len (drop start text))
 line_kept options text bytes rest start kept f line r u bytes_is rest_is line_is boundary taken =
@@ -117,7 +117,7 @@ pub list_continued_none : (start byte number : ℕ) (r : Reading) → (list_cont
 unfolding list_continued
 list_continued_none start byte number r = continued_by (is_list_of byte (top_body (item_finished r).tree)) start byte number (item_finished r) (finished_none r)
 
--- where the next line begins behind an empty item
+-- where the next line begins after an empty item
 pub opened_next : (A : Type 0) (o : Option ℕ) (e next : ℕ) → o ≡ Some next → MatchOption o A (λ n. n ≡ e) → next ≡ e
 opened_next A None e next is h = cc
 opened_next A (Some n) e next is h = (let z : n ≡ next = cc in sym z ∙ h)

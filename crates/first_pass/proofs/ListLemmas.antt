@@ -28,7 +28,7 @@ run_all depth (n ∷ ns) deep =
     let r = run_all depth ns deep.1 in
     rw t (ap (λ k. tightened k n ∷ tight_run depth ns) z ∙ ap (λ ms. tightened (suc (suc depth)) n ∷ ms) r)
 
--- behind a place all are deeper
+-- after a place all are deeper
 abbrev AreDeeperBehind : ℕ → ℕ → List (ℕ × Item) → Type 0
 AreDeeperBehind depth i [] = Unit {0}
 AreDeeperBehind depth zero (n ∷ ns) = AreDeeper depth ns
@@ -51,7 +51,7 @@ tight_same true x e flags byte number is set =
 tight_same false x e flags byte number is set =
     ap (λ b. node_of x.start e (flagged false b)) is ∙ ap (λ f. node_of x.start e (ListBody f byte number)) (sym set) ∙ ap (λ b. node_of x.start e b) (sym is)
 
--- The paragraphs are made tight behind a list that has its end, or the list is closed as a whole.
+-- The paragraphs are made tight after a list that has its end, or the list is closed as a whole.
 tight_whole : (depth i e : ℕ) (ns : List (ℕ × Item)) (flags : ListFlags) (byte number : ℕ) → body_at ns i ≡ Some (ListBody flags byte number) → flags ≡ list_flags true → AreDeeperBehind depth i ns
     → tight_at depth (suc i) (modify ns i (λ x. record { start = x.start; «end» = e; body = x.body }))
     ≡ modify (map_from (tightened (suc (suc depth))) i ns) i (λ x. record { start = x.start; «end» = e; body = flagged false x.body })

@@ -50,7 +50,7 @@ not_container true b list c h = cc
 not_container false true list c h = cc
 not_container false false list c h = cc
 
--- a node that is opened behind others
+-- a node that is opened after others
 opened_too : (nodes : List (ℕ × Item)) (k : ℕ) (x : Item) (s : List TreeIndex) (frames : List Frame) (frame : Frame) → frame_of x.body ≡ Some frame → AreBelow (length nodes) (map (λ ix. ix.0) s) → AreOpen nodes s frames
     → AreOpen (nodes ++ (k, x) ∷ []) (record { 0 = length nodes } ∷ s) (frame ∷ frames)
 opened_too nodes k x s frames frame is below o =
@@ -76,7 +76,7 @@ opens_quote d path p lines r none is =
 quote_body : (f : Forest Item) (start : ℕ) (kind : Option BlockQuoteKind) → body_at (appended f (node_of start 0 (BlockQuoteBody kind))).nodes (length f.nodes) ≡ Some (BlockQuoteBody kind)
 quote_body f start kind = get_end f.nodes (length f.spine + 1, node_of start 0 (BlockQuoteBody kind)) [] (length f.nodes) refl
 
--- a block quote of a kind opened, wherever blocks go on in it
+-- a block quote of a kind opened, wherever blocks continue in it
 pub record QuoteIsOpen (d : Document) (defined : Tables) (old : Reading) (q : Reading) (kind : Option BlockQuoteKind) (inside : From) (behind : List Place) : Type 0 where
   pub ready : ReadyAt d defined q.tree false inside behind
   pub path : path_of d.options q.tree ≡ BlockQuote kind ∷ path_of d.options old.tree
@@ -135,7 +135,7 @@ ready_tagged d defined r p lines inside kind forest no_item is tag none ready =
       ready = subst (λ z. ReadyAt d defined q.tree false (behind_tag (around d z) lines).0 (behind_tag (around d z) lines).1) (sym begun_is.path) begun_is.ready;
     }
 
--- the tree with an item opened in its list, which goes on or begins
+-- the tree with an item opened in its list, which continues or begins
 abbrev pub item_opened : ℕ → ℕ → ℕ → ℕ → Reading → Reading
 item_opened start byte number columns r = begun start (ListItemBody columns) (list_continued start byte number r)
 
@@ -180,7 +180,7 @@ module _ (d : Document) (defined : Tables) (r : Reading) (p : Place) (lines : Li
       open_path d.options h.nodes h.spine q.frames q.are_open ∙ ap (λ z. ListItem columns ∷ z) (sym (open_path d.options f.nodes f.spine frames done.ready.0.are_open) ∙ done.path) in
       (q, same, done.blank, done.none)
 
-  -- the list that goes on, made loose where a blank line is before the item
+  -- the list that continues, made loose where a blank line is before the item
   kept_by : (run : Bool) → r.blank ≡ run → (ix : TreeIndex) (rest : List TreeIndex) (flags : ListFlags) (list n : ℕ) → r.tree.spine ≡ ix ∷ rest → body_at r.tree.nodes ix.0 ≡ Some (ListBody flags list n)
       → (let q : Reading = if run then record r { tree = loosened_top r.tree r.tree.spine; blank = false } else r in
       (q.tree ≡ (if run then loosened_at r.tree ix else r.tree)) × (q.blank ≡ false) × (q.empty_item ≡ None))
@@ -260,7 +260,7 @@ module _ (d : Document) (defined : Tables) (r : Reading) (p : Place) (lines : Li
   item_is_open_by true is = in_list_by r.tree.spine (top_body r.tree) refl refl is
   item_is_open_by false is = in_new_list is
 
-  -- an item opened, in the list that goes on or in a new one
+  -- an item opened, in the list that continues or in a new one
   item_is_open : ItemIsOpen (item_opened (offset p) byte number columns r)
   unfolding list_continued item_finished
   item_is_open =
@@ -297,7 +297,7 @@ in_item_plain nodes ix rest (InContainer c ∷ frames) columns body o = tt
 in_item_plain nodes ix rest (InList byte loose ∷ frames) columns body o =
     let e : Some (InContainer (ListItem columns)) ≡ Some (InList byte loose) = sym (ap (option_and_then frame_of) body) ∙ o.0 in cc
 
--- an item with something behind its markers
+-- an item with something after its markers
 pub ready_item : (d : Document) (defined : Tables) (r : Reading) (p : Place) (lines : List Place) (item : (ℕ × ℕ × ℕ) × Rest) (marker : Option Item) (rest : Rest) → IsForest r.tree → item_at p.rest ≡ Some item → task_behind d.options p.line item.1 ≡ (marker, rest)
     → is_blank_rest rest ≡ false → r.empty_item ≡ None → ReadyAt d defined r.tree r.blank (Inside p) lines
     → (let q : Reading = item_opened (offset p) item.0.0 item.0.1 item.0.2 r in (q.blank ≡ false) × (now : ReadyAt d defined q.tree false (behind_task marker (at_rest p rest)) lines) × IsPlain now.frames)
@@ -344,7 +344,7 @@ opened_path options g start m n path below is =
     let same : (k : ℕ) → path_in options (f k).nodes g.spine ≡ path_in options g.nodes g.spine = λ k. path_below options g.nodes (f k).nodes (length g.nodes) g.spine (λ i h. ap (option_map (λ (n : ℕ × Item). n.1.body)) (get_front g.nodes _ i h)) below.1 in
     top n ∙ ap (λ z. ListItem n ∷ z) (same n ∙ sym (same m) ∙ outer)
 
--- a task list item marker with nothing behind it, in the item that is innermost
+-- a task list item marker with nothing after it, in the item that is innermost
 ready_marked : (d : Document) (defined : Tables) (f : Forest Item) (marker : Option Item) (p : Place) (blanks : Option ℕ) (lines : List Place) (ix : TreeIndex) (rest : List TreeIndex) (columns : ℕ) → f.spine ≡ ix ∷ rest → body_at f.nodes ix.0 ≡ Some (ListItemBody columns)
     → ReadyAt d defined f false (task_alone marker p blanks) lines → ReadyAt d defined (with_child f marker) false (behind_marker blanks) lines
 ready_marked d defined f None p blanks lines ix rest columns spine body ready = ready
@@ -379,7 +379,7 @@ marked_path : (options : Options) (f : Forest Item) (marker : Option Item) → A
 marked_path options f None below = refl
 marked_path options f (Some x) below = path_below options f.nodes (f.nodes ++ (length f.spine + 1, x) ∷ []) (length f.nodes) f.spine (λ i h. ap (option_map (λ (n : ℕ × Item). n.1.body)) (get_front f.nodes _ i h)) below
 
--- what is remembered behind the markers of an empty item
+-- what is remembered after the markers of an empty item
 abbrev pub empty_item_read : Reading → Option Item → ℕ → Reading
 empty_item_read r marker e = record r { tree = with_child r.tree marker; empty_item = Some e }
 
@@ -438,7 +438,7 @@ empty_by d defined r p lines item marker rest e false next forest is task blank 
       ready = in_item d defined (with_child q.tree marker) e lines false q.blank done.2 (ap (λ z. next_is_blank z lines) path ∙ next) marked;
     }
 
--- an item with nothing behind its markers
+-- an item with nothing after its markers
 pub ready_empty_item : (d : Document) (defined : Tables) (r : Reading) (p : Place) (lines : List Place) (item : (ℕ × ℕ × ℕ) × Rest) (marker : Option Item) (rest : Rest) (e : ℕ) → IsForest r.tree → item_at p.rest ≡ Some item → task_behind d.options p.line item.1 ≡ (marker, rest)
     → is_blank_rest rest ≡ true → start_of (length d.text) lines ≡ e → r.empty_item ≡ None
     → ReadyAt d defined r.tree r.blank (Inside p) lines → Ready d defined (empty_item_read (item_opened (offset p) item.0.0 item.0.1 item.0.2 r) marker e) lines

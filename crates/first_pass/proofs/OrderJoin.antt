@@ -101,7 +101,7 @@ within_there : (front : List (ℕ × Extent)) (d : ℕ) (x : Extent) (more : Lis
 within_there [] d x more = omega arith
 within_there (n ∷ front) d x more = (let w = within_there front d x more in omega arith)
 
--- the last node of a depth is the one with deeper nodes alone behind it
+-- the last node of a depth is the one with deeper nodes alone after it
 last_place : (front : List (ℕ × Extent)) (d : ℕ) (x : Extent) (deep : List (ℕ × Extent)) (k : ℕ) → AreDeep (suc d) deep → IsLastAt (depths (front ++ (d, x) ∷ deep)) d k → k ≡ length front
 last_place [] d x deep zero below h = refl
 last_place [] d x deep (suc k) below h =
@@ -116,7 +116,7 @@ last_place (n ∷ front) d x deep zero below h =
     absurd (omega arith)
 last_place (n ∷ front) d x deep (suc k) below h = ap suc (last_place front d x deep k below (behind_first n.0 (depths (front ++ (d, x) ∷ deep)) d k h))
 
--- behind a last node that is less deep there is none of that depth
+-- after a last node that is less deep there is none of that depth
 no_place : (front : List (ℕ × Extent)) (d e : ℕ) (x : Extent) (k : ℕ) → e < d → IsLastAt (depths (front ++ (e, x) ∷ [])) d k → ⊥
 no_place [] d e x zero less h = (let is : e ≡ d = h.depth in absurd (omega arith))
 no_place [] d e x (suc k) less h = (let w = h.within in absurd (omega arith))

@@ -365,7 +365,7 @@ continued_by text s at start byte number false later within starts h =
     let p = list_finished_plain text s at start start later here within starts (λ list. later) (ordered_none text s at h.1 short h.0) in
     (ordered_begun text (list_finished start s) start start (ListBody (list_flags true) byte number) here within starts p.0, p.1)
 
--- a list that goes on, or a new one
+-- a list that continues, or a new one
 pub ordered_list_continued : (text : List ℕ) (r : Reading) (at start byte number : ℕ) → at ≤ start → start ≤ length text → IsCharBoundary text start → IsOrderedAt text r at → IsOrderedAt text (list_continued start byte number r) start
 unfolding list_continued
 ordered_list_continued text r at start byte number later within starts h =

@@ -1,4 +1,4 @@
--- Order at each step of reading a line: containers opened, and what is behind them.
+-- Order at each step of reading a line: containers opened, and what is after them.
 use Rattle.std.proofs.Common.{◌≡◌, ◌⊎◌, inl, inr, ℕ, ◌+◌, ◌<◌, ◌≤◌, Bool, true, false, List, [], ◌∷◌, length, drop, Option, Some, None, IsUtf8, IsCharBoundary, refl, sym, ap, subst, ◌∙◌, arith, length-append, if◌then◌else◌}
 use Rattle.std.specs.Option.{option_map}
 use Rattle.first_pass_items.specs.declared.item.Item.{Item}
@@ -55,14 +55,14 @@ ordered_at_place text f start p line boundary i o =
     let within = i.within in
     (subst (IsCharBoundary text) (sym line) boundary, ordered_in_line text f p.line (offset p) (omega arith) within (subst (IsOrderedTo text f) (sym line) o))
 
--- what is behind the containers is in order, where what is remembered at the line's beginning is
+-- what is after the containers is in order, where what is remembered at the line's beginning is
 pub ordered_entered : (text : List ℕ) (f : Forest Item) (r : Reading) (start : ℕ) (p q : Place) (b here : Behind) → p.line ≡ start → IsCharBoundary text start → IsPlaceOf text p
     → (IsCharBoundary text p.line → IsOrderedTo text f (line_or f p.line (offset p)) → OrderedBehind text r q.line (offset q) b) → b ≡ here → IsOrderedTo text f start → OrderedBehind text r q.line (offset q) here
 ordered_entered text f r start p q b here line boundary i opens is o =
     let a = ordered_at_place text f start p line boundary i o in
     subst (OrderedBehind text r q.line (offset q)) is (opens a.0 a.1)
 
--- an offset behind a line that begins before the text's end
+-- an offset after a line that begins before the text's end
 pub line_later : (text : List ℕ) (start far next : ℕ) → start < length text → far ≡ start + line_len (drop start text) → far ≤ next → IsCharBoundary text next → (start < next) × (next ≤ length text)
 line_later text start far next within ends later boundary =
     let line = line_len-within text start within in
@@ -115,7 +115,7 @@ ordered_item text r line start byte number columns low high boundary none o =
     let on = ordered_list_continued text r at start byte number below high boundary before in
     ordered_begun text (list_continued start byte number r) start start (ListItemBody columns) (omega arith) high boundary (ordered_tree text (list_continued start byte number r) start (list_continued_none start byte number r) on)
 
--- where a new block begins, behind what it ends: a list that is innermost, at the line's beginning or at the block's first byte
+-- where a new block begins, after what it ends: a list that is innermost, at the line's beginning or at the block's first byte
 pub ordered_finished : (text : List ℕ) (r : Reading) (line at e start : ℕ) → line ≤ at → at ≤ start → (e ≡ line) × IsCharBoundary text line ⊎ (e ≡ start) → start ≤ length text → IsCharBoundary text start → r.empty_item ≡ None
     → IsOrderedTo text r.tree (line_or r.tree line at) → IsOrderedTo text (list_finished e r).tree start
 unfolding item_finished
@@ -138,7 +138,7 @@ pub ordered_quote : (text : List ℕ) (r : Reading) (line at start : ℕ) (kind 
 ordered_quote text r line at start kind low mid high first boundary none o =
     ordered_begun text (list_finished line r) start start (BlockQuoteBody kind) (omega arith) high boundary (ordered_finished text r line at line start low mid (inl (refl, first)) high boundary none o)
 
--- a task list item marker stands behind an item's own
+-- a task list item marker stands after an item's own
 mark_by : (text : List ℕ) (line : ℕ) (r : Rest) (o : Option (Bool × Rest)) (from : ℕ) (x : Item) → IsUtf8 text → ((task : Bool × Rest) → o ≡ Some task → task_of r ≡ Some task) → IsPlaceOf text (place_at line r) → from ≤ offset (place_at line r)
     → (task_by line r o).0 ≡ Some x → StandsBefore text from (offset (place_at line (task_by line r o).1)) (Some x)
 mark_by text line r None from x u h i low is = cc
@@ -155,7 +155,7 @@ mark_stands text options line r s from marker x u i low is rest some =
     subst (λ (z : Rest). StandsBefore text from (offset (place_at line z)) (Some x)) (sym rest)
     (mark_by text line r (if has options 16 then task_of r else None) from x u (λ task h. option_on (has options 16) (task_of r) task h) i low (sym is ∙ some))
 
--- an item with something behind its markers
+-- an item with something after its markers
 pub ordered_container : (text : List ℕ) (q : Reading) (line start at : ℕ) (marker : Option Item) → is_list (top_body q.tree) ≡ false → start ≤ at → at ≤ length text → IsOrderedTo text q.tree start
     → ((x : Item) → marker ≡ Some x → StandsBefore text start at (Some x)) → OrderedIn text q line at (task_text marker)
 ordered_container text q line start at None none low high o stands = ordered_on text q.tree line start at none low high o
@@ -168,7 +168,7 @@ marked_by text f start at next (Some x) low mid high o stands =
     let e = b.before in
     ordered_appended text f start next x (record { behind = b.behind; order = b.order; before = omega arith; starts = b.starts; ends = b.ends }) high o
 
--- one with nothing behind them
+-- one with nothing after them
 pub ordered_empty_item : (text : List ℕ) (start at next columns : ℕ) (r : Reading) (marker : Option Item) (blank : Bool) → start ≤ next → at ≤ next → next ≤ length text → IsCharBoundary text next
     → IsOrderedTo text (begun start (ListItemBody columns) r).tree start → ((x : Item) → marker ≡ Some x → StandsBefore text start at (Some x))
     → IsOrderedAt text (remembered (with_child (begun start (ListItemBody columns) r).tree marker) (Some next) blank) next
@@ -197,7 +197,7 @@ stands_earlier : (text : List ℕ) (a b to : ℕ) (marker : Option Item) → a �
 stands_earlier text a b to None low h = (let t : b ≤ to = h in omega arith)
 stands_earlier text a b to (Some x) low h = (let m : b ≤ x.start = h.1.behind in (h.0, record { behind = omega arith; order = h.1.order; before = h.1.before; starts = h.1.starts; ends = h.1.ends }))
 
--- the same for a paragraph, behind a task list item marker or not
+-- the same for a paragraph, after a task list item marker or not
 pub text_ordered : (text : List ℕ) (old new : Reading) (at start next : ℕ) (marker : Option Item) → IsOrderedAt text old at → StandsBefore text at start marker
     → ((from : ℕ) → StandsBefore text from start marker → AddsBetween text from next old.tree new.tree) → next ≤ length text → new.empty_item ≡ None → IsOrderedAt text new next
 text_ordered text old new at start next marker o stands fits within none =
@@ -229,6 +229,6 @@ pub ordered_leaf : (text : List ℕ) (r new : Reading) (line at e start next : �
 ordered_leaf text r new line at e start next low mid which high boundary none o adds fits none' =
     ordered_block text (list_finished e r).tree new start next adds fits none' (ordered_finished text r line at e start low mid which high boundary none o)
 
--- the place behind the columns of another
+-- the place after the columns of another
 pub unindented_later : (text : List ℕ) (line : ℕ) (r : Rest) → IsUtf8 text → IsPlaceOf text (place_at line r) → offset (place_at line r) ≤ offset (unindented (place_at line r))
 unindented_later text line r u i = offset_later text line r (all_taken r) i (all_keep text line r u i) (columns_shorter (indent r) r)

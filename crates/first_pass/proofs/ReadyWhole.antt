@@ -48,7 +48,7 @@ all_silent nodes [] (frame ∷ frames) o = absurd o
 all_silent nodes (ix ∷ spine) [] o = absurd o
 all_silent nodes (ix ∷ spine) (frame ∷ frames) o = (open_silent nodes ix.0 frame o.0, all_silent nodes spine frames o.1)
 
--- under names that go on with the present ones
+-- under names that continue the present ones
 abbrev IsWholeOnce : Names → List (ℕ × Item) → Type 0
 IsWholeOnce names nodes = (more : Names) × Extends more names × AreWholeTables more nodes
 

@@ -29,12 +29,12 @@ row_count text old new from ix None same adds apart =
     omega arith
 row_count text old new from ix (Some (stop, place)) same adds apart = block_count text from stop old new adds apart
 
--- the tree with nodes below the innermost open one, which is closed behind them
+-- the tree with nodes below the innermost open one, which is closed after them
 closed_is : (text : List ℕ) (old new : Forest Item) (from next : ℕ) (ix : TreeIndex) (pushed : IsJustPushed old ix) (c : ClosesBetween text from next old new)
     → new ≡ closed_by (with_below old c.items) next (ix ∷ pushed.rest)
 closed_is text old new from next ix pushed c = c.tree_is ∙ ap (closed_by (with_below old c.items) next) pushed.innermost
 
--- the rows of a table added, and the table closed behind them
+-- the rows of a table added, and the table closed after them
 pub rows_ordered : (text : List ℕ) (old new : Forest Item) (at next : ℕ) (ix : TreeIndex) → IsJustPushed old ix → IsCharBoundary text next
     → ClosesBetween text at next old new → IsOrderedTo text old at → IsOrderedTo text new next
 rows_ordered text old new at next ix pushed ends c o =

@@ -41,7 +41,7 @@ last_is_end : (bs : List ℕ) (n : ℕ) → line_len bs ≡ suc n → suc n < le
 last_is_end [] n is more = absurd (omega arith)
 last_is_end (b ∷ bs) n is more = last_by b bs n (ends_line b bs) refl (sym (line_len-step b bs) ∙ is) (omega arith) (λ m here further. last_is_end bs m here further)
 
--- of lines that begin behind an offset none is left out
+-- of lines that begin after an offset none is left out
 kept_by : (e l : ℕ) (line : Place) (lines : List Place) (t : Bool) → t ≡ false → (if t then lines_beyond e lines else line ∷ lines) ≡ line ∷ lines
 kept_by e l line lines t is = rw is refl
 
@@ -100,7 +100,7 @@ lines_on (suc fuel) text a e few less within no_end =
           (kept_lines text e (a + line_len (drop a text)) past ∙ ap (lines_from text) same, omega arith))
     ]
 
--- The lines behind a definition that begins and ends at two offsets: those behind the line in which it ends.
+-- The lines after a definition that begins and ends at two offsets: those after the line in which it ends.
 pub lines_behind_it : (text : List ℕ) (p : Place) (e : ℕ) → IsPlaceOf text p → offset p < e → e ≤ length text → is_line_end (slice_index text (e - 1)) ≡ false
     → (lines_beyond e (lines_from text (line_end p)) ≡ lines_from text (e + line_len (drop e text))) × (line_end p ≤ e + line_len (drop e text))
 lines_behind_it text p e i less within no_end =
@@ -138,19 +138,19 @@ pub record IsOneMore (text : List ℕ) (around : Context) (nested : Bool) (q : P
   pub ends : entry.«end» ≡ e
   pub defined : nested ≡ false → now ≡ told before (entry ∷ [])
 
--- the line behind it, from the front of which the next one is read
+-- the line after it, from the front of which the next one is read
 abbrev pub text_at : List ℕ → List Container → ℕ → Place
 text_at text path next = unindented (place_at next (front path (line_rest (drop next text))))
 
 told_more : (before mid now : Tables) (a : List LinkEntry) (x : LinkEntry) → mid ≡ told before a → now ≡ told mid (x ∷ []) → now ≡ told before (a ++ x ∷ [])
 told_more before mid now a x h k = k ∙ ap (λ t. told t (x ∷ [])) h ∙ told-append before a (x ∷ [])
 
--- the lines behind it, where its end is said by its entry
+-- the lines after it, where its end is said by its entry
 behind_entry : (text : List ℕ) (q : Place) (e : ℕ) (x : LinkEntry) → x.«end» ≡ e → lines_beyond e (lines_from text (line_end q)) ≡ lines_from text (e + line_len (drop e text))
     → lines_beyond x.«end» (lines_from text (line_end q)) ≡ lines_from text (e + line_len (drop e text))
 behind_entry text q e x is lines = ap (λ n. lines_beyond n (lines_from text (line_end q))) is ∙ lines
 
--- One definition more, behind which the line goes on with the run.
+-- One definition more, after which the line continues the run.
 pub run_goes_on : (text : List ℕ) (around : Context) (nested : Bool) (p q : Place) (e next : ℕ) (before mid now : Tables) → IsUtf8 text → next ≡ e + line_len (drop e text) → next < length text
     → (ends_tag around (line_rest (drop next text)) || is_blank_rest (all_taken (front around.path (line_rest (drop next text))))) ≡ false
     → RunSoFar text around nested p q before mid → IsOneMore text around nested q e mid now → RunSoFar text around nested p (text_at text around.path next) before now
@@ -181,7 +181,7 @@ run_goes_on text around nested p q e next before mid now u at within goes r one 
           (one.here plain, inr (line, left, lines, goes, subst (λ n. IsRun around (text_at text around.path next) (lines_from text n) further beyond) there.1 run)));
     }
 
--- One definition more, behind which the run ends.
+-- One definition more, after which the run ends.
 run_ends_by : (around : Context) (text : List ℕ) (next : ℕ)
     → (next < length text → (ends_tag around (line_rest (drop next text)) || is_blank_rest (all_taken (front around.path (line_rest (drop next text))))) ≡ true) → ends_run around (lines_from text next) ≡ true
 run_ends_by around text next ends =

@@ -62,7 +62,7 @@ pub ready_plain : (d : Document) (defined : Tables) (r : Reading) (lines : List 
 unfolding Ready
 ready_plain d defined r lines none ready = subst (λ o. ReadyWith d defined r lines o) (sym none) ready
 
--- an item that takes blank lines alone goes on with each line
+-- an item that takes blank lines alone continues each line
 zero_prefix : (q : Rest) → prefix (ListItem 0) q ≡ Some q
 unfolding prefix
 zero_prefix q = let t : nat_le 0 (indent q) ≡ true = grind (arith, nat_tests) in rw t refl
@@ -75,7 +75,7 @@ pub after_zero : (path : List Container) (r : Rest) → after (ListItem 0 ∷ pa
 unfolding after
 after_zero path r = zero_by (after path r)
 
--- where the next line doesn't go on with a path it isn't blank behind it
+-- where the next line doesn't continue a path it isn't blank after it
 not_blank : (path : List Container) (lines : List Place) → Ends path Line lines → next_is_blank path lines ≡ false
 not_blank path [] ends = refl
 not_blank path (line ∷ lines) ends = ap is_blank_behind ends

@@ -1,4 +1,4 @@
--- A block quote with a tag: what it ends and counts, and the line behind it.
+-- A block quote with a tag: what it ends and counts, and the line after it.
 use Rattle.std.proofs.Common.{◌≡◌, inl, inr, ℕ, ◌+◌, nat_lt, ◌&&◌, Bool, true, false, List, [], ◌∷◌, length, drop, slice_get, Option, Some, None, is_some, refl, sym, ap, subst, ◌∙◌, if◌then◌else◌}
 use Rattle.std.proofs.lemmas.Bool.{cases_lt}
 use Rattle.std.specs.Option.{option_and_then}
@@ -66,7 +66,7 @@ tag_by : (around : Context) (line : Place) (lines : List Place) (t : Bool) → e
     → behind_tag around (line ∷ lines) ≡ (if t then (Line, line ∷ lines) else (At (unindented (at_rest line (front around.path line.rest))) ALeafAlone, lines))
 tag_by around line lines t is = rw is refl
 
--- where blocks go on behind its tag, at the line that begins at an offset
+-- where blocks continue after its tag, at the line that begins at an offset
 tag_line : (around : Context) (text : List ℕ) (at : ℕ) (t : Bool) → ends_tag around (line_rest (drop at text)) ≡ t
     → (let lines : List Place = lines_from text at in
     behind_tag around lines ≡ (if t then (Line, lines) else (At (unindented (place_at at (front around.path (line_rest (drop at text))))) ALeafAlone, lines_from text (at + line_len (drop at text)))))
@@ -78,7 +78,7 @@ tag_line around text at t is =
           ap (behind_tag around) none ∙ ap (λ z. (Line, z)) (sym none) ∙ ap (λ u. if u then (Line, lines_from text at) else (At (unindented (place_at at (front around.path (line_rest (drop at text))))) ALeafAlone, lines_from text (at + line_len (drop at text)))) (sym over))
     ]
 
--- the line behind its tag, which is read as any other
+-- the line after its tag, which is read as any other
 pub ready_any_line : (d : Document) (defined : Tables) (r : Reading) (at : ℕ) → ends_tag (context_of d.options r.tree) (line_rest (drop at d.text)) ≡ true → r.empty_item ≡ None → ReadyTagged d defined r (lines_from d.text at) → Ready d defined r (lines_from d.text at)
 ready_any_line d defined r at is none tagged =
     let lines : List Place = lines_from d.text at in

@@ -99,12 +99,12 @@ later_than : (text : List ℕ) (p q : Place) → offset p ≤ offset (unindented
 later_than text p q mid (inl (same, low)) = omega arith
 later_than text p q mid (inr (low, there)) = (let ends = place_before_end (unindented p) in omega arith)
 
--- where the lines behind a place begin that is read behind its columns
+-- where the lines after a place begin that is read after its columns
 run_from : (text : List ℕ) (around : Context) (p : Place) (xs : List LinkEntry) (b : Beyond)
     → IsRun around (unindented p) (lines_from text (line_end (unindented p))) xs b → IsRun around (unindented p) (lines_from text (line_end p)) xs b
 run_from text around p xs b run = subst (λ n. IsRun around (unindented p) (lines_from text n) xs b) (columns_line_end (indent p.rest) p) run
 
--- link definitions with no paragraph behind them
+-- link definitions with no paragraph after them
 pub run_line : (old mid new : FirstPass) (p : Place) (nested : Bool) (line next : ℕ) → IsUtf8 (source_text old) → IsPlaceOf (source_text old) p → (reading_of old).empty_item ≡ None → IsForest (tree_of old) → IsKind (source_options old) p.rest Paragraph
     → nested ≡ in_table (tree_of old).nodes (tree_of old).spine → source_of mid ≡ source_of old → names_of (allocs_of mid) ≡ names_of (allocs_of old)
     → (AreWritten (source_text old) (refdefs_of (allocs_of old)) → AreWritten (source_text old) (refdefs_of (allocs_of mid)))

@@ -32,7 +32,7 @@ use Rattle.first_pass_text.proofs.OrderPlain.{cut_marker, kept_place, marked_end
 use Rattle.first_pass.specs.Ordered.{HoldsText}
 use Rattle.first_pass.proofs.OrderLemmas.{ordered_appended, ordered_later, ordered_same, extents-body}
 
--- a chain behind
+-- a chain after
 chain_ordered : (text : List ℕ) (f : Forest Item) (from to : ℕ) (chain : List Item) → AreInOrder text from to chain → to ≤ length text → IsOrderedTo text f from
     → IsOrderedTo text (chained f chain) to
 chain_ordered text f from to [] h high o = ordered_later text f from to h high o

@@ -23,7 +23,7 @@ pub record AddsKind (d : Document) (p : Place) (kind : Kind) (gap : Bool) (old n
       → OpensAs (document d.text d.options more) (path_of d.options old) p (lines_from d.text (line_end p)) kind (OpensLeaf (leaf_block kind p items gap) Line (lines_from d.text next))
 
 -- A pass added such a block: it reads the same text, what was named keeps its name, no entry of a table changed, and no item is empty. The nodes of the
--- block lie behind any offset before the place, and reading goes on at an offset behind the line of the place, between characters.
+-- block lie after any offset before the place, and reading continues at an offset after the line of the place, between characters.
 pub record AddsLeaf (old new : FirstPass) (p : Place) (kind : Kind) (next : ℕ) : Type 0 where
   pub source : source_of new ≡ source_of old
   pub names : Extends (names_of (allocs_of new)) (names_of (allocs_of old))

@@ -29,26 +29,26 @@ content_upto pass start end row = record {
   braces = braces_of pass;
 }
 
--- the tokens of the line are appended, texts that they name are named after the others, and it is answered where it ends and its break
+-- the tokens of the line are appended, texts that they name are named after the others, and the call returns where it ends and its break
 -- (CommonMark 2.4, 2.5, 6.7, 6.8)
 pub record ReadsLine (old new : FirstPass) (start : ℕ) (end : Option ℕ) (answer : ℕ × Option Item) : Type 0 where
   pub line : AppendsLine (names_of (allocs_of new)).texts (content_upto old start end false) (tree_of old) (tree_of new) answer (braces_of new)
   pub ends : EndsLine (content_upto old start end false) answer
   pub names : AddsTexts (names_of (allocs_of new)) (names_of (allocs_of old))
 
--- the tokens of the cell are appended, texts that they name are named after the others, and it is answered where its content ends (GFM 4.10)
+-- the tokens of the cell are appended, texts that they name are named after the others, and the call returns where its content ends (GFM 4.10)
 pub record ReadsCell (old new : FirstPass) (start : ℕ) (end : Option ℕ) (stop : ℕ) : Type 0 where
   pub cell : AppendsCell (names_of (allocs_of new)).texts (content_upto old start end true) (tree_of old) (tree_of new) stop (braces_of new)
   pub ends : EndsCell (content_upto old start end true) stop
   pub names : AddsTexts (names_of (allocs_of new)) (names_of (allocs_of old))
 
--- a table's node from the end of its header row's content up to behind its delimiter row (GFM 4.10)
+-- a table's node from the end of its header row's content up to after its delimiter row (GFM 4.10)
 abbrev pub table_between : List ℕ → ℕ → AlignmentIndex → Item
 table_between text start ix =
     record { start = start + prefix_len is_content (drop start text); «end» = line_end_at text (line_end_at text start); body = Table ix }
 
--- The tokens of a table's header row are appended, as a line's; the alignments of its columns are named, and the texts that its tokens name, and it is answered
--- where its delimiter row ends, and the table (GFM 4.10).
+-- The tokens of a table's header row are appended, as a line's; the alignments of its columns are named, and the texts that its tokens name, and it is
+-- returned where its delimiter row ends, and the table (GFM 4.10).
 pub record ReadsHead (old new : FirstPass) (start : ℕ) (end : Option ℕ) (alignments : List Alignment) (answer : ℕ × Option Item) : Type 0 where
   pub index : AlignmentIndex
   pub index_is : index.0 ≡ length (names_of (allocs_of old)).alignments

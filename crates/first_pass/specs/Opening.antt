@@ -31,14 +31,14 @@ pub record ReadyText (d : Document) (defined : Tables) (r : Reading) (marker : I
   pub ready : ReadyAt d defined r.tree false (At p (TextOf marker)) lines
   pub plain : IsPlain ready.frames
 
--- a block quote with a tag is innermost, before blocks go on with these lines
+-- a block quote with a tag is innermost, before blocks continue these lines
 pub record ReadyInQuote (d : Document) (defined : Tables) (r : Reading) (from : From) (lines : List Place) : Type 0 where
   pub kind : Option BlockQuoteKind
   pub quote : top_body r.tree ≡ Some (BlockQuoteBody kind)
   pub blank : r.blank ≡ false
   pub ready : ReadyAt d defined r.tree false from lines
 
--- before the line behind its tag
+-- before the line after its tag
 abbrev pub ReadyTagged : Document → Tables → Reading → List Place → Type 0
 ReadyTagged d defined r lines = ReadyInQuote d defined r (behind_tag (context_of d.options r.tree) lines).0 (behind_tag (context_of d.options r.tree) lines).1
 
@@ -46,11 +46,11 @@ ReadyTagged d defined r lines = ReadyInQuote d defined r (behind_tag (context_of
 abbrev pub ReadyLazy : Document → Tables → Reading → Place → List Place → Type 0
 ReadyLazy d defined r p lines = ReadyInQuote d defined r (At p ALeafAlone) lines
 
--- a leaf is at a place in a line, where no container begins or behind the tag of a block quote
+-- a leaf is at a place in a line, where no container begins or after the tag of a block quote
 abbrev pub ReadyLeaf : Document → Tables → Reading → Place → List Place → Type 0
 ReadyLeaf d defined r p lines = ((item_at p.rest ≡ None) × (prefix (BlockQuote None) p.rest ≡ None) × ReadyAt d defined r.tree r.blank (Inside p) lines) ⊎ ReadyLazy d defined r p lines
 
--- behind the containers no other begins, nor an empty item; the marker of a task stands in an item; or the whole line is taken, in an item
+-- after the containers no other begins, nor an empty item; the marker of a task stands in an item; or the whole line is taken, in an item
 -- or a block quote
 abbrev pub IsBehind : Behind → Reading → Rest → ℕ → Type 0
 IsBehind BehindLeaf q r e = (item_at r ≡ None) × (prefix (BlockQuote None) r ≡ None) × (q.empty_item ≡ None)
@@ -67,19 +67,19 @@ abbrev pub task_text : Option Item → Option Behind
 task_text None = None
 task_text (Some marker) = Some (TaskText marker)
 
--- a container was opened, and a part of the line taken; or it is known what is behind the containers
+-- a container was opened, and a part of the line taken; or it is known what is after the containers
 abbrev pub IsOpenedAt : Option Behind → Reading → Rest → Rest → ℕ → Type 0
 IsOpenedAt None q old new e = (length new.left < length old.left) × (q.empty_item ≡ None)
 IsOpenedAt (Some behind) q old new e = IsBehind behind q new e
 
--- what the pass remembers goes on at a place in the line, or behind the line, which ends at an offset
+-- what the pass remembers continues at a place in the line, or after the line, which ends at an offset
 abbrev pub ReadyBehind : Document → Tables → Reading → Place → ℕ → Behind → Type 0
 ReadyBehind d defined r p e BehindLeaf = ReadyAt d defined r.tree r.blank (Inside p) (lines_from d.text e)
 ReadyBehind d defined r p e (TaskText marker) = ReadyText d defined r marker p (lines_from d.text e)
 ReadyBehind d defined r p e (NextLine next) = Ready d defined r (lines_from d.text next)
 ReadyBehind d defined r p e (Tag next) = ReadyTagged d defined r (lines_from d.text next)
 
--- the same where a container was opened, or it is known what is behind the containers
+-- the same where a container was opened, or it is known what is after the containers
 abbrev pub ReadyIn : Document → Tables → Reading → Place → ℕ → Option Behind → Type 0
 ReadyIn d defined r p e None = ReadyAt d defined r.tree r.blank (Inside p) (lines_from d.text e)
 ReadyIn d defined r p e (Some behind) = ReadyBehind d defined r p e behind
@@ -88,20 +88,20 @@ ReadyIn d defined r p e (Some behind) = ReadyBehind d defined r p e behind
 abbrev pub line_or : Forest Item → ℕ → ℕ → ℕ
 line_or f line at = if is_list (top_body f) then line else at
 
--- a task list item marker stands in what is innermost before an offset, and nothing else is behind it
+-- a task list item marker stands in what is innermost before an offset, and nothing else is after it
 pub record OrderedText (text : List ℕ) (f : Forest Item) (marker : Item) (at : ℕ) : Type 0 where
   pub from : ℕ
   pub ordered : IsOrderedTo text f from
   pub stands : StandsBefore text from at (Some marker)
 
--- how far what the pass remembers is in order, in a line that begins at an offset and whose reading has come to another, or behind it
+-- how far what the pass remembers is in order, in a line that begins at an offset and whose reading has come to another, or after it
 abbrev pub OrderedBehind : List ℕ → Reading → ℕ → ℕ → Behind → Type 0
 OrderedBehind text r line at BehindLeaf = IsOrderedTo text r.tree (line_or r.tree line at)
 OrderedBehind text r line at (TaskText marker) = OrderedText text r.tree marker at
 OrderedBehind text r line at (NextLine next) = IsOrderedAt text r next
 OrderedBehind text r line at (Tag next) = IsOrderedTo text r.tree next
 
--- the same where a container was opened, or it is known what is behind the containers
+-- the same where a container was opened, or it is known what is after the containers
 abbrev pub OrderedIn : List ℕ → Reading → ℕ → ℕ → Option Behind → Type 0
 OrderedIn text r line at None = IsOrderedTo text r.tree (line_or r.tree line at)
 OrderedIn text r line at (Some behind) = OrderedBehind text r line at behind
@@ -114,14 +114,14 @@ pub record GrowsText (text : List ℕ) (line : ℕ) (old new : List (ℕ × Item
   pub stands : StandsBefore text from at (Some marker)
   pub before : from < at
 
--- how many more nodes there are, in a line that begins at an offset and whose reading has come to another, or behind it
+-- how many more nodes there are, in a line that begins at an offset and whose reading has come to another, or after it
 abbrev pub GrowsBehind : List ℕ → ℕ → List (ℕ × Item) → List (ℕ × Item) → ℕ → Behind → Type 0
 GrowsBehind text line old new at BehindLeaf = GrowsBy line at old new
 GrowsBehind text line old new at (TaskText marker) = GrowsText text line old new marker at
 GrowsBehind text line old new at (NextLine next) = GrowsBy line next old new
 GrowsBehind text line old new at (Tag next) = GrowsBy line next old new
 
--- the same where a container was opened, or it is known what is behind the containers
+-- the same where a container was opened, or it is known what is after the containers
 abbrev pub GrowsIn : List ℕ → ℕ → List (ℕ × Item) → List (ℕ × Item) → ℕ → Option Behind → Type 0
 GrowsIn text line old new at None = GrowsBy line at old new
 GrowsIn text line old new at (Some behind) = GrowsBehind text line old new at behind

@@ -27,15 +27,15 @@ abbrev pub reached : Option ℕ → ℕ → ℕ
 reached None at = at
 reached (Some e) at = e
 
--- The tree is in order up to an offset at which reading goes on; an item that is empty is innermost, and nothing is behind the line of its marker.
+-- The tree is in order up to an offset at which reading continues; an item that is empty is innermost, and nothing is after the line of its marker.
 pub record IsOrderedAt (text : List ℕ) (r : Reading) (at : ℕ) : Type 0 where
   pub ordered : IsOrderedTo text r.tree (reached r.empty_item at)
   pub later : reached r.empty_item at ≤ at
   pub within : at ≤ length text
   pub innermost : (e : ℕ) → r.empty_item ≡ Some e → (is_item (top_body r.tree) ≡ true) × IsCharBoundary text e
 
--- At an offset at which reading goes on a line begins that is blank behind what the open containers take of it, and the tree is in order up to there: an
--- HTML block that a blank line stops ends behind their prefixes (CommonMark 4.6, and this project).
+-- At an offset at which reading continues a line begins that is blank after what the open containers take of it, and the tree is in order up to there: an
+-- HTML block that a blank line stops ends after their prefixes (CommonMark 4.6, and this project).
 pub record IsHandedOn (options : Options) (text : List ℕ) (r : Reading) (at : ℕ) : Type 0 where
   pub rest : Rest
   pub within : at < length text
@@ -44,16 +44,16 @@ pub record IsHandedOn (options : Options) (text : List ℕ) (r : Reading) (at : 
   pub none : r.empty_item ≡ None
   pub ordered : IsOrderedTo text r.tree (offset (place_at at rest))
 
--- what the pass remembers is in order up to an offset at which reading goes on, or a blank line is handed on there
+-- what the pass remembers is in order up to an offset at which reading continues, or a blank line is handed on there
 abbrev pub IsOrderedFrom : Options → List ℕ → Reading → ℕ → Type 0
 IsOrderedFrom options text r at = IsOrderedAt text r at ⊎ IsHandedOn options text r at
 
--- where reading goes on behind the row of a table: at its end, or at an offset where there is none (this project)
+-- where reading continues after the row of a table: at its end, or at an offset where there is none (this project)
 abbrev pub behind_row : Option (ℕ × TreeIndex) → ℕ → ℕ
 behind_row None at = at
 behind_row (Some row) at = row.0
 
--- The chain of a text's lines stands in a paragraph that is open, behind the marker of its task list item, if it has one, and the tree is in order up to the
+-- The chain of a text's lines stands in a paragraph that is open, after the marker of its task list item, if it has one, and the tree is in order up to the
 -- text (CommonMark 4.8, GFM 5.3).
 pub record HoldsText (d : Document) (f : Forest Item) (block : TreeIndex) (l : TextLines) : Type 0 where
   pub before : Forest Item

@@ -9,7 +9,7 @@ use Rattle.first_pass_grammar.specs.Completion.{lines_from}
 use Rattle.first_pass.specs.declared.definition.RunEnd.{RunEnd}
 use Rattle.first_pass.specs.declared.definition.RunEnd.TheVariants.{NextLine, Paragraph}
 
--- a place is in the same line as another and not before it, or in a line behind
+-- a place is in the same line as another and not before it, or in a line after
 abbrev pub IsLater : List ℕ → Place → Place → Type 0
 IsLater text p q = ((q.line ≡ p.line) × (offset p ≤ offset q)) ⊎ ((line_end p ≤ q.line) × IsCharBoundary text q.line)
 
@@ -24,12 +24,12 @@ pub record RunSoFar (text : List ℕ) (around : Context) (nested : Bool) (p q : 
   pub goes_on : nested ≡ false → (more : List LinkEntry) (beyond : Beyond)
       → IsRun around q (lines_from text (line_end q)) more beyond → IsRun around p (lines_from text (line_end p)) (definitions ++ more) beyond
 
--- what stands behind the definitions, the last of which or the text behind which begins at a place
+-- what stands after the definitions, the last of which or the text after which begins at a place
 abbrev pub beyond_of : List ℕ → Place → RunEnd → Beyond
 beyond_of text q (NextLine line next) = Ended q (lines_from text next)
 beyond_of text q (Paragraph at) = FlowsOn q (lines_from text (line_end q))
 
--- it is answered where the line of the last definition begins and the next line; or where the text begins
+-- the call returns where the line of the last definition begins and the next line; or where the text begins
 abbrev pub SaysEnd : List ℕ → Place → RunEnd → Type 0
 SaysEnd text q (NextLine line next) = (line ≡ q.line) × (line_end q ≤ next) × IsCharBoundary text next
 SaysEnd text q (Paragraph at) = at ≡ offset q

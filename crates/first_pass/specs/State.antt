@@ -51,7 +51,7 @@ abbrev pub ReadyBeforeLine : Document → Tables → Forest Item → ℕ → Lis
 ReadyBeforeLine d defined tree e lines true = ReadyAt d defined (emptied tree tree.spine) false (Blanks e) lines
 ReadyBeforeLine d defined tree e lines false = ReadyAt d defined tree false Line lines
 
--- the same where a blank line behind that marker's line is read already, or isn't yet
+-- the same where a blank line after that marker's line is read already, or isn't yet
 abbrev pub ReadyInItem : Document → Tables → Forest Item → ℕ → List Place → Bool → Type 0
 ReadyInItem d defined tree e lines true = ReadyAt d defined tree true (Blanks e) lines
 ReadyInItem d defined tree e lines false = ReadyBeforeLine d defined tree e lines (next_is_blank (path_of d.options tree) lines)
@@ -70,7 +70,7 @@ abbrev pub ReadyWith : Document → Tables → Reading → List Place → Option
 ReadyWith d defined r lines None = ReadyAt d defined r.tree r.blank Line lines
 ReadyWith d defined r lines (Some e) = ReadyEmpty d defined r e lines
 
--- what the pass remembers begins a derivation of the text that goes on with these lines
+-- what the pass remembers begins a derivation of the text that continues these lines
 unfoldable pub Ready : Document → Tables → Reading → List Place → Type 0
 Ready d defined r lines = ReadyWith d defined r lines r.empty_item
 
@@ -78,6 +78,6 @@ Ready d defined r lines = ReadyWith d defined r lines r.empty_item
 abbrev pub StaysReady : Document → Tables → Reading → List Place → Type 0
 StaysReady d defined r lines = (more : Names) → Extends more d.names → Ready (document d.text d.options more) defined r lines
 
--- no more than so many of the open nodes go on with the first of these lines
+-- no more than so many of the open nodes continue the first of these lines
 abbrev pub NoMore : Options → Forest Item → ℕ → List Place → Type 0
 NoMore options f kept lines = (m : ℕ) → kept < m → m ≤ length f.spine → Ends (path_in options f.nodes (outer m f.spine)) Line lines

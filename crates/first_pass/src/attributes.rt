@@ -27,9 +27,9 @@ use std::alloc::AllocError;
 
 impl<'a> FirstPass<'a> {
     /// Where the content of a heading ends whose text goes from the offset `header_start` into the text up to
-    /// `header_end`, and its attributes: before its attribute block, behind the white space there, and what the
-    /// block gives. Without such a block, or where headings have none, the text's end and `None`; a text whose end lies
-    /// before its start is empty. The pass stays as it is. The error is want of memory (this project).
+    /// `header_end`, and its attributes: before its attribute block, after the white space there, and what the
+    /// block gives. Without such a block, or where headings have none, the text's end and `None`; a text whose end
+    /// lies before its start is empty. The pass stays as it is. The error is want of memory (this project).
     pub fn extract_and_parse_heading_attribute_block(
         &self,
         header_start: usize,
@@ -51,11 +51,11 @@ impl<'a> FirstPass<'a> {
         Ok(answer)
     }
 
-    /// Makes the paragraph `node_ix`, the innermost open node, in which the chain of its lines stands, a heading of the
-    /// level of the underline that begins at the offset `ix` into the text: the attribute block is cut off the chain,
-    /// up to the white space before it, or only up to its brace where a backslash breaks the last line
-    /// (`has_trailing_content`). The heading stays open, and the break behind its last line is not closed. Answers the
-    /// offset behind the underline's line; `None`, and nothing changes, where no underline begins at `ix`
+    /// Makes the paragraph `node_ix`, the innermost open node, in which the chain of its lines stands, a heading of
+    /// the level of the underline that begins at the offset `ix` into the text: the attribute block is cut off the
+    /// chain, up to the white space before it, or only up to its brace where a backslash breaks the last line
+    /// (`has_trailing_content`). The heading stays open, and the break after its last line is not closed. Returns the
+    /// offset after the underline's line; `None`, and nothing changes, where no underline begins at `ix`
     /// (CommonMark 4.3, and this project).
     ///
     /// No node is added. The error is want of memory.

@@ -1,4 +1,4 @@
-//! The open containers, and how far a line goes on with them (CommonMark 5).
+//! The open containers, and how far a line continues them (CommonMark 5).
 
 ghost use Rattle.std.specs.Prelude.{◌≡◌, ℕ, ◌+◌, ◌<◌, ◌≤◌, List, length, drop, Some, None, true, false, MatchOption, IfOk, IfSome, OnOk, IsUtf8, IsCharBoundary};
 ghost use Rattle.first_pass_lines.specs.Rest.{after_columns};
@@ -39,7 +39,7 @@ use first_pass_text::paragraph::append_item;
 use first_pass_tree::forest::Tree;
 use std::alloc::AllocError;
 
-// What is behind the containers that begin in a line.
+// What is after the containers that begin in a line.
 pub(crate) enum Behind {
     // A leaf block.
     Leaf,
@@ -74,8 +74,8 @@ pub(crate) fn close_containers(reading: &mut Reading, kept: usize, ix: usize)
     }
 }
 
-/// Closes the containers that the line doesn't go on with that begins at `start_ix`, and answers the place behind
-/// those that it goes on with; `None` where it is a blank line, which is read then.
+/// Closes the containers that the line doesn't continue that begins at `start_ix`, and returns the place after
+/// those that it continues; `None` where it is a blank line, which is read then.
 pub(crate) fn enter_line<'a>(
     reading: &mut Reading,
     source: Source<'a>,
@@ -120,8 +120,8 @@ pub(crate) fn enter_line<'a>(
     })
 }
 
-/// Opens the containers that begin at a place, one inside the other, takes their markers, and answers what is
-/// behind them (CommonMark 5).
+/// Opens the containers that begin at a place, one inside the other, takes their markers, and returns what is
+/// after them (CommonMark 5).
 pub(crate) fn open_containers<'a>(
     reading: &mut Reading,
     source: Source<'a>,
@@ -158,7 +158,7 @@ pub(crate) fn open_containers<'a>(
     }
 }
 
-// Opens the container that begins at a place, and takes its marker. Answers what is behind it, or what is at the
+// Opens the container that begins at a place, and takes its marker. Returns what is after it, or what is at the
 // place, if no container begins there; `None` where more of the line is left in the container.
 fn open_container<'a>(
     reading: &mut Reading,
@@ -216,7 +216,7 @@ fn open_container<'a>(
     Ok(Some(Behind::Leaf))
 }
 
-// The text of a task behind an item's marker, where it is a task.
+// The text of a task after an item's marker, where it is a task.
 fn behind_marker(marker: Option<Item>) -> Option<Behind>
     ensures { result ≡ task_text marker }
 {
@@ -236,7 +236,7 @@ fn scan_tag<'a>(options: Options, line_start: &LineStart<'a>) -> Option<BlockQuo
     line_start.copy().scan_blockquote_tag()
 }
 
-// Takes the task list item marker behind an item's own, where one is there and the option is on, and answers it; else
+// Takes the task list item marker after an item's own, where one is there and the option is on, and returns it; else
 // takes nothing.
 fn scan_task<'a>(source: Source<'a>, place: &mut Place<'a>) -> Option<Item>
     requires utf8 { IsUtf8 source.text.now }
@@ -259,7 +259,7 @@ fn scan_task<'a>(source: Source<'a>, place: &mut Place<'a>) -> Option<Item>
 }
 
 // Takes the list item marker here and the columns before it, where an item begins at under four columns, and
-// answers it; takes nothing where none does.
+// returns it; takes nothing where none does.
 #[tactic(auto, unfolding(first_pass_grammar::specs::Kinds::item_at))]
 fn scan_item<'a>(line_start: &mut LineStart<'a>) -> Option<ListMarker>
     ensures { MatchOption (item_at line_start.old) ((result ≡ None) × (line_start.new ≡ line_start.old))

@@ -25,7 +25,7 @@ use first_pass_labels::label_table::LinkDef;
 use first_pass_lines::places::{next_line, rest_of};
 use std::alloc::AllocError;
 
-/// What stands behind link definitions.
+/// What stands after link definitions.
 #[derive(Clone, Copy)]
 pub(crate) enum RunEnd {
     /// Nothing of their run: the last of them is in the line that begins at the first offset, and the next line begins
@@ -37,8 +37,8 @@ pub(crate) enum RunEnd {
 
 impl<'a> FirstPass<'a> {
     /// The link reference definition that begins at the offset `start` into the text: how many bytes it has, its label
-    /// and what it says. `None` where none begins. Nothing is read or changed: who takes it puts it into the table. The
-    /// error is want of memory, where its label or what is behind its colon asks for it as the calls below say, or
+    /// and what it says. `None` where none begins. Nothing is read or changed: who takes it puts it into the table.
+    /// The error is want of memory, where its label or what is after its colon asks for it as the calls below say, or
     /// where a definition stands here: its label is folded (CommonMark 4.7).
     #[inline(always)]
     pub fn parse_refdef_total(
@@ -63,11 +63,11 @@ impl<'a> FirstPass<'a> {
         reference::parse_refdef_total(self.alloc, self.source, &self.reading.tree, start)
     }
 
-    /// The label behind the `[` that stands before the offset `start` into the text: how many bytes it has from there
-    /// on, its `]` too, and its text, in which each run of white space is one space. It goes on over the lines that a
-    /// definition crosses, without what they have of the prefixes of the open containers. `None` where there is no
-    /// label; the error is want of memory, where the label has to be written since it is read otherwise than it stands,
-    /// or where no bracket ends it and some later line of the text may head a table (CommonMark 4.7).
+    /// The label after the `[` that stands before the offset `start` into the text: how many bytes it has from there
+    /// on, its `]` too, and its text, in which each run of white space is one space. It continues over the lines that
+    /// a definition crosses, without what they have of the prefixes of the open containers. `None` where there is no
+    /// label; the error is want of memory, where the label has to be written since it is read otherwise than it
+    /// stands, or where no bracket ends it and some later line of the text may head a table (CommonMark 4.7).
     pub fn parse_refdef_label(
         &self,
         start: usize,
@@ -88,11 +88,11 @@ impl<'a> FirstPass<'a> {
         label::parse_refdef_label(self.alloc, self.source, &self.reading.tree, start)
     }
 
-    /// What a definition has behind its colon, before the offset `start` into the text: white space, a destination, and
-    /// white space and a title or none. Answers how many bytes it has from `start` on, and the definition with its
-    /// destination and title unescaped, whose span begins at `span_start`. `None` where none stands there; the error is
-    /// want of memory, where the destination or the title is read otherwise than it stands, where a title has a line
-    /// end, or where behind a line end a line begins that may head a table (CommonMark 4.7).
+    /// What a definition has after its colon, before the offset `start` into the text: white space, a destination, and
+    /// white space and a title or none. Returns how many bytes it has from `start` on, and the definition with its
+    /// destination and title unescaped, whose span begins at `span_start`. `None` where none stands there; the error
+    /// is want of memory, where the destination or the title is read otherwise than it stands, where a title has a
+    /// line end, or where after a line end a line begins that may head a table (CommonMark 4.7).
     pub fn scan_refdef(
         &self,
         span_start: usize,
@@ -119,9 +119,9 @@ impl<'a> FirstPass<'a> {
     }
 
     /// The white space of a definition at the offset `i` into `bytes`, which are those of the whole text, with at most
-    /// one line end: the offset behind it, and how many line ends it has. Behind a line end it goes on where the
-    /// definition goes on in the next line. `None` where a second line end follows, or no such line; the error is
-    /// want of memory, where the line behind the first line end may head a table (CommonMark 4.7).
+    /// one line end: the offset after it, and how many line ends it has. After a line end it continues where the
+    /// definition continues in the next line. `None` where a second line end follows, or no such line; the error is
+    /// want of memory, where the line after the first line end may head a table (CommonMark 4.7).
     pub fn scan_refdef_space(
         &self,
         bytes: &[u8],
@@ -140,9 +140,9 @@ impl<'a> FirstPass<'a> {
     }
 
     /// The title that `text` begins with, all that the whole text has from a place on: how many bytes it has, what
-    /// begins and ends it too, and what stands between, not yet unescaped and with one `\n` for each line end. It goes
-    /// on over the lines that a definition crosses. `None` where there is none; the error is want of memory, where
-    /// behind the first line the title goes on, or a line begins that may head a table (CommonMark 4.7).
+    /// begins and ends it too, and what stands between, not yet unescaped and with one `\n` for each line end. It
+    /// continues over the lines that a definition crosses. `None` where there is none; the error is want of memory,
+    /// where after the first line the title continues, or a line begins that may head a table (CommonMark 4.7).
     pub fn scan_refdef_title<'t>(
         &self,
         text: &'t str,

@@ -20,10 +20,10 @@ use first_pass_text::table_start::interrupts_as_table;
 use std::alloc::AllocError;
 
 impl<'a> FirstPass<'a> {
-    /// Whether `text`, what is left of a line behind its indentation of under four columns and all that the whole text
-    /// has behind it, interrupts a paragraph inside the open containers: as `scan_paragraph_interrupt_no_table` says
+    /// Whether `text`, what is left of a line after its indentation of under four columns and all that the whole text
+    /// has after it, interrupts a paragraph inside the open containers: as `scan_paragraph_interrupt_no_table` says
     /// (CommonMark 4.8), or as a table does that the line heads, where it begins with a pipe (GFM 4.10).
-    /// `current_container` says whether the line goes on with all open containers, `tree_position` with how many. The
+    /// `current_container` says whether the line continues all open containers, `tree_position` with how many. The
     /// error is want of memory, where such a table may begin.
     pub fn scan_paragraph_interrupt(
         &self,
@@ -53,9 +53,9 @@ impl<'a> FirstPass<'a> {
         interrupts_as_table(self.alloc, options, &self.reading.tree, text.as_bytes())
     }
 
-    /// Enters the line that `bytes` begin with, all that the text has from the line on: a line that goes on with a
-    /// run of link reference definitions, whatever open containers it goes on with. Answers what is left of it behind
-    /// what it has of their prefixes and behind its columns. `None` where it ends the run: where behind the tag of a
+    /// Enters the line that `bytes` begin with, all that the text has from the line on: a line that continues a
+    /// run of link reference definitions, whatever open containers it continues. Returns what is left of it after
+    /// what it has of their prefixes and after its columns. `None` where it ends the run: where after the tag of a
     /// block quote it would be read as any other, and where what is left is blank, as at the text's end. Nothing is
     /// read or changed. The error is want of memory, where the line may head a table (CommonMark 4.7, 4.8, 5.1).
     pub fn scan_next_line_or_lazy_continuation<'input>(

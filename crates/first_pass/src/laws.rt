@@ -11,8 +11,8 @@ ghost use Rattle.first_pass_lists.specs.declared.reading.Reading.{Reading};
 ghost use Rattle.first_pass.specs.State.{StaysReady};
 ghost use Rattle.first_pass.specs.Completed.{IsCompleted};
 
-/// What is ready can be completed. Where what the pass remembers begins a derivation of the text that goes
-/// on with these lines and defines so much before, under the present names and under all that go on with them,
+/// What is ready can be completed. Where what the pass remembers begins a derivation of the text that continues
+/// these lines and defines so much before, under the present names and under all that continue them,
 /// there are blocks that its open containers take further, and with them its nodes become a tree that the text
 /// derives.
 pub fn ready_is_completed()
@@ -21,7 +21,7 @@ pub fn ready_is_completed()
 {}
 
 /// What is ready shows whole tables already. Where what the pass remembers begins a derivation of the text that
-/// goes on at an offset, under the present names and under all that go on with them, and each index that its
+/// continues at an offset, under the present names and under all that continue them, and each index that its
 /// nodes keep names an entry, rows and cells stand in tables alone, each row has as many cells as its table has
 /// columns, and of the cells of a table at most 262,144 are filled in.
 pub fn ready_is_whole()

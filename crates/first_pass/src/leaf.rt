@@ -22,8 +22,8 @@ use std::alloc::AllocError;
 impl<'a> FirstPass<'a> {
     /// Appends what stands for the text that begins at the offset `start_ix` into the text: the table that its first
     /// line heads, with tables; else a heading that is underlined, without its attribute block, or a paragraph, with
-    /// the marker of its task list item, if it has one, as its first child. Answers the offset at which the line begins
-    /// that is behind it, or the text's length (CommonMark 4.3, 4.8, GFM 4.10).
+    /// the marker of its task list item, if it has one, as its first child. Returns the offset at which the line
+    /// begins that is after it, or the text's length (CommonMark 4.3, 4.8, GFM 4.10).
     pub fn parse_paragraph(
         &mut self,
         start_ix: usize,
@@ -60,7 +60,7 @@ impl<'a> FirstPass<'a> {
     }
 
     /// Appends the ATX heading of this level that begins at the offset `start` into the text, without its attribute
-    /// block, and answers the offset at which its line ends (CommonMark 4.2).
+    /// block, and returns the offset at which its line ends (CommonMark 4.2).
     pub fn parse_atx_heading(
         &mut self,
         start: usize,
@@ -95,7 +95,7 @@ impl<'a> FirstPass<'a> {
     }
 
     /// Appends the thematic break of `hrule_size` bytes, its line end too, that begins at the offset `ix`
-    /// into the text, and answers the offset behind it (CommonMark 4.1).
+    /// into the text, and returns the offset after it (CommonMark 4.1).
     pub fn parse_hrule(&mut self, hrule_size: usize, ix: usize) -> Result<usize, AllocError>
         requires { ix + hrule_size ≤ length (source_text self.old) }
         ensures source { OnOk result (source_of self.new ≡ source_of self.old) }

@@ -24,15 +24,16 @@ impl<'a> FirstPass<'a> {
     /// Appends the tokens of a line, or of a cell in a table's row, to the innermost open node: the one whose content
     /// begins at the offset `start` into the text, of which nothing counts from the offset `end` on.
     ///
-    /// In mode `Disabled` it is a line's: answers the offset behind the line's end, and its break, which is not
+    /// In mode `Disabled` it is a line's: returns the offset after the line's end, and its break, which is not
     /// appended; `None` where the text ends without a line end (CommonMark 2.4, 6.7, 6.8). In mode `Active` it is a
-    /// cell's: answers the offset at which the content ends, at a pipe that is not escaped or with its line, and
-    /// `None` (GFM 4.10). In mode `Scan` it is a line's that may be a table's header row: where it is one, answers the
-    /// offset behind the delimiter row, and in the place of the break a `Table` with the columns' alignments, from
+    /// cell's: returns the offset at which the content ends, at a pipe that is not escaped or with its line, and
+    /// `None` (GFM 4.10). In mode `Scan` it is a line's that may be a table's header row: where it is one, returns the
+    /// offset after the delimiter row, and in the place of the break a `Table` with the columns' alignments, from
     /// the line's end up to there, which is not appended either; else as in mode `Disabled`.
     ///
-    /// The texts that tokens name are put after those that are named. The brace contexts are those that the call before
-    /// left, none in a new pass. At most one node is added for each byte that is read. The error is want of memory.
+    /// The texts that tokens name are put after those that are named. The brace contexts are those that the call
+    /// before left, none in a new pass. At most one node is added for each byte that is read. The error is want of
+    /// memory.
     pub fn parse_line(
         &mut self,
         start: usize,
@@ -71,7 +72,7 @@ impl<'a> FirstPass<'a> {
         }
     }
 
-    // Appends the tokens of a line; answers the offset behind its line end, and its break.
+    // Appends the tokens of a line; returns the offset after its line end, and its break.
     fn append_content(
         &mut self,
         start: usize,
@@ -112,7 +113,7 @@ impl<'a> FirstPass<'a> {
         Ok(line)
     }
 
-    // Appends the tokens of a cell; answers the offset at which its content ends.
+    // Appends the tokens of a cell; returns the offset at which its content ends.
     fn append_cell_content(&mut self, start: usize, end: Option<usize>) -> Result<usize, AllocError>
         requires start { start ≤ length (source_text self.old) }
         requires end { IfSome end (λ e. (start ≤ e) × (e ≤ length (source_text self.old))) }
@@ -145,7 +146,7 @@ impl<'a> FirstPass<'a> {
         Ok(stop)
     }
 
-    // Appends the tokens of a line that may be the header row of a table. Where it is one, answers the offset behind
+    // Appends the tokens of a line that may be the header row of a table. Where it is one, returns the offset after
     // the delimiter row, and the table from the line's end up to there; else as `append_content`.
     fn append_possible_head(
         &mut self,

@@ -1,4 +1,4 @@
-//! Lists and their items, as calls of the pass: how they go on, become loose and are closed (CommonMark 5.2, 5.3).
+//! Lists and their items, as calls of the pass: how they continue, become loose and are closed (CommonMark 5.2, 5.3).
 
 ghost use Rattle.std.specs.Prelude.{◌≡◌, ◌≤◌, ℕ, length, IsSome, IsCharBoundary, slice_get, OnOk};
 ghost use Rattle.first_pass_lists.specs.Closing.{popped, item_finished, list_finished, list_continued};
@@ -23,7 +23,7 @@ impl<'a> FirstPass<'a> {
         self.reading.pop(ix);
     }
 
-    /// Closes the innermost open node, if it is an item that began with two blank lines, behind the line of
+    /// Closes the innermost open node, if it is an item that began with two blank lines, after the line of
     /// its marker (CommonMark 5.2). No item is empty then.
     pub fn finish_empty_list_item(&mut self)
         ensures source { source_of self.new ≡ source_of self.old }
@@ -48,7 +48,7 @@ impl<'a> FirstPass<'a> {
         self.reading.finish_list(ix);
     }
 
-    /// Goes on with the list that is innermost, where its byte is `ch`: it is loose if a blank line stands
+    /// Continues the list that is innermost, where its byte is `ch`: it is loose if a blank line stands
     /// before. Else a list with that byte and the number `index` is opened at the offset `start`.
     pub fn continue_list(&mut self, start: usize, ch: u8, index: u64) -> Result<(), AllocError>
         ensures source { OnOk result (source_of self.new ≡ source_of self.old) }

@@ -67,8 +67,8 @@ impl<'a> FirstPass<'a> {
         ensures named { IfOk result (λ pass. AreNamed (names_of (allocs_of pass)) (tree_of pass).nodes) }
         ensures whole { IfOk result (λ pass. HasWholeTables (names_of (allocs_of pass)) (tree_of pass)) }
     {
-        // A guess at how many nodes the text will have: pages of it that are never reached cost nothing. It stays under
-        // 32 MiB, above which the C library maps such a block anew in each pass.
+        // A guess at how many nodes the text will have: pages of it that are never reached cost nothing. It stays
+        // under 32 MiB, above which the C library maps such a block anew in each pass.
         let capacity = max(128, (text.len() / 6).min(640_000));
         let mut tree = Tree::with_capacity(alloc, capacity)?;
         let root = tree.root();
@@ -89,15 +89,16 @@ impl<'a> FirstPass<'a> {
     }
 
     /// Reads the block that begins at the line's start `start_ix`, an offset into the text before its
-    /// end, and answers the offset at which the next line begins that is not read, or the text's length.
-    /// Open containers that the line doesn't go on with are closed, and those that begin in it are opened.
+    /// end, and returns the offset at which the next line begins that is not read, or the text's length.
+    /// Open containers that the line doesn't continue are closed, and those that begin in it are opened.
     ///
-    /// Where the nodes so far begin a derivation of the text that goes on at `start_ix`, they begin one
-    /// then that goes on at the answer. At most four nodes are added for each byte that is read, cells apart
+    /// Where the nodes so far begin a derivation of the text that continues at `start_ix`, they begin one
+    /// then that continues at the answer. At most four nodes are added for each byte that is read, cells apart
     /// that rows of tables are filled with.
     ///
     /// Where each link definition in the table is written in the text, each is so then: its label, its destination and
-    /// a title of one line are borrowed from the text where nothing in them changes (CommonMark 4.7, and this project).
+    /// a title of one line are borrowed from the text where nothing in them changes (CommonMark 4.7, and this
+    /// project).
     ///
     /// Where each index that they keep names an entry, and no row of a table is open, tables that are whole stay so:
     /// their rows stand one deeper, the cells of these two deeper, and none elsewhere; each row has as many cells as
@@ -149,8 +150,8 @@ impl<'a> FirstPass<'a> {
         }
     }
 
-    // Reads the line that begins at `start`, behind the tag of the block quote that is innermost, where it
-    // belongs to that quote; answers as `parse_block`, or `start` where the line is read as any other.
+    // Reads the line that begins at `start`, after the tag of the block quote that is innermost, where it
+    // belongs to that quote; returns as `parse_block`, or `start` where the line is read as any other.
     fn parse_tagged(&mut self, start: usize) -> Result<usize, AllocError>
         requires boundary { IsCharBoundary (source_text self.old) start }
         requires no_empty { (reading_of self.old).empty_item ≡ None }
@@ -172,7 +173,7 @@ impl<'a> FirstPass<'a> {
         }
     }
 
-    // Reads the paragraph behind the marker of a task list item, at a place; answers as `parse_block`.
+    // Reads the paragraph after the marker of a task list item, at a place; returns as `parse_block`.
     fn parse_task_text(&mut self, place: Place<'a>, marker: Item) -> Result<usize, AllocError>
         requires utf8 { IsUtf8 (source_text self.old) }
         requires place { IsPlaceOf (source_text self.old) place }
@@ -195,7 +196,7 @@ impl<'a> FirstPass<'a> {
         Ok(next)
     }
 
-    // Reads the leaf block that begins at a place where no container begins, or behind a block quote's tag; answers as
+    // Reads the leaf block that begins at a place where no container begins, or after a block quote's tag; returns as
     // `parse_block`.
     fn parse_leaf(&mut self, place: Place<'a>) -> Result<usize, AllocError>
         requires utf8 { IsUtf8 (source_text self.old) }
@@ -212,7 +213,7 @@ impl<'a> FirstPass<'a> {
         Ok(next)
     }
 
-    // Reads the leaf block that was found at a place, behind so many columns, at the offset `at`; answers as
+    // Reads the leaf block that was found at a place, after so many columns, at the offset `at`; returns as
     // `parse_block`.
     #[inline(always)]
     fn parse_kind(
@@ -254,7 +255,7 @@ impl<'a> FirstPass<'a> {
     }
 
     // Reads the link definitions at a place whose text begins at the offset `at`, and the paragraph that they flow
-    // into, or the paragraph that begins there; answers as `parse_block`.
+    // into, or the paragraph that begins there; returns as `parse_block`.
     fn parse_text(&mut self, place: Place<'a>, at: usize) -> Result<usize, AllocError>
         requires utf8 { IsUtf8 (source_text self.old) }
         requires place { IsPlaceOf (source_text self.old) place }
@@ -279,7 +280,7 @@ impl<'a> FirstPass<'a> {
         }
     }
 
-    // Appends the leaf block that is told by its mark, at a place, behind so many columns, at the offset `at`.
+    // Appends the leaf block that is told by its mark, at a place, after so many columns, at the offset `at`.
     fn parse_marked(
         &mut self,
         place: Place<'a>,
@@ -325,9 +326,9 @@ impl<'a> FirstPass<'a> {
 /// Reads the blocks of a text: the finished tree that the block grammar derives from the text's lines
 /// under these options, and the tables of what the text defines. The tree has at most four nodes for each
 /// byte, besides its root and cells that rows of tables are filled with; each row has as many cells as its table has
-/// columns, and at most 262,144 cells are filled into a table. Each link definition in the tables is what stands at its
-/// range; its label, its destination and a title of one line are borrowed from the text where nothing in them changes.
-/// The one error is that a request for memory was refused.
+/// columns, and at most 262,144 cells are filled into a table. Each link definition in the tables is what stands at
+/// its range; its label, its destination and a title of one line are borrowed from the text where nothing in them
+/// changes. The one error is that a request for memory was refused.
 pub fn run_first_pass<'a>(
     alloc: Global,
     text: &'a str,

@@ -113,8 +113,8 @@ impl<'a> FirstPass<'a> {
         Ok(())
     }
 
-    /// Appends the indented code whose first line's text begins at the offset `start_ix`, behind its four columns,
-    /// with so many columns owed there, and answers the offset at which the line begins that is not read, or the
+    /// Appends the indented code whose first line's text begins at the offset `start_ix`, after its four columns,
+    /// with so many columns owed there, and returns the offset at which the line begins that is not read, or the
     /// text's length. Blank lines at its end are read, but are no part of it; they count (CommonMark 4.4).
     pub fn parse_indented_code_block(
         &mut self,
@@ -153,7 +153,7 @@ impl<'a> FirstPass<'a> {
         Ok(next)
     }
 
-    // The same behind the columns of a place.
+    // The same after the columns of a place.
     pub(crate) fn parse_code(&mut self, place: Place<'a>) -> Result<usize, AllocError>
         requires utf8 { IsUtf8 (source_text self.old) }
         requires place { IsPlaceOf (source_text self.old) place }
@@ -169,7 +169,7 @@ impl<'a> FirstPass<'a> {
     }
 
     /// Appends the fenced code block whose fence of `n_fence_char` bytes, each `fence_ch`, begins at the offset
-    /// `start_ix` behind `indent` columns, and answers the offset at which the line begins that is not read, or the
+    /// `start_ix` after `indent` columns, and returns the offset at which the line begins that is not read, or the
     /// text's length (CommonMark 4.5).
     pub fn parse_fenced_code_block(
         &mut self,
@@ -216,7 +216,7 @@ impl<'a> FirstPass<'a> {
     }
 
     /// Appends the metadata block that begins at the offset `start_ix` with three of `metadata_block_ch`, `-` or `+`,
-    /// and answers the offset at which the line begins that is not read, or the text's length.
+    /// and returns the offset at which the line begins that is not read, or the text's length.
     pub fn parse_metadata_block(
         &mut self,
         start_ix: usize,
@@ -253,9 +253,9 @@ impl<'a> FirstPass<'a> {
         Ok(next)
     }
 
-    /// Appends the HTML block of the kinds 1 to 5 that begins at the offset `start_ix` behind `indent` columns, or
-    /// behind `remaining_space` owed ones where these are more, and goes on to the line that holds `html_end_tag`.
-    /// Answers the offset at which the line begins that is not read, or the text's length (CommonMark 4.6).
+    /// Appends the HTML block of the kinds 1 to 5 that begins at the offset `start_ix` after `indent` columns, or
+    /// after `remaining_space` owed ones where these are more, and continues to the line that holds `html_end_tag`.
+    /// Returns the offset at which the line begins that is not read, or the text's length (CommonMark 4.6).
     pub fn parse_html_block_type_1_to_5(
         &mut self,
         start_ix: usize,
@@ -296,8 +296,8 @@ impl<'a> FirstPass<'a> {
         Ok(next)
     }
 
-    /// Appends the HTML block of the kinds 6 and 7 that begins at the offset `start_ix` behind `indent` columns, or
-    /// behind `remaining_space` owed ones where these are more, and goes on to a blank line. Answers the offset at
+    /// Appends the HTML block of the kinds 6 and 7 that begins at the offset `start_ix` after `indent` columns, or
+    /// after `remaining_space` owed ones where these are more, and continues to a blank line. Returns the offset at
     /// which the line begins that is not read, or the text's length (CommonMark 4.6).
     pub fn parse_html_block_type_6_or_7(
         &mut self,

@@ -22,8 +22,8 @@ use std::alloc::AllocError;
 
 impl<'a> FirstPass<'a> {
     /// Appends the rows of a table of `table_cols` columns to the table, the innermost open node, which was just
-    /// opened, and closes it behind them: the header row, which begins at the offset `head_start` into the text, and
-    /// the rows among the lines from the offset `body_start` on, up to the first line that is none. Answers the offset
+    /// opened, and closes it after them: the header row, which begins at the offset `head_start` into the text, and
+    /// the rows among the lines from the offset `body_start` on, up to the first line that is none. Returns the offset
     /// at which that line begins, or the text's length, and never `None` (GFM 4.10).
     ///
     /// Each row has `table_cols` cells then. Where the line at `head_start` has as many columns as a header row, at
@@ -72,8 +72,8 @@ impl<'a> FirstPass<'a> {
     }
 
     /// Appends the row of a table of `row_cells` columns that is in the line which begins at the offset `ix` into the
-    /// text, to the table, the innermost open node; answers as `parse_table_row_inner`. `None` too where the line
-    /// doesn't go on with all open containers, or its text would interrupt a paragraph, as any list item does here
+    /// text, to the table, the innermost open node; returns as `parse_table_row_inner`. `None` too where the line
+    /// doesn't continue all open containers, or its text would interrupt a paragraph, as any list item does here
     /// (GFM 4.10). The brace contexts are those that the call before left, and then those after the row.
     pub fn parse_table_row(
         &mut self,
@@ -115,9 +115,9 @@ impl<'a> FirstPass<'a> {
         Ok(row)
     }
 
-    /// Appends the row of a table of `row_cells` columns that begins at the offset `ix` into the text, behind what the
+    /// Appends the row of a table of `row_cells` columns that begins at the offset `ix` into the text, after what the
     /// containers take of its line, to the innermost open node, filled with empty cells where it has too few; they are
-    /// added to `missing_empty_cells`, how many are filled in so far. Answers the offset at which the row ends and the
+    /// added to `missing_empty_cells`, how many are filled in so far. Returns the offset at which the row ends and the
     /// row's index; `None`, and nothing is appended, where it has no cell and is not the table's first row, or more
     /// than 262,144 cells would be filled in (GFM 4.10).
     pub fn parse_table_row_inner(

@@ -62,7 +62,7 @@ left-at p xs x ys e h =
     let same : length bs - suffix_len p bs ≡ length front = omega (arith, suffix-at p xs x ys e h) in
     ap (λ n. take n bs) same ∙ ap (take (length front)) (sym (append_assoc xs (x ∷ []) ys)) ∙ take-append_seam front ys
 
--- bytes with one more behind them
+-- bytes with one more after them
 ends-with : (xs : List ℕ) (x : ℕ) → ends x (xs ++ x ∷ []) ≡ true
 ends-with xs x =
     let short : length (xs ++ x ∷ []) ≡ length xs + 1 = length-append xs (x ∷ []) in

@@ -66,7 +66,7 @@ word-first x [] (b ∷ rest) some h s one none = absurd (let no = none refl in o
 word-first x (b ∷ []) rest some h s one none = word-before x b rest some h (All-head (λ c. is_between_words c ≡ true) b [] s)
 word-first x (b ∷ c ∷ sep) rest some h s one none = absurd (omega arith)
 
--- a word is cut off behind white space
+-- a word is cut off after white space
 pub words-cut : (gap x sep rest bs : List ℕ) → bs ≡ gap ++ (x ++ (sep ++ rest)) → 0 < length x
     → NoCharPasses is_ascii_whitespace x → AllPass is_ascii_whitespace gap → IsAsciiSeparator sep rest → words bs ≡ x ∷ words rest
 words-cut gap x sep rest bs e some h g s =

@@ -9,7 +9,7 @@ use Rattle.first_pass_lines.specs.Lines.{is_line_end, is_blank}
 abbrev pub ends : ℕ → List ℕ → Bool
 ends c bs = slice_index bs (length bs - 1) == c
 
--- what may stand behind an attribute block: a space, a tab or a line end (this project)
+-- what may stand after an attribute block: a space, a tab or a line end (this project)
 abbrev pub is_behind_block : ℕ → Bool
 is_behind_block b = is_blank b || is_line_end b
 
@@ -30,7 +30,7 @@ pub record Braces : Type 0 where
 abbrev pub braces : ℕ → ℕ → Braces
 braces opening closing = record { opening = opening; closing = closing }
 
--- where the brace stands that opens a block which is closed behind these bytes: nothing that breaks the block stands behind it (this project)
+-- where the brace stands that opens a block which is closed after these bytes: nothing that breaks the block stands after it (this project)
 unfoldable pub opening_brace : List ℕ → Option ℕ
 opening_brace bs =
     let front = take (length bs - suffix_len is_inside_block bs) bs in
@@ -43,7 +43,7 @@ attribute_block bs =
     let closing = length kept - 1 in
     if ends right_brace kept then option_map (λ opening. braces opening closing) (opening_brace (take closing kept)) else None
 
--- the braces of a heading's attribute block: nothing that breaks it stands between them, and nothing but spaces, tabs and line ends behind it
+-- the braces of a heading's attribute block: nothing that breaks it stands between them, and nothing but spaces, tabs and line ends after it
 -- (this project)
 pub record IsAttributeBlock (heading : List ℕ) (block : Braces) : Type 0 where
   pub front : List ℕ

@@ -19,7 +19,7 @@ words bs = filter (λ part. nat_lt 0 (length part)) (slice_split is_between_word
 abbrev pub is_telling : List ℕ → Bool
 is_telling word = nat_lt 1 (length word)
 
--- of the words that begin with a byte, what stands behind it (this project)
+-- of the words that begin with a byte, what stands after it (this project)
 abbrev pub marked : ℕ → List (List ℕ) → List (List ℕ)
 marked mark ws = map (drop 1) (filter (begins mark) ws)
 
@@ -27,7 +27,7 @@ marked mark ws = map (drop 1) (filter (begins mark) ws)
 abbrev pub gives_key : List ℕ → Bool
 gives_key word = not (begins number_sign word || begins full_stop word)
 
--- what stands before the first `=` is the key and what stands behind it is its value; a word without one is a key alone (this project)
+-- what stands before the first `=` is the key and what stands after it is its value; a word without one is a key alone (this project)
 unfoldable pub key_and_value : List ℕ → List ℕ × Option (List ℕ)
 key_and_value word =
     option_map_or (λ at. (take at word, Some (drop (at + 1) word))) (position (λ b. b == equals_sign) word) (word, None)
@@ -43,7 +43,7 @@ abbrev pub last_or : {X : Type 0} → Option X → List X → Option X
 last_or other [] = other
 last_or other (x ∷ xs) = last_or (Some x) xs
 
--- attributes, and those of words behind them: of ids the last one stays, classes and keys are in order (this project)
+-- attributes, and those of words after them: of ids the last one stays, classes and keys are in order (this project)
 unfoldable pub with_words : Attributes → List (List ℕ) → Attributes
 with_words before ws = record {
   id = last_or before.id (marked number_sign ws);

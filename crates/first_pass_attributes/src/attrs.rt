@@ -41,7 +41,7 @@ pub fn extract_attribute_block_content_from_header_text(
     }
 }
 
-// How many bytes stand last that may stand behind an attribute block.
+// How many bytes stand last that may stand after an attribute block.
 fn scan_behind_block(bytes: &[u8]) -> usize
     ensures value { result ≡ suffix_len is_behind_block bytes.now }
     ensures within { result ≤ length bytes.now }
@@ -92,7 +92,7 @@ fn ends(bytes: &[u8], byte: u8) -> bool
     }
 }
 
-// Where the brace stands that opens a block which is closed behind these bytes.
+// Where the brace stands that opens a block which is closed after these bytes.
 #[tactic(auto, unfolding(crate::specs::AttributeBlocks::opening_brace))]
 fn opening_brace(bytes: &[u8]) -> Option<usize>
     ensures value { result ≡ opening_of bytes.now }
@@ -119,7 +119,7 @@ pub struct HeadingAttributes<'a> {
 
 /// The attributes that the text between the braces of an attribute block gives, never `None`. Its words stand
 /// between tabs, 0x0C, spaces and line ends, and those of one byte give nothing. `#install` gives an id, and the
-/// last one stays; `.wide` a class; any other word a key, with what stands behind the first `=` in it as its value,
+/// last one stays; `.wide` a class; any other word a key, with what stands after the first `=` in it as its value,
 /// which may be empty, as the key may. The error is want of memory (this project).
 pub fn parse_inside_attribute_block<'a>(
     alloc: Global,

@@ -56,7 +56,7 @@ first_stop close from stop bs z e =
     let k : from + unescaped_upto (stops_title close) 0 (drop from bs) ≡ 0 + unescaped_upto (stops_title close) 0 (drop 0 bs) = ap (λ n. n + unescaped_upto (stops_title close) 0 (drop n bs)) z in
     omega arith
 
--- behind its first line the title goes on
+-- after its first line the title continues
 pub goes_asks : (around : Context) (close from stop next : ℕ) (bs : List ℕ) → (0 < from → text_asks around close bs ≡ true) → stop ≡ from + unescaped_upto (stops_title close) 0 (drop from bs)
     → goes_on_at (title_prefix around) bs stop ≡ Some next → (from ≡ 0) ⊎ (0 < from) → text_asks around close bs ≡ true
 goes_asks around close from stop next bs f e h (inl z) = text_asks_at around close stop bs (first_stop close from stop bs z e) (further_asks around bs stop next (eol_len (drop stop bs)) h)
@@ -85,7 +85,7 @@ pub footnote_asks : (around : Context) (prefix : List ℕ → Option ℕ) (t u :
 footnote_asks around prefix t u bs post k m (inl z) f = (m, inl (subst (λ x. IsRewritten prefix x (drop 2 bs)) k z))
 footnote_asks around prefix t u bs post k m (inr (n, s)) f = let both = f s.0 s.1 in (m, inr (n, both.0, (s.0, s.1.within, s.1.line_end, both.1)))
 
--- a place behind another
+-- a place after another
 pub place_from : (text behind bs : List ℕ) (start at : ℕ) → IsCharBoundary text start → bs ≡ drop start text → IsCharBoundary bs at → behind ≡ drop at bs
     → IsCharBoundary text (start + at) × (behind ≡ drop (start + at) text)
 place_from text behind bs start at p is b e =
@@ -117,7 +117,7 @@ alone_none : (bs : List ℕ) (n len : ℕ) (title : CowStr) (o : Option (ℕ × 
 alone_none bs n len title None h k = refl
 alone_none bs n len title (Some t) h k = let e : is_some (blank_len (drop (n + t.0) bs)) ≡ false = ap (λ m. is_some (blank_len (drop (n + m) bs))) (sym h.0) ∙ k in rw e refl
 
--- a title behind which its line isn't blank is none
+-- a title after which its line isn't blank is none
 pub title_crowded : (around : Context) (text : List ℕ) (at start k len : ℕ) (title : CowStr) → Some (start, k) ≡ shifted at (space_at around (drop at text))
     → IsTitleRead (title_at around (drop start text)) (read_to len title) → is_some (blank_len (drop (start + len) text)) ≡ false → title_behind around (drop at text) ≡ None
 title_crowded around text at start k len title h r b =

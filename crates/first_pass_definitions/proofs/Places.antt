@@ -75,7 +75,7 @@ eol_some : (xs : List ℕ) (e : ℕ) → eol_len xs ≡ Some e → 0 < length xs
 eol_some [] e h l = absurd (omega arith)
 eol_some (b ∷ bs) e h l = eol_some_by (b == 10) (b == 13) (begins 10 bs) e h
 
--- A line end has a byte where something is left behind it.
+-- A line end has a byte where something is left after it.
 pub later_by : (bytes : List ℕ) (at e n : ℕ) → 0 < length (drop (at + e + n) bytes) → eol_len (drop at bytes) ≡ Some e → at < at + e + n
 later_by bytes at e n l h =
     let d = length-drop (at + e + n) bytes in

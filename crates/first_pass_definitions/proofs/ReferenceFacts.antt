@@ -86,7 +86,7 @@ reference_by true in_table around bs r h =
     let l = and_some (reference_behind around (drop 1 bs)) (label_at (prefix_crossed true around) in_table (drop 1 bs)) r h in
     behind_by (begins 58 (drop l.0.0 (drop 1 bs))) around (drop 1 bs) l.0 r l.2 bs refl
 
--- Behind a definition the rest of its line is blank (CommonMark 4.7).
+-- After a definition the rest of its line is blank (CommonMark 4.7).
 pub reference_blank : (in_table : Bool) (around : Context) (bs : List ℕ) (r : LinkReference) → reference_at in_table around bs ≡ Some r
     → is_some (blank_len (drop r.size bs)) ≡ true
 unfolding reference_at
@@ -290,7 +290,7 @@ title_last around (b ∷ bs) t h =
     let i : t.0 - 1 ≡ suc (x.0.0 - 1) = omega arith in
     (omega arith, rw i (ap is_line_end l.1 ∙ p))
 
--- the last byte of what stands behind a destination, if anything does
+-- the last byte of what stands after a destination, if anything does
 part_plain : (bs : List ℕ) (n k m : ℕ) → m ≡ n + k → (0 < k) × Plain (drop n bs) (k - 1) → Plain bs (m - 1)
 part_plain bs n k m e p =
     let l = p.0 in

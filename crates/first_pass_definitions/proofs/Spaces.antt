@@ -1,4 +1,4 @@
--- White space, and the places behind it.
+-- White space, and the places after it.
 use Rattle.std.proofs.Common.{◌≡◌, inl, inr, ℕ, ◌+◌, Bool, true, false, List, [], length, drop, Option, Some, None, IsUtf8, IsCharBoundary, refl, sym, ap, subst, ◌∙◌, arith, if◌then◌else◌}
 use Rattle.std.specs.List.{prefix_len}
 use Rattle.std.specs.Option.{option_map, option_and_then}
@@ -12,7 +12,7 @@ use Rattle.first_pass_lines.proofs.PlaceFacts.{line_is_place, white_keeps, line_
 use Rattle.first_pass_grammar.specs.Containers.{Context}
 use Rattle.first_pass_grammar.specs.Definitions.{crossed, prefix_crossed, space_beyond, space_behind, space_at}
 
--- Behind white space, and behind a line end, a character begins.
+-- After white space, and after a line end, a character begins.
 pub white_behind : (text : List ℕ) (s : ℕ) → IsUtf8 text → IsCharBoundary text s → IsCharBoundary text (s + prefix_len is_white (drop s text))
 white_behind text s u b =
     let p = white_keeps text (line_place s (drop s text)) u (line_is_place text s b) in
@@ -28,7 +28,7 @@ eol_behind text s e u b h = elim (cases_lt s (length text)) [
   | inr none ↦ (let z = past_end (drop s text) e (drop_all s text none) h in let k : s ≡ s + e = omega arith in subst (IsCharBoundary text) k b)
 ]
 
--- behind the white space behind a place
+-- after the white space after a place
 pub place_white : (text : List ℕ) (line n : ℕ) (r : Rest) → IsUtf8 text → IsPlaceOf text (place_at line r)
     → n ≡ prefix_len is_white (drop (line + r.taken) text) → IsCharBoundary text (line + r.taken + n)
 place_white text line n r u i h =
@@ -47,7 +47,7 @@ pub space_plain : (around : Context) (text : List ℕ) (s n : ℕ) → n ≡ pre
     → Some (s + n, 0) ≡ shifted s (space_at around (drop s text))
 space_plain around text s n e f = ap (shifted s) (sym (space_is around (drop s text) n None (sym e) (ap eol_len (drop-drop n s text) ∙ f)))
 
--- behind a line end
+-- after a line end
 crossed_space : (around : Context) (text : List ℕ) (s n e : ℕ) (o : Option Rest) → n ≡ prefix_len is_white (drop s text)
     → eol_len (drop (s + n) text) ≡ Some e → o ≡ crossed false around (line_rest (drop (s + n + e) text))
     → space_at around (drop s text) ≡ option_and_then (space_beyond (n + e) (drop (s + n + e) text)) (option_map (λ (r : Rest). r.taken) o)

@@ -1,4 +1,4 @@
--- What a definition has behind its colon, and the definition.
+-- What a definition has after its colon, and the definition.
 use Rattle.std.proofs.Common.{◌≡◌, ℕ, zero, suc, ◌+◌, ◌-◌, ◌==◌, ◌<◌, Bool, true, false, List, drop, Option, Some, None, is_some, MatchOption, IsSomeAnd, IsUtf8, IsCharBoundary, refl, sym, ap, subst, ◌∙◌, arith, if◌then◌else◌}
 use Rattle.std.specs.Borrow.{Bor}
 use Rattle.std.specs.Option.{option_map, option_and_then, option_map_or}
@@ -19,7 +19,7 @@ use Rattle.first_pass_grammar.specs.Definitions.{prefix_crossed, space_at, title
 use Rattle.first_pass_definitions.specs.Reading.{IsReadText, IsReadTitle}
 use Rattle.first_pass_definitions.specs.Found.{IsUnescaped, HasTitle, IsDefinition, IsTarget, IsReference}
 
--- answers about what stands behind a destination
+-- answers about what stands after a destination
 abbrev pub IsTitleBehind : ℕ → Option (ℕ × List ℕ) → Option (ℕ × CowStr) → Type 0
 IsTitleBehind at o answer = MatchOption o (answer ≡ None) (λ title. IsSomeAnd answer (λ found. (found.0 ≡ at + title.0) × IsReadText title.1 found.1))
 
@@ -75,7 +75,7 @@ space_read_by around text at start k len title (Some s) is apart read borrows bl
     rw some (subst (λ e. IsTitleBehind at (option_and_then (alone_behind s.0 (drop at text)) (title_at around (drop s.0 (drop at text)))) (Some (e, title))) far
     (read_by (drop at text) at s.0 len title (title_at around (drop s.0 (drop at text))) behind borrows rest))
 
--- the title behind a destination, which white space parts from it and behind which the rest of its line is blank
+-- the title after a destination, which white space parts from it and after which the rest of its line is blank
 pub title_read : (around : Context) (text : List ℕ) (at start k len : ℕ) (title : CowStr)
     → space_to start k ≡ option_map (λ s. (at + s.0, s.1)) (space_at around (drop at text)) → (start ≡ at → ⊥)
     → IsTitleRead (title_at around (drop start text)) (read_to len title)
@@ -315,6 +315,6 @@ is_reference in_table around text start n m label definition h k f t =
     subst (λ o. IsReferenceAnswer in_table start o (Some (n + 2 + m, label, definition))) (sym e)
     (reference_by in_table start n m l.0 label definition (target_at around (drop (start + 1 + n + 1) text)) l.2 l.3 t)
 
--- behind an ASCII byte
+-- after an ASCII byte
 pub behind_byte : (byte : ℕ) (text : List ℕ) (at : ℕ) → byte < 128 → IsUtf8 text → begins byte (drop at text) ≡ true → IsCharBoundary text (at + 1)
 behind_byte byte text at low u h = let there = first_byte byte text at h in IsCharBoundary-after_ascii text at u there.0 (omega (arith, there.1, low))

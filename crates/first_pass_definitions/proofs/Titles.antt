@@ -20,17 +20,17 @@ use Rattle.first_pass_grammar.specs.Containers.{Context}
 use Rattle.first_pass_grammar.specs.Definitions.{with_line_feeds, ends_title, title_end, title_text, title_prefix, title_at}
 use Rattle.first_pass_definitions.specs.Reading.{ClosesTitle, stops_title, goes_on_at}
 
--- the bytes of a title from an offset on, each behind its offset
+-- the bytes of a title from an offset on, each after its offset
 pub left_of : (List ℕ → Option ℕ) → ℕ → List ℕ → List (ℕ × ℕ)
 left_of prefix at bs = with_line_feeds (joined prefix at 0 bs)
 
--- the title that these bytes, each behind its offset, end
+-- the title that these bytes, each after its offset, end
 pub title_of : ℕ → List (ℕ × ℕ) → Option (ℕ × List ℕ)
 title_of close cs =
     let n = unescaped_upto (ends_title close) 0 (bytes_of cs) in
     if begins close (drop n (bytes_of cs)) then Some (slice_index (offsets_of cs) n + 1, take n (bytes_of cs)) else None
 
--- a title behind these bytes
+-- a title after these bytes
 abbrev pub behind_text : List ℕ → Option (ℕ × List ℕ) → Option (ℕ × List ℕ)
 behind_text w o = option_map (λ (t : ℕ × List ℕ). (t.0, w ++ t.1)) o
 
@@ -236,7 +236,7 @@ as_it_stands prefix close at (b ∷ p ∷ bs) c =
     stands_by (stops_title close b) (begins_escape (b ∷ p ∷ bs)) prefix close at b p bs c refl refl (as_it_stands prefix close (at + 1) (p ∷ bs) c)
     (as_it_stands prefix close (at + 1 + 1) bs c)
 
--- behind a prefix
+-- after a prefix
 joined_behind : (h : List ℕ → Option ℕ) (at n : ℕ) (bs : List ℕ) → joined h at n bs ≡ joined h (at + n) 0 (drop n bs)
 unfolding joined
 joined_behind h at zero bs = let e : at + zero ≡ at = omega arith in rw e
@@ -310,7 +310,7 @@ goes_on : (prefix : List ℕ → Option ℕ) (close at n e : ℕ) (bs : List ℕ
 goes_on prefix close at n e [] c h l = absurd (omega arith)
 goes_on prefix close at n e (b ∷ bs) c h l = goes_on_by (b == 10) (b == 13) (begins 10 bs) prefix close at n e b bs c refl refl refl h
 
--- where the title doesn't go on
+-- where the title doesn't continue
 abbrev StopsThere : (List ℕ → Option ℕ) → ℕ → ℕ → List ℕ → ℕ → Type 0
 StopsThere prefix close at bs e = prefix (drop e bs) ≡ None → title_of close (left_of prefix at bs) ≡ None
 
@@ -570,7 +570,7 @@ pub behind_first : (bs : List ℕ) (close : ℕ) → IsUtf8 bs → Some close �
 behind_first [] close u h = cc
 behind_first (b ∷ bs) close u h = IsCharBoundary-after_ascii (b ∷ bs) 0 u (omega arith) (begin_by (b == 39) (b == 34) (b == 40) b close refl refl refl (sym h))
 
--- an answer about the text behind what begins a title, as one about the title
+-- an answer about the text after what begins a title, as one about the title
 abbrev IsAnswer : Option (ℕ × List ℕ) → Option (ℕ × CowStr) → Type 0
 IsAnswer o answer = MatchOption o (answer ≡ None) (λ title. IsSomeAnd answer (λ found. (found.0 ≡ title.0) × (text_of found.1 ≡ title.1)))
 

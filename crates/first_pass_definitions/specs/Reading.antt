@@ -17,7 +17,7 @@ ClosesTitle close = (close ≡ apostrophe) ⊎ (close ≡ quotation_mark) ⊎ (c
 abbrev pub stops_title : ℕ → ℕ → Bool
 stops_title close b = is_line_end b || ends_title close b
 
--- where a title goes on behind the line end at an offset, where it does (CommonMark 4.7)
+-- where a title continues after the line end at an offset, where it does (CommonMark 4.7)
 abbrev pub goes_on_at : (List ℕ → Option ℕ) → List ℕ → ℕ → Option ℕ
 goes_on_at prefix bs at = option_and_then (λ e. option_map (λ n. at + e + n) (prefix (drop (at + e) bs))) (eol_len (drop at bs))
 

@@ -19,11 +19,11 @@ use first_pass_open::source::Source;
 use first_pass_tree::forest::Tree;
 use std::alloc::{AllocError, Global};
 
-/// The head of the footnote definition that begins at the offset `start` into the text, up to behind its colon: how
-/// many bytes it has, and its label. As GitHub has footnotes, its label holds no line end; in their old form it goes
-/// on over lines as `parse_refdef_label` does. The tree is that of the open blocks.
+/// The head of the footnote definition that begins at the offset `start` into the text, up to after its colon: how
+/// many bytes it has, and its label. As GitHub has footnotes, its label holds no line end; in their old form it
+/// continues over lines as `parse_refdef_label` does. The tree is that of the open blocks.
 ///
-/// `None` where no head begins. The error is want of memory, where behind `[^` the label has to be written, or, in the
+/// `None` where no head begins. The error is want of memory, where after `[^` the label has to be written, or, in the
 /// old form, where no bracket ends it and some later line of the text may head a table (this project).
 pub fn scan_footnote<'a>(
     alloc: Global,
@@ -55,7 +55,7 @@ pub fn scan_footnote<'a>(
 }
 
 // How many bytes the line that `bytes` begin with, all that the text has from the line on, has before the place
-// where the label of a footnote goes on in it; `None` where it doesn't.
+// where the label of a footnote continues in it; `None` where it doesn't.
 fn scan_footnote_prefix(
     alloc: Global,
     source: Source<'_>,

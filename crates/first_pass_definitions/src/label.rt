@@ -19,14 +19,14 @@ use first_pass_text::interrupt::scan_line_crossed;
 use first_pass_tree::forest::Tree;
 use std::alloc::{AllocError, Global};
 
-/// The label behind the `[` that stands before the offset `start` into the text: how many bytes it has from there
+/// The label after the `[` that stands before the offset `start` into the text: how many bytes it has from there
 /// on, its `]` too, and its text, in which each run of white space is one space and backslashes stay; in a table one
-/// directly before a pipe is dropped. It is borrowed where nothing changes. It goes on over the lines that a
+/// directly before a pipe is dropped. It is borrowed where nothing changes. It continues over the lines that a
 /// definition crosses, without what they have of the prefixes of the open containers, and without up to four columns
-/// behind these.
+/// after these.
 ///
-/// `None` where there is no label: an unescaped `[`, a line that ends the definition or the text's end comes first, all
-/// is white space, or there are more than 999 characters. The error is want of memory, where the label has to be
+/// `None` where there is no label: an unescaped `[`, a line that ends the definition or the text's end comes first,
+/// all is white space, or there are more than 999 characters. The error is want of memory, where the label has to be
 /// written since it is read otherwise than it stands, or where no bracket ends it and some later line of the text may
 /// head a table (CommonMark 4.7).
 pub fn parse_refdef_label<'a>(
@@ -59,7 +59,7 @@ pub fn parse_refdef_label<'a>(
 }
 
 // How many bytes the line that `bytes` begin with, all that the text has from the line on, has before the place
-// where a label goes on in it; `None` where it doesn't.
+// where a label continues in it; `None` where it doesn't.
 pub(crate) fn scan_label_prefix(
     alloc: Global,
     source: Source<'_>,

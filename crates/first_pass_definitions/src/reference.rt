@@ -21,12 +21,13 @@ use first_pass_tree::forest::Tree;
 use std::alloc::{AllocError, Global};
 
 /// The link reference definition that begins at the offset `start` into the text: how many bytes it has, up to
-/// behind its destination or title, its label, and what it says, with a span from `start` on. The tree is that of
+/// after its destination or title, its label, and what it says, with a span from `start` on. The tree is that of
 /// the open blocks: its containers have prefixes in the lines that the definition crosses, and in a table
 /// backslashes before pipes are dropped.
 ///
-/// `None` where none begins. The error is want of memory, where its label or what is behind its colon asks for it as
-/// `parse_refdef_label` and `scan_refdef` say, or where a definition stands here: its label is folded (CommonMark 4.7).
+/// `None` where none begins. The error is want of memory, where its label or what is after its colon asks for it as
+/// `parse_refdef_label` and `scan_refdef` say, or where a definition stands here: its label is folded (CommonMark
+/// 4.7).
 #[inline(always)]
 pub fn parse_refdef_total<'a>(
     alloc: Global,

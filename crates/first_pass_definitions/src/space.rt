@@ -14,11 +14,11 @@ use first_pass_text::interrupt::scan_line_crossed;
 use first_pass_tree::forest::Tree;
 use std::alloc::{AllocError, Global};
 
-/// The white space at the offset `start` into the text, with at most one line end: the offset behind it, and how many
-/// line ends it has, 0 or 1. Behind a line end it goes on where the definition goes on in the next line.
+/// The white space at the offset `start` into the text, with at most one line end: the offset after it, and how many
+/// line ends it has, 0 or 1. After a line end it continues where the definition continues in the next line.
 ///
-/// `None` where a second line end follows, or where no line follows in which the definition goes on. The error is
-/// want of memory, where the line behind the first line end may head a table (CommonMark 4.7).
+/// `None` where a second line end follows, or where no line follows in which the definition continues. The error is
+/// want of memory, where the line after the first line end may head a table (CommonMark 4.7).
 pub fn scan_refdef_space(
     alloc: Global,
     source: Source<'_>,

@@ -1,4 +1,4 @@
-//! What a link reference definition has behind its colon.
+//! What a link reference definition has after its colon.
 
 ghost use Rattle.std.specs.Prelude.{◌≡◌, ℕ, ◌+◌, ◌≤◌, List, Option, length, drop, None, Some, IfOk, IfSome, OnErr, true, ◌⊎◌, IsSomeAnd, MatchOption, IsCharBoundary};
 ghost use Rattle.std.specs.Box.{boxed_str_bytes};
@@ -30,13 +30,13 @@ use std::boxed::BoxedStr;
 // How deep parentheses are nested in a destination at most.
 const DEEPEST_NESTING: usize = 32;
 
-/// What a definition has behind its colon, before the offset `start` into the text: white space, a destination, and
-/// white space and a title or none. Answers how many bytes it has from `start` on, and the definition with its
+/// What a definition has after its colon, before the offset `start` into the text: white space, a destination, and
+/// white space and a title or none. Returns how many bytes it has from `start` on, and the definition with its
 /// destination and title unescaped, whose span begins at `span_start`.
 ///
-/// `None` where there is no destination, where something touches it, or where behind it neither a title nor a blank
+/// `None` where there is no destination, where something touches it, or where after it neither a title nor a blank
 /// rest of its line stands. The error is want of memory, where the destination or the title is read otherwise than it
-/// stands, where a title has a line end, or where behind a line end a line begins that may head a table (CommonMark
+/// stands, where a title has a line end, or where after a line end a line begins that may head a table (CommonMark
 /// 4.7).
 pub fn scan_refdef<'a>(
     alloc: Global,
@@ -76,7 +76,7 @@ pub fn scan_refdef<'a>(
     Ok(Some((end - start, definition)))
 }
 
-// What ends a definition behind its destination, at the offset `at`: the offset at which it ends, and its title.
+// What ends a definition after its destination, at the offset `at`: the offset at which it ends, and its title.
 fn scan_behind_destination<'a>(
     alloc: Global,
     source: Source<'a>,
@@ -102,8 +102,8 @@ fn scan_behind_destination<'a>(
     Ok(None)
 }
 
-// The title behind a destination that ends at the offset `at`, which white space parts from it and behind which the
-// rest of its line is blank: the offset behind it, and its text.
+// The title after a destination that ends at the offset `at`, which white space parts from it and after which the
+// rest of its line is blank: the offset after it, and its text.
 fn scan_title_behind<'a>(
     alloc: Global,
     source: Source<'a>,

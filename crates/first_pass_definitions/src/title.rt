@@ -29,13 +29,13 @@ use first_pass_tree::forest::Tree;
 use std::alloc::{AllocError, Global};
 
 /// The title that `text` begins with, all that the whole text has from a place on: how many bytes it has, what
-/// begins and ends it too (`'..'`, `".."` or `(..)`), and what stands between, not yet unescaped. It goes on over
+/// begins and ends it too (`'..'`, `".."` or `(..)`), and what stands between, not yet unescaped. It continues over
 /// the lines that a definition crosses, each without what stands before its text, and each line end is one `\n`.
 /// Where no line is crossed it is borrowed, and no memory is taken.
 ///
 /// `None` where there is no title: a blank line, a line that ends the definition or the text's end comes before what
-/// ends it, or in parentheses an unescaped `(`. The error is want of memory, where behind the first line the title goes
-/// on, or a line begins that may head a table (CommonMark 4.7, 6.3).
+/// ends it, or in parentheses an unescaped `(`. The error is want of memory, where after the first line the title
+/// continues , or a line begins that may head a table (CommonMark 4.7, 6.3).
 pub fn scan_refdef_title<'t>(
     alloc: Global,
     source: Source<'_>,
@@ -75,7 +75,7 @@ fn title_end(bytes: &[u8]) -> Option<u8>
     }
 }
 
-// The title behind what begins it, with the byte that ends it: how many bytes it has, its end too, and its text.
+// The title after what begins it, with the byte that ends it: how many bytes it has, its end too, and its text.
 fn scan_title_text<'t>(
     alloc: Global,
     source: Source<'_>,
@@ -131,8 +131,8 @@ fn stops_title(byte: u8, close: u8) -> bool
     is_line_end(byte) || byte == close || close == b')' && byte == b'('
 }
 
-// The offset at which a title goes on behind the line end at the offset `at`; `None` where no line ends there, or
-// where the title doesn't go on.
+// The offset at which a title continues after the line end at the offset `at`; `None` where no line ends there, or
+// where the title doesn't continue.
 fn scan_title_break(
     alloc: Global,
     source: Source<'_>,
@@ -161,7 +161,7 @@ fn scan_title_break(
 }
 
 // How many bytes the line that `bytes` begin with, all that the text has from the line on, has before its text,
-// where a title goes on in it.
+// where a title continues in it.
 fn scan_title_prefix(
     alloc: Global,
     source: Source<'_>,

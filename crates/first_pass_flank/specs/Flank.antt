@@ -34,7 +34,8 @@ unfoldable pub ends_with_pipe : List ℕ → Bool
 ends_with_pipe text =
     slice_index text (length text - 1) == pipe && not (nat_le 2 (length text) && slice_index text (length text - 2) == backslash)
 
--- the run of so many bytes that the text begins with, which stands in the content at a place; one of no bytes has no delimiter, and so none of the cases of one (CommonMark 6.2, delimiter run)
+-- the run of so many bytes that the text begins with, which stands in the content at a place; one of no bytes has no delimiter, and so none of the cases of
+-- one (CommonMark 6.2, delimiter run)
 unfoldable pub run_beside : List ℕ → List ℕ → ℕ → ℕ → TableParseMode → DelimiterRun
 run_beside content text size at mode = record {
   delimiter = slice_index (take size text) 0;
@@ -49,11 +50,11 @@ run_beside content text size at mode = record {
 abbrev pub is_intraword : DelimiterRun → Bool
 is_intraword r = r.delimiter == asterisk || (r.delimiter == tilde && nat_lt 1 r.size)
 
--- a run of tildes behind a tilde (this project; GFM 6.5)
+-- a run of tildes after a tilde (this project; GFM 6.5)
 abbrev pub follows_tilde : DelimiterRun → ℕ → Bool
 follows_tilde r before = r.delimiter == tilde && before == tilde
 
--- an apostrophe behind a bracket that closes (this project)
+-- an apostrophe after a bracket that closes (this project)
 abbrev pub follows_bracket : DelimiterRun → ℕ → Bool
 follows_bracket r before = r.delimiter == apostrophe && (before == right_bracket || before == right_parenthesis)
 

@@ -24,7 +24,7 @@ abbrev pub is_right_flanking : DelimiterRun → Bool
 is_right_flanking r =
     not (is_space_beside r.before) && (not (is_punctuation_beside r.before) || (is_space_beside r.after || is_punctuation_beside r.after))
 
--- a run of `_` can open emphasis: it is left-flanking, and not right-flanking or behind punctuation (CommonMark 6.2)
+-- a run of `_` can open emphasis: it is left-flanking, and not right-flanking or after punctuation (CommonMark 6.2)
 abbrev pub underscore_opens : DelimiterRun → Bool
 underscore_opens r = is_left_flanking r && (not (is_right_flanking r) || is_punctuation_beside r.before)
 

@@ -76,7 +76,7 @@ pub fn is_punctuation(c: char) -> bool
 }
 
 /// Whether the delimiter run of `run_len` bytes that `suffix` begins with can open, where it stands in
-/// the content `s` at the offset `ix`. `suffix` runs on behind the run to the end of the text; in a row
+/// the content `s` at the offset `ix`. `suffix` runs on after the run to the end of the text; in a row
 /// of a table, which `mode` says, a pipe ends a cell. A run of no bytes goes by what stands beside it alone.
 /// CommonMark 6.2, GFM 4.10 and 6.5.
 pub fn delim_run_can_open(
@@ -96,7 +96,7 @@ pub fn delim_run_can_open(
 }
 
 /// Whether the delimiter run of `run_len` bytes that `suffix` begins with can close, where it stands in
-/// the content `s` at the offset `ix`. `suffix` runs on behind the run to the end of the text; in a row
+/// the content `s` at the offset `ix`. `suffix` runs on after the run to the end of the text; in a row
 /// of a table, which `mode` says, a pipe ends a cell. A run of no bytes goes by what stands beside it alone.
 /// CommonMark 6.2, GFM 4.10 and 6.5.
 pub fn delim_run_can_close(

@@ -47,7 +47,7 @@ AlikeLeaf m n BlankLine (Block b) = ⊥
 AlikeLeaf m n (Block b) BlankLine = ⊥
 AlikeLeaf m n (Block b) (Block b') = (stands b ≡ stands b') × AlikeNodes m n b.items b'.items × (b.gap ≡ b'.gap) × (b.definitions ≡ b'.definitions)
 
--- where blocks go on stands no item that has an index
+-- where blocks continue stands no item that has an index
 abbrev pub HoldsNoIndex : From → Type 0
 HoldsNoIndex Line = Unit {0}
 HoldsNoIndex (Blanks e) = Unit {0}
@@ -73,7 +73,7 @@ Alike m n (Node head e kids next) Nil = ⊥
 Alike m n (Node head e kids next) (Then leaf' next') = ⊥
 Alike m n (Node head e kids next) (Node head' e' kids' next') = (head ≡ head') × (e ≡ e') × Alike m n kids kids' × Alike m n next next'
 
--- one chain behind another
+-- one chain after another
 pub chains_append : (m n : Names) (xs xs' ys ys' : List Item) → AlikeChains m n xs xs' → AlikeChains m n ys ys' → AlikeChains m n (xs ++ ys) (xs' ++ ys')
 chains_append m n xs xs' ys ys' h k = let a = map-append (read m) xs ys in let b = map-append (read n) xs' ys' in cc
 
@@ -177,7 +177,7 @@ text_free = range_text_each IsWithoutIndex (λ escaped. refl)
 pub html_free : AreFree range_html
 html_free from to = (refl, tt)
 
--- columns with items behind them that have no index
+-- columns with items after them that have no index
 line_alike : (m n : Names) (owed at : ℕ) (more xs ys : List Item) → HaveNoIndex more
     → (columns : List Item) × AreColumns m owed at columns × (xs ≡ columns ++ more) → (columns : List Item) × AreColumns n owed at columns × (ys ≡ columns ++ more) → AlikeChains m n xs ys
 line_alike m n owed at more xs ys free (c, h, e) (c', k, f) =

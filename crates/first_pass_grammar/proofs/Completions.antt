@@ -39,7 +39,7 @@ abbrev pub joins : ℕ → Opener → Bool
 joins list (QuoteMarker kind) = false
 joins list (ItemMarker byte number columns) = list == byte
 
--- Whether a run of blank lines holds one that counts, with one more, in a block quote or not, behind an item of a list, if any.
+-- Whether a run of blank lines holds one that counts, with one more, in a block quote or not, after an item of a list, if any.
 abbrev pub counts_with : Bool → Pending → Bool → Bool
 counts_with quoted (OneList place byte loose) run = true
 counts_with quoted NoList run = run || not quoted
@@ -111,12 +111,12 @@ pub record Adds (d : Document) (quoted : Bool) (depth : ℕ) (path : List Contai
   pub runs : (last : ℕ) → ends_in_gap (rows_next quoted last list run t) ≡ ends_in_gap (rows_next quoted last list' run' s)
   pub gaps : (last : ℕ) → any_gap (rows_beyond list (rows_next quoted last list run t)) ≡ (gap || any_gap (rows_beyond list' (rows_next quoted last list' run' s)))
 
--- a container ends alike, wherever the blocks in it go on
+-- a container ends alike, wherever the blocks in it continue
 abbrev pub EndsAlike : ℕ → From → From → Type 0
 EndsAlike n from there = (path : List Container) (mid : List Place) → end_before n path from mid ≡ end_before n path there mid
 
 -- What adds blocks in front of a sequence leads to the same forests.
--- what is told with more definitions, one list behind the other
+-- what is told with more definitions, one list after the other
 told_links : (links a b : List LinkEntry) → with_links links (a ++ b) ≡ with_links (with_links links a) b
 unfolding with_links
 told_links links [] b = refl
@@ -220,7 +220,7 @@ blank_noted quoted NoList run last s =
 blank_noted quoted (OneList place byte loose) run last s =
     let r : Rows = rows_of quoted last s in behind-twice (run || true) (not quoted) r ∙ ap (λ z. behind (z || not quoted) r) (or-some run)
 
--- a blank line, where a list may go on
+-- a blank line, where a list may continue
 blank_step : (d : Document) (defined : Tables) (frames : List Frame) (list : Pending) (run : Bool) (nodes : List (ℕ × Item)) (os : List ℕ) (from : From) (lines left : List Place) (forest : List (ℕ × Item)) (tables : Tables)
     → IsPlain frames → EndsAlike (length d.text) from (behind_first from Line) → IsFirst d (containers_of frames) from lines (OpensLeaf BlankLine Line left)
     → Finish d defined list (counts_with (in_quote frames) list run) frames nodes os (behind_first from Line) left forest tables → Finish d defined list run frames nodes os from lines forest tables
@@ -387,7 +387,7 @@ joined_items quoted d last e start byte number columns line o run loose nodes ki
       ap any_gap first.2,
     )
 
--- an item opened in a list that goes on
+-- an item opened in a list that continues
 item_step : (d : Document) (defined : Tables) (frames : List Frame) (run loose : Bool) (nodes : List (ℕ × Item)) (o : ℕ) (os : List ℕ) (p : Place) (lines behind : List Place) (byte number columns start line some_end : ℕ) (inside : From) (forest : List (ℕ × Item)) (tables : Tables)
     → IsPlain frames → o < length nodes → Opens d (containers_of frames) p lines (OpensNode (record { opener = ItemMarker byte number columns; start = start; line = line }) inside behind)
     → Finish d defined NoList false (InContainer (ListItem columns) ∷ InList byte (loose || run) ∷ frames)
@@ -448,7 +448,7 @@ alike_away m n byte at (OpensLeaf leaf there left) (OpensNode head' inside' behi
 alike_away m n byte at (OpensNode head inside behind) (OpensLeaf leaf' there' left') a away = absurd a
 alike_away m n byte at (OpensNode head inside behind) (OpensNode head' inside' behind') a away = subst (λ (h : Head). (head_closes h ≡ at) × (joins byte h.opener ≡ false)) a.0 away
 
--- a first block opens at the place where the sequence goes on
+-- a first block opens at the place where the sequence continues
 opens_first : (d : Document) (path : List Container) (p : Place) (lines : List Place) (opening : Opening) → IsFirst d path (Inside p) lines opening → Opens d path p lines opening
 opens_first d path p lines opening f = subst (λ z. Opens d path p z opening) f.begins.1 (subst (λ z. Opens d path z f.behind opening) f.begins.0 f.opens)
 
@@ -694,7 +694,7 @@ pub length-reflagged : (nodes : List (ℕ × Item)) (o : ℕ) (l : Bool) → len
 unfolding reflagged
 length-reflagged nodes o l = length-modify nodes o _
 
--- the flags of a list that may go on
+-- the flags of a list that may continue
 reflag_list : (d : Document) (defined : Tables) (frames : List Frame) (byte : ℕ) (loose run l : Bool) (nodes : List (ℕ × Item)) (o : ℕ) (os : List ℕ) (from : From) (lines : List Place) (forest : List (ℕ × Item)) (tables : Tables)
     → IsPlain frames → Finish d defined (OneList o byte loose) run frames (reflagged nodes o l) os from lines forest tables → Finish d defined (OneList o byte loose) run frames nodes os from lines forest tables
 unfolding Finish rendered
@@ -715,7 +715,7 @@ reflag_list d defined (InContainer c ∷ frames) byte loose run l nodes o (x ∷
     let further : List (ℕ × Item) = items_of (suc k) (not now) (items_behind byte rows) ++ items_of k false (list_behind byte rows) in
     (s, mid, seq, finish_moved d _ _ _ _ _ _ _ os mid forest tables refl refl (ap (λ z. ended (z ++ further) x e) (closed-reflagged nodes o (suc (suc k)) l now (list_until byte e rows))) fin)
 
--- the flags of the list in whose item blocks go on
+-- the flags of the list in whose item blocks continue
 reflag_outer : (d : Document) (defined : Tables) (c : Container) (frames : List Frame) (byte : ℕ) (loose run l : Bool) (nodes : List (ℕ × Item)) (x o : ℕ) (os : List ℕ) (from : From) (lines : List Place) (forest : List (ℕ × Item)) (tables : Tables)
     → IsPlain frames → o < length nodes
     → Finish d defined NoList run (InContainer c ∷ InList byte loose ∷ frames) (reflagged nodes o l) (x ∷ o ∷ os) from lines forest tables → Finish d defined NoList run (InContainer c ∷ InList byte loose ∷ frames) nodes (x ∷ o ∷ os) from lines forest tables
@@ -748,7 +748,7 @@ completes-first d = record {
   });
 }
 
--- inside a line that the whole path goes on with
+-- inside a line that the whole path continues
 pub completes-enter : (d : Document) (defined : Tables) (run : Bool) (frames : List Frame) (nodes : List (ℕ × Item)) (os : List ℕ) (line q : Place) (lines : List Place)
     → taken (containers_of frames) line ≡ Some q → CompletesAt d defined run frames nodes os Line (line ∷ lines) → CompletesAt d defined run frames nodes os (Inside q) lines
 completes-enter d defined run frames nodes os line q lines is c = record {
@@ -757,7 +757,7 @@ completes-enter d defined run frames nodes os line q lines is c = record {
   whole = whole_by _ _ _ _ _ _ _ _ (λ forest tables fin. finish_derives _ _ _ _ _ _ _ _ c forest tables (enter_step d defined frames NoList run nodes os line q lines forest tables is fin));
 }
 
--- behind a block with no blocks in it, wherever it begins
+-- after a block with no blocks in it, wherever it begins
 pub completes-leaf : (d : Document) (defined : Tables) (frames : List Frame) (nodes : List (ℕ × Item)) (os : List ℕ) (from : From) (lines left : List Place) (b : LeafBlock)
     → IsPlain frames → EndsAlike (length d.text) from (behind_first from Line) → IsFirst d (containers_of frames) from lines (OpensLeaf (Block b) Line left)
     → CompletesAt d defined false frames nodes os from lines → CompletesAt d (told defined b.definitions) b.gap frames (nodes ++ block_items (suc (length os)) false b) os (behind_first from Line) left
@@ -767,14 +767,14 @@ completes-leaf d defined frames nodes os from lines left b plain alike first c =
   whole = whole_by _ _ _ _ _ _ _ _ (λ forest tables fin. finish_derives _ _ _ _ _ _ _ _ c forest tables (block_step d defined frames nodes os from lines left b forest tables plain alike first fin));
 }
 
--- behind a block with no blocks in it, which begins inside a line
+-- after a block with no blocks in it, which begins inside a line
 pub completes-block : (d : Document) (defined : Tables) (frames : List Frame) (nodes : List (ℕ × Item)) (os : List ℕ) (p : Place) (lines left : List Place) (b : LeafBlock)
     → IsPlain frames → Opens d (containers_of frames) p lines (OpensLeaf (Block b) Line left)
     → CompletesAt d defined false frames nodes os (Inside p) lines → CompletesAt d (told defined b.definitions) b.gap frames (nodes ++ block_items (suc (length os)) false b) os Line left
 completes-block d defined frames nodes os p lines left b plain opens c =
     completes-leaf d defined frames nodes os (Inside p) lines left b plain (λ path mid. refl) (first_here d (containers_of frames) p lines (OpensLeaf (Block b) Line left) opens) c
 
--- behind the text of a task list item marker
+-- after the text of a task list item marker
 pub completes-text : (d : Document) (defined : Tables) (frames : List Frame) (nodes : List (ℕ × Item)) (os : List ℕ) (marker : Item) (p : Place) (lines left : List Place) (b : LeafBlock)
     → IsPlain frames → OpensText d (containers_of frames) p lines (Some marker) (OpensLeaf (Block b) Line left)
     → CompletesAt d defined false frames nodes os (At p (TextOf marker)) lines → CompletesAt d (told defined b.definitions) b.gap frames (nodes ++ block_items (suc (length os)) false b) os Line left
@@ -785,7 +785,7 @@ mark_alike : (n : ℕ) (blanks : Option ℕ) (path : List Container) (mid : List
 mark_alike n None path mid = refl
 mark_alike n (Some e) path mid = refl
 
--- behind a task list item marker with nothing behind it on its line
+-- after a task list item marker with nothing after it on its line
 pub completes-mark : (d : Document) (defined : Tables) (frames : List Frame) (nodes : List (ℕ × Item)) (os : List ℕ) (marker : Item) (p : Place) (blanks : Option ℕ) (lines : List Place)
     → IsPlain frames → CompletesAt d defined false frames nodes os (At p (MarkAlone marker blanks)) lines
     → CompletesAt d defined false frames (nodes ++ (suc (length os), marker) ∷ []) os (behind_marker blanks) lines
@@ -811,7 +811,7 @@ blank_any d defined (InContainer c ∷ frames) run nodes os from lines left fore
 blank_any d defined (InList byte loose ∷ frames) run nodes [] from lines left forest tables shape alike first fin = fin
 blank_any d defined (InList byte loose ∷ frames) run nodes (o ∷ os) from lines left forest tables shape alike first fin = blank_step d defined frames (OneList o byte loose) run nodes os from lines left forest tables shape.0 alike first fin
 
--- behind a blank line, wherever it begins
+-- after a blank line, wherever it begins
 pub completes-blank : (d : Document) (defined : Tables) (run : Bool) (frames : List Frame) (nodes : List (ℕ × Item)) (os : List ℕ) (from : From) (lines left : List Place)
     → EndsAlike (length d.text) from (behind_first from Line) → IsFirst d (containers_of frames) from lines (OpensLeaf BlankLine Line left)
     → CompletesAt d defined run frames nodes os from lines → CompletesAt d defined (counts_in frames run) frames nodes os (behind_first from Line) left
@@ -821,13 +821,13 @@ completes-blank d defined run frames nodes os from lines left alike first c = re
   whole = whole_by _ _ _ _ _ _ _ _ (λ forest tables fin. finish_derives _ _ _ _ _ _ _ _ c forest tables (blank_any d defined frames run nodes os from lines left forest tables c.shape alike first fin));
 }
 
--- behind a blank line that begins inside a line
+-- after a blank line that begins inside a line
 pub completes-blank_line : (d : Document) (defined : Tables) (run : Bool) (frames : List Frame) (nodes : List (ℕ × Item)) (os : List ℕ) (p : Place) (lines left : List Place)
     → Opens d (containers_of frames) p lines (OpensLeaf BlankLine Line left)
     → CompletesAt d defined run frames nodes os (Inside p) lines → CompletesAt d defined (counts_in frames run) frames nodes os Line left
 completes-blank_line d defined run frames nodes os p lines left opens c = completes-blank d defined run frames nodes os (Inside p) lines left (λ path mid. refl) (first_here d (containers_of frames) p lines (OpensLeaf BlankLine Line left) opens) c
 
--- behind a blank line in an item that takes blank lines alone
+-- after a blank line in an item that takes blank lines alone
 pub completes-only_blank : (d : Document) (defined : Tables) (run : Bool) (columns : ℕ) (frames : List Frame) (nodes : List (ℕ × Item)) (os : List ℕ) (e : ℕ) (line p : Place) (lines : List Place)
     → Begins (ListItem columns ∷ containers_of frames) (Blanks e) (line ∷ lines) p lines → Opens d (ListItem columns ∷ containers_of frames) p lines (OpensLeaf BlankLine Line lines)
     → CompletesAt d defined run (InContainer (ListItem columns) ∷ frames) nodes os (Blanks e) (line ∷ lines) → CompletesAt d defined true (InContainer (ListItem columns) ∷ frames) nodes os (Blanks e) lines
@@ -903,7 +903,7 @@ completes-note d defined run frames nodes os p lines opening plain opens block k
   whole = whole_by _ _ _ _ _ _ _ _ (λ forest tables fin. finish_derives _ _ _ _ _ _ _ _ k forest tables (note_step d defined frames run nodes os p lines opening forest tables plain opens block fin));
 }
 
--- the flags of the list in whose item blocks go on
+-- the flags of the list in whose item blocks continue
 pub completes-reflag : (d : Document) (defined : Tables) (run : Bool) (c : Container) (byte : ℕ) (loose l : Bool) (frames : List Frame) (nodes : List (ℕ × Item)) (x o : ℕ) (os : List ℕ) (from : From) (lines : List Place)
     → CompletesAt d defined run (InContainer c ∷ InList byte loose ∷ frames) nodes (x ∷ o ∷ os) from lines → CompletesAt d defined run (InContainer c ∷ InList byte loose ∷ frames) (reflagged nodes o l) (x ∷ o ∷ os) from lines
 completes-reflag d defined run c byte loose l frames nodes x o os from lines k = record {
@@ -918,7 +918,7 @@ reflag_whole : (d : Document) (defined : Tables) (frames : List Frame) (byte : �
 unfolding Finish
 reflag_whole d defined frames byte loose run l nodes o os from lines forest tables plain fin = reflag_list d defined frames byte loose run l nodes o os from lines forest tables plain fin
 
--- the flags of a list that may go on
+-- the flags of a list that may continue
 pub completes-reflag_list : (d : Document) (defined : Tables) (run : Bool) (byte : ℕ) (loose l : Bool) (frames : List Frame) (nodes : List (ℕ × Item)) (o : ℕ) (os : List ℕ) (from : From) (lines : List Place)
     → CompletesAt d defined run (InList byte loose ∷ frames) nodes (o ∷ os) from lines → CompletesAt d defined run (InList byte loose ∷ frames) (reflagged nodes o l) (o ∷ os) from lines
 completes-reflag_list d defined run byte loose l frames nodes o os from lines k = record {
@@ -955,7 +955,7 @@ completes-list d defined frames nodes os p lines behind byte number columns star
       whole = whole_by _ _ _ _ _ _ _ _ (λ forest tables fin. finish_derives _ _ _ _ _ _ _ _ k forest tables (list_step d defined frames nodes os p lines behind byte number columns start line some_end other_end flags inside forest tables plain opens fin));
     }
 
--- an item opened in a list that goes on
+-- an item opened in a list that continues
 pub completes-item : (d : Document) (defined : Tables) (run loose : Bool) (frames : List Frame) (nodes : List (ℕ × Item)) (o : ℕ) (os : List ℕ) (p : Place) (lines behind : List Place) (byte number columns start line some_end : ℕ) (inside : From)
     → Opens d (containers_of frames) p lines (OpensNode (record { opener = ItemMarker byte number columns; start = start; line = line }) inside behind)
     → CompletesAt d defined run (InList byte loose ∷ frames) nodes (o ∷ os) (Inside p) lines

@@ -9,7 +9,7 @@ use Rattle.first_pass_grammar.specs.Rows.{Rows, behind, ends_in_gap, any_gap, ro
 use Rattle.first_pass_grammar.specs.Derivation.{Tables, Derives, told, definitions_of}
 use Rattle.first_pass_grammar.specs.Completion.{ended, Pending, NoList, OneList, Standing, Further, AreFurther, counts_first, rows_beyond, rendered, Frame, InContainer, InList, containers_of, is_quote, loosened, Becomes, Completes}
 
--- the rows of a sequence behind what stands
+-- the rows of a sequence after what stands
 abbrev pub rows_next : Bool → ℕ → Pending → Bool → Skeleton → Rows
 rows_next quoted last list run s = behind (run || counts_first list s) (rows_of quoted last s)
 
@@ -87,7 +87,7 @@ of_finish d defined (o ∷ os) list run (InContainer c ∷ frames) nodes from li
     let r = of_finish d (told defined (definitions_of s)) os NoList _ _ _ Line mid forest tables fin in
     (further_to s e ∷ r.0, (mid, seq, refl, subst (λ p. AreFurther d p Line mid r.0) (containers-loosened (any_gap (rows_beyond list rows)) frames) r.1), r.2)
 
--- nodes, open at these places as the frames say, behind which a run of blank lines holds one that counts, or doesn't: whatever completes them, the text derives
+-- nodes, open at these places as the frames say, after which a run of blank lines holds one that counts, or doesn't: whatever completes them, the text derives
 abbrev pub CompletesAt : Document → Tables → Bool → List Frame → List (ℕ × Item) → List ℕ → From → List Place → Type 0
 CompletesAt d defined run frames nodes os from lines = Completes d frames os (standing defined nodes NoList run) from lines
 

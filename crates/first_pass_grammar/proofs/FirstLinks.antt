@@ -1,4 +1,4 @@
--- A table that takes link reference definitions one after the other answers as the definitions in the order of the text.
+-- A table that takes link reference definitions one after the other returns as the definitions in the order of the text.
 use Rattle.std.proofs.Common.{◌≡◌, ℕ, Bool, true, false, cond, List, [], ◌∷◌, map, Option, None, Some, nat_eq, refl, sym, ap, ◌∙◌}
 use Rattle.std.proofs.lemmas.Bool.{true≢false}
 use Rattle.std.specs.Cmp.{IsTotalOrder, on_total}
@@ -111,7 +111,7 @@ module _ (f : List ℕ) (x : LinkEntry) where
   none_cons a true y o not is rest = absurd (not is refl)
   none_cons a false y o not is rest = rest
 
-  -- none of those behind a definition has its folding
+  -- none of those after a definition has its folding
   none_behind : (links : List LinkEntry) → IsBelow x.label links → has f x ≡ true → link_under f links ≡ None
   unfolding link_under
   none_behind [] below is = refl

@@ -1,4 +1,4 @@
--- Names that go on with others are found, with what they name: texts, info strings, and raw lines.
+-- Names that continue others are found, with what they name: texts, info strings, and raw lines.
 use Rattle.std.proofs.Common.{◌≡◌, ℕ, zero, suc, false, List, [], ◌∷◌, ◌++◌, length, slice_get, Option, Some, None, refl}
 use Rattle.first_pass_items.specs.declared.cow_str.CowStr.{CowStr}
 use Rattle.first_pass_items.specs.declared.cow_str.CowStr.TheVariants.{Borrowed}
@@ -19,7 +19,7 @@ use Rattle.first_pass_grammar.specs.CodeBlocks.{NamesInfo}
 use Rattle.first_pass_grammar.proofs.MoreNames.{extends_none, extends_both, extends_named, extends_alignments, extends_heading, text_last, alignments_last, heading_last}
 use Rattle.first_pass_grammar.specs.RawLines.{spaces, AreColumns, Ranges, raw_items, AreRawLines}
 
--- A value, and names that go on with these, so that this holds of it for all names that go on with those.
+-- A value, and names that continue these, so that this holds of it for all names that continue those.
 pub record Found (names : Names) (A : Type 0) (Holds : Names → A → Type 0) : Type 0 where
   pub value : A
   pub more : Names

@@ -1,4 +1,4 @@
--- A header row has at least as many cells as its table has columns: each pipe that is not directly behind a backslash ends one, but the first in its line.
+-- A header row has at least as many cells as its table has columns: each pipe that is not directly after a backslash ends one, but the first in its line.
 use Rattle.std.proofs.Common.{◌≡◌, inl, inr, ℕ, zero, suc, ◌+◌, ◌-◌, ◌<◌, ◌≤◌, ◌==◌, ◌&&◌, not, Bool, true, false, List, [], ◌∷◌, length, take, drop, slice_index, Option, Some, None, is_some, refl, sym, ap, subst, ◌∙◌, arith, add-one, drop-drop, if◌then◌else◌}
 use Rattle.std.specs.Option.{option_map, option_map_or, option_and_then}
 use Rattle.std.specs.List.{prefix_len, take_while}
@@ -31,7 +31,7 @@ take_next n c cs = rw add-one
 drop_next : (n c : ℕ) (cs : List ℕ) → drop (n + 1) (c ∷ cs) ≡ drop n cs
 drop_next n c cs = rw add-one
 
--- how many cells a line's content gives at least, by its next byte: one for each pipe, and one where something else stands behind the last
+-- how many cells a line's content gives at least, by its next byte: one for each pipe, and one where something else stands after the last
 abbrev step : Bool → Bool → Bool → ℕ → ℕ
 step content ends white more = if content then (if ends then suc more else (if white then more else suc (more - 1))) else 0
 
@@ -113,7 +113,7 @@ cells_end b (c ∷ cs) n e =
     let ends = line_end_by (c == 10) (c == 13) c n _ refl refl e in
     ap (λ (t : Bool). step t (is_pipe c && not (b == backslash)) (is_white c) (cells_of c cs)) ends
 
--- behind a pipe, or where none stands
+-- after a pipe, or where none stands
 first_by : (text : List ℕ) (at : ℕ) (t : Bool) → (slice_index text at == pipe) ≡ t
     → cells_of 0 (drop at text) ≤ (if t then 1 else 0) + cells_of 0 (drop (cell_start text at) text)
 unfolding cells_of
@@ -250,7 +250,7 @@ tail_by : (t : Bool) (bs : List ℕ) (b : ℕ) → is_blank_line bs ≡ t → (i
 tail_by true bs b h = rw h (omega arith)
 tail_by false bs b h = (let some = some_left b bs h in rw h some)
 
--- up to the last pipe there is one for each, and one more where something stands behind it
+-- up to the last pipe there is one for each, and one more where something stands after it
 abbrev UpTo : ℕ → List ℕ → ℕ → Type 0
 UpTo b bs last = pipes_behind b (take (last + 1) bs) + (if is_blank_line (drop (last + 1) bs) then 0 else 1) ≤ cells_of b bs
 

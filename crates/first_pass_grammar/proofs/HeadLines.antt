@@ -1,4 +1,4 @@
--- A line that heads a table has another behind it: the delimiter row.
+-- A line that heads a table has another after it: the delimiter row.
 use Rattle.std.proofs.Common.{◌≡◌, inl, inr, ℕ, ◌+◌, ◌<◌, ◌≤◌, ◌&&◌, not, nat_lt, Bool, true, false, List, [], ◌∷◌, length, drop, Option, Some, None, if◌then◌else◌, refl, sym, ap, ◌∙◌, arith, length-drop}
 use Rattle.std.specs.Option.{option_map, option_and_then}
 use Rattle.std.proofs.lemmas.Bool.{cases_lt}
@@ -32,7 +32,7 @@ no_row_of r none =
     let size : length r.left ≡ 0 = ap (λ (bs : List ℕ). length bs) none in
     row_by (nat_lt (indent r) 4) (after_columns (indent r) r).left (nil_from_length (after_columns (indent r) r).left (omega arith))
 
--- A line has no more bytes behind what a path takes of it.
+-- A line has no more bytes after what a path takes of it.
 quote_less : (r s : Rest) (o : Option Rest) → past_quote r ≡ o → option_map (after_columns 1) o ≡ Some s → length s.left ≤ length r.left
 quote_less r s None q e = absurd (none-some s e)
 quote_less r s (Some t) q e =

@@ -92,7 +92,7 @@ kind_by r None ends = last_found r (tag_line_decided (all_taken r).left)
 kind_found : (options : Options) (r : Rest) → (k : Kind) × IsKind options r k × HasEnd (all_taken r).left k
 kind_found options r = kind_by r (first_kind options r) (first_ends options r)
 
--- a block's lines are among those behind it
+-- a block's lines are among those after it
 extent_left_by : (v : Verdict) (line : Place) (lines : List Place) (e : Extent) → length e.left ≤ length lines
     → length (extent_by v line lines e).left ≤ length (line ∷ lines)
 extent_left_by (GoesOn p) line lines e h = omega arith
@@ -126,11 +126,11 @@ reach Line = 0
 reach (Blanks e) = 0
 reach (At p may) = suc (length p.rest.left)
 
--- Where blocks go on less of the line is left, or fewer lines.
+-- Where blocks continue less of the line is left, or fewer lines.
 abbrev pub IsShorter : ℕ → List Place → From → List Place → Type 0
 IsShorter most lines there left = (length left ≤ length lines) × ((reach there ≤ most) ⊎ (length left < length lines))
 
--- Behind a leaf and inside a container less of the text is left; behind a leaf not only blank lines are taken.
+-- After a leaf and inside a container less of the text is left; after a leaf not only blank lines are taken.
 abbrev pub Shrinks : ℕ → List Place → Opening → Type 0
 Shrinks most lines (OpensLeaf leaf there left) = IsShorter most lines there left × (blanks_alone there ≡ None)
 Shrinks most lines (OpensNode head inside behind) = IsShorter most lines inside behind
@@ -138,7 +138,7 @@ Shrinks most lines (OpensNode head inside behind) = IsShorter most lines inside 
 at_next_line : (most : ℕ) (lines : List Place) (leaf : Leaf) (left : List Place) → length left ≤ length lines → Shrinks most lines (OpensLeaf leaf Line left)
 at_next_line most lines leaf left less = ((less, inl (omega arith)), refl)
 
--- Something opens, with names that go on with these and whatever is named besides.
+-- Something opens, with names that continue these and whatever is named besides.
 pub record Leads (names : Names) (most : ℕ) (lines : List Place) (Are : Names → Opening → Type 0) : Type 0 where
   pub opening : Opening
   pub more : Names

@@ -20,7 +20,7 @@ use Rattle.first_pass_grammar.proofs.Found.{Found, named_attributes}
 use Rattle.first_pass_grammar.proofs.MoreNames.{extends_both, with_texts, extends_texts}
 use Rattle.first_pass_grammar.proofs.TextsMore.{line_later}
 
--- what the lines of a text give, and names that go on with these, with the texts that it names
+-- what the lines of a text give, and names that continue these, with the texts that it names
 pub record LinesFrom (names : Names) (text : List ℕ) (options : Options) (path : List Container) (p : Spot) (chain : List Item) (lines : List Place)
     : Type 0 where
   pub given : TextLines

@@ -51,13 +51,13 @@ lines_from_at text start = lines_by text start (drop start text) refl
 pub lines_are_at : (text : List ℕ) → AreAt text (lines_at 0 text)
 lines_are_at text = lines_from_at text 0
 
--- the lines behind an offset
+-- the lines after an offset
 pub beyond_at : (text : List ℕ) (e : ℕ) (lines : List Place) → AreAt text lines → AreAt text (lines_beyond e lines)
 unfolding lines_beyond
 beyond_at text e [] h = tt
 beyond_at text e (line ∷ lines) h = unless_at text (nat_lt line.line e) (lines_beyond e lines) (line ∷ lines) (beyond_at text e lines h.1) h
 
--- what stands behind a run of definitions
+-- what stands after a run of definitions
 abbrev pub BeyondAt : List ℕ → Beyond → Type 0
 BeyondAt text (Ended p left) = AreAt text left
 BeyondAt text (FlowsOn p lines) = IsAt text p × AreAt text lines

@@ -93,7 +93,7 @@ named_last [] x (suc i) h = absurd (omega arith)
 named_last (y ∷ xs) x zero h = absurd (omega arith)
 named_last (y ∷ xs) x (suc i) h = named_last xs x i (omega arith)
 
--- a place of a list has what it had before more came behind
+-- a place of a list has what it had before more came after
 still_there : {A : Type 0} (new old more : List A) (i : ℕ) (x : A) → new ≡ old ++ more → slice_get old i ≡ Some x → slice_get new i ≡ Some x
 still_there new old more i x e h = ap (λ xs. slice_get xs i) e ∙ named_front old more i (slice_get_within old i x h) ∙ h
 
@@ -119,7 +119,7 @@ alignments_kept new old ix e h =
     ap (λ (o : Option (List Alignment)). unwrap_or o [])
     (ap (λ (xs : List (List Alignment)). slice_get xs ix.0) e.alignments ∙ named_front old.alignments e.more_alignments ix.0 h)
 
--- The index of a text, of alignments, or of attributes, that were put behind those that are named names them, whatever more is named.
+-- The index of a text, of alignments, or of attributes, that were put after those that are named names them, whatever more is named.
 pub text_last : (old new more : Names) (ix : CowIndex) (cow : CowStr) → ix.0 ≡ length old.texts → new ≡ with_named old cow
     → Extends more new → slice_get more.texts ix.0 ≡ Some cow
 text_last old new more ix cow at is e =

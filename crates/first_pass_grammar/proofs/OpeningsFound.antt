@@ -1,4 +1,4 @@
--- At each place where blocks go on something opens, and inside a container less of the text is left.
+-- At each place where blocks continue something opens, and inside a container less of the text is left.
 use Rattle.std.proofs.Common.{◌≡◌, inl, inr, ℕ, suc, ◌-◌, ◌<◌, ◌≤◌, Bool, true, false, List, [], ◌∷◌, length, Option, Some, None, refl, sym, ap, arith, nat_lt, if◌then◌else◌}
 use Rattle.std.specs.Option.{option_map}
 use Rattle.std.proofs.lemmas.List.{length-drop}
@@ -23,7 +23,7 @@ use Rattle.first_pass_grammar.specs.Leaves.{Document, document}
 use Rattle.first_pass_grammar.specs.Skeleton.{leaf_block, Head, From, Line, At, May, Anything, ALeafAlone, TextOf, MarkAlone, Inside, behind_marker, Opening, OpensNode, next_is_blank, item_head, task_by, task_behind, behind_task, task_alone, item_opening, quote_head, tag_behind, behind_tag, quote_opening, OpensQuote, OpensFrom, Opens, OpensIf}
 use Rattle.first_pass_grammar.proofs.KindsFound.{IsShorter, leads_alone, leads_leaf, reach, Shrinks, Leads, leads_text, leads_block}
 
--- behind a marker less is left
+-- after a marker less is left
 mapped_to : {A B : Type 0} (f : A → B) (o : Option A) (y : B) → option_map f o ≡ Some y → (x : A) × (o ≡ Some x) × (f x ≡ y)
 mapped_to f None y h = absurd (none-some y h)
 mapped_to f (Some x) y h = (x, refl, same_Some (f x) y h)

@@ -15,7 +15,7 @@ use Rattle.first_pass_grammar.specs.Order.{Extent, is_text_block, is_task_marker
 use Rattle.first_pass_grammar.specs.OpenOrder.{laid_open, AreAt, open_item, FitsOpen}
 use Rattle.first_pass_grammar.proofs.OwnNodes.{own_at_most}
 
--- a row, and another behind it
+-- a row, and another after it
 abbrev pub beside : Row → Row → Row
 beside Empty more = more
 beside (Node x kids next) more = Node x kids (beside next more)
@@ -174,7 +174,7 @@ fits-earlier text Elsewhere a b to row more h = earlier_by text Elsewhere a b to
 fits-earlier text InItem a b to row more h = earlier_by text InItem a b to row (λ x l. l) more h
 fits-earlier text (InText before) a b to row more h = earlier_by text Elsewhere a b to row (λ x l. l) more h
 
--- a row fits behind another
+-- a row fits after another
 pub fits-beside : (text : List ℕ) (w : Within) (from mid to : ℕ) (row more : Row) → Fits text w from mid row → Fits text (beyond w) mid to more → Fits text w from to (beside row more)
 unfolding Fits
 fits-beside text w from mid to Empty more h behind = let t : from ≤ mid = h in fits-beyond text w from to more (fits-earlier text w from mid to more t behind)

@@ -19,7 +19,7 @@ unfolding own
 own_at_most cell [] = omega arith
 own_at_most cell (n ∷ nodes) = (let h = one_at_most (is_filled_behind cell n.1) _ _ (own_at_most (last_cell cell n.1) nodes) in omega arith)
 
--- behind a cell no more nodes count than behind none
+-- after a cell no more nodes count than after none
 fresh_by : (row is : Bool) (start : ℕ) (cell : Option ℕ) (nodes : List (ℕ × Item)) → own cell nodes ≤ own None nodes
     → own (if row then None else (if is then Some start else cell)) nodes ≤ own (if row then None else (if is then Some start else None)) nodes
 fresh_by true is start cell nodes h = omega arith
@@ -32,7 +32,7 @@ own_fresh cell [] = omega arith
 own_fresh cell (n ∷ nodes) =
     one_at_most (is_filled_behind cell n.1) _ _ (fresh_by (is_row n.1.body) (is_cell n.1.body) n.1.start cell nodes (own_fresh cell nodes))
 
--- a list with more behind it has no more than both
+-- a list with more after it has no more than both
 join_one : (t : Bool) (m a b : ℕ) → m ≤ a + b → (if t then 0 else 1) + m ≤ (if t then 0 else 1) + a + b
 join_one true m a b h = omega arith
 join_one false m a b h = omega arith
@@ -52,7 +52,7 @@ unfolding own
 own_at_depth cell depth [] = refl
 own_at_depth cell depth (n ∷ nodes) = ap (λ k. (if is_filled_behind cell n.1 then 0 else 1) + k) (own_at_depth (last_cell cell n.1) depth nodes)
 
--- a block added behind nodes brings its own ones at most
+-- a block added after nodes brings its own ones at most
 pub own_added : (nodes block : List (ℕ × Item)) (depth : ℕ) → own_nodes (nodes ++ at_depth depth block) ≤ own_nodes nodes + own_nodes block
 own_added nodes block depth = (let join = own_join None nodes (at_depth depth block) in let same = own_at_depth None depth block in omega arith)
 
@@ -82,7 +82,7 @@ alike_first cell d e x y nodes more h same =
     ∙ ap (λ (c : Option ℕ). (if is_filled_behind cell x then 0 else 1) + own c more) (last_alike x y cell h)
     ∙ ap (λ (k : ℕ). (if is_filled_behind cell x then 0 else 1) + k) (same (last_cell cell x))
 
--- behind the same node
+-- after the same node
 pub own_first : (cell : Option ℕ) (n : ℕ × Item) (nodes more : List (ℕ × Item))
     → ((after : Option ℕ) → own after more ≡ own after nodes) → own cell (n ∷ more) ≡ own cell (n ∷ nodes)
 own_first cell n nodes more same = alike_first cell n.0 n.0 n.1 n.1 nodes more (record { start = refl; cell = refl; row = refl }) same

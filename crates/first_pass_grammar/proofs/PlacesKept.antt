@@ -1,5 +1,5 @@
--- What is left at a place is the text from its offset on: this is so of the lines of a text, behind columns, markers and the prefixes of containers, and at
--- the places and in the lines that stand behind a leaf block.
+-- What is left at a place is the text from its offset on: this is so of the lines of a text, after columns, markers and the prefixes of containers, and at
+-- the places and in the lines that stand after a leaf block.
 use Rattle.std.proofs.Common.{◌≡◌, ℕ, zero, suc, ◌+◌, ◌-◌, ◌%◌, ◌==◌, nat_lt, Bool, true, false, List, [], ◌∷◌, drop, Option, Some, None, refl, sym, ap, subst, ◌∙◌, arith, drop-drop, if◌then◌else◌}
 use Rattle.std.specs.Option.{option_map, option_and_then}
 use Rattle.std.proofs.lemmas.Option.{none-some, same_Some}
@@ -26,7 +26,7 @@ abbrev pub AreAt : List ℕ → List Place → Type 0
 AreAt text [] = Unit {0}
 AreAt text (p ∷ ps) = IsAt text p × AreAt text ps
 
--- the second stands behind the first: without its first bytes, which are taken
+-- the second stands after the first: without its first bytes, which are taken
 abbrev pub Follows : Rest → Rest → Type 0
 Follows r s = (n : ℕ) × (s.left ≡ drop n r.left) × (s.taken ≡ r.taken + n)
 
@@ -41,11 +41,11 @@ at_behind text line r s (n, e, f) i =
     let same : line + r.taken + n ≡ line + s.taken = omega arith in
     e ∙ ap (drop n) i ∙ drop-drop n (line + r.taken) text ∙ ap (λ (k : ℕ). drop k text) same
 
--- behind a byte
+-- after a byte
 byte_follows : (r : Rest) (b : ℕ) (bs : List ℕ) → r.left ≡ b ∷ bs → bs ≡ drop 1 r.left
 byte_follows r b bs e = sym (ap (drop 1) e)
 
--- behind columns
+-- after columns
 column_by : (t u : Bool) (r s : Rest) (b : ℕ) (bs : List ℕ) → r.left ≡ b ∷ bs
     → (if t then Some (past_byte r bs) else (if u then Some (record { left = bs; taken = r.taken + 1; owed = 3 - r.column % 4; column = 0 }) else None)) ≡ Some s
     → Follows r s
@@ -71,7 +71,7 @@ columns_follow : (k : ℕ) (r : Rest) → Follows r (after_columns k r)
 columns_follow zero r = follows_none r
 columns_follow (suc k) r = columns_step k r (next_column r) refl (columns_follow k)
 
--- behind the sign of a block quote
+-- after the sign of a block quote
 quote_by : (t : Bool) (r s : Rest) (b : ℕ) (bs : List ℕ) → r.left ≡ b ∷ bs → (if t then Some (past_byte r bs) else None) ≡ Some s → Follows r s
 quote_by true r s b bs e h = subst (Follows r) (same_Some (past_byte r bs) s h) (1, byte_follows r b bs e, refl)
 quote_by false r s b bs e h = absurd (none-some s h)
@@ -84,7 +84,7 @@ quote_if : (t : Bool) (r s : Rest) → (if t then past_quote_byte r r.left else 
 quote_if true r s h = quote_byte r s r.left refl h
 quote_if false r s h = absurd (none-some s h)
 
--- behind the prefix of a container, of a path, and of what a line goes on with of one
+-- after the prefix of a container, of a path, and of what a line continues of one
 mapped_by : (o : Option Rest) (r s : Rest) → ((q : Rest) → o ≡ Some q → Follows r q) → option_map (after_columns 1) o ≡ Some s → Follows r s
 mapped_by None r s f h = absurd (none-some s h)
 mapped_by (Some q) r s f h = subst (Follows r) (same_Some (after_columns 1 q) s h) (follows_both r q (after_columns 1 q) (f q refl) (columns_follow 1 q))
@@ -119,7 +119,7 @@ unfolding front
 front_follows [] r = follows_none r
 front_follows (c ∷ path) r = front_by (after (c ∷ path) r) r (front path r) (after_follows (c ∷ path) r) (front_follows path r)
 
--- behind all columns of a place, and there in a line
+-- after all columns of a place, and there in a line
 pub at_unindented : (text : List ℕ) (p : Place) → IsAt text p → IsAt text (unindented p)
 at_unindented text p i = at_behind text p.line p.rest (all_taken p.rest) (columns_follow (indent p.rest) p.rest) i
 
@@ -139,7 +139,7 @@ at_taken text path line q h i = taken_by text line q (after path line.rest) (aft
 pub at_quote : (text : List ℕ) (p inside : Place) → quote_inside p ≡ Some inside → IsAt text p → IsAt text inside
 at_quote text p inside h i = taken_by text p inside (prefix (BlockQuote None) p.rest) (prefix_follows (BlockQuote None) p.rest) h i
 
--- behind the marker of an item, and of a task
+-- after the marker of an item, and of a task
 marked_follows : (r s : Rest) → IsMarked r s → Follows r s
 marked_follows r s m =
     let one : Rest = past_bytes m.width r in

@@ -18,7 +18,7 @@ use Rattle.first_pass_tokens.proofs.LineLemmas.{cell_ends, ended_by}
 use Rattle.first_pass_grammar.specs.Leaves.{Document}
 use Rattle.first_pass_grammar.specs.Tables.{cell_content, cell_start, cell_text, AreCells}
 
--- behind content of a line the line ends where it did
+-- after content of a line the line ends where it did
 along : (text : List ℕ) (at n : ℕ) → n ≤ prefix_len is_content (drop at text) → at + n + line_len (drop (at + n) text) ≡ at + line_len (drop at text)
 along text at n within =
     let moved = bytes_line_end n (line_place at (drop at text)) within in
@@ -82,7 +82,7 @@ text_in_line text at within =
     let rest = length-drop at text in
     (text_behind text at (slice_index text at == pipe) refl, omega arith)
 
--- The row whose cells begin at a place ends behind the line end there: its line ends where it does.
+-- The row whose cells begin at a place ends after the line end there: its line ends where it does.
 pub row_ends_its_line : (d : Document) (p : Spot) (cells : List (List (ℕ × Item))) (to : Spot) → p.at ≤ length d.text → AreCells d p cells to
     → to.at ≡ p.at + line_len (drop p.at d.text)
 unfolding AreCells
@@ -161,7 +161,7 @@ later_by {after} d at before tokens stop false here within on cell =
           (subst (λ (k : ℕ). IsCell d.names.texts (begun_there d (spot at before)) tokens k after) same cell)))
     ]
 
--- A cell of a row ends behind the place where it is looked for.
+-- A cell of a row ends after the place where it is looked for.
 pub cell_takes_a_byte : {after : MathBraces} (d : Document) (p : Spot) (tokens : List Item) (stop : ℕ) → p.at ≤ length d.text
     → at_line_end (drop (cell_text d.text p.at) d.text) ≡ false → IsCell d.names.texts (begun_there d p) tokens stop after → p.at < stop
 cell_takes_a_byte d p tokens stop within on cell = later_by d p.at p.braces tokens stop (slice_index d.text p.at == pipe) refl within on cell

@@ -1,4 +1,4 @@
--- Rows behind blank lines, and behind a list.
+-- Rows after blank lines, and after a list.
 use Rattle.std.proofs.Common.{◌≡◌, ℕ, Bool, true, false, ◌||◌, refl, ap, if◌then◌else◌}
 use Rattle.first_pass_grammar.specs.Rows.{Row, Rows, End, OneOf, behind, ends_in_gap, list_behind}
 use Rattle.first_pass_grammar.specs.Derivation.{items_of}

@@ -16,7 +16,7 @@ unfolding lines_beyond
 beyond_shorter e [] = omega arith
 beyond_shorter e (line ∷ lines) = shorter_by e line lines (nat_lt line.line e) (beyond_shorter e lines)
 
--- how many lines are left behind a run
+-- how many lines are left after a run
 abbrev pub left_beyond : Beyond → List Place
 left_beyond (Ended q left) = left
 left_beyond (FlowsOn q lines) = lines

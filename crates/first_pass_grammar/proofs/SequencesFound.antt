@@ -15,8 +15,8 @@ use Rattle.first_pass_grammar.proofs.MoreNames.{extends_none, extends_both}
 use Rattle.first_pass_grammar.proofs.KindsFound.{reach, IsShorter, Shrinks, Leads, leads_also}
 use Rattle.first_pass_grammar.proofs.OpeningsFound.{leads_any, leads_if}
 
--- Blocks from a place on, with names that go on with these, whatever is named besides. Unless blank lines alone are taken, the sequence ends where the
--- next line doesn't go on with its path.
+-- Blocks from a place on, with names that continue these, whatever is named besides. Unless blank lines alone are taken, the sequence ends where the
+-- next line doesn't continue its path.
 pub record SequenceFrom (text : List ℕ) (options : Options) (names : Names) (path : List Container) (from : From) (lines : List Place) : Type 0 where
   pub blocks : Skeleton
   pub left : List Place
@@ -26,7 +26,7 @@ pub record SequenceFrom (text : List ℕ) (options : Options) (names : Names) (p
   pub shorter : length left ≤ length lines
   pub ends : blanks_alone from ≡ None → Ends path Line left
 
--- where blocks go on behind a first one
+-- where blocks continue after a first one
 reach_behind : (from there : From) → reach (behind_first from there) ≤ reach there
 reach_behind Line there = omega arith
 reach_behind (Blanks e) there = omega arith
@@ -50,7 +50,7 @@ shorter_behind : (most : ℕ) (lines left : List Place) (from there : From) → 
 shorter_behind most lines left from there (less, inl near) = let reaches = reach_behind from there in (less, inl (omega arith))
 shorter_behind most lines left from there (less, inr fewer) = (less, inr fewer)
 
--- a first block, and those in it and behind it
+-- a first block, and those in it and after it
 module _ (text : List ℕ) (options : Options) where
   -- blocks from each place on, of lines that are fewer than so many, or as many at most with a place that reaches no further
   abbrev Fewer : ℕ → Type 0
@@ -61,7 +61,7 @@ module _ (text : List ℕ) (options : Options) where
       (names : Names) (path : List Container) (from : From) (lines : List Place) → length lines ≤ n → reach from ≤ k
       → SequenceFrom text options names path from lines
 
-  -- the blocks where less is left than these lines behind a place
+  -- the blocks where less is left than these lines after a place
   abbrev Others : ℕ → List Place → Type 0
   Others most lines =
       (names : Names) (path : List Container) (from : From) (left : List Place) → IsShorter most lines from left

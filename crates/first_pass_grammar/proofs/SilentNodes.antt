@@ -1,4 +1,4 @@
--- Nodes that show nothing of tables: they show nothing still where more stands behind them, and where lists and containers are closed.
+-- Nodes that show nothing of tables: they show nothing still where more stands after them, and where lists and containers are closed.
 use Rattle.std.proofs.Common.{◌≡◌, ℕ, zero, suc, ◌==◌, ◌||◌, not, Bool, true, false, List, [], ◌∷◌, ◌++◌, map, refl, sym, ap, ◌∙◌, if◌then◌else◌}
 use Rattle.std.proofs.lemmas.List.{append_assoc}
 use Rattle.first_pass_items.specs.declared.item.Item.{Item}
@@ -20,7 +20,7 @@ IsSilent [] i = ⊥
 IsSilent (n ∷ nodes) zero = ShowsNothing n.1.body
 IsSilent (n ∷ nodes) (suc i) = IsSilent nodes i
 
--- so at each of these places, and at that of a list that may go on
+-- so at each of these places, and at that of a list that may continue
 abbrev pub AreSilent : List (ℕ × Item) → List ℕ → Type 0
 AreSilent nodes [] = Unit {0}
 AreSilent nodes (place ∷ places) = IsSilent nodes place × AreSilent nodes places
@@ -33,7 +33,7 @@ SilentList nodes (OneList place byte loose) = IsSilent nodes place
 abbrev pub StaysSilent : (Item → Item) → Type 0
 StaysSilent g = (x : Item) → ShowsNothing x.body → ShowsNothing (g x).body
 
--- more nodes behind them, and an item changed
+-- more nodes after them, and an item changed
 silent_front : (nodes more : List (ℕ × Item)) (i : ℕ) → IsSilent nodes i → IsSilent (nodes ++ more) i
 silent_front [] more i h = absurd h
 silent_front (n ∷ nodes) more zero h = h

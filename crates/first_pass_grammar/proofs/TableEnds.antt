@@ -1,4 +1,4 @@
--- A row ends in the text, at or behind the place where it begins.
+-- A row ends in the text, at or after the place where it begins.
 use Rattle.std.proofs.Common.{◌≡◌, ℕ, ◌+◌, ◌≤◌, ◌==◌, Bool, true, false, true≢false, List, [], ◌∷◌, length, drop, slice_index, inl, inr, Some, None, refl, sym, ap, ◌∙◌, arith, length-drop, if◌then◌else◌}
 use Rattle.std.proofs.lemmas.Bool.{cases_lt}
 use Rattle.std.proofs.lemmas.List.{get_or_past}
@@ -28,7 +28,7 @@ end_fits : (bs : List ℕ) (n : ℕ) → eol_len bs ≡ Some n → n ≤ length 
 end_fits [] n e = let same = same_Some 0 n e in omega arith
 end_fits (b ∷ bs) n e = let fits = end_fits_by bs (b == line_feed) (b == carriage_return) n e in omega arith
 
--- the content of a cell begins in the text, at or behind the place where it is looked for
+-- the content of a cell begins in the text, at or after the place where it is looked for
 start_within : (text : List ℕ) (at : ℕ) (t : Bool) → (slice_index text at == pipe) ≡ t → at ≤ length text
     → (at ≤ cell_start text at) × (cell_start text at ≤ length text)
 start_within text at true here within =

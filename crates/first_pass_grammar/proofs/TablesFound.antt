@@ -66,7 +66,7 @@ goes_on_at text options p within line other =
     none_of (nat_le (length text) p.at) (is_line_end (slice_index text p.at)) (has options tables) (slice_index text p.at == pipe)
     (lt-leb (length text) p.at within) line other
 
--- A cell ends behind the place where it is looked for.
+-- A cell ends after the place where it is looked for.
 later_by : (texts : List CowStr) (text : List ℕ) (options : Options) (at : ℕ) (braces : MathBraces) (tokens : List Item) (stop : ℕ) (after : MathBraces) (t : Bool)
     → (slice_index text at == pipe) ≡ t → eol_len (drop (cell_text text at) text) ≡ None
     → IsCell texts (cell_source text options (spot (cell_text text at) braces)) tokens stop after → at < stop
@@ -90,7 +90,7 @@ later_by texts text options at braces tokens stop after false here h cell =
           omega arith
     ]
 
--- the cells of a row, and names that go on with these, with the texts that they name
+-- the cells of a row, and names that continue these, with the texts that they name
 pub record CellsFrom (names : Names) (text : List ℕ) (options : Options) (p : Spot) : Type 0 where
   pub cells : List (List (ℕ × Item))
   pub to : Spot
@@ -140,7 +140,7 @@ cells_at names text options (suc most) p h =
 pub cells_found : (names : Names) (text : List ℕ) (options : Options) (p : Spot) → CellsFrom names text options p
 cells_found names text options p = cells_at names text options (length text) p (omega arith)
 
--- the rows of a body, and names that go on with these, with the texts that they name
+-- the rows of a body, and names that continue these, with the texts that they name
 pub record RowsFrom (names : Names) (text : List ℕ) (options : Options) (path : List Container) (table : TableSoFar) (lines : List Place) : Type 0 where
   pub rows : Taken
   pub more : Names
@@ -188,7 +188,7 @@ rows_found names text options path [] table =
 rows_found names text options path (line ∷ lines) table =
     rows_by names text options path table line lines (row_text path line) refl (λ mid further. rows_found mid text options path lines further)
 
--- What is taken of a text, and names that go on with these, so that this holds of it for all names that go on with those.
+-- What is taken of a text, and names that continue these, so that this holds of it for all names that continue those.
 pub record TakenFrom (names : Names) (lines : List Place) (Holds : Names → Taken → Type 0) : Type 0 where
   pub value : Taken
   pub more : Names

@@ -1,4 +1,4 @@
--- What is read under some names is so under names that go on with them.
+-- What is read under some names is so under names that continue them.
 use Rattle.std.proofs.Common.{◌≡◌, inl, inr, ℕ, List, [], ◌∷◌, Option, Some, None, MatchOption}
 use Rattle.first_pass_items.specs.declared.item.Alignment.{Alignment}
 use Rattle.first_pass_items.specs.declared.item.HeadingIndex.{HeadingIndex}

@@ -143,7 +143,7 @@ length-modify [] k g = refl
 length-modify (n ∷ nodes) zero g = refl
 length-modify (n ∷ nodes) (suc k) g = ap suc (length-modify nodes k g)
 
--- a list closed of which more stands behind some nodes
+-- a list closed of which more stands after some nodes
 pub list_closed-append : (nodes more : List (ℕ × Item)) (o d : ℕ) (loose : Bool) (e : ℕ) → o < length nodes
     → list_closed (nodes ++ more) o d loose e ≡ list_closed nodes o d loose e ++ (if loose then more else map (tightened d) more)
 unfolding list_closed

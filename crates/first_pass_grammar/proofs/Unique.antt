@@ -88,7 +88,7 @@ one_html d n start columns places end xs ys h k =
 one_extent : (m n : Names) (kind : Kind) (p : Place) (e : Extent) (A B : List (ℕ × Item) → Type 0) (o o' : Opening) → ((xs ys : List (ℕ × Item)) → A xs → B ys → AlikeNodes m n xs ys) → OpensExtent kind p e A o → OpensExtent kind p e B o' → AlikeOpening m n o o'
 one_extent m n kind p e A B o o' one (xs, a, f) (ys, b, g) = alike_by m n o o' _ _ f g ((refl, one xs ys a b, refl, refl), refl, tt, refl)
 
--- a place begins one run, with one thing behind it
+-- a place begins one run, with one thing after it
 head_of : (line line' : Place) (left left' : List Place) → line ∷ left ≡ line' ∷ left' → line ≡ line'
 head_of line line' left left' e = cc
 
@@ -118,7 +118,7 @@ one_run around p lines (x ∷ xs) (y ∷ ys) b c (h, inr (line, left, is, on, mo
     (subst (λ z. IsRun around (unindented (at_rest line' (front around.path line'.rest))) z ys c) (tail_of line' line left' left both) more')) in
     (ap (λ z. z ∷ xs) s ∙ ap (λ z. y ∷ z) r.0, r.1)
 
--- what stands behind a run reads alike
+-- what stands after a run reads alike
 one_beyond : (d : Document) (n : Names) (path : List Container) (xs : List LinkEntry) (b : Beyond) (o o' : Opening) → OpensBeyond d path xs b o → OpensBeyond (with_names d n) path xs b o' → AlikeOpening d.names n o o'
 one_beyond d n path xs (Ended p left) o o' e f = alike_by d.names n o o' _ _ e f ((refl, refl, refl, refl), refl, tt, refl)
 one_beyond d n path xs (FlowsOn p lines) o o' (t, is, e) (u, is', f) =
@@ -176,7 +176,7 @@ opens_block : (d : Document) (n : Names) (path : List Container) (p : Place) (li
 opens_block d n path p lines o o' (k, is, e) (k', is', f) =
     opens_once d n path p lines (kind_in (around d path) p k) o o' e (subst (λ z. OpensAs (with_names d n) path p lines (kind_in (around d path) p z) o') (one_kind d.options p.rest k' k is' is) f)
 
--- a container that opens, in which blocks go on where no item with an index stands
+-- a container that opens, in which blocks continue where no item with an index stands
 abbrev OpensFree : Opening → Type 0
 OpensFree (OpensLeaf leaf there left) = ⊥
 OpensFree (OpensNode head inside behind) = HoldsNoIndex inside

@@ -70,7 +70,7 @@ module _ (d : Document) (full : HeadsAreFull d) where
       (becomes_shows (loosened gap frames) places now further Line left forest tables tt blocks.1 still tt
       (subst (λ (path : List Container). AreFurther d path Line left further) (sym (containers-loosened gap frames)) are) becomes)
 
--- Where tables stand behind marks, and all of it is whole tables, the marks are whole tables: those in a row or a cell begin no table.
+-- Where tables stand after marks, and all of it is whole tables, the marks are whole tables: those in a row or a cell begin no table.
 abbrev is_table : Mark → Bool
 is_table (ATable depth columns) = true
 is_table (ARow depth «end») = false

@@ -46,7 +46,7 @@ HeadsAreFull d =
     (path : List Container) (p : Place) (alignments : List Alignment) (lines : List Place) (t : Taken) → IsAt d.text p
     → headed_table (around d path) p.rest.left ≡ Some alignments → (h : IsTable d path p alignments lines t) → filled (length alignments) h.cells ≤ most_filled
 
--- what a leaf shows, and what stands where blocks go on
+-- what a leaf shows, and what stands where blocks continue
 abbrev pub WholeLeaf : Names → Leaf → Type 0
 WholeLeaf names BlankLine = Unit {0}
 WholeLeaf names (Block b) = AreWholeTables names b.items
@@ -254,7 +254,7 @@ module _ (d : Document) (full : HeadsAreFull d) where
       subst (WholeOpening d) (sym e)
       (whole_none d.names ((0, marker) ∷ []) (ap (λ (z : List Mark). z ++ []) (plain d.names 0 marker.start marker.«end»)), tt, h)
 
-  -- what opens where blocks go on
+  -- what opens where blocks continue
   opens_at : (path : List Container) (from : From) (lines : List Place) (p : Place) (behind : List Place) (o : Opening) → PlainFrom d.text from
       → AreAt d.text lines → Begins path from lines p behind → OpensAt d path from p behind o → WholeOpening d o
   opens_at path Line [] p behind o plain h begins opens = absurd begins

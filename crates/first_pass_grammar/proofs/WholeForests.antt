@@ -18,7 +18,7 @@ use Rattle.first_pass_grammar.proofs.LinesLeft.{lines_are_at}
 use Rattle.first_pass_grammar.proofs.TableMarks.{marks-append, whole_deeper}
 use Rattle.first_pass_grammar.proofs.WholeBlocks.{whole_none, WholeSkeleton, sequence_whole}
 
--- whole tables behind each other
+-- whole tables after each other
 pub table_marks-append : (a b : List TableRows) → table_marks (a ++ b) ≡ table_marks a ++ table_marks b
 unfolding table_marks
 table_marks-append [] b = refl

@@ -24,12 +24,12 @@ use Rattle.first_pass_grammar.specs.Leaves.{Document, block_with}
 use Rattle.first_pass_grammar.specs.RawLines.{range_text, AreRawLines}
 use Rattle.first_pass_grammar.specs.Extents.{Extent, Verdict, GoesOn, Closes, extent, in_containers}
 
--- Where the text of a line begins by which indented code goes on: behind what the containers take of it, and four columns, or fewer and then the end of
+-- Where the text of a line begins by which indented code continues: after what the containers take of it, and four columns, or fewer and then the end of
 -- the line (CommonMark 4.4).
 abbrev pub code_place : List Container → Place → Option Place
 code_place path line = option_and_then (λ (q : Place). if has_columns 4 q.rest then Some (moved_columns 4 q) else None) (taken path line)
 
--- the places of the lines that go on with indented code, and what they leave
+-- the places of the lines that continue indented code, and what they leave
 abbrev pub code_by : List Place → List Place → Option Place → List Place × List Place → List Place × List Place
 code_by line lines None further = ([], lines)
 code_by line lines (Some p) further = (p ∷ further.0, further.1)
@@ -58,7 +58,7 @@ unfoldable pub last_end : ℕ → List Place → ℕ
 last_end e [] = e
 last_end e (p ∷ ps) = last_end (line_end p) ps
 
--- Indented code whose first line's text begins at a place behind its four columns, of which these further lines go on with it: the blank lines at its end
+-- Indented code whose first line's text begins at a place after its four columns, of which these further lines continue it: the blank lines at its end
 -- are no part of it (CommonMark 4.4).
 pub record IsIndentedCode (d : Document) (p : Place) (further : List Place) (items : List (ℕ × Item)) : Type 0 where
   pub chain : List Item
@@ -70,8 +70,8 @@ pub record IsIndentedCode (d : Document) (p : Place) (further : List Place) (ite
 abbrev pub closing_fence_end : ℕ → ℕ → Place → Option ℕ
 closing_fence_end byte count p = if nat_lt (indent p.rest) 4 then option_map (λ n. offset (unindented p) + n) (closing_fence_len byte count (all_taken p.rest).left) else None
 
--- What a line is to a fenced code block whose opening fence stood at so many columns and has so many of a byte: a closing fence closes it; of any other line as
--- many columns are taken as the fence stood at (CommonMark 4.5).
+-- What a line is to a fenced code block whose opening fence stood at so many columns and has so many of a byte: a closing fence closes it; of any other line
+-- as many columns are taken as the fence stood at (CommonMark 4.5).
 abbrev pub fence_verdict : ℕ → Place → Option ℕ → Verdict
 fence_verdict columns q None = GoesOn (moved_columns columns q)
 fence_verdict columns q (Some e) = Closes e
@@ -79,7 +79,7 @@ fence_verdict columns q (Some e) = Closes e
 abbrev pub fence_judge : ℕ → ℕ → ℕ → Place → Place → Verdict
 fence_judge columns byte count line q = fence_verdict columns q (closing_fence_end byte count q)
 
--- its lines among those behind the fence's, in a text of n bytes
+-- its lines among those after the fence's, in a text of n bytes
 abbrev pub fenced_lines : ℕ → List Container → ℕ → ℕ → ℕ → List Place → Extent
 fenced_lines n path columns byte count lines = extent (in_containers path (fence_judge columns byte count)) n lines
 
@@ -115,7 +115,7 @@ metadata_verdict line q (Some n) = Closes (line.line + n)
 abbrev pub metadata_judge : ℕ → Place → Place → Verdict
 metadata_judge byte line q = metadata_verdict line q (closing_metadata_len byte line.rest.left)
 
--- its lines among those behind its first, in a text of n bytes
+-- its lines among those after its first, in a text of n bytes
 abbrev pub metadata_lines : ℕ → List Container → ℕ → List Place → Extent
 metadata_lines n path byte lines = extent (in_containers path (metadata_judge byte)) n lines
 

@@ -33,19 +33,19 @@ unfoldable pub list_closed : List (ℕ × Item) → ℕ → ℕ → Bool → ℕ
 list_closed nodes place depth loose e =
     modify (if loose then nodes else map_from (tightened depth) place nodes) place (λ x. record { start = x.start; «end» = e; body = flagged loose x.body })
 
--- a list that the next item may go on with, the place of its node, its byte, and whether it is loose so far; or none
+-- a list that the next item may continue, the place of its node, its byte, and whether it is loose so far; or none
 pub data Pending : Type 0 where
   NoList : Pending
   OneList : ℕ → ℕ → Bool → Pending
 
--- what stands so far: nodes, a list that may go on, whether the run of blank lines behind them holds one that counts, and what is defined
+-- what stands so far: nodes, a list that may continue, whether the run of blank lines after them holds one that counts, and what is defined
 pub record Standing : Type 0 where
   pub nodes : List (ℕ × Item)
   pub list : Pending
   pub run : Bool
   pub defined : Tables
 
--- what a container takes further: blocks, and where it ends behind them
+-- what a container takes further: blocks, and where it ends after them
 pub record Further : Type 0 where
   pub blocks : Skeleton
   pub «end» : ℕ
@@ -58,22 +58,22 @@ AreFurther d (c ∷ path) from lines (f ∷ more) =
     × AreFurther d path Line left more
 AreFurther d _ from lines _ = ⊥
 
--- a blank line is first, and counts there: behind an item its list is innermost (this project)
+-- a blank line is first, and counts there: after an item its list is innermost (this project)
 abbrev pub counts_first : Pending → Skeleton → Bool
 counts_first NoList s = false
 counts_first (OneList place byte loose) s = begins_blank s
 
--- the rows of what a container takes further, a block quote or not, behind what stands
+-- the rows of what a container takes further, a block quote or not, after what stands
 abbrev pub rows_on : Bool → Standing → Further → Rows
 rows_on quoted w f = behind (w.run || counts_first w.list f.blocks) (rows_of quoted f.«end» f.blocks)
 
--- of such rows those that are not the list's that may go on
+-- of such rows those that are not the list's that may continue
 abbrev pub rows_beyond : Pending → Rows → Rows
 rows_beyond NoList rows = rows
 rows_beyond (OneList place byte loose) rows = list_behind byte rows
 
--- The nodes, and behind them these rows, whose blocks have this depth, in a container that ends at an offset. A list that may go on takes the items among
--- them that go on with it, and is loose where it was or where they make it so; what is behind it stands beside it (CommonMark 5.3).
+-- The nodes, and after them these rows, whose blocks have this depth, in a container that ends at an offset. A list that may continue takes the items among
+-- them that continue it, and is loose where it was or where they make it so; what is after it stands beside it (CommonMark 5.3).
 unfoldable pub rendered : ℕ → ℕ → List (ℕ × Item) → Pending → Rows → List (ℕ × Item)
 rendered depth last nodes NoList rows = nodes ++ items_of depth false rows
 rendered depth last nodes (OneList place byte loose) rows =
@@ -103,13 +103,13 @@ loosened gap [] = []
 loosened gap (InContainer c ∷ frames) = InContainer c ∷ frames
 loosened gap (InList byte loose ∷ frames) = InList byte (loose || gap) ∷ frames
 
--- what stands once a container, whose node is at a place, is closed behind these rows: those of what it took further
+-- what stands once a container, whose node is at a place, is closed after these rows: those of what it took further
 abbrev pub container_closed : ℕ → ℕ → Standing → Further → Rows → Standing
 container_closed depth place w f rows =
     record { nodes = ended (rendered depth f.«end» w.nodes w.list rows) place f.«end»; list = NoList; run = ends_in_gap rows; defined = told w.defined (definitions_of f.blocks) }
 
 -- What stands becomes this forest, and these tables are told then, where the nodes at these places are not closed and are what the frames say, both listed
--- from the innermost on: each container ends behind what it takes further, and so on outwards; a list ends with what goes on with it.
+-- from the innermost on: each container ends after what it takes further, and so on outwards; a list ends with what continues it.
 unfoldable pub Becomes : List Frame → List ℕ → Standing → List Further → List (ℕ × Item) → Tables → Type 0
 Becomes [] [] w (f ∷ []) forest tables = (forest ≡ rendered 1 f.«end» w.nodes w.list (rows_on false w f)) × (tables ≡ told w.defined (definitions_of f.blocks))
 Becomes (InList byte loose ∷ frames) (place ∷ places) w further forest tables =
@@ -143,12 +143,12 @@ pub record Completes (d : Document) (frames : List Frame) (places : List ℕ) (w
   pub whole : (further : List Further) (forest : List (ℕ × Item)) (tables : Tables)
       → AreFurther d (containers_of frames) from lines further → Becomes frames places w further forest tables → Derives d forest tables
 
--- Where blocks go on inside these containers: blank lines are taken alone in one of them, in an item (CommonMark 5.2, and this project).
+-- Where blocks continue inside these containers: blank lines are taken alone in one of them, in an item (CommonMark 5.2, and this project).
 abbrev pub CanGoOn : List Container → From → Type 0
 CanGoOn [] from = blanks_alone from ≡ None
 CanGoOn (c ∷ path) from = Unit {0}
 
--- What completes open nodes from here on, with names that go on with the present ones: what the containers take further, and the forest and the tables
+-- What completes open nodes from here on, with names that continue the present ones: what the containers take further, and the forest and the tables
 -- that come of it.
 pub record Completion (d : Document) (frames : List Frame) (places : List ℕ) (w : Standing) (from : From) (lines : List Place) : Type 0 where
   pub names : Names

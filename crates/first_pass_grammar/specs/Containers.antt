@@ -1,4 +1,4 @@
--- Which lines go on with the containers that are open (CommonMark 5).
+-- Which lines continue the containers that are open (CommonMark 5).
 use Rattle.std.specs.Prelude.{ℕ, nat_le, Bool, false, ◌||◌, Option, Some, None, List, [], ◌∷◌, is_some, if◌then◌else◌}
 use Rattle.std.specs.Option.{option_map, option_and_then}
 use Rattle.first_pass_items.specs.declared.option_set.Options.{Options}
@@ -24,7 +24,7 @@ at_rest p r = record { line = p.line; rest = r }
 abbrev pub has_columns : ℕ → Rest → Bool
 has_columns n r = nat_le n (indent r) || at_line_end (after_columns n r).left
 
--- What is left of a line behind the prefix by which it goes on with a container, or none where it doesn't:
+-- What is left of a line after the prefix by which it continues a container, or none where it doesn't:
 -- a block quote has up to three columns, `>` with no column owed before it, and one column if there is one (CommonMark 5.1);
 -- a list item has the columns of its indent, or fewer and then the end of the line (CommonMark 5.2);
 -- a footnote definition has four columns so as GitHub has footnotes, and none in their old form (this project).
@@ -42,20 +42,20 @@ abbrev pub or_shorter : Option Rest → Rest → Rest
 or_shorter (Some q) r = q
 or_shorter None r = r
 
--- what is left of a line behind the longest beginning of the path that it goes on with
+-- what is left of a line after the longest beginning of the path that it continues
 unfoldable pub front : List Container → Rest → Rest
 front [] r = r
 front (c ∷ path) r = or_shorter (after (c ∷ path) r) (front path r)
 
--- the place in a line behind what a path takes of it, where the line goes on with the whole path
+-- the place in a line after what a path takes of it, where the line continues the whole path
 abbrev pub taken : List Container → Place → Option Place
 taken path line = option_map (at_rest line) (after path line.rest)
 
--- the line that begins at a place goes on with the whole path
+-- the line that begins at a place continues the whole path
 abbrev pub goes_on : List Container → Place → Bool
 goes_on path line = is_some (after path line.rest)
 
--- there is a next line, and it goes on with the whole path
+-- there is a next line, and it continues the whole path
 abbrev pub next_goes_on : List Container → List Place → Bool
 next_goes_on path [] = false
 next_goes_on path (line ∷ lines) = goes_on path line

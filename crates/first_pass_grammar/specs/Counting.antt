@@ -15,17 +15,17 @@ abbrev pub is_cell : ItemBody → Bool
 is_cell TableCell = true
 is_cell _ = false
 
--- where the last cell of a row starts, if it has one yet, behind a node: a row begins with none (GFM 4.10)
+-- where the last cell of a row starts, if it has one yet, after a node: a row begins with none (GFM 4.10)
 abbrev pub last_cell : Option ℕ → Item → Option ℕ
 last_cell cell x = if is_row x.body then None else (if is_cell x.body then Some x.start else cell)
 
--- A filled cell behind another: a row with too few cells is filled with empty ones, which all start at the row's end, and no two cells that are written
+-- A filled cell after another: a row with too few cells is filled with empty ones, which all start at the row's end, and no two cells that are written
 -- start at one offset. So such a cell starts where the cell before it in its row does (GFM 4.10, and this project).
 abbrev pub is_filled_behind : Option ℕ → Item → Bool
 is_filled_behind None x = false
 is_filled_behind (Some start) x = is_cell x.body && (x.start == start)
 
--- how many of these nodes are no filled cells behind others, where a row's last cell so far starts at an offset, if it has one (this project)
+-- how many of these nodes are no filled cells after others, where a row's last cell so far starts at an offset, if it has one (this project)
 unfoldable pub own : Option ℕ → List (ℕ × Item) → ℕ
 own cell [] = 0
 own cell (n ∷ nodes) = (if is_filled_behind cell n.1 then 0 else 1) + own (last_cell cell n.1) nodes

@@ -16,8 +16,8 @@ use Rattle.first_pass_grammar.specs.Kinds.{all_taken, is_blank_rest, ends_paragr
 abbrev pub is_underline : Rest → Bool
 is_underline r = nat_lt (indent r) 4 && is_some (setext_underline (all_taken r).left)
 
--- Where a definition that began before goes on in the line of which this is left: behind the prefixes of the containers that the line goes on with, and four
--- columns or fewer. It doesn't in a line that would end a paragraph, or that is an underline; to a label a line is one only where it goes on with the whole
+-- Where a definition that began before continues in the line of which this is left: after the prefixes of the containers that the line continues, and four
+-- columns or fewer. It doesn't in a line that would end a paragraph, or that is an underline; to a label a line is one only where it continues the whole
 -- path (CommonMark 4.7, and 4.3, 4.8 for what a definition can't hold).
 unfoldable pub crossed : Bool → Context → Rest → Option Rest
 crossed in_label around line =
@@ -25,12 +25,12 @@ crossed in_label around line =
     then None
     else Some (after_columns 4 (front around.path line))
 
--- how many bytes the line has before the place where a definition goes on in it, where it does; the line begins with these bytes
+-- how many bytes the line has before the place where a definition continues in it, where it does; the line begins with these bytes
 abbrev pub prefix_crossed : Bool → Context → List ℕ → Option ℕ
 prefix_crossed in_label around bs = option_map (λ (r : Rest). r.taken) (crossed in_label around (line_rest bs))
 
--- White space with at most one line end: how many bytes it has, what stands before the place where the next line goes on too, and how many line ends. There is
--- none where a second line end follows, or where no line follows in which the definition goes on (CommonMark 4.7).
+-- White space with at most one line end: how many bytes it has, what stands before the place where the next line continues too, and how many line ends. There
+-- is none where a second line end follows, or where no line follows in which the definition continues (CommonMark 4.7).
 abbrev pub space_beyond : ℕ → List ℕ → ℕ → Option (ℕ × ℕ)
 space_beyond n bs k = let m = k + prefix_len is_white (drop k bs) in if at_line_end (drop m bs) then None else Some (n + m, 1)
 
@@ -49,14 +49,14 @@ title_end b = if b == apostrophe || b == quotation_mark then Some b else (if b =
 abbrev pub ends_title : ℕ → ℕ → Bool
 ends_title close b = b == close || (close == right_parenthesis && b == left_parenthesis)
 
--- how many bytes the line has before its text by which a title goes on in it: all its spaces and tabs are dropped, and a blank line is none (CommonMark 4.7)
+-- how many bytes the line has before its text by which a title continues in it: all its spaces and tabs are dropped, and a blank line is none (CommonMark 4.7)
 abbrev pub text_crossed : Rest → Option ℕ
 text_crossed r = if is_blank_rest (all_taken r) then None else Some (all_taken r).taken
 
 abbrev pub title_prefix : Context → List ℕ → Option ℕ
 title_prefix around bs = option_and_then text_crossed (crossed false around (line_rest bs))
 
--- bytes behind their offsets, with a line feed for each line end (this project)
+-- bytes after their offsets, with a line feed for each line end (this project)
 unfoldable pub with_line_feeds : List (ℕ × ℕ) → List (ℕ × ℕ)
 with_line_feeds [] = []
 with_line_feeds (c ∷ cs) =
@@ -64,7 +64,7 @@ with_line_feeds (c ∷ cs) =
     then (if begins line_feed (bytes_of cs) then with_line_feeds cs else (c.0, line_feed) ∷ with_line_feeds cs)
     else c ∷ with_line_feeds cs
 
--- The title behind what begins it, with this end, of lines whose prefixes these are: how many bytes it has, its end too, and its text with the lines joined
+-- The title after what begins it, with this end, of lines whose prefixes these are: how many bytes it has, its end too, and its text with the lines joined
 -- (CommonMark 4.7, 6.3).
 unfoldable pub title_text : (List ℕ → Option ℕ) → ℕ → List ℕ → Option (ℕ × List ℕ)
 title_text prefix close bs =
@@ -77,7 +77,7 @@ unfoldable pub title_at : Context → List ℕ → Option (ℕ × List ℕ)
 title_at around [] = None
 title_at around (b ∷ bs) = option_and_then (λ close. option_map (λ (t : ℕ × List ℕ). (t.0 + 1, t.1)) (title_text (title_prefix around) close bs)) (title_end b)
 
--- The title behind a destination: white space parts them, and behind the title the rest of its line is blank (CommonMark 4.7).
+-- The title after a destination: white space parts them, and after the title the rest of its line is blank (CommonMark 4.7).
 abbrev pub alone_behind : ℕ → List ℕ → ℕ × List ℕ → Option (ℕ × List ℕ)
 alone_behind n bs t = if is_some (blank_len (drop (n + t.0) bs)) then Some (n + t.0, t.1) else None
 
@@ -87,7 +87,7 @@ title_beyond around bs space = if space.0 == 0 then None else option_and_then (a
 abbrev pub title_behind : Context → List ℕ → Option (ℕ × List ℕ)
 title_behind around bs = option_and_then (title_beyond around bs) (space_at around bs)
 
--- What ends a definition behind its destination: a title, or nothing where the rest of the destination's line is blank (CommonMark 4.7).
+-- What ends a definition after its destination: a title, or nothing where the rest of the destination's line is blank (CommonMark 4.7).
 unfoldable pub behind_destination : Context → List ℕ → Option (ℕ × Option (List ℕ))
 behind_destination around bs =
     option_map_or (λ (t : ℕ × List ℕ). Some (t.0, Some t.1)) (title_behind around bs) (if is_some (blank_len bs) then Some (0, None) else None)
@@ -101,7 +101,7 @@ pub record Target : Type 0 where
   pub dest : List ℕ
   pub title : Option (List ℕ)
 
--- What a definition has behind the colon: white space, a destination, and a title or none; how many bytes these have (CommonMark 4.7).
+-- What a definition has after the colon: white space, a destination, and a title or none; how many bytes these have (CommonMark 4.7).
 abbrev pub target_of : ℕ → ℕ × List ℕ → ℕ × Option (List ℕ) → ℕ × Target
 target_of n dest further = (n + dest.0 + further.0, record { dest = dest.1; title = further.1 })
 
@@ -123,7 +123,7 @@ pub record LinkReference : Type 0 where
 abbrev pub reference_of : ℕ → List ℕ → ℕ × Target → LinkReference
 reference_of n label target = record { size = n + target.0; label = label; target = target.1 }
 
--- The definition of which the label behind the `[` is read: a colon is directly behind the label.
+-- The definition of which the label after the `[` is read: a colon is directly after the label.
 abbrev pub reference_behind : Context → List ℕ → ℕ × List ℕ → Option LinkReference
 reference_behind around bs label =
     if begins colon (drop label.0 bs)

@@ -26,7 +26,7 @@ pub data Verdict : Type 0 where
   Closes : ℕ → Verdict
   Stops : ℕ → Verdict
 
--- a block's lines from one on that is this to it, where it had these if it went on
+-- a block's lines from one on that is this to it, where it had these if it continued
 abbrev pub extent_by : Verdict → Place → List Place → Extent → Extent
 extent_by (GoesOn p) line lines further = with_line p further
 extent_by (IsLast p) line lines further = with_line p (ends_at (line_end p) lines)
@@ -38,8 +38,8 @@ unfoldable pub extent : (Place → Verdict) → ℕ → List Place → Extent
 extent judge n [] = ends_at n []
 extent judge n (line ∷ lines) = extent_by (judge line) line lines (extent judge n lines)
 
--- A line that doesn't go on with the containers around the block stops it at the line's start (CommonMark 5); any other is what is judged of it and the place
--- behind them.
+-- A line that doesn't continue the containers around the block stops it at the line's start (CommonMark 5); any other is what is judged of it and the place
+-- after them.
 abbrev pub judged : (Place → Place → Verdict) → Place → Option Place → Verdict
 judged judge line None = Stops line.line
 judged judge line (Some q) = judge line q

@@ -5,7 +5,7 @@ use Rattle.first_pass_links.specs.Footnotes.{footnote_head}
 use Rattle.first_pass_grammar.specs.Containers.{Context}
 use Rattle.first_pass_grammar.specs.Definitions.{prefix_crossed}
 
--- Where the label of a footnote goes on in a line: as GitHub has footnotes, nowhere; in their old form where that of a link reference definition does
+-- Where the label of a footnote continues in a line: as GitHub has footnotes, nowhere; in their old form where that of a link reference definition does
 -- (this project).
 abbrev pub footnote_prefix : Context → List ℕ → Option ℕ
 footnote_prefix around bs = if gfm_footnotes around.options then None else prefix_crossed true around bs

@@ -21,25 +21,25 @@ abbrev pub is_empty : List ℕ → Bool
 is_empty [] = true
 is_empty (b ∷ bs) = false
 
--- What a line is to an HTML block of the kinds 1 to 5 from a place on: the one that holds the text which ends the kind is the last (CommonMark 4.6, end conditions
--- 1 to 5).
+-- What a line is to an HTML block of the kinds 1 to 5 from a place on: the one that holds the text which ends the kind is the last (CommonMark 4.6, end
+-- conditions 1 to 5).
 abbrev pub tag_verdict : List ℕ → Place → Verdict
 tag_verdict text q = if holds text (line_of q) then IsLast q else GoesOn q
 
--- The same of a line behind the first one. Where the containers take the whole of a last line, the block ends with the text (this project).
+-- The same of a line after the first one. Where the containers take the whole of a last line, the block ends with the text (this project).
 abbrev pub tag_judge : List ℕ → Place → Place → Verdict
 tag_judge text line q = if is_empty q.rest.left then Closes (offset q) else tag_verdict text q
 
--- The lines of an HTML block of the kinds 1 to 5: the one at a place, and those among the lines behind it, in a text of n bytes.
+-- The lines of an HTML block of the kinds 1 to 5: the one at a place, and those among the lines after it, in a text of n bytes.
 abbrev pub until_end : ℕ → List Container → List ℕ → Place → List Place → Extent
 until_end n path text p lines = extent_by (tag_verdict text p) p lines (extent (in_containers path (tag_judge text)) n lines)
 
--- What a line is to an HTML block of the kinds 6 and 7 behind its first: a blank line stops it (CommonMark 4.6, end conditions 6 and 7), behind what the
+-- What a line is to an HTML block of the kinds 6 and 7 after its first: a blank line stops it (CommonMark 4.6, end conditions 6 and 7), after what the
 -- containers take of that line, but where the line ends there, at its start (this project).
 abbrev pub blank_judge : Place → Place → Verdict
 blank_judge line q = if at_line_end q.rest.left then Stops line.line else (if is_blank_rest q.rest then Stops (offset q) else GoesOn q)
 
--- the lines of an HTML block of the kinds 6 and 7: the one at a place, and those among the lines behind it, in a text of n bytes
+-- the lines of an HTML block of the kinds 6 and 7: the one at a place, and those among the lines after it, in a text of n bytes
 abbrev pub until_blank : ℕ → List Container → Place → List Place → Extent
 until_blank n path p lines = with_line p (extent (in_containers path blank_judge) n lines)
 
@@ -51,7 +51,7 @@ abbrev pub first_owing : ℕ → List Place → List Place
 first_owing columns [] = []
 first_owing columns (p ∷ ps) = owing columns p ∷ ps
 
--- The HTML block that begins at an offset behind so many columns, with these raw lines and this end.
+-- The HTML block that begins at an offset after so many columns, with these raw lines and this end.
 pub record IsHtml (d : Document) (start columns : ℕ) (places : List Place) («end» : ℕ) (items : List (ℕ × Item)) : Type 0 where
   pub chain : List Item
   pub lines : AreRawLines range_html d [] (first_owing columns places) chain

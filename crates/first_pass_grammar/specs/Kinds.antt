@@ -40,7 +40,7 @@ pub data Kind : Type 0 where
   -- a text: a paragraph, or a table (CommonMark 4.8, GFM 4.10)
   Paragraph : Kind
 
--- what is left behind all columns: from the first byte on that is no space or tab
+-- what is left after all columns: from the first byte on that is no space or tab
 abbrev pub all_taken : Rest → Rest
 all_taken r = after_columns (indent r) r
 
@@ -78,7 +78,7 @@ begins_html_to_blank bs = begins less_than bs && begins_block_tag (drop 1 bs)
 abbrev pub html_kind : List ℕ → Option Kind
 html_kind bs = if begins_html_to_end bs then Some HtmlToEnd else (if begins_html_to_blank bs then Some HtmlToBlank else None)
 
--- the byte of the metadata block that begins here behind so many columns, which have to be none (this project)
+-- the byte of the metadata block that begins here after so many columns, which have to be none (this project)
 abbrev pub metadata_at : ℕ → Options → List ℕ → Option ℕ
 metadata_at columns options bs =
     if columns == 0 then metadata_byte (has options yaml_style_metadata_blocks) (has options pluses_delimited_metadata_blocks) bs else None
@@ -107,11 +107,11 @@ IsKindBy r None kind =
 abbrev pub IsKind : Options → Rest → Kind → Type 0
 IsKind options r kind = IsKindBy r (first_kind options r) kind
 
--- the place inside a block quote that begins here, where one does: what begins it is what goes on with it (CommonMark 5.1)
+-- the place inside a block quote that begins here, where one does: what begins it is what continues it (CommonMark 5.1)
 abbrev pub quote_inside : Place → Option Place
 quote_inside p = option_map (at_rest p) (prefix (BlockQuote None) p.rest)
 
--- where a block quote begins: at its `>`, behind at most three columns (CommonMark 5.1)
+-- where a block quote begins: at its `>`, after at most three columns (CommonMark 5.1)
 abbrev pub quote_start : Place → ℕ
 quote_start p = offset (moved_columns 3 p)
 
@@ -119,13 +119,13 @@ quote_start p = offset (moved_columns 3 p)
 unfoldable pub item_at : Rest → Option ((ℕ × ℕ × ℕ) × Rest)
 item_at r = if nat_lt (indent r) 4 then item_of (indent r) (all_taken r) else None
 
--- A list item interrupts a paragraph where its line doesn't go on with all containers, or where its marker is a bullet or has the number 1 and
+-- A list item interrupts a paragraph where its line doesn't continue all containers, or where its marker is a bullet or has the number 1 and
 -- its rest isn't blank (CommonMark 5.2, 5.3).
 abbrev pub item_interrupts : Bool → List ℕ → Option (ℕ × ℕ × ℕ × ℕ) → Bool
 item_interrupts whole bs None = false
 item_interrupts whole bs (Some m) = not whole || ((is_bullet m.1 || (m.2 == 1)) && not (is_some (blank_len (drop m.0 bs))))
 
--- What interrupts a paragraph at under four columns, in a line that goes on with all its containers or not: the line's end, a thematic
+-- What interrupts a paragraph at under four columns, in a line that continues all its containers or not: the line's end, a thematic
 -- break, an ATX heading, a code fence, a block quote, a list item or an HTML block of the kinds 1 to 6 (CommonMark 4.8, 4.1, 4.2, 4.5, 5.1, 5.2, 4.6).
 abbrev pub interrupts_with : Bool → List ℕ → Bool
 interrupts_with whole bs =
@@ -149,7 +149,7 @@ ends_paragraph around r = interrupts around (is_some (after around.path r)) (fro
 abbrev pub underline_left : Rest → Option (ℕ × HeadingLevel)
 underline_left r = if nat_lt (indent r) 4 then setext_underline (all_taken r).left else None
 
--- the underline that the line is of which this is left; a line that doesn't go on with the whole path is none (CommonMark 4.3)
+-- the underline that the line is of which this is left; a line that doesn't continue the whole path is none (CommonMark 4.3)
 unfoldable pub underline_of : List Container → Rest → Option (ℕ × HeadingLevel)
 underline_of path r = if is_some (after path r) then underline_left (front path r) else None
 
@@ -157,7 +157,7 @@ underline_of path r = if is_some (after path r) then underline_left (front path 
 abbrev pub ends_text : Context → Rest → Bool
 ends_text around r = is_some (underline_of around.path r) || ends_paragraph around r
 
--- Behind the tag of a block quote, the line of which this is left is read as any other where, at under four columns, it would end a paragraph. Else it
--- belongs to the quote, whatever containers of the path it goes on with (this project).
+-- After the tag of a block quote, the line of which this is left is read as any other where, at under four columns, it would end a paragraph. Else it
+-- belongs to the quote, whatever containers of the path it continues (this project).
 abbrev pub ends_tag : Context → Rest → Bool
 ends_tag around r = nat_lt (indent (front around.path r)) 4 && ends_paragraph around r

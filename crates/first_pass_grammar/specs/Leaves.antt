@@ -43,12 +43,12 @@ around d path = context d.options path
 abbrev pub block_with : ℕ → ℕ → ItemBody → List Item → List (ℕ × Item)
 block_with start «end» body chain = block_of (record { start = start; «end» = «end»; body = body }) (leaves chain)
 
--- a chain and the break behind it
+-- a chain and the break after it
 abbrev pub add_break : Option Item → List Item → List Item
 add_break None chain = chain
 add_break (Some x) chain = chain ++ x ∷ []
 
--- what the lines of a text give: their chain, the break behind the last of them, where there is one, and the lines that they leave
+-- what the lines of a text give: their chain, the break after the last of them, where there is one, and the lines that they leave
 pub record TextLines : Type 0 where
   pub chain : List Item
   pub break : Option Item
@@ -59,7 +59,7 @@ text_lines chain break left = record { chain = chain; break = break; left = left
 
 -- What the lines of a text give, of which those from a place on stand after a chain: the tokens of each line, whose texts are among those that are named, are
 -- joined to it, with the break between two lines. The text takes each line up to the least that is an underline or interrupts it, whatever containers that
--- line goes on with (CommonMark 4.3, 4.8, and 5.1 on lazy continuation lines); columns before a line's text are dropped. Each line has the brace contexts that
+-- line continues (CommonMark 4.3, 4.8, and 5.1 on lazy continuation lines); columns before a line's text are dropped. Each line has the brace contexts that
 -- the line before it leaves.
 unfoldable pub AreTextLines : Document → List Container → Spot → List Item → List Place → TextLines → Type 0
 AreTextLines d path p chain [] t =
@@ -101,11 +101,11 @@ kept_len text = length (without_closing (without_end is_put_aside text))
 unfoldable pub heading_chain : ℕ → ℕ → List Item → List Item
 heading_chain kept start chain = if kept == 0 then [] else cut (start + kept) chain
 
--- where an ATX heading's text begins: behind its number signs and the white space after them
+-- where an ATX heading's text begins: after its number signs and the white space after them
 abbrev pub heading_text_at : List ℕ → ℕ → ℕ → ℕ
 heading_text_at text start level = start + level + prefix_len is_white (drop (start + level) text)
 
--- the bytes of the line that begins at an offset, or goes on there, its end too (CommonMark 2.1)
+-- the bytes of the line that begins at an offset, or continues there, its end too (CommonMark 2.1)
 abbrev pub line_bytes : Document → ℕ → List ℕ
 line_bytes d start = take (line_len (drop start d.text)) (drop start d.text)
 

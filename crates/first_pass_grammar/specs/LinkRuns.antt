@@ -1,4 +1,4 @@
--- Runs of link reference definitions, and what stands behind them (CommonMark 4.7).
+-- Runs of link reference definitions, and what stands after them (CommonMark 4.7).
 use Rattle.std.specs.Prelude.{◌≡◌, ◌⊎◌, ℕ, ◌+◌, ◌||◌, Bool, true, false, nat_lt, List, [], ◌∷◌, Option, Some, None, is_some, if◌then◌else◌}
 use Rattle.std.specs.Option.{option_map}
 use Rattle.first_pass_lines.specs.Places.{Place, offset}
@@ -22,18 +22,18 @@ abbrev pub kind_in : Context → Place → Kind → Kind
 kind_in around p Paragraph = if is_some (definition_at around (unindented p)) then LinkDefinitions else Paragraph
 kind_in around p kind = kind
 
--- of these lines those that begin at an offset or behind it
+-- of these lines those that begin at an offset or after it
 unfoldable pub lines_beyond : ℕ → List Place → List Place
 lines_beyond e [] = []
 lines_beyond e (line ∷ lines) = if nat_lt line.line e then lines_beyond e lines else line ∷ lines
 
--- A run of definitions ends before a line that would end a paragraph at under four columns, or that is blank, whatever containers it goes on with
+-- A run of definitions ends before a line that would end a paragraph at under four columns, or that is blank, whatever containers it continues
 -- (CommonMark 4.7, 5.1).
 abbrev pub ends_run : Context → List Place → Bool
 ends_run around [] = true
 ends_run around (line ∷ lines) = ends_tag around line.rest || is_blank_rest (all_taken (front around.path line.rest))
 
--- what stands behind a run: nothing of it, where its last definition begins at a place and these lines are left; or a text, from a place on
+-- what stands after a run: nothing of it, where its last definition begins at a place and these lines are left; or a text, from a place on
 pub data Beyond : Type 0 where
   Ended : Place → List Place → Beyond
   FlowsOn : Place → List Place → Beyond

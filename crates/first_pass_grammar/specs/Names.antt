@@ -34,7 +34,7 @@ NamesAttributes names None (Some attributes) = ⊥
 NamesAttributes names (Some ix) None = ⊥
 NamesAttributes names (Some ix) (Some attributes) = slice_get names.headings ix.0 ≡ Some attributes
 
--- more texts, alignments and attributes stand behind the old ones, so that each index names what it named (this project)
+-- more texts, alignments and attributes stand after the old ones, so that each index names what it named (this project)
 pub record Extends (new old : Names) : Type 0 where
   pub more_texts : List CowStr
   pub texts : new.texts ≡ old.texts ++ more_texts

@@ -7,7 +7,7 @@ use Rattle.first_pass_tree.specs.declared.tree_index.TreeIndex.{TreeIndex}
 use Rattle.first_pass_tree.specs.Forest.{Forest, body_at}
 use Rattle.first_pass_grammar.specs.Order.{Extent, extents, is_list_item, Row, laid, IsBetween, Within, Elsewhere, InItem, below, Fits}
 
--- The nodes in reading order of which some are open, each in the one around it behind a row: these are listed from the innermost on, and below that is
+-- The nodes in reading order of which some are open, each in the one around it after a row: these are listed from the innermost on, and below that is
 -- another row.
 unfoldable pub laid_open : Extent → List (Row × Extent) → Row → List (ℕ × Extent)
 laid_open root [] row = (0, root) ∷ laid 1 row
@@ -25,7 +25,7 @@ abbrev pub open_item : List (Row × Extent) → Bool
 open_item [] = false
 open_item (level ∷ levels) = level.1.item
 
--- in each open node what is below it lies behind its start and in order, up to the next open one or to an offset; before an open node stands what is up to
+-- in each open node what is below it lies after its start and in order, up to the next open one or to an offset; before an open node stands what is up to
 -- its start
 unfoldable pub FitsOpen : List ℕ → ℕ → List (Row × Extent) → Row → Type 0
 FitsOpen text to [] row = Fits text Elsewhere 0 to row

@@ -1,4 +1,4 @@
--- Order: which ranges lie in one another, and which behind one another (this project).
+-- Order: which ranges lie in one another, and which after one another (this project).
 use Rattle.std.specs.Prelude.{◌≡◌, ◌⊎◌, ℕ, suc, ◌+◌, ◌-◌, ◌*◌, ◌<◌, ◌≤◌, ◌&&◌, Bool, true, false, List, [], ◌∷◌, ◌++◌, length, map, IsCharBoundary, if◌then◌else◌}
 use Rattle.first_pass_items.specs.declared.item.Item.{Item}
 use Rattle.first_pass_items.specs.declared.item.ItemBody.{ItemBody}
@@ -34,7 +34,7 @@ extent_of x = record { start = x.start; «end» = x.«end»; text_block = is_tex
 abbrev pub extents : List (ℕ × Item) → List (ℕ × Extent)
 extents nodes = map (λ n. (n.0, extent_of n.1)) nodes
 
--- nodes side by side: the first with those below it, and those behind it
+-- nodes side by side: the first with those below it, and those after it
 pub data Row : Type 0 where
   Empty : Row
   Node : Extent → Row → Row → Row
@@ -52,8 +52,8 @@ pub record IsBetween (text : List ℕ) (from to : ℕ) (x : Extent) : Type 0 whe
   pub starts : IsCharBoundary text x.start
   pub ends : IsCharBoundary text x.«end»
 
--- where a row stands: directly in a list item; directly in a paragraph or a heading of one, before whose start the marker of a task may stand, from an offset on; or
--- elsewhere (GFM 5.3, and this project)
+-- where a row stands: directly in a list item; directly in a paragraph or a heading of one, before whose start the marker of a task may stand, from an offset
+-- on; or elsewhere (GFM 5.3, and this project)
 pub data Within : Type 0 where
   Elsewhere : Within
   InItem : Within
@@ -64,11 +64,11 @@ in_item Elsewhere = false
 in_item InItem = true
 in_item (InText before) = false
 
--- what is directly in a node, which stands directly in a list item or not, behind an offset
+-- what is directly in a node, which stands directly in a list item or not, after an offset
 abbrev pub below : Bool → ℕ → Extent → Within
 below inside from x = if x.item then InItem else (if inside && x.text_block then InText from else Elsewhere)
 
--- what stands in the same node behind another
+-- what stands in the same node after another
 abbrev pub beyond : Within → Within
 beyond Elsewhere = Elsewhere
 beyond InItem = InItem
@@ -80,7 +80,7 @@ IsLead text Elsewhere from x = ⊥
 IsLead text InItem from x = ⊥
 IsLead text (InText before) from x = (x.marker ≡ true) × IsBetween text before from x
 
--- The nodes of a row, which stands so, lie between two offsets, one behind the other, and what is below each lies within it. Only the marker of a task that
+-- The nodes of a row, which stands so, lie between two offsets, one after the other, and what is below each lies within it. Only the marker of a task that
 -- is first in a paragraph or a heading may stand before its start, within the list item around it, where the paragraph itself might (GFM 5.3, and this
 -- project).
 unfoldable pub Fits : List ℕ → Within → ℕ → ℕ → Row → Type 0

@@ -44,7 +44,7 @@ raw_items range text from to = if ends_with_both text from to then range from (t
 abbrev pub IsRawLine : Ranges → Document → ℕ → ℕ → ℕ → List Item → Type 0
 IsRawLine range d owed from to items = (columns : List Item) × AreColumns d.names owed from columns × (items ≡ columns ++ raw_items range d.text from to)
 
--- The chain of raw lines, of each of which a place's rest is left, behind a chain: a text that begins where the one before it ends is joined to it.
+-- The chain of raw lines, of each of which a place's rest is left, after a chain: a text that begins where the one before it ends is joined to it.
 unfoldable pub AreRawLines : Ranges → Document → List Item → List Place → List Item → Type 0
 AreRawLines range d chain [] whole = whole ≡ chain
 AreRawLines range d chain (p ∷ ps) whole = (line : List Item) × IsRawLine range d p.rest.owed (offset p) (line_end p) line × AreRawLines range d (add_tokens chain line) ps whole

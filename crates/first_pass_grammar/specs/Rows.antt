@@ -19,12 +19,12 @@ pub record Row : Type 0 where
   pub start : ℕ
   pub gap : Bool
 
--- rows side by side: their end, with whether it has a gap before it; or a row, the rows in it, and the rows behind it
+-- rows side by side: their end, with whether it has a gap before it; or a row, the rows in it, and the rows after it
 pub data Rows : Type 0 where
   End : Bool → Rows
   OneOf : Row → Rows → Rows → Rows
 
--- the same behind blank lines more, of which one counts or none
+-- the same after blank lines more, of which one counts or none
 abbrev pub behind : Bool → Rows → Rows
 behind run (End gap) = End (run || gap)
 behind run (OneOf row inner next) = OneOf (record row { gap = run || row.gap }) inner next
@@ -57,7 +57,7 @@ closing_place (AQuote kind e) line start = line
 closing_place (AList byte number e) line start = start
 closing_place (AnItem columns e) line start = start
 
--- a list that an item goes on with which has this byte (CommonMark 5.3)
+-- a list that an item continues which has this byte (CommonMark 5.3)
 abbrev pub is_list_of : ℕ → What → Bool
 is_list_of byte (ALeaf block) = false
 is_list_of byte (AQuote kind e) = false
@@ -71,7 +71,7 @@ end_of (AQuote kind e) last = e
 end_of (AList byte number e) last = e
 end_of (AnItem columns e) last = e
 
--- Behind an item with a byte: where its list ends, in a container that ends at an offset; the items of its list; and the rows behind the list.
+-- After an item with a byte: where its list ends, in a container that ends at an offset; the items of its list; and the rows after the list.
 abbrev pub list_until : ℕ → ℕ → Rows → ℕ
 list_until byte last (End gap) = last
 list_until byte last (OneOf row inner next) = if is_list_of byte row.what then end_of row.what last else closing_place row.what row.line row.start
@@ -108,7 +108,7 @@ abbrev pub is_quote_marker : Opener → Bool
 is_quote_marker (QuoteMarker kind) = true
 is_quote_marker (ItemMarker byte number columns) = false
 
--- a blank line is first behind what this opens, and counts there: behind an item its list is innermost (this project)
+-- a blank line is first after what this opens, and counts there: after an item its list is innermost (this project)
 abbrev pub begins_blank : Skeleton → Bool
 begins_blank Nil = false
 begins_blank (Then BlankLine next) = true

@@ -63,8 +63,8 @@ abbrev pub opened : Opener → Container
 opened (QuoteMarker kind) = BlockQuote kind
 opened (ItemMarker byte number indent) = ListItem indent
 
--- What may begin at a place inside a line: any block; a leaf block alone, behind a block quote's tag; the text of a task, behind its marker; or such a
--- marker alone, with nothing behind it on its line, in an item that takes blank lines alone, with the offset behind that line, or in one that doesn't
+-- What may begin at a place inside a line: any block; a leaf block alone, after a block quote's tag; the text of a task, after its marker; or such a
+-- marker alone, with nothing after it on its line, in an item that takes blank lines alone, with the offset after that line, or in one that doesn't
 -- (GFM 5.3, and this project).
 pub data May : Type 0 where
   Anything : May
@@ -72,7 +72,7 @@ pub data May : Type 0 where
   TextOf : Item → May
   MarkAlone : Item → Option ℕ → May
 
--- Where blocks go on: at the next line; in an item that takes blank lines alone, at the next line as long as it is blank, with the offset behind the line
+-- Where blocks continue: at the next line; in an item that takes blank lines alone, at the next line as long as it is blank, with the offset after the line
 -- of the item's marker; or at a place inside a line, with what may begin there.
 pub data From : Type 0 where
   Line : From
@@ -82,18 +82,18 @@ pub data From : Type 0 where
 abbrev pub Inside : Place → From
 Inside p = At p Anything
 
--- at the line behind an item's marker, in an item that takes blank lines alone or doesn't
+-- at the line after an item's marker, in an item that takes blank lines alone or doesn't
 abbrev pub behind_marker : Option ℕ → From
 behind_marker None = Line
 behind_marker (Some e) = Blanks e
 
--- What begins at a place: a leaf, with where the blocks behind it go on and the lines that it leaves; or a container, with where the blocks in
--- it go on and the lines behind.
+-- What begins at a place: a leaf, with where the blocks after it continue and the lines that it leaves; or a container, with where the blocks in
+-- it continue and the lines after.
 pub data Opening : Type 0 where
   OpensLeaf : Leaf → From → List Place → Opening
   OpensNode : Head → From → List Place → Opening
 
--- What stands for the text that begins at a place, behind a task list item marker or not: a paragraph, or a table (CommonMark 4.8, GFM 4.10, 5.3).
+-- What stands for the text that begins at a place, after a task list item marker or not: a paragraph, or a table (CommonMark 4.8, GFM 4.10, 5.3).
 unfoldable pub OpensText : Document → List Container → Place → List Place → Option Item → Opening → Type 0
 OpensText d path p lines marker opening =
     (t : Taken) × IsText d path (unindented p) marker lines t × (opening ≡ OpensLeaf (leaf_block Paragraph p t.items false) Line t.left)
@@ -102,15 +102,15 @@ OpensText d path p lines marker opening =
 abbrev pub OpensExtent : Kind → Place → Extent → (List (ℕ × Item) → Type 0) → Opening → Type 0
 OpensExtent kind p e Are opening = (items : List (ℕ × Item)) × Are items × (opening ≡ OpensLeaf (leaf_block kind p items false) Line e.left)
 
--- a run of link reference definitions, the last of which begins at a place, with no text behind them
+-- a run of link reference definitions, the last of which begins at a place, with no text after them
 abbrev pub run_block : Place → List LinkEntry → LeafBlock
 run_block p definitions = record { kind = LinkDefinitions; line = p.line; start = offset p; items = []; gap = false; definitions = definitions }
 
--- what stands for the text that begins at a place, behind link reference definitions
+-- what stands for the text that begins at a place, after link reference definitions
 abbrev pub flowing_block : Place → List LinkEntry → List (ℕ × Item) → LeafBlock
 flowing_block p definitions items = record { kind = Paragraph; line = p.line; start = offset p; items = items; gap = false; definitions = definitions }
 
--- What link reference definitions open: a block with no items; or what stands for the text that flows on behind them (CommonMark 4.7, 4.8, GFM 4.10).
+-- What link reference definitions open: a block with no items; or what stands for the text that flows on after them (CommonMark 4.7, 4.8, GFM 4.10).
 abbrev pub OpensBeyond : Document → List Container → List LinkEntry → Beyond → Opening → Type 0
 OpensBeyond d path definitions (Ended p left) opening = opening ≡ OpensLeaf (Block (run_block p definitions)) Line left
 OpensBeyond d path definitions (FlowsOn p lines) opening =
@@ -120,7 +120,7 @@ unfoldable pub OpensRun : Document → List Container → Place → List Place �
 OpensRun d path p lines opening =
     (definitions : List LinkEntry) × (beyond : Beyond) × IsRun (around d path) (unindented p) lines definitions beyond × OpensBeyond d path definitions beyond opening
 
--- What a kind opens at a place that has these lines behind it, inside the containers of the path. The blank lines at the end of indented code count
+-- What a kind opens at a place that has these lines after it, inside the containers of the path. The blank lines at the end of indented code count
 -- (CommonMark 4.4, and this project).
 unfoldable pub OpensAs : Document → List Container → Place → List Place → Kind → Opening → Type 0
 OpensAs d path p lines Blank opening = opening ≡ OpensLeaf BlankLine Line lines
@@ -149,7 +149,7 @@ OpensAs d path p lines Paragraph opening = OpensText d path p lines None opening
 abbrev pub OpensBlockAt : Document → List Container → Place → List Place → Opening → Type 0
 OpensBlockAt d path p lines opening = (kind : Kind) × IsKind d.options p.rest kind × OpensAs d path p lines (kind_in (around d path) p kind) opening
 
--- the next line goes on with the path, and is blank behind what the path takes of it
+-- the next line continues the path, and is blank after what the path takes of it
 abbrev pub is_blank_behind : Option Rest → Bool
 is_blank_behind None = false
 is_blank_behind (Some r) = is_blank_rest r
@@ -166,17 +166,17 @@ abbrev pub task_by : ℕ → Rest → Option (Bool × Rest) → Option Item × R
 task_by line r None = (None, r)
 task_by line r (Some task) = (Some (record { start = offset (place_at line r); «end» = offset (place_at line task.1); body = TaskListMarker task.0 }), task.1)
 
--- the task list item marker that stands here behind an item's own, in the line that begins at an offset, where one does and the option is on; and
+-- the task list item marker that stands here after an item's own, in the line that begins at an offset, where one does and the option is on; and
 -- what is left of the line (GFM 5.3)
 abbrev pub task_behind : Options → ℕ → Rest → Option Item × Rest
 task_behind options line r = task_by line r (if has options tasklists then task_of r else None)
 
--- where blocks go on behind the markers of an item
+-- where blocks continue after the markers of an item
 abbrev pub behind_task : Option Item → Place → From
 behind_task None p = Inside p
 behind_task (Some marker) p = At p (TextOf marker)
 
--- the same where nothing is behind them on their line
+-- the same where nothing is after them on their line
 abbrev pub task_alone : Option Item → Place → Option ℕ → From
 task_alone None p blanks = behind_marker blanks
 task_alone (Some marker) p blanks = At p (MarkAlone marker blanks)
@@ -199,13 +199,13 @@ quote_head p kind = record { opener = QuoteMarker kind; line = p.line; start = q
 abbrev pub tag_behind : Options → Rest → Option BlockQuoteKind
 tag_behind options r = option_map (λ tag. tag.0) (if has options gfm then past_tag r else None)
 
--- Where blocks go on behind the line of a block quote's tag, of which this is the path, and the lines then: the next line is read as any other, or
--- belongs to the quote, and a leaf begins behind its columns (this project).
+-- Where blocks continue after the line of a block quote's tag, of which this is the path, and the lines then: the next line is read as any other, or
+-- belongs to the quote, and a leaf begins after its columns (this project).
 abbrev pub behind_tag : Context → List Place → From × List Place
 behind_tag c [] = (Line, [])
 behind_tag c (line ∷ lines) = if ends_tag c line.rest then (Line, line ∷ lines) else (At (unindented (at_rest line (front c.path line.rest))) ALeafAlone, lines)
 
--- The block quote inside which a place is, behind its marker and with a tag there or none.
+-- The block quote inside which a place is, after its marker and with a tag there or none.
 abbrev pub quote_opening : Context → Place → Place → List Place → Option BlockQuoteKind → Opening
 quote_opening c p inside lines None = OpensNode (quote_head p None) (Inside inside) lines
 quote_opening c p inside lines (Some kind) =
@@ -223,7 +223,7 @@ OpensFrom d path p lines None opening = OpensQuote d path p lines (quote_inside 
 abbrev pub Opens : Document → List Container → Place → List Place → Opening → Type 0
 Opens d path p lines opening = OpensFrom d path p lines (item_at p.rest) opening
 
--- What begins where blocks go on: where no container may, what the kind of the place says; behind a task list item marker a text; or the marker
+-- What begins where blocks continue: where no container may, what the kind of the place says; after a task list item marker a text; or the marker
 -- alone, in the place of a text.
 abbrev pub OpensIf : Document → List Container → May → Place → List Place → Opening → Type 0
 OpensIf d path Anything p lines opening = Opens d path p lines opening
@@ -243,7 +243,7 @@ pub data Skeleton : Type 0 where
   -- how a container begins, its end, and the blocks in it
   Node : Head → ℕ → Skeleton → Skeleton → Skeleton
 
--- Where a block begins: at a place inside a line, or behind what the path takes of the next line.
+-- Where a block begins: at a place inside a line, or after what the path takes of the next line.
 abbrev pub Begins : List Container → From → List Place → Place → List Place → Type 0
 Begins path (At p may) lines q behind = (q ≡ p) × (behind ≡ lines)
 Begins path Line [] q behind = ⊥
@@ -251,7 +251,7 @@ Begins path Line (line ∷ lines) q behind = (taken path line ≡ Some q) × (be
 Begins path (Blanks e) [] q behind = ⊥
 Begins path (Blanks e) (line ∷ lines) q behind = (taken path line ≡ Some q) × (behind ≡ lines) × (is_blank_rest q.rest ≡ true)
 
--- A sequence of blocks ends where the next line doesn't go on with its path, or with the text; in an item that takes blank lines alone also where
+-- A sequence of blocks ends where the next line doesn't continue its path, or with the text; in an item that takes blank lines alone also where
 -- the next line isn't blank.
 abbrev pub Ends : List Container → From → List Place → Type 0
 Ends path (At p may) lines = ⊥
@@ -259,7 +259,7 @@ Ends path Line [] = Unit {0}
 Ends path Line (line ∷ lines) = after path line.rest ≡ None
 Ends path (Blanks e) lines = next_is_blank path lines ≡ false
 
--- where blocks go on behind the first of a sequence
+-- where blocks continue after the first of a sequence
 abbrev pub behind_first : From → From → From
 behind_first (Blanks e) there = Blanks e
 behind_first Line there = there
@@ -268,7 +268,7 @@ behind_first (At p ALeafAlone) there = there
 behind_first (At p (TextOf marker)) there = there
 behind_first (At p (MarkAlone marker blanks)) there = behind_marker blanks
 
--- the offset behind the line of an item's marker, where the item takes blank lines alone
+-- the offset after the line of an item's marker, where the item takes blank lines alone
 abbrev pub blanks_alone : From → Option ℕ
 blanks_alone Line = None
 blanks_alone (Blanks e) = Some e
@@ -277,8 +277,8 @@ blanks_alone (At p ALeafAlone) = None
 blanks_alone (At p (TextOf marker)) = None
 blanks_alone (At p (MarkAlone marker blanks)) = blanks
 
--- Where a container ends before these lines, with a path around it: at the start of the next line; an item that takes blank lines alone ends behind the
--- line of its marker, where the next line goes on with that path (this project).
+-- Where a container ends before these lines, with a path around it: at the start of the next line; an item that takes blank lines alone ends after the
+-- line of its marker, where the next line continues that path (this project).
 abbrev pub end_after : ℕ → List Container → Option ℕ → List Place → ℕ
 end_after n path None lines = start_of n lines
 end_after n path (Some e) lines = if next_goes_on path lines then e else start_of n lines

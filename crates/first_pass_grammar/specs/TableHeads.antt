@@ -11,14 +11,14 @@ use Rattle.first_pass_table_scan.specs.TableHead.{head_columns, delimiter_row_of
 use Rattle.first_pass_grammar.specs.declared.kind.Container.{Container}
 use Rattle.first_pass_grammar.specs.Containers.{Context, after}
 
--- the alignments that the line behind the one that begins here gives: one that goes on with the whole path and is a delimiter row (GFM 4.10)
+-- the alignments that the line after the one that begins here gives: one that continues the whole path and is a delimiter row (GFM 4.10)
 abbrev pub alignments_behind : List Container → List ℕ → Option (List Alignment)
 alignments_behind path bs = option_and_then delimiter_row_of (after path (line_rest (drop (line_len bs) bs)))
 
 abbrev pub if_as_many : ℕ → List Alignment → Option (List Alignment)
 if_as_many columns alignments = if length alignments == columns then Some alignments else None
 
--- The alignments of the table that the line heads which begins here: those of the delimiter row behind it, where the line has as many columns (GFM 4.10).
+-- The alignments of the table that the line heads which begins here: those of the delimiter row after it, where the line has as many columns (GFM 4.10).
 unfoldable pub table_at : List Container → List ℕ → Option (List Alignment)
 table_at path bs = option_and_then (if_as_many (head_columns bs)) (alignments_behind path bs)
 

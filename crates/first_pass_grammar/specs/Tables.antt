@@ -24,11 +24,11 @@ use Rattle.first_pass_grammar.specs.Leaves.{Document, block_with}
 abbrev pub cell_content : Document → Spot → Source
 cell_content d p = record { options = d.options; whole = d.text; text = d.text; start = p.at; row = true; braces = p.braces }
 
--- where a cell begins: behind the pipe that stands at an offset, or there where none does (GFM 4.10)
+-- where a cell begins: after the pipe that stands at an offset, or there where none does (GFM 4.10)
 abbrev pub cell_start : List ℕ → ℕ → ℕ
 cell_start text at = if slice_index text at == pipe then at + 1 else at
 
--- where its content begins: behind the white space there (GFM 4.10)
+-- where its content begins: after the white space there (GFM 4.10)
 abbrev pub cell_text : List ℕ → ℕ → ℕ
 cell_text text at = cell_start text at + prefix_len is_white (drop (cell_start text at) text)
 
@@ -36,8 +36,8 @@ cell_text text at = cell_start text at + prefix_len is_white (drop (cell_start t
 abbrev pub cell_block : ℕ → ℕ → List Item → List (ℕ × Item)
 cell_block start «end» tokens = block_with start «end» TableCell tokens
 
--- These are the cells of a row from a place on, and the row ends behind its line end there: a cell goes from behind its pipe up to the next one or to the
--- line's end, and the texts of its tokens are among those that are named; white space behind the last pipe is no cell. Each cell has the brace contexts that
+-- These are the cells of a row from a place on, and the row ends after its line end there: a cell goes from after its pipe up to the next one or to the
+-- line's end, and the texts of its tokens are among those that are named; white space after the last pipe is no cell. Each cell has the brace contexts that
 -- the one before it leaves, be it dropped or not (GFM 4.10, and this project).
 unfoldable pub AreCells : Document → Spot → List (List (ℕ × Item)) → Spot → Type 0
 AreCells d p [] to = (n : ℕ) × (eol_len (drop (cell_text d.text p.at) d.text) ≡ Some n) × (to ≡ spot (cell_text d.text p.at + n) p.braces)
@@ -63,7 +63,7 @@ row_cells columns cells «end» = side_by_side (take columns cells ++ replicate 
 abbrev pub row_block : ItemBody → ℕ → ℕ → List (List (ℕ × Item)) → ℕ → List (ℕ × Item)
 row_block body columns start cells «end» = block_of (record { start = start; «end» = «end»; body = body }) (row_cells columns cells «end»)
 
--- Where the text of a row begins in a line: behind what the path takes of it and behind all columns. A line that doesn't go on with the whole path is no row,
+-- Where the text of a row begins in a line: after what the path takes of it and after all columns. A line that doesn't continue the whole path is no row,
 -- nor one whose text would interrupt a paragraph, as any list item does here (GFM 4.10, and this project).
 abbrev pub row_text : List Container → Place → Option ℕ
 row_text path line = option_and_then (λ p. if interrupts_with false (unindented p).rest.left then None else Some (offset (unindented p))) (taken path line)

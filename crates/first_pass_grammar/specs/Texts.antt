@@ -44,8 +44,8 @@ abbrev pub before_block : Document → ℕ → Option Item → TextLines → Bra
 before_block d start marker l block =
     cut (start + kept_before (by_backslash l.break) block.opening (heading_bytes d start marker l)) (marker_items marker ++ l.chain)
 
--- the children of a heading: those of its lines where its text ends with no attribute block; else what stands before that block, after which a backslash at the
--- end of the last line is text (CommonMark 4.3, 6.7, and this project)
+-- the children of a heading: those of its lines where its text ends with no attribute block; else what stands before that block, after which a backslash at
+-- the end of the last line is text (CommonMark 4.3, 6.7, and this project)
 abbrev pub children_without : Document → ℕ → Option Item → TextLines → Option Braces → List Item
 children_without d start marker l None = text_children marker l
 children_without d start marker l (Some block) = close_break l.break (before_block d start marker l block)
@@ -54,8 +54,8 @@ children_without d start marker l (Some block) = close_break l.break (before_blo
 unfoldable pub heading_children : Document → ℕ → Option Item → TextLines → List Item
 heading_children d start marker l = children_without d start marker l (heading_braces d.options (heading_bytes d start marker l))
 
--- a heading of a level that begins at an offset and has these lines, and the index of its attributes; it takes the first of those that they leave, its underline
--- (CommonMark 4.3)
+-- a heading of a level that begins at an offset and has these lines, and the index of its attributes; it takes the first of those that they leave, its
+-- underline (CommonMark 4.3)
 abbrev pub underlined_text : Document → ℕ → Option Item → HeadingLevel → Option HeadingIndex → TextLines → Taken
 underlined_text d start marker level index l =
     taking (heading_block start (start_of (length d.text) (drop 1 l.left)) level index (heading_children d start marker l)) (drop 1 l.left)
@@ -66,7 +66,7 @@ IsUnderlined d start marker l level t =
     (index : Option HeadingIndex) × NamesAttributes d.names index (heading_attributes_of d.options (heading_bytes d start marker l))
     × (t ≡ underlined_text d start marker level index l)
 
--- A text that begins at an offset is a heading where an underline follows its lines, and else a paragraph; behind the marker of a task list item or none
+-- A text that begins at an offset is a heading where an underline follows its lines, and else a paragraph; after the marker of a task list item or none
 -- (CommonMark 4.3, 4.8, GFM 5.3).
 abbrev pub IsEnded : Document → List Container → ℕ → Option Item → TextLines → Taken → Type 0
 IsEnded d path start marker l t =

@@ -7,9 +7,9 @@ use first_pass_items::item::BlockQuoteKind;
 pub enum Container {
     /// A block quote, with the kind that a tag gives it (CommonMark 5.1).
     BlockQuote(Option<BlockQuoteKind>),
-    /// A list item, with the columns that a line needs to go on with it (CommonMark 5.2).
+    /// A list item, with the columns that a line needs to continue it (CommonMark 5.2).
     ListItem(usize),
-    /// A footnote definition, with the columns that a line needs to go on with it: four as GitHub has footnotes,
+    /// A footnote definition, with the columns that a line needs to continue it: four as GitHub has footnotes,
     /// none in their old form.
     FootnoteDefinition(usize),
 }

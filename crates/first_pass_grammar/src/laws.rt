@@ -24,15 +24,15 @@ pub fn one_derivation()
 {}
 
 /// Every text has a derived tree under each set of options, since any sequence of characters is a
-/// document (CommonMark 2.1): with names, of what the tree's indices name, that go on with any given ones.
+/// document (CommonMark 2.1): with names, of what the tree's indices name, that continue any given ones.
 pub fn every_text_derives()
     ensures { (text : List ℕ) (options : Options) (names : Names)
         → (more : Names) × (forest : List (ℕ × Item)) × (tables : Tables) × Extends more names
         × Derives (document text options more) forest tables }
 {}
 
-/// Whatever is open can be completed: whichever lines are left, and wherever in the text blocks go on,
-/// each open container takes a sequence of blocks further, up to a line that doesn't go on with it
+/// Whatever is open can be completed: whichever lines are left, and wherever in the text blocks continue,
+/// each open container takes a sequence of blocks further, up to a line that doesn't continue it
 /// (CommonMark 5), and what stands becomes a forest with them. `frames` are the open containers and lists,
 /// and `places` those of their nodes, both from the innermost on; that blank lines are taken alone is
 /// asked to be so in a container only.
@@ -43,7 +43,7 @@ pub fn always_a_completion()
 {}
 
 /// Where whatever completes open nodes makes a forest that the text derives, under the present names and
-/// under all that go on with them, there is such a completion, and the text derives its forest.
+/// under all that continue them, there is such a completion, and the text derives its forest.
 pub fn some_completion_derives()
     ensures { (d : Document) (frames : List Frame) (places : List ℕ) (w : Standing) (from : From)
         (lines : List Place) → length frames ≡ length places → CanGoOn (containers_of frames) from

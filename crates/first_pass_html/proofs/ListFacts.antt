@@ -4,7 +4,7 @@ use Rattle.std.specs.List.{prefix_len, list_all}
 use Rattle.std.proofs.lemmas.Bool.{and_parts, and_from}
 use Rattle.std.proofs.Math.Seq.{take-append_seam, drop-append_seam}
 
--- bytes that all pass, and what passes behind them
+-- bytes that all pass, and what passes after them
 pub prefix_all : (p : ℕ → Bool) (xs ys : List ℕ) → list_all p xs ≡ true → prefix_len p (xs ++ ys) ≡ length xs + prefix_len p ys
 prefix_all p [] ys h = omega arith
 prefix_all p (x ∷ xs) ys h =
@@ -21,7 +21,7 @@ prefix_passes p (x ∷ xs) =
       | false ↦ λ e. refl
     ]) refl
 
--- bytes that all pass, where what stands behind them begins with none that does
+-- bytes that all pass, where what stands after them begins with none that does
 pub front_size : (p : ℕ → Bool) (bs front rest : List ℕ) → bs ≡ front ++ rest → list_all p front ≡ true → prefix_len p rest ≡ 0 → prefix_len p bs ≡ length front
 front_size p bs front rest parts all stops = let more = prefix_all p front rest all in rw parts (omega arith)
 

@@ -49,7 +49,7 @@ found_name (name ∷ names) bs all =
       | false ↦ λ isnt. found_name names bs both.1
     ]) refl
 
--- no name goes on behind one that stands before it
+-- no name continues after one that stands before it
 abbrev longer_first : List (List ℕ) → Bool
 longer_first [] = true
 longer_first (name ∷ names) = list_all (λ other. not (bytes_eq (in_lower_case name) (take (length name) (in_lower_case other)))) names && longer_first names
@@ -132,7 +132,7 @@ group_longest c names (b ∷ bs) letter n some lower is found group =
 abbrev pub name_letters : List ℕ
 name_letters = 97 ∷ 98 ∷ 99 ∷ 100 ∷ 102 ∷ 104 ∷ 105 ∷ 108 ∷ 109 ∷ 110 ∷ 111 ∷ 112 ∷ 115 ∷ 116 ∷ 117 ∷ []
 
--- no name of a block stands behind another letter
+-- no name of a block stands after another letter
 other_at : (b : ℕ) (bs front rest : List ℕ) → list_any (λ c. to_ascii_lowercase b == c) name_letters ≡ false → b ∷ bs ≡ front ++ rest → IsBlockName front → length front ≤ 0
 other_at b bs [] rest none parts block = omega arith
 other_at b bs (d ∷ front) rest none parts block =

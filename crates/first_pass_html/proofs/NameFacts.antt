@@ -51,7 +51,7 @@ name_found bs n e h =
     let size : n ≡ length h.name = e ∙ name_size bs h in
     (subst IsBlockName (sym (front_of n bs h.name h.rest h.parts size)) h.is_name, ap ends_block_name (rest_behind n bs h.name h.rest h.parts size) ∙ h.ends)
 
--- the longest name of a block at the front is the one behind which a name ends
+-- the longest name of a block at the front is the one after which a name ends
 longest_size : (bs : List ℕ) (n : ℕ) → IsLongestName bs n → 0 < n → (h : HasBlockName bs) → n ≡ length h.name
 longest_size bs n found some h =
     let parts = take-append-drop n bs in

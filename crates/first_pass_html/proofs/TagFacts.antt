@@ -195,7 +195,7 @@ end_is_by blanks slash behind h (inr one) =
 pub end_is : (ending behind : List ℕ) → IsOpenTagEnd ending → open_end_len (ending ++ behind) ≡ Some (length ending)
 end_is ending behind e = rw e.parts (end_is_by e.blanks e.slash behind e.is_blanks e.is_slash)
 
--- the rest of a tag goes on behind an attribute, and without one it is its end
+-- the rest of a tag continues after an attribute, and without one it is its end
 pub rest_of_others : (others : List (List ℕ)) (ending behind : List ℕ) → AreAttributes others → IsOpenTagEnd ending → IsTagRest (concat others ++ (ending ++ behind)) behind
 rest_of_others others ending behind are e = record { attributes = others; ending = ending; parts = refl; are_attributes = are; ends = e }
 

@@ -1,4 +1,4 @@
--- How the rest of an open tag behind its name begins.
+-- How the rest of an open tag after its name begins.
 use Rattle.std.proofs.Common.{◌≡◌, ◌⊎◌, inl, inr, ℕ, Bool, true, false, true≢false, ◌==◌, ◌||◌, List, [], ◌∷◌, ◌++◌, length, drop, refl, sym, ap, ◌∙◌, arith, append_assoc}
 use Rattle.std.specs.List.{prefix_len, list_all, concat}
 use Rattle.std.proofs.lemmas.Bool.{and_parts}
@@ -116,7 +116,7 @@ rest_starts_by (a ∷ others) ending behind are e =
 pub rest_starts : (bs behind : List ℕ) → IsTagRest bs behind → StartsBy is_tail bs
 rest_starts bs behind r = rw r.parts (rest_starts_by r.attributes r.ending behind r.are_attributes r.ends)
 
--- at the rest of a tag no name goes on, and no value specification begins
+-- at the rest of a tag no name continues, and no value specification begins
 pub rest_no_tag : (bs behind : List ℕ) → IsTagRest bs behind → prefix_len is_tag_byte bs ≡ 0
 rest_no_tag bs behind r = none_first is_tag_byte is_tail bs tail_tag (rest_starts bs behind r)
 
@@ -137,7 +137,7 @@ rest_no_equals bs behind r =
     let s = rest_stops bs behind r in
     ap (begins 61) (stop_behind bs s) ∙ stop_equals s.stop s.stops
 
--- behind the bytes of an unquoted value that the rest of a tag begins with, there is still the rest of a tag: they are none, or the slash of its end
+-- after the bytes of an unquoted value that the rest of a tag begins with, there is still the rest of a tag: they are none, or the slash of its end
 kept : (bs behind : List ℕ) → prefix_len is_unquoted bs ≡ 0 → IsTagRest bs behind → IsTagRest (drop (prefix_len is_unquoted bs) bs) behind
 kept bs behind e r = rw e r
 

@@ -16,7 +16,7 @@ use Rattle.first_pass_html.proofs.TailFacts.{rest_no_tag}
 use Rattle.first_pass_html.proofs.TagFacts.{name_is, rest_of_others, end_is}
 use Rattle.first_pass_html.proofs.FrontFacts.{name_front, end_front, some_if, begins_front}
 
--- a tag behind its opening bytes: a tag name, and the rest of a tag
+-- a tag after its opening bytes: a tag name, and the rest of a tag
 record NameThenRest (bs : List ℕ) (behind : List ℕ) : Type 0 where
   name : List ℕ
   others : List ℕ
@@ -57,7 +57,7 @@ opening_not_raw bs n h raw front behind parts tag =
     let same : take n bs ≡ tag.0.name = front_of n bs r.name r.others r.parts (name_same bs behind n r h) in
     true≢false (sym raw ∙ ap is_raw_name same ∙ tag.1)
 
--- behind the name and the attributes that are counted stands the end of the tag
+-- after the name and the attributes that are counted stands the end of the tag
 opening_end : (bs front behind : List ℕ) (n a : ℕ) → bs ≡ front ++ behind → IsBehindOpening front → tag_name_len bs ≡ Some n → IsPastAttributes (drop n bs) a → IsEndBefore (drop a (drop n bs)) behind
 opening_end bs front behind n a parts tag h past =
     let r = opening_rest bs front behind parts tag in
@@ -202,7 +202,7 @@ closing_tag bs rest front behind whole parts tag =
     let others : List ℕ = tag.name ++ (tag.blanks ++ 62 ∷ []) in
     (others, tag.parts, behind_first 60 bs rest front (47 ∷ others) behind whole parts tag.parts, subst IsClosingTag tag.parts tag)
 
--- an open tag, where no slash stands behind the first byte
+-- an open tag, where no slash stands after the first byte
 no_closing : (bs rest front behind : List ℕ) → bs ≡ 60 ∷ rest → begins 47 rest ≡ false → bs ≡ front ++ behind → IsClosingTag front → ⊥
 no_closing bs rest front behind whole plain parts tag =
     let t = closing_tag bs rest front behind whole parts tag in

@@ -13,7 +13,7 @@ pub record IsOnlyFront (IsText : List ℕ → Type 0) (bs : List ℕ) (n : ℕ) 
 abbrev pub HasNoFront : (List ℕ → Type 0) → List ℕ → Type 0
 HasNoFront IsText bs = (front rest : List ℕ) → bs ≡ front ++ rest → IsText front → ⊥
 
--- attributes and the end of an open tag, before the bytes behind it (CommonMark 6.6, open tag)
+-- attributes and the end of an open tag, before the bytes after it (CommonMark 6.6, open tag)
 pub record IsTagRest (bs : List ℕ) (behind : List ℕ) : Type 0 where
   pub attributes : List (List ℕ)
   pub ending : List ℕ
@@ -21,13 +21,13 @@ pub record IsTagRest (bs : List ℕ) (behind : List ℕ) : Type 0 where
   pub are_attributes : AreAttributes attributes
   pub ends : IsOpenTagEnd ending
 
--- the end of an open tag, before the bytes behind it (CommonMark 6.6, open tag)
+-- the end of an open tag, before the bytes after it (CommonMark 6.6, open tag)
 pub record IsEndBefore (bs : List ℕ) (behind : List ℕ) : Type 0 where
   pub ending : List ℕ
   pub parts : bs ≡ ending ++ behind
   pub ends : IsOpenTagEnd ending
 
--- the first n bytes are attributes, and where a tag goes on to its end here, its end alone is left behind them (CommonMark 6.6, open tag)
+-- the first n bytes are attributes, and where a tag continues to its end here, its end alone is left after them (CommonMark 6.6, open tag)
 pub record IsPastAttributes (bs : List ℕ) (n : ℕ) : Type 0 where
   pub attributes : List (List ℕ)
   pub parts : take n bs ≡ concat attributes

@@ -1,4 +1,4 @@
--- Where HTML blocks of the kinds 1 to 6 begin. The bytes are those behind the `<`.
+-- Where HTML blocks of the kinds 1 to 6 begin. The bytes are those after the `<`.
 use Rattle.std.specs.Prelude.{◌≡◌, ℕ, Bool, true, false, ◌==◌, ◌&&◌, ◌||◌, List, [], ◌∷◌, ◌++◌, length, drop, take, bytes_eq, Option, None, Some, MatchOption, codes, if◌then◌else◌}
 use Rattle.std.specs.Borrow.{Bor}
 use Rattle.std.specs.List.{prefix_len}
@@ -17,12 +17,12 @@ abbrev pub begins_letter : List ℕ → Bool
 begins_letter [] = false
 begins_letter (b ∷ bs) = is_ascii_alphabetic b
 
--- behind the name of raw text: white space, `>` or the end of the line or the text (CommonMark 4.6, start condition 1)
+-- after the name of raw text: white space, `>` or the end of the line or the text (CommonMark 4.6, start condition 1)
 abbrev pub ends_raw_name : List ℕ → Bool
 ends_raw_name [] = true
 ends_raw_name (b ∷ bs) = is_ascii_white b || b == greater_than
 
--- behind the name of a block: what ends a name of raw text, or `/>` (CommonMark 4.6, start condition 6)
+-- after the name of a block: what ends a name of raw text, or `/>` (CommonMark 4.6, start condition 6)
 abbrev pub ends_block_name : List ℕ → Bool
 ends_block_name [] = true
 ends_block_name (b ∷ bs) = ends_raw_name (b ∷ bs) || (b == solidus && begins greater_than bs)
@@ -52,7 +52,7 @@ begins_raw name bs = begins_with_name name bs && ends_raw_name (drop (length nam
 unfoldable pub is_raw_name : List ℕ → Bool
 is_raw_name name = is_some (raw_end_of (in_lower_case name))
 
--- what ends the raw text that begins here: its name in any case, and behind it what ends a name (CommonMark 4.6, kind 1)
+-- what ends the raw text that begins here: its name in any case, and after it what ends a name (CommonMark 4.6, kind 1)
 unfoldable pub raw_end : List ℕ → Option (List ℕ)
 raw_end bs = let n = prefix_len is_ascii_alphabetic bs in if ends_raw_name (drop n bs) then raw_end_of (in_lower_case (take n bs)) else None
 
@@ -65,12 +65,12 @@ html_end bs =
     else (if begins_with (codes "!") bs && begins_letter (drop 1 bs) then Some (codes ">")
     else raw_end bs)))
 
--- the bytes behind the slash of a closing tag, if there is one (CommonMark 4.6, start condition 6)
+-- the bytes after the slash of a closing tag, if there is one (CommonMark 4.6, start condition 6)
 abbrev pub past_slash : List ℕ → List ℕ
 past_slash [] = []
 past_slash (b ∷ bs) = if b == solidus then bs else b ∷ bs
 
--- the name of a block in any case, and behind it what ends the name (CommonMark 4.6, start condition 6)
+-- the name of a block in any case, and after it what ends the name (CommonMark 4.6, start condition 6)
 pub record HasBlockName (bs : List ℕ) : Type 0 where
   pub name : List ℕ
   pub rest : List ℕ
@@ -78,10 +78,10 @@ pub record HasBlockName (bs : List ℕ) : Type 0 where
   pub is_name : IsBlockName name
   pub ends : ends_block_name rest ≡ true
 
--- the name of a block stands first in any case, and behind it what ends the name (CommonMark 4.6, start condition 6)
+-- the name of a block stands first in any case, and after it what ends the name (CommonMark 4.6, start condition 6)
 unfoldable pub begins_block_name : List ℕ → Bool
 begins_block_name bs = let n = prefix_len is_ascii_alphanumeric bs in is_block_name (take n bs) && ends_block_name (drop n bs)
 
--- an HTML block of the sixth kind begins here, behind its `<` (CommonMark 4.6, start condition 6)
+-- an HTML block of the sixth kind begins here, after its `<` (CommonMark 4.6, start condition 6)
 abbrev pub begins_block_tag : List ℕ → Bool
 begins_block_tag bs = begins_block_name (past_slash bs)

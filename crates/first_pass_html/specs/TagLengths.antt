@@ -7,7 +7,7 @@ use Rattle.first_pass_items.specs.Bytes.{quotation_mark, apostrophe, solidus, eq
 use Rattle.first_pass_lines.specs.Lines.{begins, is_blank}
 use Rattle.first_pass_html.specs.Tags.{is_tag_byte, starts_attribute, is_attribute_byte, is_unquoted, is_quoted}
 
--- how many bytes the word has: one byte, and then all others that go on (this project)
+-- how many bytes the word has: one byte, and then all others that continue (this project)
 abbrev pub word_len : (ℕ → Bool) → (ℕ → Bool) → List ℕ → Option ℕ
 word_len first other [] = None
 word_len first other (b ∷ bs) = if first b then Some (1 + prefix_len other bs) else None
@@ -33,7 +33,7 @@ unfoldable pub value_len : List ℕ → Option ℕ
 value_len [] = None
 value_len (b ∷ bs) = if b == quotation_mark || b == apostrophe then quoted_len b bs else unquoted_len (b ∷ bs)
 
--- how many bytes blanks and the value behind them have (CommonMark 6.6, attribute value specification)
+-- how many bytes blanks and the value after them have (CommonMark 6.6, attribute value specification)
 unfoldable pub blanks_value_len : List ℕ → Option ℕ
 blanks_value_len bs = let n = prefix_len is_blank bs in option_map (λ k. n + k) (value_len (drop n bs))
 

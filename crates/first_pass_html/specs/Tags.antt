@@ -6,7 +6,7 @@ use Rattle.first_pass_items.specs.Bytes.{quotation_mark, apostrophe, hyphen, ful
 use Rattle.first_pass_lines.specs.Lines.{is_line_end, is_blank, is_blank_line}
 use Rattle.first_pass_html.specs.Starts.{is_raw_name}
 
--- a byte of a tag name behind its first letter: a letter, a digit or a hyphen (CommonMark 6.6, tag name)
+-- a byte of a tag name after its first letter: a letter, a digit or a hyphen (CommonMark 6.6, tag name)
 abbrev pub is_tag_byte : ℕ → Bool
 is_tag_byte b = is_ascii_alphanumeric b || b == hyphen
 
@@ -14,7 +14,7 @@ is_tag_byte b = is_ascii_alphanumeric b || b == hyphen
 abbrev pub starts_attribute : ℕ → Bool
 starts_attribute b = is_ascii_alphabetic b || (b == underscore || b == colon)
 
--- a byte of an attribute name behind the first: a letter, a digit, `_`, `.`, `:` or `-` (CommonMark 6.6, attribute name)
+-- a byte of an attribute name after the first: a letter, a digit, `_`, `.`, `:` or `-` (CommonMark 6.6, attribute name)
 abbrev pub is_attribute_byte : ℕ → Bool
 is_attribute_byte b = is_ascii_alphanumeric b || (b == underscore || (b == full_stop || (b == colon || b == hyphen)))
 

@@ -5,7 +5,7 @@ ghost use Rattle.first_pass_html.specs.Names.{text_of};
 ghost use Rattle.first_pass_html.specs.Names as names;
 
 // The names of the tags that begin an HTML block of the sixth kind, by their first letter (CommonMark
-// 4.6). A name that goes on behind another one stands before it: the first that fits is the longest.
+// 4.6). A name that continues after another one stands before it: the first that fits is the longest.
 static WITH_A: [&str; 3] = ["address", "article", "aside"];
 
 static WITH_B: [&str; 4] = ["basefont", "base", "blockquote", "body"];

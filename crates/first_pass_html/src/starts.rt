@@ -103,7 +103,7 @@ fn ends_raw_name(bytes: &[u8]) -> bool
     }
 }
 
-// Whether the name of a block stands first, and what ends it behind it.
+// Whether the name of a block stands first, and what ends it after it.
 fn begins_block_name(bytes: &[u8]) -> bool
     ensures value { IsTrue result ↔ starts.HasBlockName bytes.now }
     ensures begins { result ≡ starts.begins_block_name bytes.now }

@@ -10,7 +10,7 @@ use crate::starts::is_raw_name;
 use first_pass_lines::lines::{begins, scan_blank_line, scan_blanks};
 use first_pass_lines::places::rest_of;
 
-// How many bytes of a tag name stand first, behind its first letter.
+// How many bytes of a tag name stand first, after its first letter.
 fn tag_bytes_len(bytes: &[u8]) -> usize
     ensures value { result ≡ prefix_len tags.is_tag_byte bytes.now }
     ensures within { result ≤ length bytes.now }
@@ -32,7 +32,7 @@ fn scan_tag_name(bytes: &[u8]) -> Option<usize>
     }
 }
 
-// How many bytes of an attribute name stand first, behind its first byte.
+// How many bytes of an attribute name stand first, after its first byte.
 fn attribute_bytes_len(bytes: &[u8]) -> usize
     ensures value { result ≡ prefix_len tags.is_attribute_byte bytes.now }
     ensures within { result ≤ length bytes.now }
@@ -113,7 +113,7 @@ fn scan_value(bytes: &[u8]) -> Option<usize>
     }
 }
 
-// How many bytes blanks and the value behind them have.
+// How many bytes blanks and the value after them have.
 #[tactic(auto, unfolding(crate::specs::TagLengths::blanks_value_len))]
 fn scan_blanks_value(bytes: &[u8]) -> Option<usize>
     ensures value { result ≡ lengths.blanks_value_len bytes.now }
@@ -207,7 +207,7 @@ fn scan_attributes(bytes: &[u8]) -> usize
     at
 }
 
-// How many bytes the open tag has behind its `<`, if its name is none of raw text.
+// How many bytes the open tag has after its `<`, if its name is none of raw text.
 fn scan_open_tag(bytes: &[u8]) -> Option<usize>
     ensures found { IfSome result (IsOnlyFront tags.IsBehindOpening bytes.now) }
     ensures none { IfNone result (HasNoFront tags.IsBehindOpening bytes.now) }
@@ -235,7 +235,7 @@ fn scan_closing_end(bytes: &[u8]) -> Option<usize>
     }
 }
 
-// How many bytes the closing tag has behind its `</`.
+// How many bytes the closing tag has after its `</`.
 fn scan_closing_tag(bytes: &[u8]) -> Option<usize>
     ensures found { IfSome result (IsOnlyFront tags.IsBehindClosing bytes.now) }
     ensures none { IfNone result (HasNoFront tags.IsBehindClosing bytes.now) }
@@ -264,7 +264,7 @@ fn scan_tag(bytes: &[u8]) -> Option<usize>
 
 /// How many bytes the tag has that `bytes`, which stand at the `<`, begin with, where it begins an HTML
 /// block of the seventh kind: an open tag whose name is not pre, script, style or textarea in any case,
-/// or a closing tag, whole on its line, with nothing but white space behind it on the line. `None` where
+/// or a closing tag, whole on its line, with nothing but white space after it on the line. `None` where
 /// no such tag stands here. CommonMark 4.6 and 6.6.
 pub fn scan_html_type_7(bytes: &[u8]) -> Option<usize>
     ensures tag { IfSome result (tags.BeginsTagLine bytes.now) }

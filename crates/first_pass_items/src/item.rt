@@ -104,7 +104,7 @@ pub enum ItemBody {
     BlockQuote(Option<BlockQuoteKind>),
     /// Whether it is tight, the byte of its markers (for numbers `.` or `)`), and its first number.
     List(ListFlags, u8, u64),
-    /// The columns that a line needs to go on with the item.
+    /// The columns that a line needs to continue the item.
     ListItem(usize),
     /// The text is the label.
     FootnoteDefinition(CowIndex),
@@ -113,7 +113,7 @@ pub enum ItemBody {
     /// A paragraph that may become the title of a definition; in no finished tree.
     MaybeDefinitionListTitle,
     DefinitionListTitle,
-    /// The columns that a line needs to go on with the definition.
+    /// The columns that a line needs to continue the definition.
     DefinitionListDefinition(usize),
     Table(AlignmentIndex),
     TableHead,
@@ -122,7 +122,7 @@ pub enum ItemBody {
 
     // Tokens.
     Text {
-        /// Whether the first byte stands behind a backslash that was dropped.
+        /// Whether the first byte stands after a backslash that was dropped.
         backslash_escaped: bool,
     },
     SoftBreak,

@@ -6,7 +6,7 @@ ghost use Rattle.first_pass_items.specs.OptionWords.{gfm_footnotes};
 use bitflags::{Flag, Flags, bitflag_items};
 
 /// Which extensions of CommonMark the pass reads. The calls `empty`, `contains`, `insert`, `union`,
-/// `from_bits` and `bits` are those of `bitflags::Flags`; `from_bits` answers `None` where a bit is
+/// `from_bits` and `bits` are those of `bitflags::Flags`; `from_bits` returns `None` where a bit is
 /// set that no constant has (bit 0, or one above 15).
 #[derive(Clone, Copy, PartialEq, Eq)]
 pub struct Options(u32);

@@ -1,4 +1,4 @@
--- A table that takes definitions one after the other answers as the definitions in the order of the text.
+-- A table that takes definitions one after the other returns as the definitions in the order of the text.
 use Rattle.std.proofs.Common.{◌≡◌, ℕ, Bool, true, false, cond, List, [], ◌∷◌, ◌++◌, Option, None, Some, is_some, nat_eq, refl, sym, ap, ◌∙◌}
 use Rattle.std.proofs.lemmas.Bool.{true≢false}
 use Rattle.std.specs.Cmp.{IsTotalOrder, on_total}

@@ -32,7 +32,7 @@ indent-none r h = owed-none r.owed r h
 pub indent-some : (r s : Rest) → next_column r ≡ Some s → indent r ≡ 1 + indent s
 indent-some r s h = owed-some r.owed r s h
 
--- what a call that takes a column says, where it answers yes and where it answers no
+-- what a call that takes a column says, where it is yes and where it is no
 pub taken-yes : (o : Option Rest) (old new : Rest) (b : Bool) → MatchOption o ((b ≡ false) × (new ≡ old)) (λ next. (b ≡ true) × (new ≡ next)) → b ≡ true → o ≡ Some new
 taken-yes None old new b h e = cc
 taken-yes (Some s) old new b h e = ap Some (sym h.1)

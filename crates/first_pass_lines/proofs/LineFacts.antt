@@ -125,7 +125,7 @@ line_len-line line behind i =
     let f = line_len-end i.ending behind i.ends in
     rw i.parts (grind (arith, common_steps, e, f))
 
--- the first line is a line before what is behind it
+-- the first line is a line before what is after it
 record Front (bs : List ℕ) (n : ℕ) : Type 0 where
   content : List ℕ
   ending : List ℕ

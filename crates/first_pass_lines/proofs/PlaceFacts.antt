@@ -49,7 +49,7 @@ pub all_columns_up_to : (k : ℕ) (r : Rest) → indent r ≤ k → after_column
 all_columns_up_to zero r h = let e : indent r ≡ 0 = omega arith in rw e
 all_columns_up_to (suc k) r h = up_to_step k r (next_column r) refl h (all_columns_up_to k)
 
--- the columns that are left behind some
+-- the columns that are left after some
 left_step : (k : ℕ) (r : Rest) (o : Option Rest) → next_column r ≡ o → ((s : Rest) → indent (after_columns k s) ≡ indent s - k) → indent (after_columns (suc k) r) ≡ indent r - suc k
 left_step k r None e f = ap indent (after-none (suc k) r e) ∙ omega (arith, indent-none r e)
 left_step k r (Some s) e f = ap indent (after-more (suc k) k r s refl e) ∙ f s ∙ omega (arith, indent-some r s e)
@@ -58,7 +58,7 @@ pub columns_left : (k : ℕ) (r : Rest) → indent (after_columns k r) ≡ inden
 columns_left zero r = omega arith
 columns_left (suc k) r = left_step k r (next_column r) refl (columns_left k)
 
--- the bytes behind the one at an offset
+-- the bytes after the one at an offset
 next_bytes : (text : List ℕ) (o b : ℕ) (bs : List ℕ) → b ∷ bs ≡ drop o text → bs ≡ drop (o + 1) text
 next_bytes text o b bs h = ap (drop 1) h ∙ drop-drop 1 o text
 
@@ -77,7 +77,7 @@ line_is_place text s h =
     let e : s + 0 ≡ s = omega arith in
     record { left = rw e; within = rw e h.0; boundary = rw e h }
 
--- a place stays one of the text behind bytes that end between characters
+-- a place stays one of the text after bytes that end between characters
 pub bytes_keep : (text : List ℕ) (p : Place) (n : ℕ) → IsPlaceOf text p → IsCharBoundary text (offset p + n) → IsPlaceOf text (moved_bytes n p)
 bytes_keep text p n i h =
     let e : p.line + (p.rest.taken + n) ≡ offset p + n = omega arith in
@@ -87,7 +87,7 @@ bytes_keep text p n i h =
       boundary = rw e h;
     }
 
--- the more so behind bytes of which the last is ASCII
+-- the more so after bytes of which the last is ASCII
 pub ascii_boundary : (text : List ℕ) (p : Place) (n : ℕ) → IsUtf8 text → IsPlaceOf text p → n < length p.rest.left → slice_index p.rest.left n < 128 → IsCharBoundary text (offset p + (n + 1))
 ascii_boundary text p n u i l h =
     let d : length p.rest.left ≡ length text - offset p = ap length i.left ∙ length-drop (offset p) text in
@@ -106,7 +106,7 @@ prefix_by test ascii text p (suc n) u i e =
     let s : suc n ≡ n + 1 = omega arith in
     rw s (ascii_keeps text p n u i (omega arith) (ascii _ passes))
 
--- and behind the first bytes that pass a test that only ASCII passes
+-- and after the first bytes that pass a test that only ASCII passes
 pub prefix_keeps : (test : ℕ → Bool) → ((b : ℕ) → test b ≡ true → b < 128) → (text : List ℕ) (p : Place) → IsUtf8 text → IsPlaceOf text p → IsPlaceOf text (moved_bytes (prefix_len test p.rest.left) p)
 prefix_keeps test ascii text p u i = prefix_by test ascii text p (prefix_len test p.rest.left) u i refl
 
@@ -116,7 +116,7 @@ white_keeps text p u i = prefix_keeps is_white (λ b h. grind (arith, nat_tests,
 pub signs_keep : (text : List ℕ) (p : Place) → IsUtf8 text → IsPlaceOf text p → IsPlaceOf text (moved_bytes (prefix_len is_number_sign p.rest.left) p)
 signs_keep text p u i = prefix_keeps is_number_sign (λ b h. grind (arith, nat_tests, h)) text p u i
 
--- and behind columns
+-- and after columns
 byte_by : (t u : Bool) (r s : Rest) (b : ℕ) (bs : List ℕ) → (b == 32) ≡ t → (b == 9) ≡ u → column_of_byte r (b ∷ bs) ≡ Some s → (b < 128) × (s.left ≡ bs) × (s.taken ≡ r.taken + 1) × (is_content b ≡ true)
 byte_by true u r s b bs h h' e =
     let small = eqb-true b 32 h in
@@ -164,7 +164,7 @@ starts_at text bytes s r e h b = subst (λ q. IsPlaceOf text (place_at s q)) (ap
 pub taken_columns : (text : List ℕ) (k line : ℕ) (r s : Rest) → IsUtf8 text → s ≡ after_columns k r → IsPlaceOf text (place_at line r) → IsPlaceOf text (place_at line s)
 taken_columns text k line r s u e i = subst (λ q. IsPlaceOf text (place_at line q)) (sym e) (columns_keep text k (place_at line r) u i)
 
--- a line ends behind an ASCII byte, or with the text
+-- a line ends after an ASCII byte, or with the text
 last_step : (t : Bool) (b : ℕ) (bs : List ℕ) → ends_line b bs ≡ t → (0 < length bs → (slice_index bs (line_len bs - 1) < 128) ⊎ (line_len bs ≡ length bs)) → (slice_index (b ∷ bs) (line_len (b ∷ bs) - 1) < 128) ⊎ (line_len (b ∷ bs) ≡ length (b ∷ bs))
 last_step true b bs h f =
     let e : line_len (b ∷ bs) ≡ 1 = line_len-step b bs ∙ rw h in
@@ -231,7 +231,7 @@ place_length text p i =
     let w = i.within in
     omega arith
 
--- where the line of a place ends, and where its content does, stays the same behind columns and behind content:
+-- where the line of a place ends, and where its content does, stays the same after columns and after content:
 -- both are so many content bytes away
 content_by_step : (f : List ℕ → ℕ) → ((b : ℕ) (bs : List ℕ) → is_content b ≡ true → f (b ∷ bs) ≡ f bs + 1) → (r s : Rest) (bs : List ℕ) → column_of_byte r bs ≡ Some s → s.taken + f s.left ≡ r.taken + f bs
 content_by_step f step r s [] h = cc
@@ -325,7 +325,7 @@ quote_by : (t : Bool) (r s : Rest) → (if t then past_quote_byte r r.left else 
 quote_by true r s q = quote_byte r s r.left refl q
 quote_by false r s q = absurd (none-some s q)
 
--- behind a block quote marker
+-- after a block quote marker
 pub quote_keeps : (text : List ℕ) (line : ℕ) (r s : Rest) → IsUtf8 text → past_quote r ≡ Some s → IsPlaceOf text (place_at line r) → IsPlaceOf text (place_at line s)
 quote_keeps text line r s u q i =
     let f = quote_by (r.owed == 0) r s q in

@@ -31,7 +31,7 @@ abbrev pub begins : ℕ → List ℕ → Bool
 begins c [] = false
 begins c (b ∷ bs) = b == c
 
--- a line ends behind `\n`, and behind `\r` unless `\n` follows (CommonMark 2.1, line ending)
+-- a line ends after `\n`, and after `\r` unless `\n` follows (CommonMark 2.1, line ending)
 abbrev pub ends_line : ℕ → List ℕ → Bool
 ends_line b bs = (b == line_feed) || ((b == carriage_return) && not (begins line_feed bs))
 
@@ -56,13 +56,13 @@ line_len bs = let n = prefix_len is_content bs in n + unwrap_or (eol_len (drop n
 abbrev pub at_line_end : List ℕ → Bool
 at_line_end bs = is_some (eol_len bs)
 
--- the end of a line before the bytes behind it: `\n`, `\r\n`, `\r` where no `\n` is behind it, or nothing at the end of the text (CommonMark 2.1)
+-- the end of a line before the bytes after it: `\n`, `\r\n`, `\r` where no `\n` is after it, or nothing at the end of the text (CommonMark 2.1)
 abbrev pub IsLineEnd : List ℕ → List ℕ → Type 0
 IsLineEnd bs behind =
     (bs ≡ line_feed ∷ []) ⊎ (bs ≡ carriage_return ∷ line_feed ∷ [])
     ⊎ ((bs ≡ carriage_return ∷ []) × (begins line_feed behind ≡ false)) ⊎ ((bs ≡ []) × (behind ≡ []))
 
--- a line before the bytes behind it: bytes without `\n` and `\r`, and then its end (CommonMark 2.1, line)
+-- a line before the bytes after it: bytes without `\n` and `\r`, and then its end (CommonMark 2.1, line)
 pub record IsLine (line : List ℕ) (behind : List ℕ) : Type 0 where
   pub content : List ℕ
   pub ending : List ℕ

@@ -29,7 +29,7 @@ line_place start left = record { line = start; rest = line_rest left }
 abbrev pub IsLinePlace : List ℕ → Place → Type 0
 IsLinePlace text p = p ≡ line_place p.line (drop p.line text)
 
--- the lines that begin in these bytes, which begin at an offset behind the byte b (CommonMark 2.1, line)
+-- the lines that begin in these bytes, which begin at an offset after the byte b (CommonMark 2.1, line)
 unfoldable pub lines_behind : ℕ → ℕ → List ℕ → List Place
 lines_behind b start [] = []
 lines_behind b start (c ∷ cs) =
@@ -50,7 +50,7 @@ start_of n (p ∷ ps) = p.line
 abbrev pub line_of : Place → List ℕ
 line_of p = take (line_len p.rest.left) p.rest.left
 
--- each piece is a line before those behind it (CommonMark 2.1, line)
+-- each piece is a line before those after it (CommonMark 2.1, line)
 abbrev pub AreLines : List (List ℕ) → Type 0
 AreLines [] = Unit
 AreLines (piece ∷ pieces) = IsLine piece (concat pieces) × AreLines pieces
@@ -74,7 +74,7 @@ pub record IsPlaceOf (text : List ℕ) (p : Place) : Type 0 where
   pub within : offset p ≤ length text
   pub boundary : IsCharBoundary text (offset p)
 
--- a place behind as many columns as there are, up to k (CommonMark 2.2)
+-- a place after as many columns as there are, up to k (CommonMark 2.2)
 abbrev pub moved_columns : ℕ → Place → Place
 moved_columns k p = record { line = p.line; rest = after_columns k p.rest }
 

@@ -3,7 +3,7 @@ use Rattle.std.specs.Prelude.{ℕ, ◌+◌, ◌-◌, ◌%◌, ◌==◌, zero, su
 use Rattle.std.specs.Option.{option_map_or}
 use Rattle.first_pass_items.specs.Bytes.{tab, space, greater_than}
 
--- the bytes that are left, how many were taken, the columns that a tab taken in part owes, and how many bytes stand behind the last tab (this project)
+-- the bytes that are left, how many were taken, the columns that a tab taken in part owes, and how many bytes stand after the last tab (this project)
 pub record Rest : Type 0 where
   pub left : List ℕ
   pub taken : ℕ
@@ -31,12 +31,12 @@ column_of (suc owed) r = Some (record r { owed = owed })
 abbrev pub next_column : Rest → Option Rest
 next_column r = column_of r.owed r
 
--- what is left behind as many columns as there are, up to k (CommonMark 2.2)
+-- what is left after as many columns as there are, up to k (CommonMark 2.2)
 abbrev pub after_columns : ℕ → Rest → Rest
 after_columns zero r = r
 after_columns (suc k) r = option_map_or (after_columns k) (next_column r) r
 
--- how many columns the spaces and tabs have that these bytes begin with, so many bytes behind the last tab (CommonMark 2.2)
+-- how many columns the spaces and tabs have that these bytes begin with, so many bytes after the last tab (CommonMark 2.2)
 abbrev pub columns_of : List ℕ → ℕ → ℕ
 columns_of [] column = 0
 columns_of (b ∷ bs) column =

@@ -185,7 +185,7 @@ name_facts : (bs : List ℕ) (n c : ℕ) → name_at bs ≡ Some (n, c) → Ends
 unfolding name_at
 name_facts bs n c e = name_by _ bs n c _ (named_facts _ c) refl e
 
--- what stands behind k bytes
+-- what stands after k bytes
 behind_some : (k n c : ℕ) (o : Option (ℕ × ℕ)) → behind k o ≡ Some (n, c) → (m : ℕ) × (o ≡ Some (m, c)) × (n ≡ k + m)
 behind_some k n c None e = cc
 behind_some k n c (Some r) e = let parts = some_pair_parts (k + r.0) n r.1 c e in (r.0, ap (λ x. Some (both r.0 x)) parts.1, sym parts.0)

@@ -112,7 +112,7 @@ pub record IsShorter (bs : List ℕ) (n c : ℕ) : Type 0 where
   pub first : get_or bs 0 0 < 128
   pub last : get_or bs (n - 1) 0 < 128
 
--- a change of bytes, and what is left behind it
+-- a change of bytes, and what is left after it
 pub record Changes (t : Bool) (bs : List ℕ) (n c : ℕ) : Type 0 where
   pub shorter : IsShorter bs n c
   pub changed : unescaped t bs ≡ encode_utf8 c ++ unescaped t (drop n bs)

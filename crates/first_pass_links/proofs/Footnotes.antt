@@ -16,13 +16,13 @@ second_by : (t u : Bool) → (t && u) ≡ true → u ≡ true
 second_by true u h = h
 second_by false u h = cc
 
--- a place stands behind `[^`
+-- a place stands after `[^`
 pub behind_mark : (text : List ℕ) → IsUtf8 text → begins_footnote text ≡ true → IsCharBoundary text 2
 behind_mark text u h =
     let there = first_byte 94 text 1 (second_by (begins 91 text) (begins 94 (drop 1 text)) h) in
     IsCharBoundary-after_ascii text 1 u there.0 (omega (arith, there.1))
 
--- a place behind that
+-- a place after that
 pub further : (text behind xs : List ℕ) (at : ℕ) → IsCharBoundary text 2 → xs ≡ drop 2 text → IsCharBoundary xs at → behind ≡ drop at xs
     → IsCharBoundary text (2 + at) × (behind ≡ drop (2 + at) text)
 further text behind xs at m is b e =
@@ -60,7 +60,7 @@ colon_by true bs (Some l) n label k h =
     rw e (ap (λ m. m + 3) k.0, k.1)
 colon_by false bs (Some l) n label k h = let e : begins 58 (drop l.0 bs) ≡ false = ap (λ m. begins 58 (drop m bs)) (sym k.0) ∙ h in rw e refl
 
--- the head where a label is read, by whether a colon stands behind it
+-- the head where a label is read, by whether a colon stands after it
 pub head_by : (u : Bool) (prefix : List ℕ → Option ℕ) (t : Bool) (text : List ℕ) (n : ℕ) (label : CowStr) → begins_footnote text ≡ true
     → IsAnswer (label_at prefix t (drop 2 text)) (Some (n, label)) → begins 58 (drop (n + 2) text) ≡ u
     → IsAnswer (footnote_head prefix t text) (if u then Some (n + 3, label) else None)
@@ -69,7 +69,7 @@ head_by u prefix t text n label h k c =
     let e : begins 58 (drop n (drop 2 text)) ≡ u = ap (begins 58) (drop-drop n 2 text ∙ ap (λ x. drop x text) m) ∙ c in
     subst (λ o. IsAnswer o (if u then Some (n + 3, label) else None)) (sym (head_of prefix t text h)) (colon_by u (drop 2 text) (label_at prefix t (drop 2 text)) n label k e)
 
--- a place behind the colon
+-- a place after the colon
 pub behind_colon : (text : List ℕ) (n : ℕ) → IsUtf8 text → begins 58 (drop (n + 2) text) ≡ true → IsCharBoundary text (n + 3)
 behind_colon text n u h =
     let there = first_byte 58 text (n + 2) h in

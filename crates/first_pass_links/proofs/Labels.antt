@@ -126,7 +126,7 @@ known_as characters solid bytes = record { characters = characters; solid = soli
 abbrev is_label_behind : Known → List ℕ → Bool
 is_label_behind known bs = nat_le (known.characters + count_by begins_character bs) 999 && (known.solid || list_any is_solid bs)
 
--- the label that these bytes, each behind its offset, end
+-- the label that these bytes, each after its offset, end
 pub label_behind : Bool → Known → List (ℕ × ℕ) → Option (ℕ × List ℕ)
 label_behind in_table known cs =
     let bs = bytes_of cs in
@@ -288,7 +288,7 @@ pub unit_reads : (h : List ℕ → Option ℕ) (t : Bool) (text : List ℕ) (at 
 unit_reads h t text at unit us joins count something passed changes reads =
     record { run = us; joins = joins; count = count; something = something; passed = passed; changes = changes; reads = reads }
 
--- what is known behind a unit
+-- what is known after a unit
 abbrev pub known_behind : List ℕ → ℕ → Unit → Known → Known
 known_behind text at unit known =
     record { characters = known.characters + unit.characters; solid = known.solid || unit.solid; bytes = known.bytes ++ read_of text at unit }
@@ -471,7 +471,7 @@ pipe_reads h text at l e p =
     (inr (let less = pipe_lighter in let e = ap weight w in omega arith))
     (λ n. shown-pipe (take n X) ∙ ap (λ xs. xs ++ shown true (take n X)) (sym w))
 
--- and one behind a backslash that escapes the pipe
+-- and one after a backslash that escapes the pipe
 pipe_escape_reads : (h : List ℕ → Option ℕ) (text : List ℕ) (at : ℕ) → at + 2 < length text → get_or text at 0 ≡ 92 → get_or text (at + 1) 0 ≡ 92 → get_or text (at + 2) 0 ≡ 124 → Reads h true text at (dropped_unit (at + 3) 3 (at + 1))
 pipe_escape_reads h text at l e p q =
     let X = bytes_of (left_at h text (at + 3)) in
@@ -639,7 +639,7 @@ backslash_by false x y false text at l e u hx hy hz =
 pub backslash_is_unit : (t : Bool) (text : List ℕ) (at : ℕ) → at < length text → get_or text at 0 ≡ 92 → IsUtf8 text → IsBackslash text at t (backslash_unit t at (drop at text))
 backslash_is_unit t text at l e u = backslash_by t _ _ _ text at l e u refl refl refl
 
--- where no label goes on
+-- where no label continues
 abbrev Stops : (List ℕ → Option ℕ) → Bool → List ℕ → ℕ → Type 0
 Stops h t text at = (known : Known) → label_behind t known (left_at h text at) ≡ None
 
@@ -723,7 +723,7 @@ run_more h text at next behind n r e s =
 pub run_blank : (h : List ℕ → Option ℕ) (text : List ℕ) (at next n : ℕ) → IsWhiteRun h text at next n → left_at h text next ≡ [] → IsBlankRest h text at
 run_blank h text at next n r e = ap (λ cs. list_all is_ascii_white (bytes_of cs)) (r.joins ∙ ap (λ cs. r.run ++ cs) e ∙ append-nil r.run) ∙ r.white
 
--- a place behind a place
+-- a place after a place
 pub place_behind : (text : List ℕ) (a n : ℕ) → a ≤ length text → IsCharBoundary (drop a text) n → IsCharBoundary text (a + n)
 place_behind text a n l b =
     let within = b.0 in

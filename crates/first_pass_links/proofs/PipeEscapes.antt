@@ -81,7 +81,7 @@ pub prefix_len-cell : (p : ℕ → Bool) → p 92 ≡ false → p 124 ≡ false 
 prefix_len-cell p q r [] = ap (prefix_len p) cell-nil
 prefix_len-cell p q r (b ∷ bs) = prefix_by p (b == 92) (begins 124 bs) b bs refl refl q r (prefix_len-cell p q r bs)
 
--- what stands in front of and behind such a run
+-- what stands in front of and after such a run
 behind_run : (p : ℕ → Bool) → p 92 ≡ false → p 124 ≡ false → (bs : List ℕ) → begins 59 (drop (prefix_len p (without_pipe_escapes bs)) (without_pipe_escapes bs)) ≡ begins 59 (drop (prefix_len p bs) bs)
 behind_run p q r bs =
     let l = plain_through p q bs in
@@ -100,7 +100,7 @@ name_at-cell : (bs : List ℕ) → name_at (without_pipe_escapes bs) ≡ name_at
 unfolding name_at
 name_at-cell bs = rw (behind_run is_ascii_alphabetic refl refl bs, run is_ascii_alphabetic refl refl bs, prefix_len-cell is_ascii_alphabetic refl refl bs)
 
--- behind a first byte that is no backslash
+-- after a first byte that is no backslash
 behind_byte : (k : ℕ) (bs : List ℕ) → begins k bs ≡ true → (k == 92) ≡ false → drop 1 (without_pipe_escapes bs) ≡ without_pipe_escapes (drop 1 bs)
 behind_byte k [] h q = cc
 behind_byte k (b ∷ bs) h q = ap (drop 1) (cell-other b bs (rw (eqb-true b k h) q))

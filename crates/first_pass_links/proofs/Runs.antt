@@ -74,7 +74,7 @@ run_found deepest n bs h =
     ap (run_len deepest 0 0) (sym parts.0) ∙ counts deepest deepest (take n bs) (drop n bs) h.run 0 (omega arith)
     ∙ ap (longer (length (take n bs))) (ended deepest (drop n bs) h.ends) ∙ ap (λ k. longer k (Some 0)) parts.1 ∙ ap (λ k. Some k) z
 
--- a run with so many parentheses open before it, which it closes: a run before each `)`, and one behind the last
+-- a run with so many parentheses open before it, which it closes: a run before each `)`, and one after the last
 abbrev Closes : ℕ → ℕ → List ℕ → List ℕ → Type 0
 Closes zero d run behind = IsRun d run behind
 Closes (suc k) d run behind = (inside : List ℕ) × (more : List ℕ) × (run ≡ inside ++ 41 ∷ more) × IsRun d inside (41 ∷ (more ++ behind)) × Closes k (suc d) more behind
@@ -147,7 +147,7 @@ ends_open k d n bs e =
     let l = e.count in
     record { run = 40 ∷ e.run; behind = e.behind; parts = ap (λ xs. 40 ∷ xs) e.parts; count = omega arith; closes = closes_open k d e.run e.behind e.closes; ends = e.ends }
 
--- what is counted behind each byte
+-- what is counted after each byte
 abbrev Counted : ℕ → List ℕ → Type 0
 Counted deepest bs = (k d n : ℕ) → d + k ≡ deepest → run_len deepest k 0 bs ≡ Some n → Ends k d bs n
 

@@ -4,7 +4,7 @@ use Rattle.first_pass_items.specs.Bytes.{backslash, pipe, ascii_end}
 use Rattle.first_pass_lines.specs.Lines.{begins}
 use Rattle.first_pass_links.specs.Escapes.{replaced_at, unescaped}
 
--- in a table, a backslash before one that is dropped: it escapes the pipe behind that one (CommonMark 2.4, GFM 4.10)
+-- in a table, a backslash before one that is dropped: it escapes the pipe after that one (CommonMark 2.4, GFM 4.10)
 abbrev pub begins_pipe_escape : List ℕ → Bool
 begins_pipe_escape bs = begins backslash bs && begins backslash (drop 1 bs) && begins pipe (drop 2 bs)
 

@@ -19,7 +19,7 @@ unescaped_upto stops zero (b ∷ bs) =
 abbrev pub ends_brackets : ℕ → Bool
 ends_brackets b = is_line_end b || b == less_than || b == greater_than
 
--- a destination in pointy brackets, behind its `<`: its bytes with both brackets, and the text between (CommonMark 6.3)
+-- a destination in pointy brackets, after its `<`: its bytes with both brackets, and the text between (CommonMark 6.3)
 unfoldable pub bracketed_at : List ℕ → Option (ℕ × List ℕ)
 bracketed_at bs =
     let n = unescaped_upto ends_brackets 0 bs in
@@ -41,12 +41,12 @@ if_closed nesting = if nesting == 0 then Some 0 else None
 abbrev pub closes_none : ℕ → ℕ → Bool
 closes_none b nesting = b == right_parenthesis && nesting == 0
 
--- how many parentheses are open behind a byte (CommonMark 6.3)
+-- how many parentheses are open after a byte (CommonMark 6.3)
 abbrev pub nesting_behind : ℕ → ℕ → ℕ
 nesting_behind b nesting = if b == left_parenthesis then nesting + 1 else (if b == right_parenthesis then nesting - 1 else nesting)
 
--- the length of a run in so many open parentheses, the first n of its bytes aside: it ends before a control character or space, or an unescaped `)` that closes none;
--- unescaped parentheses are balanced, and nested at most so deep (CommonMark 6.3)
+-- the length of a run in so many open parentheses, the first n of its bytes aside: it ends before a control character or space, or an unescaped `)` that
+-- closes none; unescaped parentheses are balanced, and nested at most so deep (CommonMark 6.3)
 unfoldable pub run_len : ℕ → ℕ → ℕ → List ℕ → Option ℕ
 run_len deepest nesting n [] = if_closed nesting
 run_len deepest nesting (suc n) (b ∷ bs) = longer 1 (run_len deepest nesting n bs)

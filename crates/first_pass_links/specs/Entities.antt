@@ -26,7 +26,7 @@ number_at is_digit radix most bs =
     let n = prefix_len is_digit bs in
     if nat_le 1 n && nat_le n most && begins semicolon (drop n bs) then Some (n + 1, referred (digits_value radix (take n bs))) else None
 
--- a numeric reference behind `&#`: `x` or `X` and 1 to 6 hexadecimal digits, or 1 to 7 decimal digits, and `;` (CommonMark 2.5)
+-- a numeric reference after `&#`: `x` or `X` and 1 to 6 hexadecimal digits, or 1 to 7 decimal digits, and `;` (CommonMark 2.5)
 unfoldable pub numeric_at : List ℕ → Option (ℕ × ℕ)
 numeric_at bs =
     if begins small_x bs || begins capital_x bs then behind 1 (number_at is_ascii_hexdigit 16 6 (drop 1 bs)) else number_at is_ascii_digit 10 7 bs
@@ -62,7 +62,7 @@ named_punctuation name =
 unfoldable pub named : List ℕ → Option ℕ
 named name = option_or (named_in_xml name) (option_or (named_sign name) (named_punctuation name))
 
--- an entity reference behind `&`: a name and `;` (CommonMark 2.5)
+-- an entity reference after `&`: a name and `;` (CommonMark 2.5)
 unfoldable pub name_at : List ℕ → Option (ℕ × ℕ)
 name_at bs =
     let n = prefix_len is_ascii_alphabetic bs in

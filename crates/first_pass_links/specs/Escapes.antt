@@ -14,7 +14,7 @@ begins_escape bs = begins backslash bs && is_ascii_punctuation (slice_index bs 1
 unfoldable pub replaced_at : List ℕ → Option (ℕ × ℕ)
 replaced_at bs = if begins_escape bs then Some (2, slice_index bs 1) else entity_at bs
 
--- the bytes behind the first n, with each escape and reference replaced by its character (CommonMark 2.4, 2.5)
+-- the bytes after the first n, with each escape and reference replaced by its character (CommonMark 2.4, 2.5)
 unfoldable pub unescaped_behind : ℕ → List ℕ → List ℕ
 unescaped_behind n [] = []
 unescaped_behind (suc n) (b ∷ bs) = unescaped_behind n bs

@@ -9,12 +9,12 @@ use Rattle.first_pass_links.specs.Labels.{label_at}
 abbrev pub begins_footnote : List ℕ → Bool
 begins_footnote bs = begins left_bracket bs && begins circumflex (drop 1 bs)
 
--- the head with a label that is read behind its `[^`: a colon is directly behind the label (this project)
+-- the head with a label that is read after its `[^`: a colon is directly after the label (this project)
 abbrev pub head_behind : List ℕ → ℕ × List ℕ → Option (ℕ × List ℕ)
 head_behind bs label = if begins colon (drop label.0 bs) then Some (label.0 + 3, label.1) else None
 
 -- The head of the footnote definition that begins here: `[^`, a label as a link has it, and a colon; how many bytes it has, and the label as it is read.
--- The label goes on over the line ends behind which these prefixes stand (this project).
+-- The label continues over the line ends after which these prefixes stand (this project).
 unfoldable pub footnote_head : (List ℕ → Option ℕ) → Bool → List ℕ → Option (ℕ × List ℕ)
 footnote_head prefix in_table bs =
     if begins_footnote bs then option_and_then (head_behind (drop 2 bs)) (label_at prefix in_table (drop 2 bs)) else None

@@ -1,4 +1,4 @@
--- Link labels (CommonMark 4.7, 6.3), of the bytes behind a `[`.
+-- Link labels (CommonMark 4.7, 6.3), of the bytes after a `[`.
 use Rattle.std.specs.Prelude.{◌≡◌, ◌≢◌, ◌⊎◌, ℕ, zero, suc, ◌+◌, ◌==◌, ◌&&◌, ◌||◌, not, Bool, List, [], ◌∷◌, map, take, drop, slice_index, Option, Some, None, Ok, Err, Result, length, true, ◌<◌, IsUtf8, nat_lt, nat_le, if◌then◌else◌}
 use Rattle.std.specs.Option.{option_map_or}
 use Rattle.std.specs.List.{list_any, count_by}
@@ -10,13 +10,13 @@ use Rattle.first_pass_lines.specs.Lines.{begins, is_ascii_white, ends_line}
 use Rattle.first_pass_links.specs.Escapes.{read_in}
 use Rattle.first_pass_links.specs.Destinations.{unescaped_upto}
 
--- what may be answered at a line end is what the function says of the bytes behind it, those of the text from between two of its characters on: how many
--- bytes of prefix the next line has, or none where the label may not go on there (this project)
+-- what may be returned at a line end is what the function says of the bytes after it, those of the text from between two of its characters on: how many
+-- bytes of prefix the next line has, or none where the label may not continue there (this project)
 abbrev pub AnswersWith : List ℕ → (List ℕ → Option ℕ) → (Bor (List ℕ) → Result (Option ℕ) AllocError → Type 0) → Type 0
 AnswersWith text prefix post =
     (behind : Bor (List ℕ)) (answer : Option ℕ) (at : ℕ) → IsCharBoundary text at → behind.now ≡ drop at text → post behind (Ok answer) → prefix behind.now ≡ answer
 
--- a prefix that may be answered there is a part of the bytes, and ends between characters (this project)
+-- a prefix that may be returned there is a part of the bytes, and ends between characters (this project)
 abbrev pub AnswersPlaces : List ℕ → (Bor (List ℕ) → Result (Option ℕ) AllocError → Type 0) → Type 0
 AnswersPlaces text post =
     (behind : Bor (List ℕ)) (n at : ℕ) → IsCharBoundary text at → behind.now ≡ drop at text → post behind (Ok (Some n)) → IsUtf8 behind.now → IsCharBoundary behind.now n
@@ -29,8 +29,8 @@ is_bracket b = b == left_bracket || b == right_bracket
 abbrev pub begins_character : ℕ → Bool
 begins_character b = nat_lt b ascii_end || nat_le least_lead b
 
--- the text from an offset on, its first n bytes aside, with its lines joined: each byte behind its offset, without the prefixes of lines;
--- it ends at a line end behind which the label may not go on (CommonMark 4.7)
+-- the text from an offset on, its first n bytes aside, with its lines joined: each byte after its offset, without the prefixes of lines;
+-- it ends at a line end after which the label may not continue (CommonMark 4.7)
 unfoldable pub joined : (List ℕ → Option ℕ) → ℕ → ℕ → List ℕ → List (ℕ × ℕ)
 joined prefix at n [] = []
 joined prefix at (suc n) (b ∷ bs) = joined prefix (at + 1) n bs
@@ -65,8 +65,8 @@ shown in_table bs = single_spaced (read_in in_table bs)
 abbrev pub is_label : List ℕ → Bool
 is_label bs = nat_le (count_by begins_character bs) 999 && list_any (λ b. not (is_ascii_white b)) bs
 
--- the label behind a `[`: in the joined text what stands before the first bracket that is not escaped, where that is a `]`;
--- the offset behind the `]`, and the label as it is read (CommonMark 4.7)
+-- the label after a `[`: in the joined text what stands before the first bracket that is not escaped, where that is a `]`;
+-- the offset after the `]`, and the label as it is read (CommonMark 4.7)
 unfoldable pub label_at : (List ℕ → Option ℕ) → Bool → List ℕ → Option (ℕ × List ℕ)
 label_at prefix in_table text =
     let whole = joined prefix 0 0 text in
@@ -88,7 +88,7 @@ IsRewritten prefix in_table text = shown in_table (before_bracket prefix text) �
 abbrev pub HasNoBracket : (List ℕ → Option ℕ) → List ℕ → Type 0
 HasNoBracket prefix text = let bs = bytes_of (joined prefix 0 0 text) in label_len bs ≡ length bs
 
--- the function errs on the bytes behind the line end that begins at an offset into the text (this project)
+-- the function errs on the bytes after the line end that begins at an offset into the text (this project)
 pub record ErrsBehind (text : List ℕ) (at : ℕ) (post : Bor (List ℕ) → Result (Option ℕ) AllocError → Type 0) : Type 0 where
   pub within : at < length text
   pub line_end : ends_line (slice_index text at) (drop (at + 1) text) ≡ true
@@ -98,6 +98,6 @@ pub record ErrsBehind (text : List ℕ) (at : ℕ) (post : Bor (List ℕ) → Re
   pub error : AllocError
   pub errs : post behind (Err error)
 
--- what asks for memory as a label is read: it has to be written, or no bracket ends it and the function errs behind a line end (this project)
+-- what asks for memory as a label is read: it has to be written, or no bracket ends it and the function errs after a line end (this project)
 abbrev pub CanErr : (List ℕ → Option ℕ) → Bool → List ℕ → (Bor (List ℕ) → Result (Option ℕ) AllocError → Type 0) → Type 0
 CanErr prefix in_table text post = IsRewritten prefix in_table text ⊎ (HasNoBracket prefix text × ((at : ℕ) × ErrsBehind text at post))

@@ -9,7 +9,7 @@ use Rattle.first_pass_links.specs.Destinations.{ends_run}
 abbrev pub is_plain : ℕ → Bool
 is_plain b = not (ends_run b || b == left_parenthesis || b == right_parenthesis)
 
--- A run before the bytes behind it, its parentheses nested at most so deep: it has no control character and no space, and parentheses only
+-- A run before the bytes after it, its parentheses nested at most so deep: it has no control character and no space, and parentheses only
 -- where they are escaped or balanced (CommonMark 6.3).
 pub data IsRun : ℕ → List ℕ → List ℕ → Type 0 where
   -- nothing

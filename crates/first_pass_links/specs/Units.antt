@@ -41,7 +41,7 @@ backslash_unit in_table at bs =
 abbrev pub read_of : List ℕ → ℕ → Unit → List ℕ
 read_of text at unit = part text at unit.kept ++ ((if unit.space then space ∷ [] else []) ++ part text unit.resumed unit.next)
 
--- the bytes that are left of a label from an offset on, each behind its offset (this project)
+-- the bytes that are left of a label from an offset on, each after its offset (this project)
 abbrev pub left_at : (List ℕ → Option ℕ) → List ℕ → ℕ → List (ℕ × ℕ)
 left_at prefix text at = joined prefix at 0 (drop at text)
 
@@ -62,7 +62,7 @@ pub record IsUnit (text : List ℕ) (at : ℕ) (unit : Unit) : Type 0 where
   pub same : unit.kept ≡ unit.resumed → unit.space ≡ false
 
 -- a unit is read: its bytes are the next of the label, and have so many characters; no bracket ends the label among them,
--- and what is read of them stands before what is read of any bytes that the label takes behind them (CommonMark 4.7)
+-- and what is read of them stands before what is read of any bytes that the label takes after them (CommonMark 4.7)
 pub record Reads (prefix : List ℕ → Option ℕ) (in_table : Bool) (text : List ℕ) (at : ℕ) (unit : Unit) : Type 0 where
   pub run : List (ℕ × ℕ)
   pub joins : left_at prefix text at ≡ run ++ left_at prefix text unit.next
@@ -90,7 +90,7 @@ pub record IsWhiteRun (prefix : List ℕ → Option ℕ) (text : List ℕ) (at n
 abbrev pub IsBlankRest : (List ℕ → Option ℕ) → List ℕ → ℕ → Type 0
 IsBlankRest prefix text at = list_all is_ascii_white (bytes_of (left_at prefix text at)) ≡ true
 
--- where a run ends: behind its first byte, and before a byte that is no white space (CommonMark 4.7)
+-- where a run ends: after its first byte, and before a byte that is no white space (CommonMark 4.7)
 pub record EndsWhiteRun (text : List ℕ) (at next characters : ℕ) : Type 0 where
   pub later : at < next
   pub within : next ≤ length text
@@ -99,7 +99,7 @@ pub record EndsWhiteRun (text : List ℕ) (at next characters : ℕ) : Type 0 wh
   pub few : characters ≤ next - at
   pub lone : characters ≡ 1 → slice_index text at ≡ space → next ≡ at + 1
 
--- a run of white space from an offset on stops at a line end behind which the function errs (this project)
+-- a run of white space from an offset on stops at a line end after which the function errs (this project)
 pub record StopsByError (text : List ℕ) (at : ℕ) (post : Bor (List ℕ) → Result (Option ℕ) AllocError → Type 0) : Type 0 where
   pub next : ℕ
   pub characters : ℕ

@@ -77,7 +77,7 @@ fn closes_none(byte: u8, nesting: usize) -> bool
     byte == b')' && nesting == 0
 }
 
-// How many parentheses are open behind a byte.
+// How many parentheses are open after a byte.
 fn nesting_behind(byte: u8, nesting: usize) -> usize
     requires { nesting < 2 ^ 63 }
     ensures value { result ≡ nesting_behind byte nesting }

@@ -51,7 +51,7 @@ pub fn scan_reference(bytes: &[u8]) -> Option<(usize, char)>
     }
 }
 
-// What stands behind `&#`.
+// What stands after `&#`.
 #[tactic(auto, unfolding(crate::specs::Entities::numeric_at, crate::specs::Entities::number_at))]
 fn scan_numeric(bytes: &[u8]) -> Option<(usize, char)>
     ensures value { result ≡ numeric_at bytes.now }

@@ -16,10 +16,10 @@ use std::alloc::{AllocError, Global};
 /// The head of the footnote definition that `text` begins with, `[^`, a label, `]` and `:`: how many bytes it has,
 /// and its label, read as `scan_link_label_rest` reads one and borrowed where nothing changes.
 ///
-/// `linebreak_handler` gets the bytes behind each line end in the label, and answers how many bytes of prefix the
-/// next line has, which are left out, or `None` where the label may not go on there.
+/// `linebreak_handler` gets the bytes after each line end in the label, and returns how many bytes of prefix the
+/// next line has, which are left out, or `None` where the label may not continue there.
 ///
-/// `None` where no head begins. The error is that of `scan_link_label_rest` behind `[^`.
+/// `None` where no head begins. The error is that of `scan_link_label_rest` after `[^`.
 pub fn scan_footnote_head<'t, F>(
     alloc: Global,
     text: &'t str,

@@ -18,12 +18,12 @@ use std::alloc::{AllocError, Global};
 // How many characters a label has at most (CommonMark 4.7).
 const MOST_CHARACTERS: usize = 999;
 
-/// The label that `text`, the bytes behind a `[`, begins with: how many bytes it has with its `]`, and
+/// The label that `text`, the bytes after a `[`, begins with: how many bytes it has with its `]`, and
 /// its text, in which each run of white space is one space and backslashes stay; in a table one directly
 /// before a pipe is dropped. It is borrowed where nothing changes, and then no memory is taken.
 ///
-/// `linebreak_handler` gets the bytes behind each line end, and answers how many bytes of prefix the next
-/// line has, which are left out, or `None` where the label may not go on there.
+/// `linebreak_handler` gets the bytes after each line end, and returns how many bytes of prefix the next
+/// line has, which are left out, or `None` where the label may not continue there.
 ///
 /// `None` where there is no label: an unescaped `[` or the end comes first, all is white space, or there
 /// are more than 999 characters, prefixes aside. The error is the handler's, at a line end before any
@@ -90,7 +90,7 @@ struct Unit {
     space: bool,
 }
 
-// The unit at an offset, where no bracket stands; `None` where the label may not go on.
+// The unit at an offset, where no bracket stands; `None` where the label may not continue.
 fn scan_unit<F>(
     bytes: &[u8],
     at: usize,
@@ -123,8 +123,8 @@ where
     Ok(Some(kept_unit(at + 1, begun_characters(bytes[at]), true)))
 }
 
-// The run of white space at an offset, over line ends and the prefixes behind them: where it ends, and
-// how many characters it has; `None` where the label may not go on.
+// The run of white space at an offset, over line ends and the prefixes after them: where it ends, and
+// how many characters it has; `None` where the label may not continue.
 fn scan_white_run<F>(
     bytes: &[u8],
     at: usize,
@@ -157,8 +157,8 @@ where
     Ok(Some((next, characters)))
 }
 
-// The offset behind a byte of white space, and behind the prefix of the next line where the byte ends
-// one; `None` where the label may not go on there.
+// The offset after a byte of white space, and after the prefix of the next line where the byte ends
+// one; `None` where the label may not continue there.
 fn scan_space_byte<F>(
     bytes: &[u8],
     at: usize,
@@ -252,7 +252,7 @@ fn dropped_unit(next: usize, characters: usize, place: usize) -> Unit
     }
 }
 
-// Writes what changes in a unit behind the bytes from `from` on, and answers from where on the bytes
+// Writes what changes in a unit after the bytes from `from` on, and returns from where on the bytes
 // are kept then.
 fn write_unit(
     written: &mut String,
@@ -317,7 +317,7 @@ fn begun_characters(byte: u8) -> usize
     if byte < 0x80 || byte >= 0xc0 { 1 } else { 0 }
 }
 
-// Whether a line ends with a byte, before those behind it.
+// Whether a line ends with a byte, before those after it.
 fn ends_line(byte: u8, behind: &[u8]) -> bool
     ensures { result ≡ ends_line byte behind.now }
 {

@@ -48,7 +48,7 @@ abbrev pub is_item : Option ItemBody → Bool
 is_item (Some (ListItemBody columns)) = true
 is_item _ = false
 
--- the innermost open node is closed: the paragraphs of a tight list become tight, and no item is empty behind an item
+-- the innermost open node is closed: the paragraphs of a tight list become tight, and no item is empty after an item
 abbrev pub popped_by : Reading → Forest Item → TreeIndex → Option ItemBody → Reading
 popped_by r f ix (Some (ListBody flags byte number)) = record r { tree = if bit_and flags.0 1 == 1 then tight_items f ix else f }
 popped_by r f ix (Some (ListItemBody columns)) = record r { tree = f; empty_item = None }
@@ -61,7 +61,7 @@ popped_at e r (ix ∷ rest) = popped_by r (closed_by r.tree e (ix ∷ rest)) ix 
 unfoldable pub popped : ℕ → Reading → Reading
 popped e r = popped_at e r r.tree.spine
 
--- an item that began with two blank lines is closed behind the line of its marker, and no item is empty
+-- an item that began with two blank lines is closed after the line of its marker, and no item is empty
 abbrev pub item_finished_by : Reading → Option ℕ → Reading
 item_finished_by r None = r
 item_finished_by r (Some e) = record (if r.blank && is_item (top_body r.tree) then popped e r else r) { empty_item = None }
@@ -90,7 +90,7 @@ abbrev pub loosened_top : Forest Item → List TreeIndex → Forest Item
 loosened_top f [] = f
 loosened_top f (ix ∷ rest) = loosened_at f ix
 
--- the innermost list goes on
+-- the innermost list continues
 abbrev pub list_kept : Reading → Reading
 list_kept r = if r.blank then record r { tree = loosened_top r.tree r.tree.spine; blank = false } else r
 
@@ -99,7 +99,7 @@ abbrev pub begun : ℕ → ItemBody → Reading → Reading
 begun start body r =
     record r { tree = pushed (appended r.tree (record { start = start; «end» = 0; body = body })) (record { 0 = length r.tree.nodes }) }
 
--- before an item of this byte and number: in the list that goes on, or in a new one
+-- before an item of this byte and number: in the list that continues, or in a new one
 unfoldable pub list_continued : ℕ → ℕ → ℕ → Reading → Reading
 list_continued start byte number r =
     let s = item_finished r in

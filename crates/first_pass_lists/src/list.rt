@@ -1,4 +1,4 @@
-//! Lists and their items: how they go on, become loose and are closed (CommonMark 5.2, 5.3).
+//! Lists and their items: how they continue, become loose and are closed (CommonMark 5.2, 5.3).
 
 ghost use Rattle.std.specs.Prelude.{◌≡◌, ◌==◌, ◌<◌, length, None, IsSome, slice_get, OnOk, bit_and, if◌then◌else◌};
 ghost use Rattle.first_pass_lists.specs.Closing.{loosened_at, top_body, is_item, is_list_of, popped, item_finished, list_left, with_tree, gap_noted, list_finished, list_kept, list_continued, begun, blank_read};
@@ -17,11 +17,11 @@ use std::alloc::AllocError;
 /// The marker of a list item.
 #[derive(Clone, Copy)]
 pub struct ListMarker {
-    /// The byte that tells its list: a bullet, or the `.` or `)` behind digits.
+    /// The byte that tells its list: a bullet, or the `.` or `)` after digits.
     pub byte: u8,
     /// The number that its digits write; 0 for a bullet.
     pub number: u64,
-    /// The columns that a line needs to go on with the item.
+    /// The columns that a line needs to continue the item.
     pub indent: usize,
 }
 
@@ -64,7 +64,7 @@ impl Reading {
         }
     }
 
-    // Closes the innermost open node, of which there has to be one, at the offset `ix`, and answers its place.
+    // Closes the innermost open node, of which there has to be one, at the offset `ix`, and returns its place.
     pub fn close_node(&mut self, ix: usize) -> TreeIndex
         requires { IsSome (slice_get self.old.tree.spine 0) }
         ensures node { slice_get self.old.tree.spine 0 ≡ Some result }
@@ -76,7 +76,7 @@ impl Reading {
         cur_ix
     }
 
-    /// Closes the innermost open node, if it is an item that began with two blank lines, behind the line of
+    /// Closes the innermost open node, if it is an item that began with two blank lines, after the line of
     /// its marker (CommonMark 5.2). No item is empty then.
     #[tactic(auto, using(crate::proofs::WithinLemmas::item_is_open), unfolding(crate::specs::Closing::item_finished))]
     pub fn finish_empty_list_item(&mut self)
@@ -158,7 +158,7 @@ impl Reading {
         self.blank = true;
     }
 
-    /// Goes on with the list that is innermost, where its byte is `ch`: it is loose if a blank line stands
+    /// Continues the list that is innermost, where its byte is `ch`: it is loose if a blank line stands
     /// before. Else a list with that byte and the number `index` is opened at the offset `start`.
     #[tactic(auto, unfolding(crate::specs::Closing::list_continued))]
     pub fn continue_list(&mut self, start: usize, ch: u8, index: u64) -> Result<(), AllocError>
@@ -190,7 +190,7 @@ impl Reading {
         false
     }
 
-    // Goes on with the innermost open node, a list: a blank line before makes it loose.
+    // Continues the innermost open node, a list: a blank line before makes it loose.
     #[tactic(auto, using(crate::proofs::WithinLemmas::top_within))]
     fn keep_list(&mut self)
         ensures { self.new ≡ list_kept self.old }
@@ -204,7 +204,7 @@ impl Reading {
         }
     }
 
-    /// Opens the item of a marker that starts at the offset `start`, in the list that goes on or in a new one.
+    /// Opens the item of a marker that starts at the offset `start`, in the list that continues or in a new one.
     pub fn open_item(&mut self, start: usize, marker: ListMarker) -> Result<(), AllocError>
         ensures { OnOk result (self.new
             ≡ begun start (ListItemBody marker.indent) (list_continued start marker.byte marker.number self.old)) }

@@ -29,7 +29,7 @@ put label x es = cond (is_some (lookup (is_at (label_cmp label)) es)) es (insert
 put_is : (label : CowStr) (x : LinkDef) (es : List (CowStr × LinkDef)) → with_first es label x ≡ put label x es
 put_is label x es = λ i. cond (is_some (lookup (λ l. texts_ties (folding_of label) (folding_of l) i) es)) es (insert_entry label_cmp es label x)
 
--- behind an entry that comes before
+-- after an entry that comes before
 put_behind : (found : Bool) (e : CowStr × LinkDef) (es more : List (CowStr × LinkDef)) → map link_entry (cond found (e ∷ es) (e ∷ more)) ≡ link_entry e ∷ map link_entry (cond found es more)
 put_behind true e es more = refl
 put_behind false e es more = refl

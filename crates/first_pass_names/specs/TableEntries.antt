@@ -46,8 +46,8 @@ refdefs_of a = a.refdefs
 abbrev pub footdefs_of : Allocations → List (CowStr × FootnoteDef)
 footdefs_of a = a.footdefs
 
--- The link definition that a label names which stands at the start of these bytes, those after a `[`, and how many bytes that label has with its `]`; no line of
--- it has a prefix (CommonMark 4.7, 6.3).
+-- The link definition that a label names which stands at the start of these bytes, those after a `[`, and how many bytes that label has with its `]`; no line
+-- of it has a prefix (CommonMark 4.7, 6.3).
 unfoldable pub link_at : List (CowStr × LinkDef) → List ℕ → Option (ℕ × LinkDef)
 link_at links bs =
     option_and_then (λ (label : ℕ × List ℕ). option_map (λ (link : LinkDef). (label.0, link)) (defined_under (folded label.1) links)) (label_at (λ further. Some 0) false bs)

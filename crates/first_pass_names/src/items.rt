@@ -60,7 +60,7 @@ impl<'a> Allocations<'a> {
         &self.footdefs
     }
 
-    /// Puts a text behind those that nodes name, and answers its index. The one error is that a request for
+    /// Puts a text after those that nodes name, and returns its index. The one error is that a request for
     /// memory was refused; then nothing changes.
     pub fn allocate_cow(&mut self, cow: CowStr<'a>) -> Result<CowIndex, AllocError>
         ensures index { IfOk result (λ ix. ix.0 ≡ length (names_of self.old).texts) }
@@ -73,7 +73,7 @@ impl<'a> Allocations<'a> {
         Ok(ix)
     }
 
-    /// Puts the alignments of a table's columns behind those that nodes name, and answers their index. The one error
+    /// Puts the alignments of a table's columns after those that nodes name, and returns their index. The one error
     /// is that a request for memory was refused; then nothing changes (GFM 4.10).
     pub fn allocate_alignment(
         &mut self,
@@ -89,7 +89,7 @@ impl<'a> Allocations<'a> {
         Ok(ix)
     }
 
-    /// Puts the attributes of a heading behind those that nodes name, and answers their index. The one error is that a
+    /// Puts the attributes of a heading after those that nodes name, and returns their index. The one error is that a
     /// request for memory was refused; then nothing changes.
     pub fn allocate_heading(
         &mut self,
@@ -174,7 +174,7 @@ impl<'a> Allocations<'a> {
     }
 }
 
-// What a further line of a label has before the label goes on: nothing.
+// What a further line of a label has before the label continues: nothing.
 fn no_prefix(_line: &[u8]) -> Result<Option<usize>, AllocError>
     ensures { result ≡ Ok (Some 0) }
 {

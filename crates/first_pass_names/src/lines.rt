@@ -19,8 +19,8 @@ use std::alloc::AllocError;
 impl<'a> Allocations<'a> {
     /// Appends the tokens of one line to the innermost open node, and puts the texts that they name after those of the
     /// tables: see `first_pass_tokens::line::append_line`. `braces`, the brace contexts before the line, become those
-    /// after it. Returns the offset after the line's line end, and the line break there (CommonMark 6.7, 6.8), which is
-    /// not appended. The error is want of memory.
+    /// after it. Returns the offset after the line's line end, and the line break there (CommonMark 6.7, 6.8), which
+    /// is not appended. The error is want of memory.
     #[inline(always)]
     pub fn append_line(
         &mut self,

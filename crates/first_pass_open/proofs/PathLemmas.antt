@@ -31,7 +31,7 @@ get_front [] more i h = absurd (omega arith)
 get_front (n ∷ ns) more zero h = refl
 get_front (n ∷ ns) more (suc i) h = get_front ns more i (omega arith)
 
--- more nodes behind
+-- more nodes after
 pub path_in-append : (options : Options) (ns more : List (ℕ × Item)) (spine : List TreeIndex) → AreIn (length ns) spine → path_in options (ns ++ more) spine ≡ path_in options ns spine
 path_in-append options ns more [] a = refl
 path_in-append options ns more (ix ∷ spine) a =
@@ -65,7 +65,7 @@ item-end n =
     let h : has_columns n (line_rest []) ≡ true = ap (λ (r : Rest). nat_le n (indent (line_rest [])) || at_line_end r.left) e ∙ or_true (nat_le n 0) in
     item_prefix n (line_rest []) h ∙ ap (λ r. Some r) e
 
--- At the end of the text a line goes on with a path, or doesn't.
+-- At the end of the text a line continues a path, or doesn't.
 pub after-end : (path : List Container) → (after path (line_rest []) ≡ None) ⊎ (after path (line_rest []) ≡ Some (line_rest []))
 unfolding after prefix
 after-end [] = inr refl

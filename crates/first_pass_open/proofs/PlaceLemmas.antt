@@ -1,4 +1,4 @@
--- Facts on places behind a line's indentation.
+-- Facts on places after a line's indentation.
 use Rattle.std.proofs.Common.{◌≡◌, inl, inr, ◌≤◌, ℕ, ◌+◌, ◌-◌, ◌<◌, zero, suc, nat_lt, Bool, true, false, if◌then◌else◌, List, [], ◌∷◌, length, drop, MatchOption, Option, Some, None, IsUtf8, IsCharBoundary, refl, sym, ap, subst, ◌∙◌, arith}
 use Rattle.std.proofs.lemmas.List.{length-drop}
 use Rattle.std.proofs.lemmas.List.Sums.{prefix_len-le-length}
@@ -34,7 +34,7 @@ pub all_after : (k : ℕ) (r : Rest) → after_columns (indent (after_columns k 
 all_after zero r = refl
 all_after (suc k) r = all_by k r (next_column r) refl (λ s. all_after k s)
 
--- behind all columns
+-- after all columns
 pub all_keep : (text : List ℕ) (line : ℕ) (r : Rest) → IsUtf8 text → IsPlaceOf text (place_at line r) → IsPlaceOf text (place_at line (all_taken r))
 all_keep text line r u i = columns_keep text (indent r) (place_at line r) u i
 
@@ -46,7 +46,7 @@ quote_prefix text line r (Some t) s u q e i =
     let j = columns_keep text 1 (place_at line t) u (quote_keeps text line r t u q i) in
     (subst (λ z. IsPlaceOf text (place_at line z)) f j, ap (λ z. line_end (place_at line z)) (sym f) ∙ columns_line_end 1 (place_at line t) ∙ quote_line_end line r t q)
 
--- behind a prefix
+-- after a prefix
 pub prefix_keeps : (text : List ℕ) (line : ℕ) (c : Container) (r s : Rest) → IsUtf8 text → prefix c r ≡ Some s → IsPlaceOf text (place_at line r)
     → IsPlaceOf text (place_at line s) × (line_end (place_at line s) ≡ line_end (place_at line r))
 unfolding prefix
@@ -69,7 +69,7 @@ after_by text line c r s (Some q) u e f =
     let h = prefix_keeps text line c q s u e g.0 in
     (h.0, h.1 ∙ g.1)
 
--- behind what a path takes
+-- after what a path takes
 pub after_keeps : (text : List ℕ) (line : ℕ) (path : List Container) (r s : Rest) → IsUtf8 text → after path r ≡ Some s → IsPlaceOf text (place_at line r)
     → IsPlaceOf text (place_at line s) × (line_end (place_at line s) ≡ line_end (place_at line r))
 unfolding after
@@ -82,14 +82,14 @@ front_by : (text : List ℕ) (line : ℕ) (path : List Container) (r q : Rest) (
 front_by text line path r q None u e i f = f
 front_by text line path r q (Some s) u e i f = after_keeps text line path r s u e i
 
--- behind what a line goes on with
+-- after what a line continues
 pub front_keeps : (text : List ℕ) (line : ℕ) (path : List Container) (r : Rest) → IsUtf8 text → IsPlaceOf text (place_at line r)
     → IsPlaceOf text (place_at line (front path r)) × (line_end (place_at line (front path r)) ≡ line_end (place_at line r))
 unfolding front
 front_keeps text line [] r u i = (i, refl)
 front_keeps text line (c ∷ path) r u i = front_by text line (c ∷ path) r (front path r) (after (c ∷ path) r) u refl i (front_keeps text line path r u i)
 
--- the text of a line behind what it goes on with
+-- the text of a line after what it continues
 pub text_place : (text : List ℕ) (s : ℕ) (path : List Container) → IsUtf8 text → IsCharBoundary text s
     → (let r : Rest = front path (line_rest (drop s text)) in IsPlaceOf text (unindented (place_at s r)) × (line_end (unindented (place_at s r)) ≡ s + line_len (drop s text)))
 text_place text s path u b =
@@ -98,7 +98,7 @@ text_place text s path u b =
     let z : s + 0 ≡ s = omega arith in
     (all_keep text s r u f.0, columns_line_end (indent r) (place_at s r) ∙ f.1 ∙ ap (λ k. k + line_len (drop s text)) z)
 
--- what is left of a line behind what it goes on with, read from the text
+-- what is left of a line after what it continues, read from the text
 pub front_read : (text bytes rest : List ℕ) (start : ℕ) (path : List Container) (line behind : Rest) → bytes ≡ text → rest ≡ drop start bytes → line ≡ line_rest rest → behind ≡ front path line
     → behind ≡ front path (line_rest (drop start text))
 front_read text bytes rest start path line behind a b e f = f ∙ ap (front path) (e ∙ ap line_rest (b ∙ ap (drop start) a))
@@ -130,7 +130,7 @@ pub quote_absent : (o : Option Rest) (found : Option ℕ) (n : ℕ) (old new : R
 quote_absent None found n old new e m = (refl, m.1)
 quote_absent (Some r) found n old new e m = let z : None ≡ Some n = sym e ∙ m.0 in (cc, cc)
 
--- how far a text is read behind what was taken at a place
+-- how far a text is read after what was taken at a place
 pub read_to : (f : Rest → Rest) (n : ℕ) (p q : Place) (s : Rest) → n ≡ offset (place_at q.line s) → s ≡ f q.rest → q ≡ p → n ≡ offset (place_at p.line (f p.rest))
 read_to f n p q s is rest same = is ∙ ap (λ (r : Rest). q.line + r.taken) rest ∙ ap (λ (z : Place). z.line + (f z.rest).taken) same
 
@@ -161,7 +161,7 @@ item_marked : (r : Rest) (item : (ℕ × ℕ × ℕ) × Rest) → item_at r ≡ 
 unfolding item_at
 item_marked r item h = item-marked (indent r) (all_taken r) item (item_by (nat_lt (indent r) 4) r item h)
 
--- behind a list item's marker
+-- after a list item's marker
 pub item_keeps : (text : List ℕ) (line : ℕ) (r : Rest) (item : (ℕ × ℕ × ℕ) × Rest) → IsUtf8 text → item_at r ≡ Some item → IsPlaceOf text (place_at line r)
     → IsPlaceOf text (place_at line item.1) × (line_end (place_at line item.1) ≡ line_end (place_at line r))
 item_keeps text line r item u h i =
@@ -187,7 +187,7 @@ item_shorter r item h =
     let a = columns_shorter (indent r) r in
     omega arith
 
--- behind a task list item marker
+-- after a task list item marker
 pub task_keeps : (text : List ℕ) (line : ℕ) (r : Rest) (task : Bool × Rest) → IsUtf8 text → task_of r ≡ Some task → IsPlaceOf text (place_at line r)
     → IsPlaceOf text (place_at line task.1) × (line_end (place_at line task.1) ≡ line_end (place_at line r)) × (length task.1.left ≤ length r.left)
 task_keeps text line r task u h i =
@@ -207,7 +207,7 @@ task_found None found checked old new e h = (let z : None ≡ Some checked = sym
 task_found (Some task) found checked old new e h = (let z : Some task.0 ≡ Some checked = sym h.0 ∙ e in let w : task.0 ≡ checked = cc in
     ap (λ k. Some (k, task.1)) w ∙ ap (λ (q : Rest). Some (checked, q)) (sym h.1))
 
--- behind the markers of an item, or behind the first where no other is there or the option is off
+-- after the markers of an item, or after the first where no other is there or the option is off
 behind_by : (text : List ℕ) (line : ℕ) (r : Rest) (o : Option (Bool × Rest)) → ((task : Bool × Rest) → o ≡ Some task → task_of r ≡ Some task) → IsUtf8 text → IsPlaceOf text (place_at line r)
     → (let q : Rest = (task_by line r o).1 in IsPlaceOf text (place_at line q) × (line_end (place_at line q) ≡ line_end (place_at line r)) × (length q.left ≤ length r.left))
 behind_by text line r None h u i = (i, refl, omega arith)
@@ -221,7 +221,7 @@ pub behind_keeps : (text : List ℕ) (options : Options) (line : ℕ) (r : Rest)
     → (let q : Rest = (task_behind options line r).1 in IsPlaceOf text (place_at line q) × (line_end (place_at line q) ≡ line_end (place_at line r)) × (length q.left ≤ length r.left))
 behind_keeps text options line r u i = behind_by text line r (if has options 16 then task_of r else None) (λ task h. option_on (has options 16) (task_of r) task h) u i
 
--- behind the markers of an item
+-- after the markers of an item
 pub markers_keep : (text : List ℕ) (options : Options) (line : ℕ) (r : Rest) (item : (ℕ × ℕ × ℕ) × Rest) (new : Rest) → IsUtf8 text → item_at r ≡ Some item → new ≡ (task_behind options line item.1).1 → IsPlaceOf text (place_at line r)
     → IsPlaceOf text (place_at line new) × (line_end (place_at line new) ≡ line_end (place_at line r)) × (length new.left < length r.left)
 markers_keep text options line r item new u is rest i =
@@ -231,7 +231,7 @@ markers_keep text options line r item new u is rest i =
     let e = ap (λ (q : Rest). length q.left) rest in
     (subst (λ q. IsPlaceOf text (place_at line q)) (sym rest) b.0, ap (λ q. line_end (place_at line q)) rest ∙ b.1 ∙ k.1, let l = b.2 in omega arith)
 
--- what stands behind an item's own marker is the marker of a task
+-- what stands after an item's own marker is the marker of a task
 mark_by : (line : ℕ) (r : Rest) (o : Option (Bool × Rest)) (x : Item) → (task_by line r o).0 ≡ Some x → is_task_marker x.body ≡ true
 mark_by line r None x h = cc
 mark_by line r (Some task) x h = (let e : record { start = offset (place_at line r); «end» = offset (place_at line task.1); body = TaskListMarker task.0 } ≡ x = cc in sym (ap (λ (i : Item). is_task_marker i.body) e))

@@ -5,7 +5,7 @@ use Rattle.first_pass_items.specs.declared.item.ItemBody.{ItemBody}
 use Rattle.first_pass_tree.specs.declared.tree_index.TreeIndex.{TreeIndex}
 use Rattle.first_pass_tree.specs.Forest.{Forest, appended, pushed, popped, with_end_at}
 
--- the tree with an item behind its nodes, if there is one
+-- the tree with an item after its nodes, if there is one
 abbrev pub with_child : Forest Item → Option Item → Forest Item
 with_child f None = f
 with_child f (Some x) = appended f x

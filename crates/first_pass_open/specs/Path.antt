@@ -13,7 +13,7 @@ use Rattle.first_pass_items.specs.declared.option_set.Options.{Options}
 use Rattle.first_pass_items.specs.OptionWords.{gfm_footnotes}
 use Rattle.first_pass_grammar.specs.Containers.{Context, context, prefix}
 
--- the columns that a line needs to go on with a footnote definition: four as GitHub has footnotes, none in their old form (this project)
+-- the columns that a line needs to continue a footnote definition: four as GitHub has footnotes, none in their old form (this project)
 abbrev pub footnote_columns : Options → ℕ
 footnote_columns options = if gfm_footnotes options then 4 else 0
 
@@ -27,7 +27,7 @@ container_of options _ = None
 abbrev pub container_at : Options → List (ℕ × Item) → TreeIndex → Option Container
 container_at options ns ix = option_and_then (container_of options) (body_at ns ix.0)
 
--- what is no container goes on with every line, and takes nothing of it
+-- what is no container continues every line, and takes nothing of it
 abbrev pub prefix_of : Option Container → Rest → Option Rest
 prefix_of None r = Some r
 prefix_of (Some c) r = prefix c r

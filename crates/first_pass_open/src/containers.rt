@@ -1,4 +1,4 @@
-//! How far a line goes on with the open containers (CommonMark 5).
+//! How far a line continues the open containers (CommonMark 5).
 
 ghost use Rattle.std.specs.Prelude.{◌≡◌, ℕ, ◌<◌, ◌≤◌, length, Some, None, true, false, MatchOption};
 ghost use Rattle.first_pass_grammar.specs.declared.kind.Container.TheVariants.{BlockQuote, ListItem};
@@ -11,7 +11,7 @@ use first_pass_items::option_set::Options;
 use first_pass_scan::line_start::LineStart;
 use first_pass_tree::forest::Tree;
 
-// Takes the columns of an item's indent, or fewer where the line ends behind them, and says whether they are
+// Takes the columns of an item's indent, or fewer where the line ends after them, and says whether they are
 // there; takes nothing where they aren't.
 #[inline(always)]
 #[tactic(auto, unfolding(first_pass_grammar::specs::Containers::prefix))]
@@ -27,7 +27,7 @@ fn takes_columns<'a>(columns: usize, line_start: &mut LineStart<'a>) -> bool
     true
 }
 
-// Takes the prefix by which the line goes on with a node, and says whether it does; takes nothing where it doesn't.
+// Takes the prefix by which the line continues a node, and says whether it does; takes nothing where it doesn't.
 #[tactic(auto, unfolding(first_pass_grammar::specs::Containers::prefix))]
 fn takes_prefix<'a>(body: ItemBody, line_start: &mut LineStart<'a>, options: Options) -> bool
     ensures { MatchOption (prefix_of (container_of options body) line_start.old)
@@ -50,10 +50,10 @@ fn takes_prefix<'a>(body: ItemBody, line_start: &mut LineStart<'a>, options: Opt
     true
 }
 
-/// How many of the open nodes the line goes on with, the outermost first, up to the first by which it
-/// doesn't; the line start is then behind what they take (CommonMark 5). A footnote definition takes four columns,
+/// How many of the open nodes the line continues, the outermost first, up to the first by which it
+/// doesn't; the line start is then after what they take (CommonMark 5). A footnote definition takes four columns,
 /// or fewer and then the end of the line, where the options have footnotes as GitHub does, and else nothing; what is
-/// no container goes on with every line. The flag makes no difference.
+/// no container continues every line. The flag makes no difference.
 #[inline(always)]
 pub fn scan_containers<'a>(
     tree: &Tree<Item>,
@@ -78,7 +78,7 @@ pub fn scan_containers<'a>(
     spine.len()
 }
 
-/// Takes the prefix of a block quote, where it is there, and answers how many bytes of the line stand before
+/// Takes the prefix of a block quote, where it is there, and returns how many bytes of the line stand before
 /// its marker; takes nothing where it isn't (CommonMark 5.1).
 #[inline(always)]
 #[tactic(auto, unfolding(first_pass_grammar::specs::Containers::prefix))]

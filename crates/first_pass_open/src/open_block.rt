@@ -1,4 +1,4 @@
-//! A leaf block in a tree while its lines are read, and the lines that go on with the containers around it.
+//! A leaf block in a tree while its lines are read, and the lines that continue the containers around it.
 
 ghost use Rattle.std.specs.Prelude.{◌≡◌, drop, slice_get, length, IsSome, IfOk, IfSome, OnOk, IsUtf8, IsCharBoundary};
 ghost use Rattle.first_pass_items.specs.declared.item.Item.{Item};
@@ -47,8 +47,8 @@ pub fn close_block(tree: &mut Tree<Item>, end: usize)
     tree.set_end(ix, end);
 }
 
-/// What is left of the line that begins at the offset `start` behind what all open containers take of it;
-/// `None` where it doesn't go on with all of them (CommonMark 5).
+/// What is left of the line that begins at the offset `start` after what all open containers take of it;
+/// `None` where it doesn't continue all of them (CommonMark 5).
 pub fn go_on<'a>(
     text: &'a str,
     start: usize,

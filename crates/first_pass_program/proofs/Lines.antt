@@ -20,7 +20,7 @@ next_line names nodes i d done held line within so_far is =
 cut_at : (names : Names) (nodes : List (ℕ × Item)) (i : ℕ) → flat_map (node_line names) nodes ≡ flat_map (node_line names) (take i nodes) ++ flat_map (node_line names) (drop i nodes)
 cut_at names nodes i = ap (flat_map (node_line names)) (sym (take-append-drop i nodes)) ∙ flat_map-append (node_line names) (take i nodes) (drop i nodes)
 
--- a beginning of lines behind those that were written, of which a writer took a beginning, is one of all lines
+-- a beginning of lines after those that were written, of which a writer took a beginning, is one of all lines
 pub front_among : (all done lines others : List ℕ) (old mid new : Option (List ℕ)) → (done ++ lines) ++ others ≡ all
     → Appends old mid done → AppendsFront mid new lines → AppendsFront old new all
 front_among all done lines others old mid new is appended front =

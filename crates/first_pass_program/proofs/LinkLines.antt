@@ -27,6 +27,6 @@ pub none_held : (links left : List (CowStr × LinkDef)) (done held : List ℕ) �
     → done ++ link_lines left ≡ link_lines links → (done ++ held) ++ link_lines left ≡ link_lines links
 none_held links left done held empty so_far = ap (λ l. l ++ link_lines left) (ap (λ l. done ++ l) empty ∙ append-nil done) ∙ so_far
 
--- behind the last one
+-- after the last one
 pub last_link : (links rest : List (CowStr × LinkDef)) (lines : List ℕ) → rest ≡ [] → lines ++ link_lines rest ≡ link_lines links → lines ≡ link_lines links
 last_link links rest lines none so_far = sym (append-nil lines) ∙ ap (λ l. lines ++ link_lines l) (sym none) ∙ so_far

@@ -66,7 +66,8 @@ pub record LeavesUnread {A : Type 0} (words : List (String A)) (clock output : S
   pub untimed : IsUntouched clock
   pub unwritten : IsUntouched output
 
--- What a fault leaves of a reader, a clock and a writer: nothing is read where the words ask for no task, and nothing timed or written before the whole text is read.
+-- What a fault leaves of a reader, a clock and a writer: nothing is read where the words ask for no task, and nothing timed or written before the whole text
+-- is read.
 abbrev pub Leaves : {A : Type 0} → BlocksFault → List (String A) → Stream → Stream → Stream → Type 0
 Leaves BadOptions words input clock output =
     ((task : Task) → AskFor words task → ⊥) × IsUntouched input × IsUntouched clock × IsUntouched output

@@ -6,12 +6,12 @@ use Rattle.first_pass_lines.specs.Lines.{level_number}
 use Rattle.first_pass_attributes.specs.Attributes.{Attributes}
 use Rattle.first_pass_program.specs.Visible.{enclosed, visible}
 
--- an id behind `#`, where there is one, with a comma before it (this project)
+-- an id after `#`, where there is one, with a comma before it (this project)
 abbrev pub id_value : Option (List ℕ) → List ℕ
 id_value None = []
 id_value (Some id) = codes ",#" ++ visible id
 
--- a class behind `.`, with a comma before it (this project)
+-- a class after `.`, with a comma before it (this project)
 abbrev pub class_value : List ℕ → List ℕ
 class_value class = codes ",." ++ visible class
 
@@ -19,7 +19,7 @@ class_value class = codes ",." ++ visible class
 unfoldable pub class_values : List (List ℕ) → List ℕ
 class_values classes = flat_map class_value classes
 
--- the value of a key behind `=`, where it has one (this project)
+-- the value of a key after `=`, where it has one (this project)
 abbrev pub value_behind_key : Option (List ℕ) → List ℕ
 value_behind_key None = []
 value_behind_key (Some value) = codes "=" ++ visible value
@@ -37,6 +37,6 @@ abbrev pub attribute_values : Option Attributes → List ℕ
 attribute_values None = []
 attribute_values (Some given) = id_value given.id ++ class_values given.classes ++ key_values given.attrs
 
--- the values of a heading in parentheses: its level, and its attributes behind it (this project)
+-- the values of a heading in parentheses: its level, and its attributes after it (this project)
 abbrev pub heading_values : HeadingLevel → Option Attributes → List ℕ
 heading_values level attributes = enclosed (decimal (level_number level) ++ attribute_values attributes)

@@ -123,7 +123,7 @@ abbrev pub alignment_signs : List Alignment → List ℕ
 alignment_signs [] = []
 alignment_signs (first ∷ others) = alignment_sign first ++ signs_behind others
 
--- what an item names by its index, in parentheses where it has one: a text, the signs of a table's columns, or the attributes of a heading, behind its level
+-- what an item names by its index, in parentheses where it has one: a text, the signs of a table's columns, or the attributes of a heading, after its level
 abbrev pub named_values : Names → ItemBody → List ℕ
 named_values names (FencedCodeBlock ix) = enclosed (visible (text_named names ix))
 named_values names (SynthesizeText ix) = enclosed (visible (text_named names ix))
@@ -135,7 +135,7 @@ named_values names _ = []
 abbrev pub body_text : Names → ItemBody → List ℕ
 body_text names body = name_of body ++ block_values body ++ token_values body ++ named_values names body
 
--- a range behind a space, and the end of its line
+-- a range after a space, and the end of its line
 abbrev pub range_text : ℕ → ℕ → List ℕ
 range_text start e = codes " " ++ decimal start ++ codes ".." ++ decimal e ++ codes "\n"
 
@@ -143,7 +143,7 @@ range_text start e = codes " " ++ decimal start ++ codes ".." ++ decimal e ++ co
 abbrev pub node_line : Names → ℕ × Item → List ℕ
 node_line names node = indentation node.0 ++ body_text names node.1.body ++ range_text node.1.start node.1.«end»
 
--- a title in quotation marks behind a space, where there is one
+-- a title in quotation marks after a space, where there is one
 abbrev pub title_text : Option (List ℕ) → List ℕ
 title_text None = []
 title_text (Some title) = codes " \"" ++ visible title ++ codes "\""
@@ -152,6 +152,6 @@ title_text (Some title) = codes " \"" ++ visible title ++ codes "\""
 abbrev pub link_line : LinkEntry → List ℕ
 link_line link = codes "[" ++ link.label ++ codes "]: " ++ visible link.dest ++ title_text link.title ++ range_text link.start link.«end»
 
--- the lines of a tree's nodes, and behind them those of the link definitions, in the order of their table
+-- the lines of a tree's nodes, and after them those of the link definitions, in the order of their table
 abbrev pub printed_lines : Names → List (ℕ × Item) → Tables → List ℕ
 printed_lines names nodes tables = flat_map (node_line names) nodes ++ flat_map link_line tables.links

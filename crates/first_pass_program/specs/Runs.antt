@@ -21,7 +21,8 @@ pub record IsPrinted (options : Options) (text output : List ℕ) : Type 0 where
   pub derived : Derives (document text options names) nodes tables
   pub lines : output ≡ printed_lines names nodes tables
 
--- What a fault leaves of a text and a writer: nothing is written of a text that isn't UTF-8, nor where memory ends before the writes; else a beginning of the whole output is.
+-- What a fault leaves of a text and a writer: nothing is written of a text that isn't UTF-8, nor where memory ends before the writes; else a beginning of the
+-- whole output is.
 abbrev pub LeavesText : BlocksFault → Options → List ℕ → Stream → Type 0
 LeavesText NotUtf8 options text output = (IsUtf8 text → ⊥) × IsUntouched output
 LeavesText OutOfMemory options text output =

@@ -221,7 +221,7 @@ fn append_list(
     Ok(())
 }
 
-/// Appends whether a run can open and close, behind other values.
+/// Appends whether a run can open and close, after other values.
 fn append_sides(line: &mut Vec<u8>, can_open: bool, can_close: bool) -> Result<(), AllocError>
     ensures { OnOk result (line.new.items
         ≡ line.old.items ++ codes "," ++ flag_name can_open ++ codes "," ++ flag_name can_close ++ codes ")") }

@@ -12,7 +12,7 @@ use first_pass_items::item::HeadingLevel;
 use first_pass_lines::lines::level_number;
 use std::alloc::AllocError;
 
-/// Appends the values of a heading in parentheses: its level, and behind it its attributes, if it has any.
+/// Appends the values of a heading in parentheses: its level, and after it its attributes, if it has any.
 pub fn append_heading(
     line: &mut Vec<u8>,
     level: HeadingLevel,
@@ -46,7 +46,7 @@ fn append_attributes(
     }
 }
 
-/// Appends a comma and an id behind `#`, if there is one.
+/// Appends a comma and an id after `#`, if there is one.
 fn append_id(line: &mut Vec<u8>, id: Option<&str>) -> Result<(), AllocError>
     ensures { OnOk result (line.new.items ≡ line.old.items ++ id_value (option_map (λ text. text.now) id.entry)) }
 {
@@ -56,7 +56,7 @@ fn append_id(line: &mut Vec<u8>, id: Option<&str>) -> Result<(), AllocError>
     }
 }
 
-/// Appends classes, each behind a comma and `.`.
+/// Appends classes, each after a comma and `.`.
 #[tactic(auto, unfolding(crate::specs::HeadingValues::class_values))]
 fn append_classes(line: &mut Vec<u8>, classes: &[&str]) -> Result<(), AllocError>
     ensures { OnOk result (line.new.items
@@ -68,7 +68,7 @@ fn append_classes(line: &mut Vec<u8>, classes: &[&str]) -> Result<(), AllocError
     Ok(())
 }
 
-/// Appends keys, each behind a comma, with its value if it has one.
+/// Appends keys, each after a comma, with its value if it has one.
 #[tactic(auto, unfolding(crate::specs::HeadingValues::key_values))]
 fn append_keys(line: &mut Vec<u8>, pairs: &[(&str, Option<&str>)]) -> Result<(), AllocError>
     ensures { OnOk result (line.new.items ≡ line.old.items ++ key_values (map pair_in pairs.now)) }
@@ -87,7 +87,7 @@ fn append_key(line: &mut Vec<u8>, pair: (&str, Option<&str>)) -> Result<(), Allo
     append_value(line, pair.1)
 }
 
-/// Appends the value of a key behind `=`, if it has one.
+/// Appends the value of a key after `=`, if it has one.
 fn append_value(line: &mut Vec<u8>, value: Option<&str>) -> Result<(), AllocError>
     ensures { OnOk result (line.new.items
         ≡ line.old.items ++ value_behind_key (option_map (λ text. text.now) value.entry)) }
@@ -98,7 +98,7 @@ fn append_value(line: &mut Vec<u8>, value: Option<&str>) -> Result<(), AllocErro
     }
 }
 
-/// Appends the bytes of a sign, and behind them a text.
+/// Appends the bytes of a sign, and after them a text.
 fn append_behind(line: &mut Vec<u8>, sign: &[u8], text: &str) -> Result<(), AllocError>
     ensures { OnOk result (line.new.items ≡ line.old.items ++ sign.now ++ visible text.now) }
 {

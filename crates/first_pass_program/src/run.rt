@@ -77,7 +77,7 @@ fn print_text<W: Write>(
     write_lines(alloc, tree.nodes(), &allocs, output)
 }
 
-/// Writes the lines of all nodes and, behind them, those of the link definitions.
+/// Writes the lines of all nodes and, after them, those of the link definitions.
 fn write_lines<W: Write>(
     alloc: Global,
     nodes: &[(usize, Item)],

@@ -45,7 +45,7 @@ pub fn time_runs<T: TimeSource>(
     Ok(timing)
 }
 
-/// Runs the pass over a text once. The tree and the tables are dropped behind the second reading.
+/// Runs the pass over a text once. The tree and the tables are dropped after the second reading.
 fn run_once<T: TimeSource>(
     clock: &mut T,
     alloc: Global,

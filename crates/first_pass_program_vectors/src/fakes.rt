@@ -8,7 +8,7 @@ use std::alloc::{AllocError, Global};
 use std::io;
 use std::io::{ErrorKind, Read, Write};
 
-/// A clock that says what it is told to, and fails behind that.
+/// A clock that says what it is told to, and fails after that.
 #[derive(Drop)]
 pub struct Told<'a> {
     pub left: &'a [u128],

@@ -128,7 +128,7 @@ fn long_definitions(alloc: Global) -> Result<Vec<u8>, AllocError> {
     Ok(text)
 }
 
-// The lines of the definitions are written behind those of the nodes.
+// The lines of the definitions are written after those of the nodes.
 #[test]
 fn each_write_of_definitions_fails_in_turn(rt: HostRuntime) -> Result<(), Fail> {
     // The line of the root has 11 bytes, and those of the three definitions have 44.

@@ -31,7 +31,8 @@ use Rattle.first_pass_grammar.specs.Containers.{at_rest, after}
 use Rattle.first_pass_open.proofs.PlaceLemmas.{after_keeps, line_start_end, place_end}
 use Rattle.first_pass_names.proofs.NameLemmas.{extends_both}
 
--- The raw lines of an extent are read up to those of another, which is what is left of it: what is then the chain of these behind the one so far, is that of the whole.
+-- The raw lines of an extent are read up to those of another, which is what is left of it: what is then the chain of these after the one so far, is that of
+-- the whole.
 pub record LinesSoFar (range : Ranges) (text : List ℕ) (options : Options) (names : Names) (whole rest : Extent) (old now : Forest Item) : Type 0 where
   pub chain : List Item
   pub tree_is : now ≡ chained old chain
@@ -51,7 +52,7 @@ unfolding AreRawLines
 lines_behind range text options names named whole rest further p chain line is goes_on e are more last f lines =
     goes_on more last (extends_both more named names f e) (subst (λ (x : Extent). AreRawLines range (document text options more) chain x.places last) (sym is) (line, are more f, lines))
 
--- behind a line
+-- after a line
 pub lines_more : (range : Ranges) (text : List ℕ) (options : Options) (names named : Names) (whole rest further : Extent) (p : Place) (old now new : Forest Item) (owed from to : ℕ) → JoinsNone old
     → LinesSoFar range text options names whole rest old now → rest ≡ with_line p further → Extends named names → AppendsRaw range text named owed from to now new
     → owed ≡ p.rest.owed → from ≡ offset p → to ≡ line_end p → LinesSoFar range text options named whole further old new
@@ -74,7 +75,7 @@ unfolding AreRawLines
 lines_last range text options names whole rest chain none goes_on more e =
     goes_on more chain e (subst (λ ps. AreRawLines range (document text options more) chain ps chain) (sym none) refl)
 
--- behind the last line
+-- after the last line
 pub lines_end : (range : Ranges) (text : List ℕ) (options : Options) (names : Names) (whole rest : Extent) (old now : Forest Item) (e next : ℕ) → LinesSoFar range text options names whole rest old now → rest ≡ ends_at e (lines_from text next)
     → AppendsLines range (document text options names) whole old now e next
 lines_end range text options names whole rest old now e next s is =
@@ -110,7 +111,7 @@ line_read text bytes at next u here within e f =
       boundary = subst (IsCharBoundary text) (sym is) (line_end_boundary text at u here within);
     }
 
--- Behind what a path takes of it the line ends where it ended.
+-- After what a path takes of it the line ends where it ended.
 pub behind_path : (text : List ℕ) (path : List Container) (at next : ℕ) (r : Rest) → IsUtf8 text → IsLineAt text at next → after path (line_rest (drop at text)) ≡ Some r → line_end (place_at at r) ≡ next
 behind_path text path at next r u line e = (after_keeps text at path (line_rest (drop at text)) r u e (line_is_place text at line.here)).1 ∙ line_start_end text at ∙ sym line.next_is
 
@@ -149,7 +150,7 @@ extent_here text path judge at next o v line goes is =
     ∙ ap (λ o. extent_by (judged judge first (option_map (at_rest first) o)) first (lines_from text next) (extent_from text path judge next)) goes
     ∙ ap (λ v. extent_by v first (lines_from text next) (extent_from text path judge next)) is
 
--- a line that does neither of the others goes on with the block
+-- a line that does neither of the others continues the block
 pub goes_by : (a : Answer) → ((e : ℕ) → ¬ (a ≡ Stops e)) → ((e : ℕ) → ¬ (a ≡ Closes e)) → ¬ (a ≡ IsLast) → a ≡ GoesOn
 goes_by GoesOn f g h = refl
 goes_by IsLast f g h = absurd (h refl)
@@ -175,7 +176,7 @@ module _ (range : Ranges) (text : List ℕ) (options : Options) (names : Names) 
     same_path : path_of options now ≡ path_of options old
     same_path = lines_path range text options names whole rest old now s there
 
-    -- the line doesn't go on with the containers
+    -- the line doesn't continue the containers
     pub read_left : (found : Option Rest) → found ≡ None → found ≡ after (path_of options now) (line_rest (drop at text)) → AppendsLines range (document text options names) (extent_from text (path_of options old) judge start) old now at at
     read_left found none is =
         lines_end range text options names whole rest old now at at s
@@ -221,7 +222,7 @@ pub opened_path : (options : Options) (g opened : Forest Item) (start : ℕ) (bo
 opened_path options g opened start body is leaf there =
     ap (path_of options) is ∙ path_of-opened options g (begun_item start body) (record { 0 = length g.nodes }) refl there ∙ ap (λ c. with_container c (path_of options g)) leaf
 
--- the lines behind the first of a block that was just opened
+-- the lines after the first of a block that was just opened
 pub lines_of : (range : Ranges) (text : List ℕ) (options : Options) (names : Names) (g opened filled : Forest Item) (start first e next : ℕ) (body : ItemBody) (judge : Place → Place → Verdict) → AreIn (length g.nodes) g.spine
     → opened ≡ opened_block g start body → container_of options body ≡ None → first ≡ behind_line_at text start → AppendsLines range (document text options names) (extent_from text (path_of options opened) judge first) opened filled e next
     → AppendsLines range (document text options names) (extent_from text (path_of options g) judge (behind_line_at text start)) opened filled e next

@@ -33,12 +33,12 @@ use Rattle.first_pass_names.proofs.NameLemmas.{extends_both}
 use Rattle.first_pass_open.proofs.PathLemmas.{AreIn}
 use Rattle.first_pass_open.proofs.PlaceLemmas.{all_keep, place_end, line_start_end}
 
--- a place behind the columns of a line
+-- a place after the columns of a line
 pub indented_place : (text : List ℕ) (start n : ℕ) (r s : Rest) → IsUtf8 text → s ≡ all_taken r → n ≡ s.taken → IsPlaceOf text (place_at start r)
     → (start + n ≡ offset (unindented (place_at start r))) × IsPlaceOf text (unindented (place_at start r))
 indented_place text start n r s u e f i = (ap (λ k. start + k) (f ∙ ap (λ (z : Rest). z.taken) e), all_keep text start r u i)
 
--- what the search for a closing fence says of what is left behind the columns
+-- what the search for a closing fence says of what is left after the columns
 pub closing_end : (text bytes rest : List ℕ) (start n at byte count : ℕ) (r s : Rest) (o : Option ℕ) → nat_lt (indent r) 4 ≡ true → IsUtf8 text → s ≡ all_taken r → n ≡ s.taken → IsPlaceOf text (place_at start r)
     → bytes ≡ text → at ≡ start + n → rest ≡ drop at bytes → o ≡ closing_fence_len byte count rest → closing_fence_end byte count (place_at start r) ≡ option_map (λ k. at + k) o
 closing_end text bytes rest start n at byte count r s o few u e f i g h j k =
@@ -49,7 +49,7 @@ closing_end text bytes rest start n at byte count r s o few u e f i g h j k =
     ∙ ap (λ m. option_map (λ l. m + l) (closing_fence_len byte count (all_taken r).left)) (sym same)
     ∙ ap (λ bs. option_map (λ l. at + l) (closing_fence_len byte count bs)) (sym left) ∙ ap (option_map (λ l. at + l)) (sym k)
 
--- an info string behind an offset, from the white space before it up to where its line ends, and how much white space stands last
+-- an info string after an offset, from the white space before it up to where its line ends, and how much white space stands last
 pub record IsInfo (text : List ℕ) (start from next white : ℕ) : Type 0 where
   pub from_is : from ≡ start + prefix_len is_white (drop start text)
   pub next_is : next ≡ from + line_len (drop from text)

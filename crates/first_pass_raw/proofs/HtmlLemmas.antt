@@ -121,7 +121,7 @@ plain_apart : (f : Forest Item) (xs : List Item) → JoinsNone f → ArePlain xs
 plain_apart f [] apart h = apart
 plain_apart f (x ∷ xs) apart h = subst (λ (g : Forest Item). JoinsNone (with_tokens g xs)) (sym (with_token-plain f x h.0)) (plain_apart (appended f x) xs (joins_none-appended f x h.0) h.1)
 
--- raw lines of HTML behind more of them
+-- raw lines of HTML after more of them
 html_behind : (d : Document) (before chain : List Item) (ps : List Place) (whole : List Item) → AreRawLines range_html d chain ps whole → AreRawLines range_html d (before ++ chain) ps (before ++ whole)
 unfolding AreRawLines
 html_behind d before chain [] whole is = ap (λ c. before ++ c) is
@@ -130,7 +130,7 @@ html_behind d before chain (p ∷ ps) whole (line, is, further) =
     let same : add_tokens (before ++ chain) line ≡ before ++ add_tokens chain line = plain_tokens line (before ++ chain) plain ∙ append_assoc before chain line ∙ ap (λ c. before ++ c) (sym (plain_tokens line chain plain)) in
     (line, is, subst (λ c. AreRawLines range_html d c ps (before ++ whole)) (sym same) (html_behind d before (add_tokens chain line) ps whole further))
 
--- The first line of an HTML block, which begins at an offset where so many columns are owed, stands behind a tree with the block open.
+-- The first line of an HTML block, which begins at an offset where so many columns are owed, stands after a tree with the block open.
 module _ (text : List ℕ) (options : Options) (named : Names) (start columns next : ℕ) (g one : Forest Item) (first : AppendsRaw range_html text named columns start next (opened_block g start HtmlBlock) one) (next_is : next ≡ behind_line_at text start) where
   abbrev opened : Forest Item
   opened = opened_block g start HtmlBlock
@@ -158,7 +158,7 @@ module _ (text : List ℕ) (options : Options) (named : Names) (start columns ne
         let further : Extent = ends_at next (lines_from text next) in
         lines_end range_html text options named (with_line (owing columns p) further) further opened one next next (first_read further) refl
 
-    -- a block that has lines behind it, too
+    -- a block that has lines after it, too
     first_then : (names : Names) (further : Extent) (two : Forest Item) (e stop : ℕ) → Extends names named → AppendsLines range_html (document text options names) further one two e stop
         → AppendsLines range_html (document text options names) (with_line (owing columns p) further) opened two e stop
     first_then names further two e stop extends lines =
@@ -185,7 +185,7 @@ module _ (text : List ℕ) (options : Options) (named : Names) (start columns ne
           left_is = lines.left_is;
         })
 
-    -- the lines behind the first one begin where it ends
+    -- the lines after the first one begin where it ends
     behind_first : (path : List Container) (judge : Place → Place → Verdict) → extent_from text path judge (behind_line_at text (offset p)) ≡ extent_from text path judge next
     behind_first path judge = ap (extent_from text path judge) (ap (behind_line_at text) i.offset_is ∙ sym next_is)
 
@@ -215,7 +215,7 @@ module _ (text : List ℕ) (options : Options) (named : Names) (start columns ne
         → (let e = html_to_end text (path_of options g) tag p in AddsRaw (document text options named) (λ d. IsHtml d start columns e.places e.«end») e.left g new next)
     html_one tag new held new_is = whole_added named (html_to_end text (path_of options g) tag p) (ends_at next (lines_from text next)) one new next next (held_extent (path_of options g) tag held) first_alone new_is
 
-    -- it has those behind the first, too
+    -- it has those after the first, too
     module _ (names : Names) (judge : Place → Place → Verdict) (two : Forest Item) (e : Extent) (stop left : ℕ) (path : path_of options one ≡ path_of options g) (lines : AppendsLines range_html (document text options names) (extent_from text (path_of options one) judge next) one two stop left)
         (e_is : e ≡ with_line p (extent_from text (path_of options g) judge next)) where
       pub html_more : (new : Forest Item) → Extends names named → new ≡ closed_by two stop two.spine → AddsRaw (document text options names) (λ d. IsHtml d start columns e.places e.«end») e.left g new left
@@ -224,7 +224,7 @@ module _ (text : List ℕ) (options : Options) (named : Names) (start columns ne
           let here = subst (λ path. AppendsLines range_html (document text options names) (extent_from text path judge next) one two stop left) path lines in
           whole_added names e further two new stop left e_is (first_then names further two stop left extends here) new_is
 
-  -- it is open still behind its first line, and behind the others
+  -- it is open still after its first line, and after the others
   pub one_open : IsSome (slice_get one.spine 0)
   one_open =
       let p : Place = first_at text start 0 in

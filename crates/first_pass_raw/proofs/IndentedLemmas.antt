@@ -73,7 +73,7 @@ last_text text from to some =
       | inr one ↦ record { before = []; from = from; is = raw_one range_text text from to one ∙ range_some from to some }
     ]
 
--- a chain with such a line behind it
+-- a chain with such a line after it
 ends_line : (d : Document) (chain : List Item) (owed from to : ℕ) (items : List Item) → from < to → IsRawLine range_text d owed from to items → EndsWithText (add_tokens chain items) to
 ends_line d chain owed from to items some (columns, are, is) =
     let l = last_text d.text from to some in
@@ -82,7 +82,7 @@ ends_line d chain owed from to items some (columns, are, is) =
     ap (add_tokens chain) is ∙ add_tokens-append chain columns (raw_items range_text d.text from to) ∙ ap (add_tokens (add_tokens chain columns)) l.is ∙ add_tokens-append (add_tokens chain columns) l.before (t ∷ []) in
     subst (λ c. EndsWithText c to) (sym e) (ends_added (add_tokens (add_tokens chain columns) l.before) t refl)
 
--- a chain goes on with an item, whatever its end is
+-- a chain continues an item, whatever its end is
 record Stays (front : List Item) (x : Item) (chain : List Item) : Type 0 where
   to : ℕ
   rest : List Item
@@ -102,7 +102,7 @@ stays_tokens : (front : List Item) (x : Item) (chain more : List Item) → Stays
 stays_tokens front x chain [] s = s
 stays_tokens front x chain (t ∷ ts) s = stays_tokens front x (add_token chain t) ts (subst (λ c. Stays front x (add_token c t)) (sym s.is) (stays_token front x s.to s.rest t))
 
--- what tokens behind a chain leave of its last item
+-- what tokens after a chain leave of its last item
 last_stays : (chain more : List Item) (to : ℕ) (e : EndsWithText chain to) → Stays e.front e.last (add_tokens chain more)
 last_stays chain more to e = stays_tokens e.front e.last chain more (record { to = e.last.«end»; rest = []; is = e.is })
 
@@ -170,7 +170,7 @@ module _ (old : Forest Item) (opened : open_place old.spine + 1 ≡ length old.n
       let e = run_none (chained old (front ++ x ∷ rest)).nodes place.0 (λ more. leaf (place.0 + 1) (omega arith) more ∙ sym (leaf place.0 (omega arith) (omega arith))) in
       omega arith
 
-  -- what stays of the chain without what stands behind an item
+  -- what stays of the chain without what stands after an item
   pub chain_kept : kept_after (chained old (front ++ x ∷ rest)) place ≡ chained old (front ++ x ∷ [])
   chain_kept =
       let g : Forest Item = chained old (front ++ x ∷ rest) in
@@ -197,7 +197,7 @@ no_line d chain = refl
 pub more_lines : (d : Document) (chain : List Item) (ps : List Place) (q : Place) (mid line : List Item) → AreRawLines range_text d chain ps mid → IsRawLine range_text d q.rest.owed (offset q) (line_end q) line → AreRawLines range_text d chain (ps ++ q ∷ []) (add_tokens mid line)
 more_lines d chain ps q mid line are is = code_append d chain ps (q ∷ []) mid (add_tokens mid line) are (one_line d mid q line is)
 
--- a blank line behind others, and one that isn't
+-- a blank line after others, and one that isn't
 blank_behind : (ps : List Place) (q : Place) → is_blank_rest q.rest ≡ true → without_blanks (ps ++ q ∷ []) ≡ without_blanks ps
 unfolding without_blanks
 blank_behind [] q h = cond-true _ _ _ h
@@ -251,7 +251,7 @@ lines_next text path next more =
     ∙ ap (λ ls. code_by further ls (code_place path (line_place next (drop next text))) (code_lines path further)) (sym first)
     ∙ ap (λ o. code_by further (lines_from text next) o (code_lines path further)) (next_place text path next more)
 
--- no line goes on
+-- no line continues
 pub lines_stop : (text : List ℕ) (path : List Container) (next : ℕ) → code_rest_at text path next ≡ None → code_lines path (lines_from text next) ≡ ([], lines_from text next)
 lines_stop text path next none =
     let further : List Place = lines_from text (behind_line_at text next) in
@@ -309,7 +309,7 @@ some_within text start h =
 pub first_boundary : (text : List ℕ) (start next : ℕ) → IsUtf8 text → IsCharBoundary text start → is_blank_line (drop start text) ≡ false → next ≡ behind_line_at text start → IsCharBoundary text next
 first_boundary text start next u b some e = subst (IsCharBoundary text) (sym e) (line_end_boundary text start u b (some_within text start some))
 
--- lines put before others that go on with indented code
+-- lines put before others that continue indented code
 abbrev pub put_before : List Place → List Place × List Place → List Place × List Place
 put_before ps further = (ps ++ further.0, further.1)
 
@@ -318,7 +318,7 @@ pub record IsJustOpened (f : Forest Item) : Type 0 where
   pub place : TreeIndex
   pub pushed : IsJustPushed f place
 
--- The lines of indented code stand behind the nodes of a tree, whatever more is named: its first line's text is at a place, and it ends at an offset and leaves
+-- The lines of indented code stand after the nodes of a tree, whatever more is named: its first line's text is at a place, and it ends at an offset and leaves
 -- the lines from another on.
 pub record AppendsIndented (text : List ℕ) (options : Options) (names : Names) (p : Place) (old new : Forest Item) («end» next : ℕ) (blank : Bool) : Type 0 where
   pub chain : List Item
@@ -329,7 +329,7 @@ pub record AppendsIndented (text : List ℕ) (options : Options) (names : Names)
   pub left_is : lines_from text next ≡ (code_behind text (path_of options old) (offset p)).1
 
 -- The lines of indented code are read up to where another begins, its first at a place: the chain of those up to the last that isn't blank, which ends with a
--- text, and the tokens of the blank ones behind it.
+-- text, and the tokens of the blank ones after it.
 pub record IndentedSoFar (text : List ℕ) (options : Options) (names : Names) (p : Place) (old now : Forest Item) (next : ℕ) (kept : Kept) (blank : Bool) : Type 0 where
   pub read : List Place
   pub chain : List Item
@@ -358,7 +358,7 @@ place_line_end text start p at = ap (λ bs. offset p + line_len bs) at.left_is �
 current_is : (old now : Forest Item) (chain : List Item) (to : ℕ) (e : EndsWithText chain to) → now ≡ chained old chain → now.current ≡ Some (record { 0 = length old.nodes + length e.front })
 current_is old now chain to e is = ap (λ (f : Forest Item). f.current) (is ∙ ap (chained old) e.is) ∙ last_current old e.front e.last
 
--- behind the first line
+-- after the first line
 pub so_far_first : (text : List ℕ) (options : Options) (names : Names) (p : Place) (old now : Forest Item) (start owed next : ℕ) (current : Option TreeIndex) → IsPlaceAt text start p → p.rest.owed ≡ owed → is_blank_line (drop start text) ≡ false → JoinsNone old
     → next ≡ behind_line_at text start → AppendsRaw range_text text names owed start next old now → current ≡ now.current → IndentedSoFar text options names p old now next (record { last = current; «end» = next }) false
 so_far_first text options names p old now start owed next current at o some apart next_is a c =
@@ -412,7 +412,7 @@ module _ (text : List ℕ) (options : Options) (names more_names : Names) (p : P
       s.behind ∙ ap (put_before s.read) (lines_more text (path_of options old) next r b.0 goes) ∙ ap (λ ps. (ps, further.1)) (sym (append_assoc s.read (q ∷ []) further.0))
       ∙ ap (λ k. put_before (s.read ++ q ∷ []) (code_lines (path_of options old) (lines_from text k))) (sym last_place)
 
-  -- behind a blank line, and behind one that isn't
+  -- after a blank line, and after one that isn't
   blank_next : is_blank_rest r ≡ true → IndentedSoFar text options more_names p old new last kept true
   blank_next h =
       let same : add_tokens s.chain (s.more ++ a.items) ≡ add_tokens (add_tokens s.chain s.more) a.items = add_tokens-append s.chain s.more a.items in
@@ -456,7 +456,7 @@ module _ (text : List ℕ) (options : Options) (names more_names : Names) (p : P
   next_by true kept_now h k = subst (λ x. IndentedSoFar text options more_names p old new last x true) (sym k) (blank_next h)
   next_by false kept_now h k = subst (λ x. IndentedSoFar text options more_names p old new last x false) (sym k) (some_next h)
 
-  -- behind the next line
+  -- after the next line
   pub so_far_next : (blank_now : Bool) (kept_now : Kept) → blank_now ≡ is_blank_rest r → kept_now ≡ (if blank_now then kept else record { last = new.current; «end» = last }) → IndentedSoFar text options more_names p old new last kept_now blank_now
   so_far_next blank_now kept_now h k = next_by blank_now kept_now (sym h) k
 
@@ -504,7 +504,7 @@ module _ (text : List ℕ) (options : Options) (names : Names) (p : Place) (old 
       g ∙ ap (λ f. with_end_at (kept_after f c) c kept.«end») tree_now ∙ ap (λ f. with_end_at f c kept.«end») (chain_kept old opened s.last.front x stays.rest c refl)
       ∙ last_ends old s.last.front x c kept.«end» refl ∙ ap (λ to. chained old (s.last.front ++ record s.last.last { «end» = to } ∷ [])) (sym s.last.ends) ∙ ap (chained old) (sym s.last.is)
 
-  -- behind the last line
+  -- after the last line
   pub so_far_stop : (new : Forest Item) → code_rest_at text (path_of options old) next ≡ None → IfSome kept.last (λ child. new ≡ with_end_at (kept_after now child) child kept.«end») → AppendsIndented text options names p old new kept.«end» next blank
   so_far_stop new stops cut =
       let behind : code_behind text (path_of options old) (offset p) ≡ (s.read, lines_from text next) =

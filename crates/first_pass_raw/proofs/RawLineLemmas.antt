@@ -1,4 +1,4 @@
--- Raw lines behind the nodes of a tree: the columns that are owed, and the bytes.
+-- Raw lines after the nodes of a tree: the columns that are owed, and the bytes.
 use Rattle.std.proofs.Common.{◌≡◌, ℕ, zero, suc, ◌+◌, ◌-◌, ◌<◌, ◌≤◌, Bool, true, false, List, [], ◌∷◌, ◌++◌, length, refl, sym, ap, ◌∙◌, subst, inl, inr, arith}
 use Rattle.std.specs.List.{slice_range}
 use Rattle.std.proofs.lemmas.Bool.{cases_lt, lt-ltb, le-ltb, cond-true, cond-false}
@@ -16,7 +16,7 @@ use Rattle.first_pass_names.specs.TableEntries.{with_named}
 use Rattle.first_pass_names.proofs.NameLemmas.{extends_none, text_last}
 use Rattle.first_pass_raw.specs.RawBlocks.{AppendsColumns, AppendsRaw}
 
--- the index of a text that was put behind those that are named names it, whatever more is named
+-- the index of a text that was put after those that are named names it, whatever more is named
 pub named_last : (old new more : Names) (cow : CowStr) (ix : CowIndex) (text : List ℕ) → new ≡ with_named old cow → ix.0 ≡ length old.texts → text_of cow ≡ text → Extends more new → NamesText more ix text
 named_last old new more cow ix text e at is f =
     (cow, text_last old new more ix cow at e f, is)

@@ -1,4 +1,4 @@
--- Raw leaf blocks are in order: each lies between two offsets with what is below it, and its lines are placed in the text one behind the other.
+-- Raw leaf blocks are in order: each lies between two offsets with what is below it, and its lines are placed in the text one after the other.
 use Rattle.std.proofs.Common.{◌≡◌, ◌⊎◌, inl, inr, ℕ, zero, suc, ◌+◌, ◌-◌, ◌*◌, ◌<◌, ◌≤◌, ◌==◌, ◌&&◌, Bool, true, false, not, List, [], ◌∷◌, ◌++◌, length, drop, get_or, slice_index, nat_lt, nat_le, if◌then◌else◌, Option, Some, None, IsUtf8, IsCharBoundary, refl, sym, ap, subst, ◌∙◌, arith, length-append, length-drop, get_or-drop}
 use Rattle.std.specs.List.{prefix_len}
 use Rattle.std.specs.Option.{option_map, option_and_then}
@@ -35,7 +35,7 @@ use Rattle.first_pass_grammar.proofs.OwnNodes.{own_at_most}
 use Rattle.first_pass_raw.specs.RawBlocks.{behind_line_at, code_behind, fenced_behind, metadata_behind, html_to_end, html_to_blank}
 use Rattle.first_pass_open.proofs.PlaceLemmas.{all_keep, after_keeps, place_end, line_start_end}
 
--- These places stand in the text between two offsets, each behind the line of the one before it.
+-- These places stand in the text between two offsets, each after the line of the one before it.
 unfoldable pub ArePlaced : List ℕ → ℕ → List Place → ℕ → Type 0
 ArePlaced text from [] to = from ≤ to
 ArePlaced text from (p ∷ ps) to = (from ≤ offset p) × IsPlaceOf text p × ArePlaced text (line_end p) ps to
@@ -68,11 +68,11 @@ filled_placed text from e f = record { places = f.places; boundary = f.boundary;
 abbrev pub EndsBefore : List ℕ → Lines → Type 0
 EndsBefore text e = e.«end» ≤ start_of (length text) e.left
 
--- that is where reading goes on
+-- that is where reading continues
 pub ends_before_next : (text : List ℕ) (e : Lines) (next : ℕ) → next ≤ length text → lines_from text next ≡ e.left → EndsBefore text e → e.«end» ≤ next
 ends_before_next text e next within left_is h = (let at = ap (start_of (length text)) left_is in let same = start_of-lines text next within in omega arith)
 
--- the first of the two offsets is not behind the other
+-- the first of the two offsets is not after the other
 pub placed_bound : (text : List ℕ) (from to : ℕ) (ps : List Place) → ArePlaced text from ps to → from ≤ to
 unfolding ArePlaced
 placed_bound text from to [] h = h
@@ -109,7 +109,7 @@ columns_few : (names : Names) (owed at : ℕ) (items : List Item) → AreColumns
 columns_few names zero at items is = rw is (omega arith)
 columns_few names (suc n) at items is = rw is.2 (omega arith)
 
--- A chain with tokens behind it has at most so many more.
+-- A chain with tokens after it has at most so many more.
 add_token_few : (chain : List Item) (y : Item) → length (add_token chain y) ≤ suc (length chain)
 add_token_few [] y = omega arith
 add_token_few (x ∷ []) y =
@@ -237,7 +237,7 @@ kept_placed text from to (p ∷ ps) u b h =
     let k = kept_placed text (line_end p) to ps u (place_end text p u h.1) h.2 in
     kept_by text from to p (is_blank_rest p.rest) (without_blanks ps) refl h.0 h.1 b k.0 k.1
 
--- the last of them is not behind the others
+-- the last of them is not after the others
 kept_last_by : (text : List ℕ) (from to : ℕ) (p : Place) (t : Bool) (qs : List Place) → is_blank_rest p.rest ≡ t → from ≤ to → last_end (line_end p) qs ≤ to → last_end from (unless_blank p qs) ≤ to
 unfolding last_end
 kept_last_by text from to p true [] e a b = rw e a
@@ -328,7 +328,7 @@ html_few d start columns stop e items is placed few from to behind before apart 
     let most = own_at_most None items in
     omega arith
 
--- Where lines end between characters: behind some of what is left at a place, where the line ends there.
+-- Where lines end between characters: after some of what is left at a place, where the line ends there.
 eol_small : (b : ℕ) (bs : List ℕ) (t v : Bool) → (b == 10) ≡ t → (b == 13) ≡ v → at_line_end (b ∷ bs) ≡ true → b < 128
 eol_small b bs true v e f h = (let z = eqb-true b 10 e in omega arith)
 eol_small b bs false true e f h = (let z = eqb-true b 13 f in omega arith)
@@ -367,7 +367,7 @@ nothing_ends : (bs : List ℕ) → length bs ≡ 0 → at_line_end (drop 0 bs) �
 nothing_ends [] h = refl
 nothing_ends (b ∷ bs) h = absurd (omega arith)
 
--- Behind a closing fence its line ends, and behind the closing line of metadata.
+-- After a closing fence its line ends, and after the closing line of metadata.
 fence_ends : (byte count : ℕ) (bs : List ℕ) (n : ℕ) → closing_fence_len byte count bs ≡ Some n → (n ≤ length bs) × (at_line_end (drop n bs) ≡ true)
 unfolding closing_fence_len
 fence_ends byte count bs n h =
@@ -503,7 +503,7 @@ first_line text at line lines is =
       | inr past ↦ (let e : line ∷ lines ≡ [] = is ∙ lines_at-end text at past in cc)
     ]
 
--- Each of the lines from an offset on begins there or behind another line, and a place in it stands in the text, up to the same end.
+-- Each of the lines from an offset on begins there or after another line, and a place in it stands in the text, up to the same end.
 module _ (text : List ℕ) (u : IsUtf8 text) (path : List Container) where
   -- a line, where it begins, and a place in it
   pub record IsIn (at : ℕ) (q : Place) : Type 0 where
@@ -533,7 +533,7 @@ module _ (text : List ℕ) (u : IsUtf8 text) (path : List Container) where
   in_behind : (at : ℕ) (q : Place) → IsIn at q → at ≤ offset q
   in_behind at q i = (let h = i.here in omega arith)
 
-  -- a line before those that are placed behind it
+  -- a line before those that are placed after it
   line_placed : (at to : ℕ) (q : Place) (ps : List Place) → IsIn at q → ArePlaced text (behind_line_at text at) ps to → ArePlaced text at (q ∷ ps) to
   unfolding ArePlaced
   line_placed at to q ps i further = (in_behind at q i, i.stands, subst (λ k. ArePlaced text k ps to) (sym i.same_end) further)
@@ -550,7 +550,7 @@ module _ (text : List ℕ) (u : IsUtf8 text) (path : List Container) where
   no_lines_placed : (at n : ℕ) → n ≡ length text → IsCharBoundary text at → IsFilled text at (ends_at n [])
   no_lines_placed at n e b = (let w = b.0 in stops_placed at n [] (omega arith) (subst (IsCharBoundary text) (sym e) (IsCharBoundary-end text)))
 
-  -- the lines that go on with indented code
+  -- the lines that continue indented code
   code_in_by : (t : Bool) (at : ℕ) (p q : Place) → IsIn at q → (if t then Some (moved_columns 4 q) else None) ≡ Some p → IsIn at p
   code_in_by true at p q i h = (let e : moved_columns 4 q ≡ p = cc in subst (IsIn at) e (columns_in 4 at q i))
   code_in_by false at p q i h = cc
@@ -606,7 +606,7 @@ module _ (text : List ℕ) (u : IsUtf8 text) (path : List Container) where
       (judged_within judge stays at line (taken path line) f.1 b (λ q h. taken_in at line q f.0 b f.1 h))
       (extent_filled judge stays lines (behind_line_at text at) f.2 (behind_is_boundary at b))
 
-  -- where the lines begin behind one
+  -- where the lines begin after one
   left_start : (at : ℕ) (lines : List Place) → IsCharBoundary text at → lines ≡ lines_from text (behind_line_at text at) → start_of (length text) lines ≡ behind_line_at text at
   left_start at lines b is = (let w = (behind_is_boundary at b).0 in ap (start_of (length text)) is ∙ start_of-lines text (behind_line_at text at) w)
 
@@ -827,7 +827,7 @@ module _ (text : List ℕ) (u : IsUtf8 text) (path : List Container) where
       cond_both (is_empty q.rest.left) (Closes (offset q)) (tag_verdict tag q) (IsBefore at) (λ none. omega arith)
       (λ some. cond_both (holds tag (line_of q)) (IsLast q) (GoesOn q) (IsBefore at) (λ held. omega arith) (λ other. tt))
 
-  -- So do the raw leaf blocks, but for an HTML block that ends behind the prefix of a blank line.
+  -- So do the raw leaf blocks, but for an HTML block that ends after the prefix of a blank line.
   behind_before : (judge : Place → Place → Verdict) → StaysBefore judge → (start : ℕ) → IsCharBoundary text start → EndsBefore text (extent (in_containers path judge) (length text) (lines_from text (behind_line_at text start)))
   behind_before judge stays start b = extent_before judge stays (lines_from text (behind_line_at text start)) (behind_line_at text start) refl (behind_is_boundary start b)
 

@@ -25,13 +25,13 @@ use Rattle.first_pass_lines.specs.Places.{line_rest}
 use Rattle.first_pass_grammar.specs.Containers.{has_columns, after}
 use Rattle.first_pass_open.specs.Path.{path_of}
 
--- Columns that are owed stand behind the nodes of a tree, whatever more is named.
+-- Columns that are owed stand after the nodes of a tree, whatever more is named.
 pub record AppendsColumns (names : Names) (owed at : ℕ) (old new : Forest Item) : Type 0 where
   pub items : List Item
   pub tree_is : new ≡ chained old items
   pub are : (more : Names) → Extends more names → AreColumns more owed at items
 
--- what is left of the line at an offset, behind its containers and four columns or fewer, where there is such a line and it goes on with indented code
+-- what is left of the line at an offset, after its containers and four columns or fewer, where there is such a line and it continues indented code
 abbrev pub code_rest : Option Rest → Option Rest
 code_rest o = option_and_then (λ r. if has_columns 4 r then Some (after_columns 4 r) else None) o
 
@@ -43,7 +43,7 @@ abbrev pub range_of : RawKind → Ranges
 range_of Code = range_text
 range_of Html = range_html
 
--- A raw line stands behind the nodes of a tree, whatever more is named.
+-- A raw line stands after the nodes of a tree, whatever more is named.
 pub record AppendsRaw (range : Ranges) (text : List ℕ) (names : Names) (owed from to : ℕ) (old new : Forest Item) : Type 0 where
   pub items : List Item
   pub tree_is : new ≡ with_tokens old items
@@ -58,7 +58,7 @@ pub record IsPlaceAt (text : List ℕ) (start : ℕ) (p : Place) : Type 0 where
 abbrev pub behind_line_at : List ℕ → ℕ → ℕ
 behind_line_at text at = at + line_len (drop at text)
 
--- the lines that go on with indented code whose first line has something at an offset, and those that it leaves
+-- the lines that continue indented code whose first line has something at an offset, and those that it leaves
 abbrev pub code_behind : List ℕ → List Container → ℕ → List Place × List Place
 code_behind text path start = code_lines path (lines_from text (behind_line_at text start))
 
@@ -77,7 +77,7 @@ said IsLast p = Judged.IsLast p
 said (Closes e) p = Judged.Closes e
 said (Stops e) p = Judged.Stops e
 
--- The raw lines of an extent stand behind the nodes of a tree, whatever more is named.
+-- The raw lines of an extent stand after the nodes of a tree, whatever more is named.
 pub record AppendsLines (range : Ranges) (d : Document) (e : Extent) (old new : Forest Item) («end» next : ℕ) : Type 0 where
   pub chain : List Item
   pub tree_is : new ≡ chained old chain
@@ -92,7 +92,7 @@ pub record AddsRaw (d : Document) (Are : Document → List (ℕ × Item) → Typ
   pub are : (more : Names) → Extends more d.names → Are (document d.text d.options more) items
   pub left_is : lines_from d.text next ≡ left
 
--- the lines behind the one that has something at an offset, which are a fenced code block's, or a metadata block's
+-- the lines after the one that has something at an offset, which are a fenced code block's, or a metadata block's
 abbrev pub fenced_behind : List ℕ → List Container → ℕ → ℕ → ℕ → ℕ → Extent
 fenced_behind text path columns byte count start = fenced_lines (length text) path columns byte count (lines_from text (behind_line_at text start))
 

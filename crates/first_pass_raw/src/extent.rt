@@ -22,13 +22,13 @@ use first_pass_scan::line_start::LineStart;
 use first_pass_tree::forest::Tree;
 use std::alloc::AllocError;
 
-/// A kind of raw leaf block, which judges the lines that go on with the containers around it.
+/// A kind of raw leaf block, which judges the lines that continue the containers around it.
 pub trait JudgesLines {
-    // What a line is to the block, and the place behind its containers.
+    // What a line is to the block, and the place after its containers.
     ghost judges: { Self → Place → Place → Judgement };
 
     /// What the line of the text is to the block that begins at the offset `start`, before the one at `next`, and of
-    /// which this is left behind its containers. A line of the block's is left where its text begins.
+    /// which this is left after its containers. A line of the block's is left where its text begins.
     fn judge(
         &self,
         text: &str,

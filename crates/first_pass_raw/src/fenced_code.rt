@@ -36,7 +36,7 @@ pub struct Fence {
     pub count: usize,
 }
 
-/// Appends the fenced code block whose fence begins at the offset `start_ix`. Answers the offset at which the line
+/// Appends the fenced code block whose fence begins at the offset `start_ix`. Returns the offset at which the line
 /// begins that is not read, or the text's length (CommonMark 4.5).
 pub fn parse_fenced_code_block<'a>(
     alloc: Global,
@@ -69,7 +69,7 @@ pub fn parse_fenced_code_block<'a>(
     Ok(lines.next)
 }
 
-// The info string behind a code fence that ends at the offset `start`: the rest of the line without the white space
+// The info string after a code fence that ends at the offset `start`: the rest of the line without the white space
 // at its ends.
 fn info_string(text: &str, start: usize) -> &str
     requires boundary { IsCharBoundary text.now start }

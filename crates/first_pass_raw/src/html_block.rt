@@ -26,9 +26,9 @@ use first_pass_scan::line_start::LineStart;
 use first_pass_tree::forest::Tree;
 use std::alloc::AllocError;
 
-/// Appends the HTML block of the kinds 1 to 5 that begins at the offset `start_ix` behind so many columns, at most 3,
-/// and goes on to the line that holds `html_end_tag`. Answers the offset at which the line begins that is not read, or
-/// the text's length (CommonMark 4.6).
+/// Appends the HTML block of the kinds 1 to 5 that begins at the offset `start_ix` after so many columns, at most 3,
+/// and continues to the line that holds `html_end_tag`. Returns the offset at which the line begins that is not read,
+/// or the text's length (CommonMark 4.6).
 pub fn parse_html_block_type_1_to_5<'a>(
     tree: &mut Tree<Item>,
     allocs: &mut Allocations<'a>,
@@ -60,9 +60,9 @@ pub fn parse_html_block_type_1_to_5<'a>(
     Ok(lines.next)
 }
 
-/// Appends the HTML block of the kinds 6 and 7 that begins at the offset `start_ix` behind so many columns, at most 3,
-/// and goes on to a blank line. Answers the offset at which the line begins that is not read, or the text's length:
-/// where the block ends behind what the containers take of that blank line, its end is behind the answer (CommonMark
+/// Appends the HTML block of the kinds 6 and 7 that begins at the offset `start_ix` after so many columns, at most 3,
+/// and continues to a blank line. Returns the offset at which the line begins that is not read, or the text's length:
+/// where the block ends after what the containers take of that blank line, its end is after the answer (CommonMark
 /// 4.6).
 pub fn parse_html_block_type_6_or_7<'a>(
     tree: &mut Tree<Item>,
@@ -89,7 +89,7 @@ pub fn parse_html_block_type_6_or_7<'a>(
     Ok(lines.next)
 }
 
-// Opens the HTML block that begins at the offset `start` behind so many columns, and appends its first line. Answers
+// Opens the HTML block that begins at the offset `start` after so many columns, and appends its first line. Returns
 // where that ends.
 #[inline(always)]
 fn open_html_block<'a>(
@@ -117,7 +117,7 @@ fn open_html_block<'a>(
     Ok(next)
 }
 
-// An HTML block that goes on to the line that holds this text.
+// An HTML block that continues to the line that holds this text.
 #[derive(Clone, Copy)]
 struct ToTag<'t> {
     tag: &'t str,
@@ -148,7 +148,7 @@ impl JudgesLines for ToTag<'_> {
     }
 }
 
-// An HTML block that goes on to a blank line.
+// An HTML block that continues to a blank line.
 #[derive(Clone, Copy)]
 struct ToBlank;
 

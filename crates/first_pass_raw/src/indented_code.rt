@@ -23,8 +23,8 @@ use first_pass_tree::forest::Tree;
 use first_pass_tree::tree_index::TreeIndex;
 use std::alloc::AllocError;
 
-/// Appends the indented code whose first line's text begins at the offset `start_ix`, behind its four columns,
-/// with so many columns owed there. Answers the offset at which the line begins that is not read, or the text's
+/// Appends the indented code whose first line's text begins at the offset `start_ix`, after its four columns,
+/// with so many columns owed there. Returns the offset at which the line begins that is not read, or the text's
 /// length, and whether the last line read is blank: such lines are no part of the block (CommonMark 4.4).
 pub fn parse_indented_code_block<'a>(
     tree: &mut Tree<Item>,
@@ -72,7 +72,8 @@ struct Kept {
     end: usize,
 }
 
-// Appends the line of code from the offset `at` on, of which so many columns are owed there, and answers where it ends.
+// Appends the line of code from the offset `at` on, of which so many columns are owed there, and returns where it
+// ends.
 fn append_line<'a>(
     tree: &mut Tree<Item>,
     allocs: &mut Allocations<'a>,
@@ -107,7 +108,7 @@ fn kept_line(kept: Kept, tree: &Tree<Item>, blank: bool, end: usize) -> Kept
     }
 }
 
-// Drops what stands behind the last node that stays. A blank line may have been joined to that, so it gets its end.
+// Drops what stands after the last node that stays. A blank line may have been joined to that, so it gets its end.
 fn cut_behind(tree: &mut Tree<Item>, kept: Kept)
     requires { IfSome kept.last (λ child. IsChild tree.old child) }
     ensures { IfSome kept.last (λ child. tree.new ≡ with_end_at (kept_after tree.old child) child kept.«end») }
@@ -118,8 +119,8 @@ fn cut_behind(tree: &mut Tree<Item>, kept: Kept)
     }
 }
 
-// What is left of the line that begins at the offset `start`, behind its containers and four columns or fewer, where
-// it goes on with indented code.
+// What is left of the line that begins at the offset `start`, after its containers and four columns or fewer, where
+// it continues indented code.
 fn indented_line<'a>(
     text: &'a str,
     start: usize,

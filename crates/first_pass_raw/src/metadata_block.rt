@@ -32,7 +32,7 @@ fn metadata_kind(byte: u8) -> MetadataBlockKind
     }
 }
 
-/// Appends the metadata block of this byte that begins at the offset `start_ix`. Answers the offset at which the
+/// Appends the metadata block of this byte that begins at the offset `start_ix`. Returns the offset at which the
 /// line begins that is not read, or the text's length.
 pub fn parse_metadata_block<'a>(
     tree: &mut Tree<Item>,

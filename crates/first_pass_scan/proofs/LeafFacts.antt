@@ -9,7 +9,7 @@ use Rattle.first_pass_lines.specs.Places.{Place, line_place, lines_at}
 use Rattle.first_pass_lines.specs.Lines.{is_blank}
 use Rattle.first_pass_scan.specs.LeafLines.{blank_columns, closes_metadata, any_line_closes, IsIndent, IsLongestIndent}
 
--- a line closes, or one behind it does
+-- a line closes, or one after it does
 pub any_line-first : (c start : ℕ) (text : List ℕ) (more : List Place) (t : Bool) → lines_at start (drop start text) ≡ line_place start (drop start text) ∷ more → t ≡ closes_metadata c (drop start text) → any_line_closes c start (drop start text) ≡ (t || list_any (λ line. closes_metadata c line.rest.left) more)
 any_line-first c start text more t h e =
     ap (list_any (λ line. closes_metadata c line.rest.left)) h ∙ ap (λ u. u || list_any (λ line. closes_metadata c line.rest.left) more) (sym e)
@@ -17,7 +17,7 @@ any_line-first c start text more t h e =
 pub any_line-none : (c start : ℕ) (text : List ℕ) → lines_at start (drop start text) ≡ [] → any_line_closes c start (drop start text) ≡ false
 any_line-none c start text h = ap (list_any (λ line. closes_metadata c line.rest.left)) h
 
--- the first n bytes are spaces and tabs of so many columns, and what follows them begins so many bytes behind the last tab
+-- the first n bytes are spaces and tabs of so many columns, and what follows them begins so many bytes after the last tab
 pub record IsFront (bs : List ℕ) (n : ℕ) (columns : ℕ) (column : ℕ) : Type 0 where
   pub within : n ≤ length bs
   pub blanks : list_all is_blank (take n bs) ≡ true
@@ -57,7 +57,7 @@ list_all-append : (p : ℕ → Bool) (xs : List ℕ) (x : ℕ) (ys : List ℕ) �
 list_all-append p [] x ys h = (and_parts (p x) _ h).0
 list_all-append p (y ∷ more) x ys h = list_all-append p more x ys ((and_parts (p y) _ h).1)
 
--- a longer front goes on with the next byte
+-- a longer front continues the next byte
 longer : (bs : List ℕ) (n m : ℕ) → n < m → m ≤ length bs → take m bs ≡ take n bs ++ get_or bs n 0 ∷ drop (n + 1) (take m bs)
 longer bs n m h l =
     let w = length-take-le m bs l in

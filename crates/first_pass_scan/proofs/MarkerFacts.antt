@@ -23,7 +23,7 @@ digits-at bs n e l i h =
 few_columns : (t u : Bool) (n k : ℕ) (r s : Rest) → t ≡ false → u ≡ false → let content : ℕ × Rest = if t then (n, r) else (if u then (n, r) else (n + k, s)) in (n + k ≡ content.0) × (s ≡ content.1)
 few_columns t u n k r s h h' = rw (h, h') (refl, refl)
 
--- the content of an item behind fewer than four columns
+-- the content of an item after fewer than four columns
 pub content_indent-few : (n k : ℕ) (r s : Rest) → is_some (blank_len r.left) ≡ false → s ≡ after_columns 4 r → k ≡ min 4 (indent r) → (k ≡ 4 → ⊥) → (n + k ≡ (content_indent n r).0) × (s ≡ (content_indent n r).1)
 unfolding content_indent
 content_indent-few n k r s h e m few =

@@ -20,7 +20,7 @@ use Rattle.first_pass_scan.specs.Markers.{is_bullet, number_from, bullet_marker,
 use Rattle.first_pass_lines.proofs.PlaceFacts.{ascii_keeps, columns_keep, bytes_line_end, bytes_content_end, columns_line_end, columns_content_end}
 use Rattle.first_pass_lines.proofs.LineFacts.{line_len-blank}
 
--- a marker of some bytes and the columns behind it lie between the first rest and the second
+-- a marker of some bytes and the columns after it lie between the first rest and the second
 pub record IsMarked (r : Rest) (s : Rest) : Type 0 where
   pub width : ℕ
   pub first : ℕ

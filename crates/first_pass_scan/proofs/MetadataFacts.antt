@@ -22,7 +22,7 @@ pub closing_line-end : (c : ℕ) (text : List ℕ) (s : ℕ) → length text ≤
 unfolding closing_line_from first_closing
 closing_line-end c text s l = ap (first_closing c (length text)) (lines_at-end text s l)
 
--- where one line ends, another that begins before doesn't go on
+-- where one line ends, another that begins before doesn't continue
 pub lines-apart : (text : List ℕ) (s y : ℕ) → s < y + line_len (drop y text) → s + line_len (drop s text) ≤ y + line_len (drop y text)
 lines-apart text s y h =
     elim (cases_lt s y) as (λ _. s + line_len (drop s text) ≤ y + line_len (drop y text)) [
@@ -109,7 +109,7 @@ sought_up_to c text (suc most) s m =
 pub any_line-sought : (c : ℕ) (text : List ℕ) (s : ℕ) → nat_lt (closing_line_from c text s) (length text) ≡ any_line_closes c s (drop s text)
 any_line-sought c text s = sought_up_to c text (length text) s (omega arith)
 
--- the same for the lines behind the one that begins at an offset
+-- the same for the lines after the one that begins at an offset
 pub any_line-behind : (c : ℕ) (text : List ℕ) (s from : ℕ) → from ≡ s + line_len (drop s text) → nat_lt (closing_line_from c text from) (length text) ≡ any_line_closes c 0 (behind_line (drop s text))
 any_line-behind c text s from e =
     let d : drop from text ≡ behind_line (drop s text) = ap (λ k. drop k text) e ∙ sym (drop-drop (line_len (drop s text)) s text) in

@@ -32,7 +32,7 @@ unfoldable pub hrule_len : List ℕ → Option ℕ
 hrule_len [] = None
 hrule_len (b ∷ bs) = if is_rule_byte b then rule_len b (b ∷ bs) else None
 
--- no thematic break begins in the bytes at a place, nor at those behind it before another (CommonMark 4.1)
+-- no thematic break begins in the bytes at a place, nor at those after it before another (CommonMark 4.1)
 pub record HasNoRule (bs : List ℕ) (low : ℕ) (high : ℕ) : Type 0 where
   pub none : (k : ℕ) → low ≤ k → k < high → hrule_len (drop k bs) ≡ None
 
@@ -47,7 +47,7 @@ setext_underline bs =
     then option_map (λ n. (n, H1)) (underline_len equals_sign bs)
     else (if begins hyphen bs then option_map (λ n. (n, H2)) (underline_len hyphen bs) else None)
 
--- the line goes on with a backquote somewhere (CommonMark 4.5)
+-- the line continues a backquote somewhere (CommonMark 4.5)
 abbrev pub has_backquote : List ℕ → Bool
 has_backquote bs = list_any (λ b. b == backquote) (take_while is_content bs)
 
@@ -58,7 +58,8 @@ code_fence bs =
     then (let n = run_len backquote bs in if nat_le 3 n && not (has_backquote (drop n bs)) then Some (n, backquote) else None)
     else (if begins tilde bs then (let n = run_len tilde bs in if nat_le 3 n then Some (n, tilde) else None) else None)
 
--- how many bytes the closing fence of a block has, trailing spaces and tabs too and its line end not, where the block was opened by so many of the byte c: at least as many; the end of the text closes too (CommonMark 4.5)
+-- how many bytes the closing fence of a block has, trailing spaces and tabs too and its line end not, where the block was opened by so many of the byte c: at
+-- least as many; the end of the text closes too (CommonMark 4.5)
 unfoldable pub closing_fence_len : ℕ → ℕ → List ℕ → Option ℕ
 closing_fence_len c count bs =
     if length bs == 0
@@ -76,7 +77,8 @@ three_of c bs = starts_with nat_eq bs (c ∷ c ∷ c ∷ [])
 unfoldable pub closing_marks : ℕ → List ℕ → Bool
 closing_marks c bs = ((c == hyphen) && three_of full_stop bs) || three_of c bs
 
--- how many bytes a closing line of metadata has, trailing spaces too and its line end not, where the block was opened by three of the byte c: its marks, then spaces alone (this project)
+-- how many bytes a closing line of metadata has, trailing spaces too and its line end not, where the block was opened by three of the byte c: its marks, then
+-- spaces alone (this project)
 unfoldable pub closing_metadata_len : ℕ → List ℕ → Option ℕ
 closing_metadata_len c bs =
     let n = 3 + run_len space (drop 3 bs) in
@@ -90,17 +92,18 @@ closes_metadata c bs = is_some (closing_metadata_len c bs)
 abbrev pub any_line_closes : ℕ → ℕ → List ℕ → Bool
 any_line_closes c start bs = list_any (λ line. closes_metadata c line.rest.left) (lines_at start bs)
 
--- what stands behind the line that begins here (CommonMark 2.1, line)
+-- what stands after the line that begins here (CommonMark 2.1, line)
 abbrev pub behind_line : List ℕ → List ℕ
 behind_line bs = drop (line_len bs) bs
 
--- metadata of the byte c may open here, as its first two lines say: a line of just three of it, then a line that is neither blank nor a closing one (this project)
+-- metadata of the byte c may open here, as its first two lines say: a line of just three of it, then a line that is neither blank nor a closing one (this
+-- project)
 unfoldable pub begins_metadata : ℕ → List ℕ → Bool
 begins_metadata c bs =
     let next = behind_line bs in
     (run_len c bs == 3) && is_blank_line (drop 3 bs) && not (is_blank_line next) && not (closes_metadata c next)
 
--- metadata of the byte c opens here: its first two lines allow it, and a closing line stands behind them (this project)
+-- metadata of the byte c opens here: its first two lines allow it, and a closing line stands after them (this project)
 unfoldable pub opens_metadata : ℕ → List ℕ → Bool
 opens_metadata c bs = begins_metadata c bs && any_line_closes c 0 (behind_line (behind_line bs))
 
@@ -111,7 +114,7 @@ metadata_byte yaml pluses bs =
     then (if opens_metadata hyphen bs then Some hyphen else None)
     else (if pluses && begins plus_sign bs then (if opens_metadata plus_sign bs then Some plus_sign else None) else None)
 
--- how many columns a space or a tab has, so many bytes behind the last tab (CommonMark 2.2)
+-- how many columns a space or a tab has, so many bytes after the last tab (CommonMark 2.2)
 abbrev pub blank_columns : ℕ → ℕ → ℕ
 blank_columns b column = if b == space then 1 else (if b == tab then 4 - column % 4 else 0)
 

@@ -12,7 +12,7 @@ use Rattle.first_pass_scan.specs.LeafLines.{hrule_len}
 use Rattle.first_pass_lines.specs.Places.{line_rest}
 use Rattle.first_pass_lines.specs.Rest.{Rest, after_columns, indent, past_bytes}
 
--- the number that digits write behind those of the number n (CommonMark 5.2)
+-- the number that digits write after those of the number n (CommonMark 5.2)
 abbrev pub number_from : ℕ → List ℕ → ℕ
 number_from n [] = n
 number_from n (b ∷ bs) = number_from (10 * n + (b - digit_zero)) bs
@@ -26,7 +26,7 @@ abbrev pub bullet_marker : List ℕ → Option (ℕ × ℕ × ℕ)
 bullet_marker [] = None
 bullet_marker (b ∷ bs) = if is_bullet b then Some (1, b, 0) else None
 
--- the marker of n digits that write a number, where a `.` or `)` is behind them (CommonMark 5.2)
+-- the marker of n digits that write a number, where a `.` or `)` is after them (CommonMark 5.2)
 abbrev pub delimited : ℕ → ℕ → List ℕ → Option (ℕ × ℕ × ℕ)
 delimited n number [] = None
 delimited n number (b ∷ bs) = if (b == full_stop) || (b == right_parenthesis) then Some (n + 1, b, number) else None
@@ -41,12 +41,13 @@ ordered_marker bs =
 unfoldable pub list_marker : List ℕ → Option (ℕ × ℕ × ℕ)
 list_marker bs = if is_some (bullet_marker bs) then bullet_marker bs else ordered_marker bs
 
--- the columns that a line needs to go on with an item whose content could begin n columns in, and what is left of its line: up to three columns more count, with four or more the content is indented code, and a blank rest adds nothing (CommonMark 5.2)
+-- the columns that a line needs to continue an item whose content could begin n columns in, and what is left of its line: up to three columns more count, with
+-- four or more the content is indented code, and a blank rest adds nothing (CommonMark 5.2)
 unfoldable pub content_indent : ℕ → Rest → ℕ × Rest
 content_indent n r =
     if is_blank_line r.left then (n, r) else (if nat_le 4 (indent r) then (n, r) else (n + indent r, after_columns (indent r) r))
 
--- the same behind an item's marker that ends n columns in: a column or the end of the line must follow it (CommonMark 5.2)
+-- the same after an item's marker that ends n columns in: a column or the end of the line must follow it (CommonMark 5.2)
 unfoldable pub behind_marker : ℕ → Rest → Option (ℕ × Rest)
 behind_marker n r =
     if nat_le 1 (indent r) || at_line_end r.left then Some (content_indent (n + 1) (after_columns 1 r)) else None
@@ -82,7 +83,7 @@ definition_of outer r = if (r.owed == 0) && begins colon r.left then Some (behin
 abbrev pub is_checked : ℕ → Bool
 is_checked b = (b == small_x) || (b == capital_x)
 
--- the task list item marker here, whether it is checked: `[`, white space or `x`, `]`, and white space behind it (GFM 5.3)
+-- the task list item marker here, whether it is checked: `[`, white space or `x`, `]`, and white space after it (GFM 5.3)
 unfoldable pub task_box : List ℕ → Option Bool
 task_box bs =
     let mark = slice_index bs 1 in
@@ -90,7 +91,7 @@ task_box bs =
     then Some (is_checked mark)
     else None
 
--- the task list item marker behind up to three columns, whether it is checked, and what is left of the line behind it (GFM 5.3)
+-- the task list item marker after up to three columns, whether it is checked, and what is left of the line after it (GFM 5.3)
 unfoldable pub task_of : Rest → Option (Bool × Rest)
 task_of r =
     let box = after_columns 3 r in
@@ -128,6 +129,6 @@ tag_line_of bs (Some kind) = let n = length (tag_of kind) in option_map (λ k. (
 unfoldable pub tag_line : List ℕ → Option (BlockQuoteKind × ℕ)
 tag_line bs = tag_line_of bs (tag_kind bs)
 
--- the kind that the tag here gives a block quote, where no column is owed before it, and what is left behind its line (GitHub's alerts)
+-- the kind that the tag here gives a block quote, where no column is owed before it, and what is left after its line (GitHub's alerts)
 unfoldable pub past_tag : Rest → Option (BlockQuoteKind × Rest)
 past_tag r = if r.owed == 0 then option_map (λ tag. (tag.0, past_bytes tag.1 r)) (tag_line r.left) else None

@@ -131,7 +131,7 @@ pub fn scan_code_fence(bytes: &[u8]) -> Option<(usize, u8)>
     }
 }
 
-/// How many bytes the closing code fence that `bytes` begins with has, with the spaces and tabs behind
+/// How many bytes the closing code fence that `bytes` begins with has, with the spaces and tabs after
 /// it and without its line end: at least `count` of `byte`, alone on the line. 0 at the end of the
 /// text, which closes a block too. Else `None`. CommonMark 4.5.
 #[tactic(auto, unfolding(crate::specs::LeafLines::closing_fence_len))]
@@ -163,7 +163,7 @@ fn has_closing_marks(bytes: &[u8], byte: u8) -> bool
     bytes.starts_with(&[byte, byte, byte])
 }
 
-/// How many bytes the closing line of metadata that `bytes` begins with has, with the spaces behind its
+/// How many bytes the closing line of metadata that `bytes` begins with has, with the spaces after its
 /// marks and without its line end: three of `byte`, or `...` where that is `-`. Else `None`.
 #[tactic(auto, unfolding(crate::specs::LeafLines::closing_metadata_len))]
 pub fn scan_closing_metadata_block(bytes: &[u8], byte: u8) -> Option<usize>
@@ -235,7 +235,7 @@ fn opens_metadata(bytes: &[u8], byte: u8) -> bool
 
 /// The byte of the metadata block that `bytes` begins with: `-` where `yaml` is on, `+` where `pluses`
 /// is. A line of three of that byte opens it, where a line that is neither blank nor a closing one
-/// follows, and a closing line further on. `bytes` go on to the end of the text, and their lines are
+/// follows, and a closing line further on. `bytes` continue to the end of the text, and their lines are
 /// judged with the prefixes of their containers. Else `None`.
 #[tactic(auto, unfolding(crate::specs::LeafLines::metadata_byte))]
 pub fn scan_metadata_block(bytes: &[u8], yaml: bool, pluses: bool) -> Option<u8>
@@ -258,7 +258,7 @@ pub fn scan_metadata_block(bytes: &[u8], yaml: bool, pluses: bool) -> Option<u8>
     }
 }
 
-// How many columns a space or a tab has, so many bytes behind the last tab; none if it is another byte.
+// How many columns a space or a tab has, so many bytes after the last tab; none if it is another byte.
 fn columns_of_blank(byte: u8, column: usize) -> usize
     ensures { result ≡ blank_columns byte column }
 {

@@ -17,7 +17,7 @@ use first_pass_lines::places::rest_of;
 use std::marker::Model;
 
 /// A place in a line: what is left of it, and the columns that a tab taken in part owes. Tab stops are
-/// at every fourth column from the line's start, and anew behind each tab (CommonMark 2.2).
+/// at every fourth column from the line's start, and anew after each tab (CommonMark 2.2).
 #[derive(Clone)]
 pub struct LineStart<'a> {
     bytes: &'a [u8],
@@ -70,7 +70,7 @@ fn is_plain_third(bytes: &[u8]) -> bool
 }
 
 impl<'a> LineStart<'a> {
-    /// The start of the line that `bytes` begins with; `bytes` may run on behind its end.
+    /// The start of the line that `bytes` begins with; `bytes` may run on after its end.
     pub fn new(bytes: &'a [u8]) -> LineStart<'a>
         ensures { result ≡ line_rest bytes.now }
     {
@@ -161,7 +161,7 @@ impl<'a> LineStart<'a> {
         while self.take_column() {}
     }
 
-    /// Takes the block quote marker here, `>`, and one column behind it where there is one, and says
+    /// Takes the block quote marker here, `>`, and one column after it where there is one, and says
     /// whether the marker was there. None is where a column is owed. CommonMark 5.1.
     pub fn scan_blockquote_marker(&mut self) -> bool
         ensures { MatchOption (past_quote self.old) ((result ≡ false) × (self.new ≡ self.old)) (λ next. (result ≡ true)
@@ -177,7 +177,7 @@ impl<'a> LineStart<'a> {
     }
 
     /// Takes the tag here that gives a block quote its kind, as `[!NOTE]` in letters of either case,
-    /// with the blank rest of its line and the line's end, and answers the kind. Where a column is owed
+    /// with the blank rest of its line and the line's end, and returns the kind. Where a column is owed
     /// or no such line is here the answer is `None`, and nothing is taken.
     #[tactic(auto, unfolding(crate::specs::Markers::past_tag))]
     pub fn scan_blockquote_tag(&mut self) -> Option<BlockQuoteKind>
@@ -193,8 +193,8 @@ impl<'a> LineStart<'a> {
     }
 
     /// Takes the list marker here with the columns that belong to it, where `indent` columns stand
-    /// before it, and answers its byte (`.` or `)` behind digits), its number (0 for a bullet) and the
-    /// columns that a line needs to go on with the item. Where a column is owed, no item opens or a
+    /// before it, and returns its byte (`.` or `)` after digits), its number (0 for a bullet) and the
+    /// columns that a line needs to continue the item. Where a column is owed, no item opens or a
     /// thematic break is here the answer is `None`, and nothing is taken. CommonMark 5.2.
     #[tactic(auto, unfolding(crate::specs::Markers::item_of))]
     pub fn scan_list_marker_with_indent(&mut self, indent: usize) -> Option<(u8, u64, usize)>
@@ -214,7 +214,7 @@ impl<'a> LineStart<'a> {
     }
 
     /// Takes the `:` of a definition here with the columns that belong to it, where `indent` columns
-    /// stand before it, and answers the columns that a line needs to go on with the definition. Where a
+    /// stand before it, and returns the columns that a line needs to continue the definition. Where a
     /// column is owed or there is no `:` the answer is `None`, and nothing is taken.
     #[tactic(auto, unfolding(crate::specs::Markers::definition_of))]
     pub fn scan_definition_list_definition_marker_with_indent(
@@ -232,7 +232,7 @@ impl<'a> LineStart<'a> {
         Some(self.scan_behind_colon(indent + 1))
     }
 
-    /// Takes the task list item marker here, behind up to three columns, and answers whether it is
+    /// Takes the task list item marker here, after up to three columns, and returns whether it is
     /// checked: `[`, white space without line ends, `x` or `X`, and `]`. White space must follow, and
     /// isn't taken. Else the answer is `None`, and nothing is taken. GFM 5.3.
     #[tactic(auto, unfolding(crate::specs::Markers::task_of))]
@@ -342,7 +342,7 @@ impl<'a> LineStart<'a> {
         width + further
     }
 
-    // Takes the columns behind an item's marker that ends `width` columns in, and says how many columns
+    // Takes the columns after an item's marker that ends `width` columns in, and says how many columns
     // in its content begins. `None` where neither a column nor the end of the line follows it.
     #[inline(always)]
     #[tactic(auto, unfolding(crate::specs::Markers::behind_marker))]
@@ -358,7 +358,7 @@ impl<'a> LineStart<'a> {
         Some(self.scan_content_indent(width + 1))
     }
 
-    // The same behind a definition's `:`, which no column need follow.
+    // The same after a definition's `:`, which no column need follow.
     fn scan_behind_colon(&mut self, width: usize) -> usize
         requires { width < 2 ^ 61 }
         ensures { let content = behind_colon width self.old in (result ≡ content.0) × (self.new ≡ content.1) }
@@ -422,7 +422,7 @@ impl<'a> LineStart<'a> {
 }
 
 /// The list marker that `bytes` begins with, a line's start: how many bytes it has, its byte (`.` or `)`
-/// behind digits), its number (0 for a bullet), and the columns that a line needs to go on with the item.
+/// after digits), its number (0 for a bullet), and the columns that a line needs to continue the item.
 /// A thematic break is one too, where it reads as a marker. Else `None`. CommonMark 5.2.
 #[tactic(auto, unfolding(crate::specs::Markers::listitem))]
 pub fn scan_listitem(bytes: &[u8]) -> Option<(usize, u8, u64, usize)>

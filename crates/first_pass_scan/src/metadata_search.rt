@@ -82,7 +82,7 @@ fn opens_at(text: &[u8], start: usize, byte: u8, known: &mut Option<ClosingLine>
     }
 }
 
-// Whether some line closes metadata of the byte behind the line that begins at the offset `line`.
+// Whether some line closes metadata of the byte after the line that begins at the offset `line`.
 fn closes_behind(text: &[u8], line: usize, byte: u8, known: &mut Option<ClosingLine>) -> bool
     requires within { line ≤ length text.now }
     requires known { IfSome known.old (IsClosingLine byte text.now) }

@@ -119,7 +119,7 @@ row-refused (b ∷ bs) space tab h =
     let two = either_no (b == pipe) (b == hyphen) some.0 in
     row_refused b (b ∷ bs) (neither (b == 9) (b == 32) tab space) two.0 two.1 some.1 (inr (bs, refl))
 
--- the delimiter row behind the columns of a line, of which there are fewer than four
+-- the delimiter row after the columns of a line, of which there are fewer than four
 pub row_of-few : (r s : Rest) → s ≡ after_columns 4 r → nat_le 4 (indent r) ≡ false → delimiter_row_of r ≡ delimiter_row s.left
 unfolding delimiter_row_of
 row_of-few r s e h =

@@ -9,7 +9,7 @@ use Rattle.first_pass_lines.specs.Lines.{is_content, is_white, begins, is_blank_
 use Rattle.first_pass_table_scan.proofs.TableFacts.{pipes-fit}
 use Rattle.first_pass_table_scan.specs.TableHead.{is_pipe, pipes_behind, pipes_of, last_pipe_behind, header_columns, columns_by_pipes, head_columns}
 
--- the offset behind the last pipe of what stands at an offset behind a byte, where the one before that was found
+-- the offset after the last pipe of what stands at an offset after a byte, where the one before that was found
 abbrev pub end_behind : ℕ → ℕ → ℕ → List ℕ → ℕ
 end_behind at found b bs = option_map_or (λ last. at + last + 1) (last_pipe_behind b bs) found
 
@@ -28,7 +28,7 @@ ending-cases at found t (Some k) = omega arith
 pub ending-at : (row : List ℕ) (i found b x : ℕ) → i < length row → get_or row i 0 ≡ x → end_behind i found b (drop i row) ≡ end_behind (i + 1) (if is_pipe x && not (b == backslash) then i + 1 else found) x (drop (i + 1) row)
 ending-at row i found b x l e = ap (end_behind i found b) (at_byte row i x l e) ∙ ending-cases i found (is_pipe x && not (b == backslash)) (last_pipe_behind x (drop (i + 1) row))
 
--- the last pipe is this one or one behind it
+-- the last pipe is this one or one after it
 last-cases : (t : Bool) (o : Option ℕ) (n : ℕ) → option_map_or (λ k. Some (k + 1)) o (if t then Some 0 else None) ≡ Some n → ((o ≡ None) × (t ≡ true) × (n ≡ 0)) ⊎ ((k : ℕ) × (o ≡ Some k) × (n ≡ k + 1))
 last-cases true None n h = inl (refl, refl, cc)
 last-cases false None n h = absurd cc
@@ -72,7 +72,7 @@ last-within b (c ∷ cs) n h =
       | inr more ↦ (let at = more.2 in let rest = last-within c cs more.0 more.1 in omega arith)
     ]
 
--- behind the last pipe there is none
+-- after the last pipe there is none
 pub pipes-to-last : (b : ℕ) (bs : List ℕ) (n : ℕ) → last_pipe_behind b bs ≡ Some n → pipes_behind b (take (n + 1) bs) ≡ pipes_behind b bs
 pipes-to-last b [] n h = absurd cc
 pipes-to-last b (c ∷ cs) n h =
@@ -126,7 +126,7 @@ from_start (Some k) = omega arith
 pub ending-end : (row : List ℕ) (i b found : ℕ) → length row ≤ i → end_behind i found b (drop i row) ≡ end_behind 0 0 0 row → found ≡ option_map_or (λ last. last + 1) (last_pipe_behind 0 row) 0
 ending-end row i b found l h = sym (ap (end_behind i found b) (drop_all i row l)) ∙ h ∙ from_start (last_pipe_behind 0 row)
 
--- what the offset behind the last pipe says of it
+-- what the offset after the last pipe says of it
 pub end-none : (o : Option ℕ) (end : ℕ) → end ≡ option_map_or (λ last. last + 1) o 0 → end ≡ 0 → o ≡ None
 end-none None end e h = refl
 end-none (Some k) end e h = absurd (omega arith)
@@ -208,7 +208,7 @@ head-unmarked bs row n e at all = sym (head-none bs (ap (last_pipe_behind 0) (sy
 pub head-escaped : (bs row : List ℕ) (end : ℕ) → row ≡ take_while is_content bs → end ≡ option_map_or (λ last. last + 1) (last_pipe_behind 0 row) 0 → end ≡ 0 → 0 ≡ head_columns bs
 head-escaped bs row end e at none = sym (head-none bs (ap (last_pipe_behind 0) (sym e) ∙ end-none (last_pipe_behind 0 row) end at none))
 
--- the last pipe of such a line, by the offset behind it
+-- the last pipe of such a line, by the offset after it
 pub last-found : (bs row : List ℕ) (end : ℕ) → row ≡ take_while is_content bs → end ≡ option_map_or (λ last. last + 1) (last_pipe_behind 0 row) 0 → ¬ (end ≡ 0) → last_pipe_behind 0 (take_while is_content bs) ≡ Some (end - 1)
 last-found bs row end e at some = ap (last_pipe_behind 0) (sym e) ∙ end-some (last_pipe_behind 0 row) end at some
 

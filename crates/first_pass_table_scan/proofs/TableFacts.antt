@@ -10,7 +10,7 @@ use Rattle.memchr.specs.Find.{IsFirstByte}
 use Rattle.first_pass_items.specs.declared.item.Alignment.{Alignment}
 use Rattle.first_pass_table_scan.specs.TableHead.{is_pipe, delimiter_cell, each_of, delimiter_cells, pipes_behind}
 
--- what a search for a byte answers
+-- what a search for a byte returns
 pub first_none : (test : ℕ → Bool) (bs : List ℕ) → IsFirstByte test bs None → length bs ≡ position_or_len test bs
 first_none test bs h =
     sym (position_or_len_is test bs (length bs) 0 (omega arith) (λ k l. false_from_ne_true _ (h k (omega arith) l)) (λ l. absurd (omega arith)))

@@ -29,7 +29,7 @@ without_first c bs = if begins c bs then drop 1 bs else bs
 abbrev pub without_last : ℕ → List ℕ → List ℕ
 without_last c bs = if ends c bs then take (length bs - 1) bs else bs
 
--- the alignment of a column by the colons before and behind its hyphens (GFM 4.10)
+-- the alignment of a column by the colons before and after its hyphens (GFM 4.10)
 abbrev pub alignment_by : Bool → Bool → Alignment
 alignment_by false false = Unaligned
 alignment_by true false = Left
@@ -57,7 +57,8 @@ each_of (Some x ∷ os) = option_map (λ xs. x ∷ xs) (each_of os)
 unfoldable pub delimiter_cells : List ℕ → Option (List Alignment)
 delimiter_cells bs = each_of (map delimiter_cell (slice_split is_pipe bs))
 
--- the alignments that the line gives that begins here, if it is a delimiter row: three columns of indent at most, and a pipe; one pipe at each end counts for nothing (GFM 4.10)
+-- the alignments that the line gives that begins here, if it is a delimiter row: three columns of indent at most, and a pipe; one pipe at each end counts for
+-- nothing (GFM 4.10)
 unfoldable pub delimiter_row : List ℕ → Option (List Alignment)
 delimiter_row bs =
     let row = stripped (take_while is_content bs) in
@@ -67,16 +68,17 @@ delimiter_row bs =
 unfoldable pub table_head : List ℕ → ℕ × List Alignment
 table_head bs = option_map_or (λ columns. (line_len bs, columns)) (delimiter_row bs) (0, [])
 
--- how many pipes stand in bytes behind the byte b and not directly behind a backslash (GFM 4.10)
+-- how many pipes stand in bytes after the byte b and not directly after a backslash (GFM 4.10)
 abbrev pub pipes_behind : ℕ → List ℕ → ℕ
 pipes_behind b [] = 0
 pipes_behind b (c ∷ cs) = (if is_pipe c && not (b == backslash) then 1 else 0) + pipes_behind c cs
 
--- how many pipes not directly behind a backslash these bytes have (GFM 4.10)
+-- how many pipes not directly after a backslash these bytes have (GFM 4.10)
 abbrev pub pipes_of : List ℕ → ℕ
 pipes_of bs = pipes_behind 0 bs
 
--- how many columns a header row of so many pipes has whose last one stands at a place: without one that begins it behind white space, and one more where the last isn't the end of its line but for white space (GFM 4.10)
+-- how many columns a header row of so many pipes has whose last one stands at a place: without one that begins it after white space, and one more where the
+-- last isn't the end of its line but for white space (GFM 4.10)
 abbrev pub columns_by_pipes : ℕ → List ℕ → ℕ → ℕ
 columns_by_pipes pipes bs last =
     pipes - (if begins pipe (drop (prefix_len is_white bs) bs) then 1 else 0) + (if is_blank_line (drop (last + 1) bs) then 0 else 1)
@@ -85,13 +87,13 @@ columns_by_pipes pipes bs last =
 abbrev pub header_columns : List ℕ → ℕ → ℕ
 header_columns bs last = columns_by_pipes (pipes_of (take (last + 1) bs)) bs last
 
--- the place of the last pipe in bytes behind the byte b that is not directly behind a backslash, if there is one (GFM 4.10)
+-- the place of the last pipe in bytes after the byte b that is not directly after a backslash, if there is one (GFM 4.10)
 abbrev pub last_pipe_behind : ℕ → List ℕ → Option ℕ
 last_pipe_behind b [] = None
 last_pipe_behind b (c ∷ cs) =
     option_map_or (λ k. Some (k + 1)) (last_pipe_behind c cs) (if is_pipe c && not (b == backslash) then Some 0 else None)
 
--- how many columns the line that begins here has as a header row: none where it has no pipe but behind backslashes (GFM 4.10)
+-- how many columns the line that begins here has as a header row: none where it has no pipe but after backslashes (GFM 4.10)
 unfoldable pub head_columns : List ℕ → ℕ
 head_columns bs = option_map_or (header_columns bs) (last_pipe_behind 0 (take_while is_content bs)) 0
 

@@ -77,7 +77,7 @@ fn is_hyphens(bytes: &[u8]) -> bool
     1 <= bytes.len() && scan_run(bytes, b'-') == bytes.len()
 }
 
-// The alignment of a column by the colons before and behind its hyphens.
+// The alignment of a column by the colons before and after its hyphens.
 fn alignment(before: bool, behind: bool) -> Alignment
     ensures { result ≡ alignment_by before behind }
 {
@@ -164,7 +164,7 @@ pub fn scan_table_head(alloc: Global, bytes: &[u8]) -> Result<(usize, Vec<Alignm
     }
 }
 
-// How many pipes are left of those of a header row without one that begins it behind white space.
+// How many pipes are left of those of a header row without one that begins it after white space.
 fn without_first_pipe(row: &[u8], pipes: usize) -> usize
     requires { 1 ≤ pipes }
     ensures { result ≡ pipes - (if begins pipe (drop (prefix_len is_white row.now) row.now) then 1 else 0) }
@@ -177,7 +177,7 @@ fn without_first_pipe(row: &[u8], pipes: usize) -> usize
 }
 
 /// How many columns the header row of a table has that begins at the offset `start` of `bytes`: its
-/// pipes not directly behind a backslash, without one that begins the row behind white space, and one
+/// pipes not directly after a backslash, without one that begins the row after white space, and one
 /// more where something else than white space stands between the last, at the offset `last_pipe_ix`,
 /// and the end of its line. `pipes` is the number of these pipes. GFM 4.10.
 pub fn count_header_cols(bytes: &[u8], pipes: usize, start: usize, last_pipe_ix: usize) -> usize

@@ -1,4 +1,4 @@
-//! Whether a table begins at a line: the columns that a line has as a header row, and the delimiter row behind
+//! Whether a table begins at a line: the columns that a line has as a header row, and the delimiter row after
 //! the columns of a line (GFM 4.10).
 
 ghost use Rattle.std.specs.Option.{option_map, option_map_or};
@@ -15,8 +15,8 @@ use first_pass_scan::line_start::LineStart;
 use std::alloc::{AllocError, Global};
 
 /// How many columns the line that `bytes` begins with has as the header row of a table: its pipes not
-/// directly behind a backslash, without one that begins it behind white space, and one more where something
-/// else than white space stands behind the last. 0 where it has no such pipe. GFM 4.10.
+/// directly after a backslash, without one that begins it after white space, and one more where something
+/// else than white space stands after the last. 0 where it has no such pipe. GFM 4.10.
 pub fn scan_head_columns(bytes: &[u8]) -> usize
     ensures { result ≡ head_columns bytes.now }
 {
@@ -39,7 +39,7 @@ fn is_open_pipe(before: u8, byte: u8) -> bool
     byte == b'|' && before != b'\\'
 }
 
-// How many pipes not directly behind a backslash the row has, and the offset behind the last: 0, if there is none.
+// How many pipes not directly after a backslash the row has, and the offset after the last: 0, if there is none.
 fn count_pipes(row: &[u8]) -> (usize, usize)
     ensures pipes { result.0 ≡ pipes_of row.now }
     ensures end { result.1 ≡ option_map_or (λ last. last + 1) (last_pipe_behind 0 row.now) 0 }
@@ -57,14 +57,14 @@ fn count_pipes(row: &[u8]) -> (usize, usize)
     (pipes, end)
 }
 
-// Whether a byte is next with which a delimiter row can begin behind its indent.
+// Whether a byte is next with which a delimiter row can begin after its indent.
 fn can_begin_delimiters(bytes: &[u8]) -> bool
     ensures { result ≡ begins pipe bytes.now || begins hyphen bytes.now || begins colon bytes.now }
 {
     matches!(bytes, [b'|' | b'-' | b':', ..])
 }
 
-/// The alignments of the columns that the delimiter row behind the columns of `line` gives, which are three at
+/// The alignments of the columns that the delimiter row after the columns of `line` gives, which are three at
 /// most: one at least. `None` where no such row is here; an error only where memory is refused. GFM 4.10.
 #[tactic(auto, unfolding(crate::specs::TableHead::delimiter_row_of))]
 pub fn scan_delimiter_row(
@@ -88,8 +88,8 @@ pub fn scan_delimiter_row(
 }
 
 /// What the pipes of a line say of its columns as a header row: without a pipe there are none; else the pipes,
-/// without one that begins it behind white space, and one more where something else than white space stands
-/// behind the last, are the columns. GFM 4.10.
+/// without one that begins it after white space, and one more where something else than white space stands
+/// after the last, are the columns. GFM 4.10.
 pub fn law_of_head_columns(bytes: &[u8])
     ensures none { pipes_of (take_while is_content bytes.now) ≡ 0 → head_columns bytes.now ≡ 0 }
     ensures some { (last : ℕ) → last_pipe_behind 0 (take_while is_content bytes.now) ≡ Some last

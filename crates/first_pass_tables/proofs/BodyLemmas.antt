@@ -43,7 +43,7 @@ row_line d path n start cells stop utf8 boundary h are =
     row_ends_at_place d b.place start.braces cells stop b.stands (subst (λ k. AreCells d (spot k start.braces) cells stop) b.start_is are) ∙ b.ends
     ∙ line_start_end d.text n
 
--- more nodes behind an open node's own open and close nothing
+-- more nodes after an open node's own open and close nothing
 pub same_path : (options : Options) (f g : Forest Item) (more : List (ℕ × Item)) → g.nodes ≡ f.nodes ++ more → g.spine ≡ f.spine → AreIn (length f.nodes) f.spine → path_of options g ≡ path_of options f
 same_path options f g more nodes spine there = ap (path_in options g.nodes) spine ∙ ap (λ ns. path_in options ns f.spine) nodes ∙ path_in-append options f.nodes more f.spine there
 
@@ -54,7 +54,7 @@ some_by : {A : Type 0} (o : Option A) → (o ≡ None → ⊥) → is_some o ≡
 some_by None h = absurd (h refl)
 some_by (Some x) h = refl
 
--- a row that is kept behind others is a row
+-- a row that is kept after others is a row
 is_row_of : (t u : Bool) (table : TableSoFar) (cells : List (List (ℕ × Item))) → t ≡ true → keeps_row t table.columns table.room cells ≡ u
     → is_row table cells ≡ u
 is_row_of t u table cells e h = ap (λ t. keeps_row t table.columns table.room cells) (sym e) ∙ h
@@ -69,7 +69,7 @@ few_filled table cells h =
     let k : nat_le (filled table.columns cells) table.room ≡ true = t in
     grind (arith, nat_tests, k)
 
--- one more row, before the rows behind it
+-- one more row, before the rows after it
 row_more : (d : Document) (path : List Container) (table : TableSoFar) (at : ℕ) (row : FoundRow) (more : Taken) → at < length d.text
     → row.row_end ≡ at + line_len (drop at d.text) → HasCells d path (line_place at (drop at d.text)) table.braces row → is_row table row.cells ≡ true
     → AreRows d path (with_row table row) (lines_from d.text row.row_end) more
@@ -123,7 +123,7 @@ body_none d columns start old some few boundary = record {
   goes_on = λ later e t rows. rows;
 }
 
--- the rows are read under names that go on with those under which the first of them were
+-- the rows are read under names that continue those under which the first of them were
 module _ (d : Document) (before : Names) (columns start : ℕ) (old now new : OpenTable) (at : ℕ) (utf8 : IsUtf8 d.text)
     (there : AreIn (length old.tree.nodes) old.tree.spine) (grown : Extends d.names before)
     (s : BodySoFar (document d.text d.options before) columns start old now at) where
@@ -133,7 +133,7 @@ module _ (d : Document) (before : Names) (columns start : ℕ) (old now new : Op
   begins : (begin : ℕ) → row_text (path_of d.options now.tree) (line_place at (drop at d.text)) ≡ Some begin → row_text (path_of d.options old.tree) (line_place at (drop at d.text)) ≡ Some begin
   begins begin h = subst (λ path. row_text path (line_place at (drop at d.text)) ≡ Some begin) path_is h
 
-  -- behind a row
+  -- after a row
   more_by : (next begin : ℕ) (ix : TreeIndex) → row_text (path_of d.options now.tree) (line_place at (drop at d.text)) ≡ Some begin → ReadsRow d columns begin now new (Some (next, ix))
       → BodySoFar d columns start old new next × (at < next)
   more_by next begin ix h r =
@@ -214,7 +214,7 @@ module _ (d : Document) (before : Names) (columns start : ℕ) (old now new : Op
       (lines_from d.text (at + line_len (drop at d.text))) has
       (is_row_of (is_some now.tree.current) false (so_far columns now) r.cells (some_by now.tree.current s.some) a.0)))
 
--- what is left of the cells that may be filled in, behind those of a header row or as many as may be
+-- what is left of the cells that may be filled in, after those of a header row or as many as may be
 least_by : (n most : ℕ) (t u : Bool) → nat_lt most n ≡ t → most - (if is_lt (if t then Less else (if u then Equal else Greater)) then most else n) ≡ most - n
 least_by n most true u h = grind (arith, nat_tests, h)
 least_by n most false true h = refl
@@ -223,7 +223,7 @@ least_by n most false false h = refl
 pub left_behind : (n most some : ℕ) → some ≡ ord_min nat_cmp n most → most - some ≡ most - n
 left_behind n most some h = ap (λ k. most - k) h ∙ least_by n most (nat_lt most n) (most == n) refl
 
--- The table is closed behind its rows.
+-- The table is closed after its rows.
 closed_as : (f g : Forest Item) (e : ℕ) (ix : TreeIndex) (rest s : List TreeIndex) → f.nodes ≡ g.nodes → s ≡ ix ∷ rest → closed_by f e s ≡ closed_by g e s
 closed_as f g e ix rest [] nodes is = cc
 closed_as f g e ix rest (i ∷ is) nodes same = ap (λ (ns : List (ℕ × Item)). with_end_at (record { nodes = ns; spine = is; current = Some i }) i e) nodes

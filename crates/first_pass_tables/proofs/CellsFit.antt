@@ -33,7 +33,7 @@ use Rattle.first_pass_open.proofs.PlaceLemmas.{place_end, line_start_end}
 abbrev pub AreBetween : List ℕ → ℕ → ℕ → List (ℕ × Item) → Type 0
 AreBetween text from to items = (row : Row) × (extents items ≡ laid 0 row) × Fits text Elsewhere from to row
 
--- no nodes, nodes behind others, and in more room
+-- no nodes, nodes after others, and in more room
 pub between-none : (text : List ℕ) (from to : ℕ) → from ≤ to → AreBetween text from to []
 unfolding laid Fits
 between-none text from to h = (Empty, refl, h)

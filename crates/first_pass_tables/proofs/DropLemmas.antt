@@ -1,4 +1,4 @@
--- What stands behind the current node dropped: the tree as it was.
+-- What stands after the current node dropped: the tree as it was.
 use Rattle.std.proofs.Common.{◌≡◌, ℕ, ◌+◌, ◌-◌, List, ◌∷◌, ◌++◌, length, get_or, take, drop, Some, None, true, false, nat_lt, IfSome, Option, refl, sym, ◌∙◌, ap, subst, arith}
 use Rattle.std.proofs.lemmas.List.{length-append, map-append, length-map, get_or-drop, length-drop, get_or_append_left, get_or_at}
 use Rattle.std.proofs.lemmas.List.Sums.{prefix_len_is}
@@ -28,7 +28,7 @@ end_before ds more d i h =
     ap (nat_lt (get_or es i 0)) (get_or-drop (i + 1) es (length ds - (i + 1)) 0) ∙ t) in
     omega arith
 
--- what was added behind the current node is dropped
+-- what was added after the current node is dropped
 pub kept_back : {T : Type 0} (f g : Forest T) (c : TreeIndex) (x : T) (more : List (ℕ × T)) → IsForest f → f.current ≡ Some c
     → g.nodes ≡ f.nodes ++ (length f.spine + 1, x) ∷ more → g.spine ≡ f.spine → kept_after g c ≡ f
 kept_back {T} f g c x more h q e s =

@@ -82,7 +82,7 @@ not_empty d text none other =
     let on = runs_on d.text text.at none in
     none_of (has d.options tables) _ _ _ (lt-leb (length d.text) text.at on.0) on.1 other
 
--- a cell ends behind the place where it was looked for
+-- a cell ends after the place where it was looked for
 further : (d : Document) (at cell : ℕ) (text stop : Spot) (tokens : List Item) (t : Bool) → (slice_index d.text at == pipe) ≡ t
     → cell ≡ (if t then at + 1 else at)
     → cell ≤ text.at → text.at ≤ length d.text → eol_len (drop text.at d.text) ≡ None → IsCell d.names.texts (cell_content d text) tokens stop.at stop.braces
@@ -102,7 +102,7 @@ further d at cell text stop tokens false here begins order within none is =
           (omega arith, ends.within)
     ]
 
--- the cells go on with one that is not at the line's end
+-- the cells continue one that is not at the line's end
 one_more : (d : Document) (before : Names) (start at stop : Spot) (cells : List (List (ℕ × Item))) (tokens : List Item) → Extends d.names before
     → GoOn (document d.text d.options before) start cells at
     → eol_len (drop (cell_text d.text at.at) d.text) ≡ None → IsCell d.names.texts (begun_there d at) tokens stop.at stop.braces

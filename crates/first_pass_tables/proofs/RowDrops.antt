@@ -1,4 +1,4 @@
--- What stands behind the last child of the innermost open node, dropped; and a row with the cells that are kept.
+-- What stands after the last child of the innermost open node, dropped; and a row with the cells that are kept.
 use Rattle.std.proofs.Common.{◌≡◌, Bool, true, false, ℕ, ◌+◌, ◌<◌, List, [], ◌∷◌, ◌++◌, length, take, Option, Some, None, IfSome, slice_get, refl, sym, ap, subst, ◌∙◌, arith}
 use Rattle.std.proofs.lemmas.List.{length-append, length-map, append-nil}
 use Rattle.std.proofs.Math.Seq.{take-append_seam}
@@ -33,7 +33,7 @@ current_child {T} f c h is =
       behind = last-order ds _ _ _ _ o l (omega arith);
     }
 
--- these trees are alike, but for nodes behind those of the first, of which the first is a child of the innermost open node
+-- these trees are alike, but for nodes after those of the first, of which the first is a child of the innermost open node
 pub record HasMore (f g : Forest Item) : Type 0 where
   pub x : Item
   pub rest : List (ℕ × Item)
@@ -54,7 +54,7 @@ dropped_by f g None is h n more =
     ap (without_children g) here ∙ childless_back f g n.place ((length f.spine + 1, more.x) ∷ more.rest) is (n.childless is) more.nodes more.spine
 dropped_by f g (Some c) is h n more = kept_back f g c more.x more.rest h is more.nodes more.spine
 
--- what stands behind the current node dropped: the tree as it was
+-- what stands after the current node dropped: the tree as it was
 pub dropped : (f g : Forest Item) → IsForest f → IsOpenNode f → HasMore f g → without_behind g f.current ≡ f
 dropped f g h n more = dropped_by f g f.current refl h n more
 
@@ -124,7 +124,7 @@ none_more d at stop count f g empty all =
     let count_is = all.count_is in
     (none_by (length f.spine + 1) f g all.cells (omega arith) all.nodes, all.spine)
 
--- what was appended behind is dropped
+-- what was appended after is dropped
 pub same_dropped : (f g new : Forest Item) → IsForest f → IsOpenNode f → HasMore f g → new ≡ without_behind g f.current → HaveSame new f
 same_dropped f g new h n more is =
     let back = is ∙ dropped f g h n more in

@@ -48,14 +48,14 @@ begins_by text path n start (Some r) utf8 boundary e h =
 pub begins_row : (text : List ℕ) (path : List Container) (n start : ℕ) → IsUtf8 text → IsCharBoundary text n → row_text path (line_place n (drop n text)) ≡ Some start → BeginsRow text path n start
 begins_row text path n start utf8 boundary h = begins_by text path n start (after path (line_rest (drop n text))) utf8 boundary refl h
 
--- an open table stays one, whatever is added behind its nodes
+-- an open table stays one, whatever is added after its nodes
 pub in_table-append : (ns more : List (ℕ × Item)) (spine : List TreeIndex) → AreIn (length ns) spine → in_table (ns ++ more) spine ≡ in_table ns spine
 in_table-append ns more [] a = refl
 in_table-append ns more (ix ∷ spine) a =
     ap (λ n. in_table_by (in_table (ns ++ more) spine) (option_map (λ n. n.1.body) n)) (get_front ns more ix.0 a.0)
     ∙ ap (λ t. in_table_by t (option_map (λ n. n.1.body) (slice_get ns ix.0))) (in_table-append ns more spine a.1)
 
--- the place of the text in a line that goes on with the path
+-- the place of the text in a line that continues the path
 pub text_stands : (text : List ℕ) (n at : ℕ) (r s : Rest) → IsUtf8 text → IsPlaceOf text (place_at n r) → at ≡ offset (place_at n s) → s ≡ after_columns (indent r) r
     → IsPlaceOf text (unindented (place_at n r)) × (at ≡ offset (unindented (place_at n r)))
 text_stands text n at r s utf8 i is taken = (all_keep text n r utf8 i, is ∙ ap (λ (r : Rest). n + r.taken) taken)
@@ -63,7 +63,7 @@ text_stands text n at r s utf8 i is taken = (all_keep text n r utf8 i, is ∙ ap
 pub text_bounds : (text : List ℕ) (n at : ℕ) (r s : Rest) → IsUtf8 text → IsPlaceOf text (place_at n r) → at ≡ offset (place_at n s) → s ≡ after_columns (indent r) r → IsCharBoundary text at
 text_bounds text n at r s utf8 i is taken = let t = text_stands text n at r s utf8 i is taken in subst (IsCharBoundary text) (sym t.1) t.0.boundary
 
--- what the text of a line says that goes on with the path
+-- what the text of a line says that continues the path
 text_says : (text read : List ℕ) (n at : ℕ) (r : Rest) (t stops : Bool) → IsPlaceOf text (unindented (place_at n r)) → at ≡ offset (unindented (place_at n r)) → read ≡ drop at text → t ≡ true
     → stops ≡ interrupts_with (true && not t) read → interrupts_with false (unindented (place_at n r)).rest.left ≡ stops
 text_says text read n at r t stops i at_is read_is opened e =

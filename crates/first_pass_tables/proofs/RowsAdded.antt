@@ -28,7 +28,7 @@ use Rattle.first_pass_tables.specs.Appends.{OpenTable, ReadsRow, ReadsRowLine, A
 use Rattle.first_pass_tables.proofs.CellsFit.{OneRow, between-order, between-join, between-wider, row_fits}
 use Rattle.first_pass_tables.proofs.RowsFit.{row_place, RowsBetween, rows_fit}
 
--- a row fits wherever it stands, behind an offset before it
+-- a row fits wherever it stands, after an offset before it
 row_fits_behind : (d : Document) (body : ItemBody) (columns : ℕ) (p : Spot) (cells : List (List (ℕ × Item))) (to : Spot) (w : Within) (from : ℕ)
     → IsUtf8 d.text
     → IsCharBoundary d.text p.at → AreCells d p cells to → from ≤ p.at → FitsBetween d.text w from to.at (row_block body columns p.at cells to.at)
@@ -87,7 +87,7 @@ pub line_row_none : (d : Document) (columns n : ℕ) (old new : OpenTable) (answ
 line_row_none d columns n old new answer (inl (none, nothing, same)) is = ap (λ (t : OpenTable). t.tree) same
 line_row_none d columns n old new answer (inr (start, begins, r)) is = row_none d columns start old new answer r is
 
--- a header row and the rows behind it, where the header row has a byte or none are behind it
+-- a header row and the rows after it, where the header row has a byte or none are after it
 both_between : (text : List ℕ) (from start mid behind next : ℕ) (head body : List (ℕ × Item)) → from ≤ start → mid ≤ behind → (start < mid) ⊎ (next ≤ start)
     → OneRow text start mid head → RowsBetween text behind next body → FitsBetween text Elsewhere from next (head ++ body)
 both_between text from start mid behind next head body low apart some row rows =
@@ -100,7 +100,7 @@ both_between text from start mid behind next head body low apart some row rows =
     (between-wider text mid behind next next body apart (omega arith) rows.between) in
     (kids.0, kids.1, kids.2, λ room. elim some [ inl more ↦ omega arith | inr none ↦ omega arith ])
 
--- The rows of a table lie between an offset before its header row and the first line that is none, where those of its body are behind the header row's line.
+-- The rows of a table lie between an offset before its header row and the first line that is none, where those of its body are after the header row's line.
 pub rows_between : (d : Document) (columns head_start body_start next from : ℕ) (old new : Forest Item) → IsUtf8 d.text → IsCharBoundary d.text head_start
     → IsCharBoundary d.text body_start → AppendsRows d columns head_start body_start old new next → from ≤ head_start
     → line_end_at d.text head_start ≤ body_start → ClosesBetween d.text from next old new

@@ -21,11 +21,11 @@ use Rattle.first_pass_text.specs.Appends.{line_end_at}
 use Rattle.first_pass_tables.proofs.CellsFit.{OneRow, between-order, between-join, between-wider, between-block, own_block, row_fits}
 use Rattle.first_pass_tables.proofs.RowsFit.{RowsBetween, rows_fit}
 
--- the lines behind the first that begins at an offset
+-- the lines after the first that begins at an offset
 others : (text : List ℕ) (n : ℕ) → n < length text → drop 1 (lines_from text n) ≡ lines_from text (line_end_at text n)
 others text n within = ap (λ (lines : List Place). drop 1 lines) (lines_at-line text n within)
 
--- a block of a header row, which ends before the delimiter row, and of rows behind that one
+-- a block of a header row, which ends before the delimiter row, and of rows after that one
 block_between : (text : List ℕ) (from start mid behind next : ℕ) (x : Item) (head body : List (ℕ × Item)) → x.start ≡ start → x.«end» ≡ next
     → from ≤ start → mid < behind → IsCharBoundary text start → IsCharBoundary text next → OneRow text start mid head → RowsBetween text behind next body
     → FitsBetween text Elsewhere from next (block_of x (head ++ body))
@@ -48,8 +48,8 @@ block_between text from start mid behind next x head body starts_is ends_is low 
     (rw (starts_is, ends_is) kids) in
     (block.0, block.1, block.2, λ some. omega arith)
 
--- The nodes of the table whose header row begins at a place, in a line with another behind it, lie in order between an offset before that place and the
--- first line behind the table, and at most four of them are its own for each byte there.
+-- The nodes of the table whose header row begins at a place, in a line with another after it, lie in order between an offset before that place and the
+-- first line after the table, and at most four of them are its own for each byte there.
 pub table_fits : (d : Document) (path : List Container) (p : Place) (alignments : List Alignment) (next : ℕ) (items : List (ℕ × Item)) (w : Within) (from : ℕ)
     → IsUtf8 d.text → IsPlaceOf d.text p → line_end_at d.text (offset p) < length d.text → IsCharBoundary d.text next
     → IsTable d path p alignments (lines_from d.text (line_end_at d.text (offset p))) (taking items (lines_from d.text next))

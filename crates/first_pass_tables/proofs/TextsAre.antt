@@ -81,7 +81,7 @@ opened_alone old opened start ix is =
     let x : Item = begun_item start (Table ix) in
     (record { 0 = length old.nodes }, just_pushed old (appended old x) opened x (record { 0 = length old.nodes }) refl refl is)
 
--- the lines behind the delimiter row
+-- the lines after the delimiter row
 body_lines : (text : List ℕ) (mid : ℕ) → drop 1 (lines_from text mid) ≡ lines_from text (line_end_at text mid)
 body_lines text mid =
     elim (cases_lt mid (length text)) [
@@ -89,7 +89,7 @@ body_lines text mid =
       | inr past ↦ ap (drop 1) (lines_at-end text mid past) ∙ sym (lines_at-end text (line_end_at text mid) (omega arith))
     ]
 
--- where the lines behind a header row and its delimiter row begin
+-- where the lines after a header row and its delimiter row begin
 pub line_bounds : (text : List ℕ) (start : ℕ) → IsUtf8 text → IsCharBoundary text start → IsCharBoundary text (line_end_at text start)
 line_bounds text start utf8 boundary =
     subst (IsCharBoundary text) (line_start_end text start) (place_end text (line_place start (drop start text)) utf8 (line_is_place text start boundary))

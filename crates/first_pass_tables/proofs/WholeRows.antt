@@ -52,7 +52,7 @@ unfolding row_marks HasNoTable
 rows_no_table depth [] = tt
 rows_no_table depth (row ∷ rows) = cells_no_table (suc depth) row.starts (row_marks depth rows) (rows_no_table depth rows)
 
--- the header row and the rows behind it
+-- the header row and the rows after it
 pub added_whole : (d : Document) (columns head_start body_start : ℕ) (old new : Forest Item) (next : ℕ)
     → AppendsRows d columns head_start body_start old new next → AddsWholeRows d columns head_start old new next
 unfolding row_marks filled_in HaveCells

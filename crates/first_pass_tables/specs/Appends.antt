@@ -35,16 +35,16 @@ abbrev pub without_children : Forest Item → Option TreeIndex → Forest Item
 without_children f None = f
 without_children f (Some ix) = childless f ix
 
--- the tree without what stands behind a child of the innermost open node, or without all that is below that node (this project)
+-- the tree without what stands after a child of the innermost open node, or without all that is below that node (this project)
 abbrev pub without_behind : Forest Item → Option TreeIndex → Forest Item
 without_behind f None = without_children f (slice_get f.spine 0)
 without_behind f (Some ix) = kept_after f ix
 
--- the tree with these nodes behind its own, below the innermost open node (this project)
+-- the tree with these nodes after its own, below the innermost open node (this project)
 abbrev pub with_below : Forest Item → List (ℕ × Item) → Forest Item
 with_below f items = record f { nodes = f.nodes ++ at_depth (length f.spine + 1) items }
 
--- The cells of a row that begins at a place stand in the innermost open node, as many as columns at the most; it is answered where the row ends, with the
+-- The cells of a row that begins at a place stand in the innermost open node, as many as columns at the most; the call returns where the row ends, with the
 -- brace contexts there, and how many cells it has (GFM 4.10, and this project).
 pub record AppendsCells (d : Document) (columns : ℕ) (start : Spot) (old new : Forest Item) (answer : Spot × ℕ) : Type 0 where
   pub cells : List (List (ℕ × Item))
@@ -87,8 +87,8 @@ pub record AddsHead (d : Document) (columns : ℕ) (start : Spot) (old : Forest 
   pub missing_is : new.filled_in ≡ filled columns cells
   pub tree_is : new.tree ≡ added old (row_block TableHead columns start.at cells row_end)
 
--- A row is added to a table of so many columns where it is kept, what is filled into it is counted, and it is answered where it ends and its index; else tree
--- and count are as before. The brace contexts after its cells are those of the table either way (GFM 4.10, and this project).
+-- A row is added to a table of so many columns where it is kept, what is filled into it is counted, and the call returns where it ends and its index; else
+-- tree and count are as before. The brace contexts after its cells are those of the table either way (GFM 4.10, and this project).
 abbrev pub AddsRow : ℕ → FoundRow → OpenTable → OpenTable → Option (ℕ × TreeIndex) → Type 0
 AddsRow columns row old new None =
     (keeps_row (is_some old.tree.current) columns (most_filled - old.filled_in) row.cells ≡ false) × (new ≡ open_table old.tree old.filled_in row.after)
@@ -111,7 +111,7 @@ ReadsRowLine d columns ix old new answer =
     ((row_text (path_of d.options old.tree) (line_place ix (drop ix d.text)) ≡ None) × (answer ≡ None) × (new ≡ old))
     ⊎ ((start : ℕ) × (row_text (path_of d.options old.tree) (line_place ix (drop ix d.text)) ≡ Some start) × ReadsRow d columns start old new answer)
 
--- The rows of a table stand in the innermost open node, which is closed behind them: the header row, which begins at an offset, before which no brace context
+-- The rows of a table stand in the innermost open node, which is closed after them: the header row, which begins at an offset, before which no brace context
 -- is open, and those among the lines from another on, with the brace contexts that the header row leaves (GFM 4.10, and this project).
 pub record AppendsRows (d : Document) (columns head_start body_start : ℕ) (old new : Forest Item) (next : ℕ) : Type 0 where
   pub cells : List (List (ℕ × Item))
@@ -125,13 +125,14 @@ pub record AppendsRows (d : Document) (columns head_start body_start : ℕ) (old
   pub later : body_start ≤ next
   pub boundary : IsCharBoundary d.text next
 
--- Nodes are added to the innermost open node, which is closed behind them at an offset, and they lie between another one and that in order, at most four of their own for each byte there (this project).
+-- Nodes are added to the innermost open node, which is closed after them at an offset, and they lie between another one and that in order, at most four of
+-- their own for each byte there (this project).
 pub record ClosesBetween (text : List ℕ) (from to : ℕ) (old new : Forest Item) : Type 0 where
   pub items : List (ℕ × Item)
   pub tree_is : new ≡ closed_by (with_below old items) to old.spine
   pub fits : FitsBetween text (within_top old) from to items
 
--- Rows were added to a table, which was closed behind them: each has as many cells as the table has columns. With tables, and where the line of the header
+-- Rows were added to a table, which was closed after them: each has as many cells as the table has columns. With tables, and where the line of the header
 -- row has as many columns, no more of them are filled in than may be (GFM 4.10, and this project).
 pub record AddsWholeRows (d : Document) (columns head_start : ℕ) (old new : Forest Item) (next : ℕ) : Type 0 where
   pub items : List (ℕ × Item)

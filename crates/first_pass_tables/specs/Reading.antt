@@ -9,7 +9,7 @@ use Rattle.first_pass_grammar.specs.Leaves.{Document, document}
 use Rattle.first_pass_grammar.specs.Tables.{AreCells, side_by_side}
 use Rattle.first_pass_tables.specs.declared.row.CellsRead.{CellsRead}
 
--- cells go on from a place with those that are looked for at another, with the brace contexts there, whatever more is named (this project)
+-- cells continue from a place with those that are looked for at another, with the brace contexts there, whatever more is named (this project)
 abbrev pub GoOn : Document → Spot → List (List (ℕ × Item)) → Spot → Type 0
 GoOn d start cells at =
     (later : Names) → Extends later d.names → (more : List (List (ℕ × Item))) (to : Spot) → AreCells (document d.text d.options later) at more to
@@ -36,7 +36,7 @@ pub record AreAllAppended (d : Document) (start : Spot) (old new : Forest Item) 
   pub later : start.at + count ≤ to.at
   pub within : to.at ≤ length d.text
 
--- The cells of the row that begins at a place are appended, up to so many: all of them where the row ended, else as many as may be; it is answered how far
+-- The cells of the row that begins at a place are appended, up to so many: all of them where the row ended, else as many as may be; the call returns how far
 -- they were read, and the brace contexts there (this project).
 pub record AppendsSome (d : Document) (most : ℕ) (start : Spot) (old new : Forest Item) (answer : CellsRead × MathBraces) : Type 0 where
   pub few : answer.0.count ≤ most

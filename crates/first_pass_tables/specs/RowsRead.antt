@@ -9,7 +9,7 @@ use Rattle.first_pass_grammar.specs.Tables.{Taken, taking, AreRows, most_filled}
 use Rattle.first_pass_open.specs.Path.{path_of}
 use Rattle.first_pass_tables.specs.Appends.{OpenTable, so_far}
 
--- The rows among the lines from an offset on stand in the open table, behind which another row may stand.
+-- The rows among the lines from an offset on stand in the open table, after which another row may stand.
 pub record AppendsBody (d : Document) (columns start : ℕ) (old : OpenTable) (new : Forest Item) (next : ℕ) : Type 0 where
   pub body : List (ℕ × Item)
   pub are_rows : AreRows d (path_of d.options old.tree) (so_far columns old) (lines_from d.text start) (taking body (lines_from d.text next))

@@ -12,7 +12,8 @@ use Rattle.first_pass_grammar.specs.Texts.{IsText}
 use Rattle.first_pass_text.specs.Appends.{line_end_at}
 use Rattle.first_pass_open.specs.Path.{path_of}
 
--- These items stand for the text that begins at an offset, behind the marker of a task list item or none, and it leaves the lines from another offset on (CommonMark 4.8, GFM 4.10).
+-- These items stand for the text that begins at an offset, after the marker of a task list item or none, and it leaves the lines from another offset on
+-- (CommonMark 4.8, GFM 4.10).
 abbrev pub IsTextAt : Document → List Container → ℕ → Option Item → List (ℕ × Item) → ℕ → Type 0
 IsTextAt d path start marker items next =
     (p : Place) → IsPlaceOf d.text p → offset p ≡ start → IsText d path p marker (lines_from d.text (line_end p)) (taking items (lines_from d.text next))

@@ -23,7 +23,7 @@ use first_pass_tree::forest::Tree;
 use first_pass_tree::tree_index::TreeIndex;
 use std::alloc::AllocError;
 
-/// Where the cell begins at the offset `at` into `bytes`: behind its pipe, if one stands there (GFM 4.10).
+/// Where the cell begins at the offset `at` into `bytes`: after its pipe, if one stands there (GFM 4.10).
 pub fn cell_start(bytes: &[u8], at: usize) -> usize
     requires { at ≤ length bytes.now }
     ensures value { result ≡ cell_start bytes.now at }
@@ -38,7 +38,7 @@ pub fn cell_start(bytes: &[u8], at: usize) -> usize
 }
 
 /// Appends the cell that begins at the offset `start` into the text, and whose content begins at `text`, to the
-/// innermost open node, with its tokens; answers the offset at which it ends. The texts that tokens name are put among
+/// innermost open node, with its tokens; returns the offset at which it ends. The texts that tokens name are put among
 /// `allocs`; the table `lut` is that of the special bytes. `braces`, the brace contexts before the cell, become those
 /// after it. The error is want of memory (GFM 4.10).
 pub fn append_table_cell(
@@ -72,7 +72,7 @@ pub fn append_table_cell(
     Ok(end)
 }
 
-/// Drops what is behind a child of the innermost open node, or all that is below that node.
+/// Drops what is after a child of the innermost open node, or all that is below that node.
 pub fn drop_behind(tree: &mut Tree<Item>, last: Option<TreeIndex>)
     requires { IfSome last (λ ix. IsChild tree.old ix) }
     ensures { tree.new ≡ without_behind tree.old last }

@@ -82,9 +82,9 @@ fn append_some_cells(
 }
 
 // Appends the cells of the row that begins at the offset `start` to the innermost open node, which was just opened,
-// but no more of them than there are columns. Answers where the row ends, and how many cells it has. The texts that the
-// tokens of all its cells name are put among `allocs`; `braces`, the brace contexts before the row, become those after
-// all its cells.
+// but no more of them than there are columns. Returns where the row ends, and how many cells it has. The texts that
+// the tokens of all its cells name are put among `allocs`; `braces`, the brace contexts before the row, become those
+// after all its cells.
 fn append_cells(
     source: Source<'_>,
     lut: &[bool; 256],
@@ -120,8 +120,8 @@ fn append_cells(
 }
 
 /// Appends the header row of a table of so many columns, which begins at the offset `start` into the text, to the
-/// innermost open node, filled with empty cells where it has too few. Answers how many are filled in; the error is want
-/// of memory. The texts that tokens name are put among `allocs`; the table `lut` is that of the special bytes;
+/// innermost open node, filled with empty cells where it has too few. Returns how many are filled in; the error is
+/// want of memory. The texts that tokens name are put among `allocs`; the table `lut` is that of the special bytes;
 /// `braces`, the brace contexts before the row, become those after it (GFM 4.10).
 pub fn append_head_row(
     source: Source<'_>,
@@ -158,9 +158,9 @@ fn is_kept(behind: bool, count: usize, missing: usize, most: usize) -> bool
     (!behind || count > 0) && missing <= most
 }
 
-/// Appends the row of a table of `row_cells` columns that begins at the offset `ix` into the text, behind what the
+/// Appends the row of a table of `row_cells` columns that begins at the offset `ix` into the text, after what the
 /// containers take of its line, to the innermost open node, filled with empty cells where it has too few; they are
-/// added to `missing_empty_cells`, how many are filled in so far. Answers the offset at which the row ends and the
+/// added to `missing_empty_cells`, how many are filled in so far. Returns the offset at which the row ends and the
 /// row's index; `None`, and nothing is appended, where it has no cell and is not the table's first row, or more than
 /// 262,144 cells would be filled in. The texts that tokens name are put among `allocs`, those of a row that isn't
 /// appended too; `braces`, the brace contexts before the row, become those after its cells, be it appended or not. The

@@ -29,8 +29,8 @@ use first_pass_tree::tree_index::TreeIndex;
 use std::alloc::{AllocError, Global};
 use std::cmp::min;
 
-// Where the text of a row begins in the line that begins at the offset `start`; `None` where that line is no row: where
-// it doesn't go on with all open containers, or its text would interrupt a paragraph, as any list item does here.
+// Where the text of a row begins in the line that begins at the offset `start`; `None` where that line is no row:
+// where it doesn't continue all open containers, or its text would interrupt a paragraph, as any list item does here.
 fn scan_row_text(
     alloc: Global,
     source: Source<'_>,
@@ -58,10 +58,11 @@ fn scan_row_text(
     Ok(Some(at))
 }
 
-/// Appends the row of a table of `row_cells` columns that is in the line which begins at the offset `ix` into the text,
-/// to the table, the innermost open node; answers as `parse_table_row_inner`. `None` too where the line doesn't go on
-/// with all open containers, or its text would interrupt a paragraph, as any list item does here (GFM 4.10). The texts
-/// that tokens name are put among `allocs`; `braces`, the brace contexts before the row, become those after its cells.
+/// Appends the row of a table of `row_cells` columns that is in the line which begins at the offset `ix` into the
+/// text, to the table, the innermost open node; returns as `parse_table_row_inner`. `None` too where the line doesn't
+/// continue all open containers, or its text would interrupt a paragraph, as any list item does here (GFM 4.10). The
+/// texts that tokens name are put among `allocs`; `braces`, the brace contexts before the row, become those after its
+/// cells.
 pub fn parse_table_row(
     alloc: Global,
     source: Source<'_>,
@@ -106,7 +107,7 @@ pub fn parse_table_row(
 }
 
 // Appends the rows of a table of so many columns that are among the lines from the offset `start` on to the table, the
-// innermost open node, up to the first line that is none, where so many cells are filled in before them. Answers the
+// innermost open node, up to the first line that is none, where so many cells are filled in before them. Returns the
 // offset at which that line begins, or the text's length. The texts that tokens name are put among `allocs`; `braces`
 // are the brace contexts before the rows, and then those after the cells that were read.
 fn append_body(
@@ -156,8 +157,8 @@ fn append_body(
 }
 
 /// Appends the rows of a table of `table_cols` columns to the table, the innermost open node, which was just opened,
-/// and closes it behind them: the header row, which begins at the offset `head_start` into the text, and the rows among
-/// the lines from the offset `body_start` on, up to the first line that is none. Answers the offset at which that line
+/// and closes it after them: the header row, which begins at the offset `head_start` into the text, and the rows among
+/// the lines from the offset `body_start` on, up to the first line that is none. Returns the offset at which that line
 /// begins, or the text's length; the error is want of memory. The texts that tokens name are put among `allocs`. No
 /// brace context is open before the header row; the rows after it have those that it leaves (GFM 4.10).
 ///

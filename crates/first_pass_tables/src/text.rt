@@ -1,5 +1,5 @@
-//! What stands for a text where no other block begins: a paragraph, a heading that is underlined, or the table that its
-//! first line heads (CommonMark 4.3, 4.8, GFM 4.10).
+//! What stands for a text where no other block begins: a paragraph, a heading that is underlined, or the table that
+//! its first line heads (CommonMark 4.3, 4.8, GFM 4.10).
 
 ghost use Rattle.std.specs.Prelude.{◌≡◌, ◌≤◌, false, ℕ, drop, Option, Some, IfOk, IfSome, OnOk, IsUtf8, IsCharBoundary};
 ghost use Rattle.first_pass_walk.specs.Walk.{MarksSpecial};
@@ -25,7 +25,7 @@ use first_pass_tree::forest::Tree;
 use std::alloc::{AllocError, Global};
 
 // Appends the table of these alignments, whose header row begins at the offset `start`, to the innermost open node.
-// Answers the offset at which the line begins that ends the table, or the text's length. The alignments and the texts
+// Returns the offset at which the line begins that ends the table, or the text's length. The alignments and the texts
 // that tokens name are put among `allocs`.
 fn append_table(
     alloc: Global,
@@ -60,10 +60,10 @@ fn append_table(
 
 /// Appends what stands for the text that begins at the offset `start_ix` into the text to the innermost open node: the
 /// table that its first line heads, with tables; else a heading that is underlined or a paragraph, with the marker of
-/// its task list item, if it has one, as its first child. Answers the offset at which the line begins that is behind
+/// its task list item, if it has one, as its first child. Returns the offset at which the line begins that is after
 /// it, or the text's length. The alignments of a table's columns, or the attributes of a heading, and the texts that
-/// tokens name are put among `allocs`; `lut` is the table of the special bytes. The error is want of memory (CommonMark
-/// 4.3, 4.8, GFM 4.10).
+/// tokens name are put among `allocs`; `lut` is the table of the special bytes. The error is want of memory
+/// (CommonMark 4.3, 4.8, GFM 4.10).
 pub fn parse_paragraph<'a>(
     alloc: Global,
     source: Source<'a>,

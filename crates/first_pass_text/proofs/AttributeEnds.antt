@@ -25,7 +25,7 @@ use Rattle.first_pass_items.specs.declared.item.ItemBody.TheVariants.{Text}
 use Rattle.first_pass_tree.specs.Forest.{Forest, appended, item_at, open_place, cut_item, cut_tokens, cut_siblings, is_escaped}
 use Rattle.first_pass_tree.specs.declared.tree_index.TreeIndex.{TreeIndex}
 
--- a text whose end is not behind its start is empty
+-- a text whose end is not after its start is empty
 pub none_between : (text : List ℕ) (start to : ℕ) → to ≤ start → slice_range text start to ≡ []
 none_between text start to past = let none : to - start ≡ 0 = omega arith in ap (λ n. take n (drop start text)) none
 
@@ -130,7 +130,7 @@ given_some options text start to bs block r found h bs_is within e block_is is =
     is_given found (attributes_of block) is
     ∙ sym (ap (option_map (λ (b : Braces). attributes_of (slice_range bs (b.opening + 1) b.closing))) (these_braces options bs h ∙ found_is) ∙ ap (λ xs. Some (attributes_of xs)) same)
 
--- behind the opening brace is a place between two characters
+-- after the opening brace is a place between two characters
 pub brace_boundary : (text bs : List ℕ) (start to opening at : ℕ) → IsUtf8 text → bs ≡ slice_range text start to → to ≤ length text → opening + 1 < length bs → slice_index bs opening ≡ left_brace
     → at ≡ opening + 1 → IsCharBoundary text (start + at)
 brace_boundary text bs start to opening at utf8 bs_is within less opens at_is =

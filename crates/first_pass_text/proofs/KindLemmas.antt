@@ -75,7 +75,7 @@ pub blank_kind : (options : Options) (r : Rest) → is_blank_rest r ≡ true →
 unfolding first_kind
 blank_kind options r h = let first : first_kind options r ≡ Some Blank = rw h refl in subst (λ o. IsKindBy r o Blank) (sym first) refl
 
--- of one behind four columns
+-- of one after four columns
 pub code_kind : (options : Options) (r : Rest) → is_blank_rest r ≡ false → nat_lt (indent r) 4 ≡ false → IsKind options r IndentedCode
 unfolding first_kind
 code_kind options r h u = let first : first_kind options r ≡ Some IndentedCode = rw h (rw u refl) in subst (λ o. IsKindBy r o IndentedCode) (sym first) refl
@@ -90,7 +90,7 @@ pub record FoundEarly (options : Options) (r : Rest) (m : Option ℕ) : Type 0 w
   pub few : nat_lt (indent r) 4 ≡ true
   pub metadata : metadata_at (indent r) options (all_taken r).left ≡ m
 
--- the offset behind the columns of a place
+-- the offset after the columns of a place
 pub behind_columns : (text : List ℕ) (start taken : ℕ) (r new : Rest) → IsUtf8 text → IsPlaceOf text (place_at start r) → new ≡ all_taken r → taken ≡ new.taken → (start + taken ≤ length text) × ((all_taken r).left ≡ drop (start + taken) text)
 behind_columns text start taken r new u i rest is =
     let j = all_keep text start r u i in

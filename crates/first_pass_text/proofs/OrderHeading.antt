@@ -48,7 +48,7 @@ use Rattle.first_pass_open.proofs.PlaceLemmas.{place_end, line_start_end}
 run_first : (p : ℕ → Bool) (xs : List ℕ) (n : ℕ) → n ≤ length xs → (suffix_len p (take n xs) ≡ 0) ⊎ (p (get_or xs (n - suffix_len p (take n xs)) 0) ≡ true)
 run_first p xs n within = elim (cases_lt 0 (suffix_len p (take n xs))) [ inl some ↦ inr (suffix_first p xs n within some).1 | inr none ↦ inl (omega arith) ]
 
--- what stands behind the bytes of a heading's text that are kept: a byte that is put aside, or nothing; or no byte is kept
+-- what stands after the bytes of a heading's text that are kept: a byte that is put aside, or nothing; or no byte is kept
 KeptAt : List ℕ → ℕ → Type 0
 KeptAt text n = (n ≡ 0) ⊎ (((n < length text) × (is_put_aside (get_or text n 0) ≡ true)) ⊎ ((n ≡ length text) × (suffix_len is_put_aside text ≡ 0)))
 

@@ -35,7 +35,7 @@ chain_end_place text from to (x ∷ y ∷ ys) h boundary =
     let later : AreInOrder text from to (y ∷ ys) = order_from text from x.«end» to (y ∷ ys) h.4 (omega (arith, h.0, h.1)) in
     chain_end_place text from to (y ∷ ys) later boundary
 
--- a chain in order, whose escaped texts stand behind their backslashes and whose tokens have bytes
+-- a chain in order, whose escaped texts stand after their backslashes and whose tokens have bytes
 abbrev ChainStands : List ℕ → ℕ → ℕ → List Item → Type 0
 ChainStands text from to chain = AreInOrder text from to chain × EscapesStand text from chain × HaveBytes chain
 
@@ -43,7 +43,7 @@ break_unescaped : (body : ItemBody) → is_break body ≡ true → is_escaped bo
 break_unescaped (Text escaped) h = absurd (false≢true h)
 break_unescaped _ h = refl
 
--- a chain with the break behind it
+-- a chain with the break after it
 chain_break : (text : List ℕ) (from at start next : ℕ) (break : Option Item) (chain : List Item) → ChainStands text from at chain → at ≤ next → IfSome break (StandsBehind text at next)
     → IfSome break (IsBreak start next) → ChainStands text from next (add_break break chain)
 chain_break text from at start next None chain h later behind is = (order_to text from at next chain h.0 later, h.1, h.2)
@@ -61,7 +61,7 @@ first_line text n line lines is =
       | inr past ↦ let e : line ∷ lines ≡ [] = is ∙ lines_at-end text n past in cc
     ]
 
--- a line, and its tokens behind a chain
+-- a line, and its tokens after a chain
 record OneLine (d : Document) (from ix : ℕ) (chain tokens : List Item) (answer : ℕ × Option Item) : Type 0 where
   stop : ℕ
   stands : ChainStands d.text from stop (add_tokens chain tokens)
@@ -90,7 +90,7 @@ one_line d from ix b after chain tokens answer utf8 boundary h line =
       broken = e.broken;
     }
 
--- The chain of a text's lines is in order up to an offset, behind which the break of the last line stands; the lines left begin behind that.
+-- The chain of a text's lines is in order up to an offset, after which the break of the last line stands; the lines left begin after that.
 pub record TextInOrder (d : Document) (start : ℕ) (t : TextLines) : Type 0 where
   pub stop : ℕ
   pub order : AreInOrder d.text start stop t.chain
@@ -102,7 +102,7 @@ pub record TextInOrder (d : Document) (start : ℕ) (t : TextLines) : Type 0 whe
   pub left_is : t.left ≡ lines_from d.text left_at
   pub left_within : left_at ≤ length d.text
 
--- the last line of a text, and the lines behind it
+-- the last line of a text, and the lines after it
 text_stops : (d : Document) (from ix : ℕ) (chain tokens : List Item) (answer : ℕ × Option Item) (left : List Place) (t : TextLines) → OneLine d from ix chain tokens answer
     → left ≡ lines_from d.text answer.0 → t ≡ text_lines (add_tokens chain tokens) answer.1 left → TextInOrder d from t
 text_stops d from ix chain tokens answer left t l behind e =
@@ -173,7 +173,7 @@ pub text_is_in_order : (d : Document) (path : List Container) (start : ℕ) (t :
 text_is_in_order d path start t utf8 boundary lines =
     lines_in_order d path utf8 start (lines_from d.text (line_end_at d.text start)) start no_braces [] t refl boundary (omega arith, tt, tt) lines
 
--- The chain, cut at an offset in it, with the last line's break behind it, is in order, and each of its tokens has a byte.
+-- The chain, cut at an offset in it, with the last line's break after it, is in order, and each of its tokens has a byte.
 pub cut_text_in_order : (d : Document) (start e : ℕ) (t : TextLines) → (h : TextInOrder d start t) → start ≤ e → e ≤ h.stop → IsCharBoundary d.text e
     → AreInOrder d.text start (start_of (length d.text) t.left) (close_break t.break (cut e t.chain)) × HaveBytes (close_break t.break (cut e t.chain))
 cut_text_in_order d start e t h low high boundary =

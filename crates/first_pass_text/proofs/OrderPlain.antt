@@ -116,7 +116,7 @@ marker_plain : (body : ItemBody) → is_task_marker body ≡ true → (is_text b
 marker_plain (TaskListMarker checked) h = (refl, refl)
 marker_plain _ h = absurd (false≢true h)
 
--- The children of a paragraph or a heading: a marker before its start, or none, and a chain in order behind that.
+-- The children of a paragraph or a heading: a marker before its start, or none, and a chain in order after that.
 record ChildrenStand (text : List ℕ) (w : Within) (from start to : ℕ) (kids : List Item) : Type 0 where
   lead : Option Item
   chain : List Item
@@ -266,7 +266,7 @@ module _ (d : Document) (w : Within) (from start : ℕ) (l : TextLines) (h : Tex
       subst (ChildrenStand d.text w from start next_start) (sym (children_by d start marker l (Some block) some))
       (cut_stand (start + kept_before (by_backslash l.break) block.opening (heading_bytes d start marker l)) marker stands inside p.0 (omega (arith, p.1)) p.2)
 
--- A paragraph, or a heading that is underlined, lies between an offset that its marker or its text stands behind, and the line behind it.
+-- A paragraph, or a heading that is underlined, lies between an offset that its marker or its text stands after, and the line after it.
 ended_between : (d : Document) (w : Within) (from start : ℕ) (marker : Option Item) (l : TextLines) (items : List (ℕ × Item)) (next : ℕ) (o : Option (ℕ × HeadingLevel))
     → IsCharBoundary d.text start → IsCharBoundary d.text next → start_of (length d.text) l.left ≤ start_of (length d.text) (drop 1 l.left)
     → ChildrenStand d.text w from start (start_of (length d.text) l.left) (text_children marker l)
@@ -287,7 +287,7 @@ ended_between d w from start marker l items next (Some underline) starts ends la
     subst (FitsBetween d.text w from next) (sym is)
     (children_between d.text w from start (start_of (length d.text) l.left) next body (heading_children d start marker l) refl starts ends (omega arith) heading)
 
--- the text stands behind the offset that its marker stands behind
+-- the text stands after the offset that its marker stands after
 low_start : (text : List ℕ) (from start : ℕ) (marker : Option Item) → StandsBefore text from start marker → from ≤ start
 low_start text from start None stands = stands
 low_start text from start (Some m) stands = let b : IsBetween text from start (extent_of m) = stands.1 in omega (arith, b.behind, b.order, b.before)

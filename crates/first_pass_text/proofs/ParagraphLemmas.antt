@@ -138,7 +138,7 @@ lines_last path d ix n after chain tokens line_break line place ends =
     ] in
     subst (λ e. AreTextLines d path ix chain (lines_from d.text e) (text_lines (add_tokens chain tokens) line_break (lines_from d.text n))) place (last_by path d ix n after chain tokens line_break (lines_from d.text n) line lines ends)
 
--- the break behind a chain in the tree
+-- the break after a chain in the tree
 pub with_child-chained : (f : Forest Item) (chain : List Item) (line_break : Option Item) → with_child (chained f chain) line_break ≡ chained f (add_break line_break chain)
 with_child-chained f chain None = refl
 with_child-chained f chain (Some x) = appended-chained f chain x
@@ -151,7 +151,7 @@ pub with_closed_break-chained : (f : Forest Item) (chain : List Item) (line_brea
 with_closed_break-chained f chain None apart = refl
 with_closed_break-chained f chain (Some x) apart = closed_by (is_backslash_break x.body) f chain x refl apart
 
--- what is no text stays first, whatever comes behind it
+-- what is no text stays first, whatever comes after it
 token_behind : (m y : Item) (chain : List Item) → is_text m.body ≡ false → add_token (m ∷ chain) y ≡ m ∷ add_token chain y
 token_behind m y [] plain = cond-false _ _ _ (and_right (is_text y.body) (is_text m.body && (m.«end» == y.start)) (and_left (is_text m.body) (m.«end» == y.start) plain))
 token_behind m y (z ∷ zs) plain = refl
@@ -188,7 +188,7 @@ read_path : {texts : List CowStr} {after : MathBraces} (d : Document) (start : �
 read_path d start ix old now read answer s apart line there =
     ap (path_of d.options) (line.tree_is ∙ ap (λ f. with_tokens f line.tokens) s.tree_is ∙ with_tokens-chained old s.chain line.tokens apart) ∙ path_of-chained d.options old (add_tokens s.chain line.tokens) there
 
--- behind a line, where the text goes on
+-- after a line, where the text continues
 pub so_far_more : (path : List Container) (d : Document) (names : Names) (after : MathBraces) (start : ℕ) (ix : Spot) (n at : ℕ) (old now read new : Forest Item) (line_break : Option Item) → path ≡ path_of d.options old → IsUtf8 d.text → LinesSoFar d start old now ix → JoinsNone old
     → Extends names d.names → AppendsLine names.texts (content_at d ix) now read (n, line_break) after → EndsLine (content_at d ix) (n, line_break)
     → ends_text (around d path) (line_rest (drop n d.text)) ≡ false → at ≡ offset (unindented (place_at n (front path (line_rest (drop n d.text))))) → IsPlaceOf d.text (unindented (place_at n (front path (line_rest (drop n d.text)))))
@@ -215,7 +215,7 @@ so_far_more path d names after start ix n at old now read new line_break path_is
       omega arith,
     )
 
--- behind the last line
+-- after the last line
 pub so_far_end : (path : List Container) (d : Document) (names : Names) (after : MathBraces) (start : ℕ) (ix : Spot) (n : ℕ) (old now read : Forest Item) (line_break : Option Item) (underline : Option HeadingLevel) → path ≡ path_of d.options old → LinesSoFar d start old now ix → JoinsNone old
     → Extends names d.names → AppendsLine names.texts (content_at d ix) now read (n, line_break) after → EndsLine (content_at d ix) (n, line_break)
     → ends_text (around d path) (line_rest (drop n d.text)) ≡ true → IsCharBoundary d.text n → IfSome line_break (λ x. x.start < 2 ^ 63)

@@ -48,7 +48,7 @@ some_underline : (level : HeadingLevel) (o : Option (ℕ × HeadingLevel)) → S
 some_underline level None h = cc
 some_underline level (Some underline) h = (underline.0, ap (λ z. Some (underline.0, z)) (sym (same_Some level underline.1 h)))
 
--- the break behind a chain is closed behind a marker before it too
+-- the break after a chain is closed after a marker before it too
 closed_marked : (marker line_break : Option Item) (chain : List Item) → IfSome marker (λ y. is_text y.body ≡ false)
     → close_break line_break (marker_items marker ++ chain) ≡ marker_items marker ++ close_break line_break chain
 closed_marked None line_break chain plain = refl
@@ -133,7 +133,7 @@ module _ (text : List ℕ) (options : Options) (names : Names) (start n : ℕ) (
 abbrev pub opened_item : ℕ → Item
 opened_item start = record { start = start; «end» = 0; body = Paragraph }
 
--- A paragraph stands open in the tree, with the marker of its task list item and the chain of its lines in it, but for the break behind the last of them.
+-- A paragraph stands open in the tree, with the marker of its task list item and the chain of its lines in it, but for the break after the last of them.
 pub record StandsOpen (text : List ℕ) (options : Options) (names : Names) (start : ℕ) (marker : Option Item) (g r : Forest Item) (ix : TreeIndex) (end : TextEnd) : Type 0 where
   pub chain : List Item
   pub at : ix.0 ≡ length g.nodes

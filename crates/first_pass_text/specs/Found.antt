@@ -34,7 +34,7 @@ abbrev pub IsFoundWith : List ℕ → Found → Type 0
 IsFoundWith bs (Marked leaf) = HasEnd bs leaf
 IsFoundWith bs _ = Unit {0}
 
--- What was found at a place says what begins there, behind how many columns (4 are said where there are more), and at which offset.
+-- What was found at a place says what begins there, after how many columns (4 are said where there are more), and at which offset.
 pub record IsFoundAt (options : Options) (p : Place) (found : Found) (columns at : ℕ) : Type 0 where
   pub kind : IsKind options p.rest (kind_of found)
   pub «end» : IsFoundWith (unindented p).rest.left found

@@ -11,6 +11,6 @@ use Rattle.first_pass_grammar.specs.Kinds.{all_taken}
 abbrev pub may_head : Context → List ℕ → Bool
 may_head around bs = has around.options tables && begins pipe bs
 
--- the line may head one behind the prefixes of the containers that it goes on with, at under four columns (GFM 4.10)
+-- the line may head one after the prefixes of the containers that it continues, at under four columns (GFM 4.10)
 abbrev pub line_may_head : Context → Rest → Bool
 line_may_head around line = nat_lt (indent (front around.path line)) 4 && may_head around (all_taken (front around.path line)).left

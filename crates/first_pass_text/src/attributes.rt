@@ -29,7 +29,7 @@ use first_pass_tree::tree_index::TreeIndex;
 use std::alloc::{AllocError, Global};
 
 /// Where the content of a heading ends whose text goes from the offset `header_start` into the text up to
-/// `header_end`, and its attributes: before its attribute block, behind the white space there, and what the
+/// `header_end`, and its attributes: before its attribute block, after the white space there, and what the
 /// block gives. Without such a block, or where headings have none, the text's end and `None`; a text whose end lies
 /// before its start is empty. The error is want of memory (this project).
 pub fn extract_and_parse_heading_attribute_block<'a>(
@@ -63,7 +63,7 @@ pub fn extract_and_parse_heading_attribute_block<'a>(
     }
 }
 
-/// Puts the attributes of a heading, if it has some, behind those that nodes name, and answers their index. The error
+/// Puts the attributes of a heading, if it has some, after those that nodes name, and returns their index. The error
 /// is want of memory (this project).
 pub fn name_attributes<'a>(
     allocs: &mut Allocations<'a>,
@@ -133,7 +133,7 @@ pub fn cut_attributes<'a>(
     ensures open { OnOk result (tree.new.spine ≡ tree.old.spine) }
     ensures few { OnOk result (length tree.new.nodes ≤ length tree.old.nodes) }
 {
-    // A marker before the text ends before it; no token ends behind the whole text.
+    // A marker before the text ends before it; no token ends after the whole text.
     let end = chain_end(tree, start).min(source.text.len());
     let (content_end, attributes) = extract_and_parse_heading_attribute_block(
         alloc, source, start, end,

@@ -38,7 +38,7 @@ fn trailing_aside(text: &[u8]) -> usize
         .count()
 }
 
-// Where the text of a heading begins: behind its number signs and the white space after them.
+// Where the text of a heading begins: after its number signs and the white space after them.
 fn heading_text_start(bytes: &[u8], start: usize, level: HeadingLevel) -> usize
     requires within { start ≤ length bytes.now }
     requires heading { atx_level_of (drop start bytes.now) ≡ Some level }
@@ -81,7 +81,7 @@ fn kept_len(text: &[u8]) -> usize
 }
 
 /// Appends the ATX heading of this level that begins at the offset `start` into the text to the innermost open node
-/// of the tree, without its attribute block, and answers the offset at which its line ends (CommonMark 4.2). The
+/// of the tree, without its attribute block, and returns the offset at which its line ends (CommonMark 4.2). The
 /// attributes are put among `allocs`; `lut` is the table of the special bytes. The error is want of memory.
 pub fn parse_atx_heading<'a>(
     alloc: Global,

@@ -32,7 +32,7 @@ use first_pass_scan::line_start::{LineStart, scan_listitem};
 use first_pass_tree::forest::Tree;
 use std::alloc::{AllocError, Global};
 
-// Whether a list item interrupts a paragraph at the beginning of `bytes`, in a line that goes on with all
+// Whether a list item interrupts a paragraph at the beginning of `bytes`, in a line that continues all
 // containers or not.
 fn interrupts_as_item(bytes: &[u8], current_container: bool) -> bool
     ensures { result ≡ item_interrupts current_container bytes.now (listitem bytes.now) }
@@ -53,7 +53,7 @@ fn is_bullet(byte: u8) -> bool
     matches!(byte, b'-' | b'+' | b'*')
 }
 
-// Whether a paragraph is interrupted by these bytes, but for tables, in a line that goes on with all containers or not.
+// Whether a paragraph is interrupted by these bytes, but for tables, in a line that continues all containers or not.
 #[inline(always)]
 fn interrupts_without_table(bytes: &[u8], current_container: bool) -> bool
     ensures { result ≡ interrupts_with current_container bytes.now }
@@ -77,9 +77,9 @@ fn interrupts_by_mark(bytes: &[u8], current_container: bool) -> bool
         || html_kind(bytes).is_some()
 }
 
-/// Whether `text`, what is left of a line behind its indentation of under four columns, interrupts a
+/// Whether `text`, what is left of a line after its indentation of under four columns, interrupts a
 /// paragraph: its line ends, or a thematic break, an ATX heading, a code fence, a block quote, a list item or an HTML
-/// block of the kinds 1 to 6 begins. An item interrupts where the line doesn't go on with all containers, and in a
+/// block of the kinds 1 to 6 begins. An item interrupts where the line doesn't continue all containers, and in a
 /// table; else only a bullet or the number 1 does, and only with a rest that isn't blank (CommonMark 4.8, 4.1, 4.2,
 /// 4.5, 5.1, 5.2, 4.6; GFM 4.10). There is no error: no memory is asked for.
 pub fn scan_paragraph_interrupt_no_table(
@@ -99,8 +99,8 @@ pub fn scan_paragraph_interrupt_no_table(
     Ok(interrupts_without_table(text.as_bytes(), whole))
 }
 
-/// Whether `bytes`, what is left of a line behind its indentation of under four columns and all that the text has
-/// behind it, interrupt a paragraph that is read inside the open containers: as above, in a line that goes on with all
+/// Whether `bytes`, what is left of a line after its indentation of under four columns and all that the text has
+/// after it, interrupt a paragraph that is read inside the open containers: as above, in a line that continues all
 /// of them or not, or as a table does that the line heads (CommonMark 4.8, GFM 4.10).
 #[inline(always)]
 pub fn scan_interruption(
@@ -120,9 +120,9 @@ pub fn scan_interruption(
     interrupts_as_table(alloc, source.options, tree, bytes)
 }
 
-// Whether the line that begins at the offset `start`, where the text goes on with `bytes`, goes on with all open
-// containers; the columns of indentation, but 4 where there are more, behind what it takes for them; and the place
-// behind those columns.
+// Whether the line that begins at the offset `start`, where the text continues `bytes`, continues all open
+// containers; the columns of indentation, but 4 where there are more, after what it takes for them; and the place
+// after those columns.
 #[inline(always)]
 fn scan_prefixes<'b>(
     source: Source<'_>,
@@ -165,7 +165,7 @@ pub enum NextLine {
     Other,
 }
 
-// The level of the setext heading whose underline is left of a line, which goes on with all containers or not, behind
+// The level of the setext heading whose underline is left of a line, which continues all containers or not, after
 // so many columns of indentation, but 4 where there are more (CommonMark 4.3).
 #[inline(always)]
 fn scan_underline(rest: &LineStart<'_>, whole: bool, columns: usize) -> Option<HeadingLevel>
@@ -179,9 +179,9 @@ fn scan_underline(rest: &LineStart<'_>, whole: bool, columns: usize) -> Option<H
     }
 }
 
-/// What the line that begins at the offset `start` into the text is to a text before it: an underline, where it goes on
-/// with all open containers; a line that ends a paragraph; or one more line of that text, whatever open containers it
-/// goes on with (CommonMark 4.3, 4.8, 5.1).
+/// What the line that begins at the offset `start` into the text is to a text before it: an underline, where it
+/// continues all open containers; a line that ends a paragraph; or one more line of that text, whatever open
+/// containers it continues (CommonMark 4.3, 4.8, 5.1).
 #[tactic(auto, unfolding(first_pass_grammar::specs::Kinds::interrupts, first_pass_grammar::specs::Kinds::underline_of))]
 pub fn scan_next_line(
     alloc: Global,
@@ -213,8 +213,8 @@ pub fn scan_next_line(
     Ok(NextLine::More(at))
 }
 
-/// What is left of the line that `bytes` begin with, all that the text has from the line on, behind its columns, where
-/// the line belongs to a block quote with a tag that is innermost, whatever open containers it goes on with; `None`
+/// What is left of the line that `bytes` begin with, all that the text has from the line on, after its columns, where
+/// the line belongs to a block quote with a tag that is innermost, whatever open containers it continues; `None`
 /// where it is read as any other. The error is want of memory, where the line may head a table.
 #[tactic(auto, unfolding(first_pass_grammar::specs::Kinds::interrupts))]
 pub fn scan_line_behind_tag<'b>(
@@ -244,8 +244,8 @@ pub fn scan_line_behind_tag<'b>(
     Ok(Some(place.rest))
 }
 
-// Whether the text of a line, which begins at the offset `at` behind so many columns of indentation, but 4 where there
-// are more, ends a paragraph before it, in a line that goes on with all containers or not.
+// Whether the text of a line, which begins at the offset `at` after so many columns of indentation, but 4 where there
+// are more, ends a paragraph before it, in a line that continues all containers or not.
 fn scan_paragraph_end(
     alloc: Global,
     source: Source<'_>,
@@ -274,7 +274,7 @@ fn scan_paragraph_end(
     }
 }
 
-// Whether the line that begins at the offset `start` goes on with all open containers, and what is left of it behind
+// Whether the line that begins at the offset `start` continues all open containers, and what is left of it after
 // what it takes for them.
 fn scan_front<'a>(source: Source<'a>, tree: &Tree<Item>, start: usize) -> (bool, LineStart<'a>)
     requires { IsCharBoundary source.text.now start }
@@ -290,7 +290,7 @@ fn scan_front<'a>(source: Source<'a>, tree: &Tree<Item>, start: usize) -> (bool,
     (kept == tree.spine_len(), line_start)
 }
 
-// Whether what is left of a line behind so many columns of indentation, but 4 where there are more, is the underline
+// Whether what is left of a line after so many columns of indentation, but 4 where there are more, is the underline
 // of a setext heading (CommonMark 4.3).
 fn is_underline(bytes: &[u8], columns: usize) -> bool
     ensures { result ≡ (nat_lt columns 4 && is_some (setext_underline bytes.now)) }
@@ -299,7 +299,7 @@ fn is_underline(bytes: &[u8], columns: usize) -> bool
 }
 
 // Whether a link reference definition, or with `in_label` its label, ends before the line that begins at the offset
-// `start` and of which this is left behind what it takes for the open containers, all of them or not.
+// `start` and of which this is left after what it takes for the open containers, all of them or not.
 fn scan_definition_end(
     alloc: Global,
     source: Source<'_>,
@@ -331,9 +331,9 @@ fn scan_definition_end(
 }
 
 /// What is left of the line that begins at the offset `start` where a link reference definition, or with `in_label`
-/// its label, goes on in it: behind what the line has of the prefixes of the open containers, and behind up to four
+/// its label, continues in it: after what the line has of the prefixes of the open containers, and after up to four
 /// columns. `None` where it doesn't: where the line ends a paragraph, or is the underline of a setext heading; to a
-/// label a line is one only where it goes on with all open containers (CommonMark 4.7). The error is want of memory,
+/// label a line is one only where it continues all open containers (CommonMark 4.7). The error is want of memory,
 /// where the line may head a table.
 #[tactic(auto, unfolding(first_pass_grammar::specs::Definitions::crossed))]
 pub fn scan_line_crossed<'a>(

@@ -85,7 +85,7 @@ fn last_kind(bytes: &[u8]) -> Found
     }
 }
 
-// The byte of the metadata block that begins at the offset `at` into the text behind so many columns, which have to
+// The byte of the metadata block that begins at the offset `at` into the text after so many columns, which have to
 // be none.
 fn metadata_behind(
     text: &[u8],

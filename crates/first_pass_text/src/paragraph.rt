@@ -70,7 +70,7 @@ pub fn append_last_backslash(
     }
 }
 
-// Where the lines of a text end: at the offset at which the next line begins, or the text's length; the break behind
+// Where the lines of a text end: at the offset at which the next line begins, or the text's length; the break after
 // the last of them; and the level of the heading that they are, where the next line is an underline.
 #[derive(Clone, Copy, Drop)]
 struct TextEnd {
@@ -81,7 +81,7 @@ struct TextEnd {
 
 /// Appends the paragraph, or the heading that is underlined, whose first line's text begins at the offset `start_ix`
 /// into the text to the innermost open node of the tree, with the marker of its task list item, if it has one, as its
-/// first child. Answers the offset at which the line begins that is behind it, or the text's length (CommonMark 4.3,
+/// first child. Returns the offset at which the line begins that is after it, or the text's length (CommonMark 4.3,
 /// 4.8). The attributes of a heading and the texts that tokens name are put among `allocs`; `lut` is the table of the
 /// special bytes.
 pub fn parse_paragraph<'a>(

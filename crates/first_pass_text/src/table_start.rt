@@ -21,7 +21,7 @@ use first_pass_tree::forest::Tree;
 use std::alloc::{AllocError, Global};
 
 // The alignments of the table that the line heads with which `bytes` begin, all that the text has from there on:
-// those of the delimiter row in the next line, where that goes on with all open containers and the line has as many
+// those of the delimiter row in the next line, where that continues all open containers and the line has as many
 // columns.
 #[tactic(auto, unfolding(first_pass_grammar::specs::TableHeads::table_at))]
 fn scan_table_at(
@@ -82,9 +82,9 @@ fn ends_in_backslash(bytes: &[u8]) -> bool
     scan_last_backslashes(&bytes[..content_len(bytes)]) % 2 == 1
 }
 
-/// The alignments of the table that the line heads with which `bytes` begin, all that the text has from there on, where
-/// no container or other block begins; `None` where it heads none, and begins a paragraph: with tables, it and the next
-/// line are a header row and a delimiter row of as many columns (GFM 4.10). The error is want of memory.
+/// The alignments of the table that the line heads with which `bytes` begin, all that the text has from there on,
+/// where no container or other block begins; `None` where it heads none, and begins a paragraph: with tables, it and
+/// the next line are a header row and a delimiter row of as many columns (GFM 4.10). The error is want of memory.
 #[tactic(auto, unfolding(first_pass_grammar::specs::TableHeads::headed_table))]
 pub fn scan_headed_line(
     alloc: Global,

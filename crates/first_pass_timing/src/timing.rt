@@ -25,7 +25,7 @@ pub struct Timing {
     pub nanos: u128,
 }
 
-/// A run: how many nodes its tree has, and what the clock said before and behind it.
+/// A run: how many nodes its tree has, and what the clock said before and after it.
 #[derive(Clone, Copy)]
 pub struct Run {
     pub nodes: usize,

@@ -25,7 +25,7 @@ few_in_order text from to (x ∷ xs) h k =
     let few = few_in_order text x.«end» to xs h.4 k.1 in
     omega (arith, h.0, k.0)
 
--- a token behind
+-- a token after
 pub bytes_add : (chain : List Item) (y : Item) → y.start < y.«end» → HaveBytes chain → HaveBytes (add_token chain y)
 bytes_add [] y some h = (some, tt)
 bytes_add (x ∷ []) y some h =
@@ -35,12 +35,12 @@ bytes_add (x ∷ []) y some h =
     (λ b. (h.0, (some, tt)))
 bytes_add (x ∷ z ∷ zs) y some h = (h.0, bytes_add (z ∷ zs) y some h.1)
 
--- tokens behind
+-- tokens after
 pub bytes_adds : (chain tokens : List Item) → HaveBytes tokens → HaveBytes chain → HaveBytes (add_tokens chain tokens)
 bytes_adds chain [] k h = h
 bytes_adds chain (x ∷ xs) k h = bytes_adds (add_token chain x) xs k.1 (bytes_add chain x k.0 h)
 
--- a text behind, or none
+-- a text after, or none
 pub bytes_text : (a b : ℕ) (escaped : Bool) (chain : List Item) → HaveBytes chain → HaveBytes (add_text a b escaped chain)
 bytes_text a b escaped chain h =
     cond_both (nat_lt a b) (add_token chain (text_token a b escaped)) chain HaveBytes
@@ -52,7 +52,7 @@ run_has_bytes : (at n : ℕ) (opens closes : Bool) → HaveBytes (run_tokens at 
 run_has_bytes at zero opens closes = tt
 run_has_bytes at (suc n) opens closes = (omega arith, run_has_bytes (at + 1) n opens closes)
 
--- what a piece adds behind
+-- what a piece adds after
 bytes_piece : (text : List ℕ) (stop at : ℕ) (p : Piece) (chain : List Item) → IsPieceAt text at p → HaveBytes chain → HaveBytes (add_piece stop at p chain)
 bytes_piece text stop at (Left n) chain facts h = bytes_text at (min (at + n) stop) false chain h
 bytes_piece text stop at (Begins dropped escaped) chain facts h = bytes_text (at + dropped) (min (at + (dropped + 1)) stop) escaped chain h
@@ -65,13 +65,13 @@ bytes_pieces texts s stop at b [] to chain are h = h
 bytes_pieces texts s stop at b (p ∷ ps) to chain are h =
     bytes_pieces texts s stop (at + size p) (braces_after (found_at s at) b) ps to (add_piece stop at p chain) are.2 (bytes_piece s.text stop at p chain (piece_of texts b s at p are.0 are.1) h)
 
--- the backslash of the last line's break behind, or nothing
+-- the backslash of the last line's break after, or nothing
 pub bytes_closed : (break : Option Item) (chain : List Item) → HaveBytes chain → HaveBytes (close_break break chain)
 bytes_closed None chain h = h
 bytes_closed (Some x) chain h =
     cond_both (is_backslash_break x.body) (add_text x.start (x.start + 1) false chain) chain HaveBytes (λ b. bytes_text x.start (x.start + 1) false chain h) (λ b. h)
 
--- another chain behind
+-- another chain after
 pub bytes_append : (xs ys : List Item) → HaveBytes xs → HaveBytes ys → HaveBytes (xs ++ ys)
 bytes_append [] ys h k = k
 bytes_append (x ∷ xs) ys h k = (h.0, bytes_append xs ys h.1 k)

@@ -57,7 +57,7 @@ markup_no_pipe text start n MaybeImage k kind over low high pipe =
     ]
 markup_no_pipe text start n _ k kind over low high pipe = absurd (false≢true kind)
 
--- a pipe in a piece, behind its first byte
+-- a pipe in a piece, after its first byte
 pipe_inside : (text : List ℕ) (at : ℕ) (p : Piece) (k : ℕ) → IsPieceAt text at p → (slice_index text at == 124) ≡ false → at < k → k < at + size p
     → slice_index text k ≡ 124 → slice_index text (k - 1) ≡ 92
 pipe_inside text at (Left n) k facts other low high pipe =

@@ -26,7 +26,7 @@ add_token-cons : (x z : Item) (zs : List Item) (t u : Item) → add_token (x ∷
 add_token-cons x z [] t u = cond_both (touches z t) _ _ (λ (ys : List Item). add_token (x ∷ ys) u ≡ x ∷ add_token ys u) (λ b. refl) (λ b. refl)
 add_token-cons x z (w ∷ ws) t u = refl
 
--- a text lengthened by the one behind it
+-- a text lengthened by the one after it
 add_token-longer : (x : Item) (at to : ℕ) → is_text x.body ≡ true → add_token (record x { «end» = at } ∷ []) (text_token at to false) ≡ record x { «end» = to } ∷ []
 add_token-longer x at to text = cond-true (is_text x.body && (at == at)) _ _ (and_from _ _ text (eq-eqb at at refl))
 
@@ -42,7 +42,7 @@ add_token-joined (x ∷ []) from mid to escaped =
 add_token-joined (x ∷ z ∷ zs) from mid to escaped =
     add_token-cons x z zs (text_token from mid escaped) (text_token mid to false) ∙ ap (λ (ys : List Item). x ∷ ys) (add_token-joined (z ∷ zs) from mid to escaped)
 
--- a text that is not empty, and then the one behind it, are one text
+-- a text that is not empty, and then the one after it, are one text
 pub add_text-joined : (from mid to : ℕ) (escaped : Bool) (chain : List Item) → from < mid → mid ≤ to → add_text mid to false (add_text from mid escaped chain) ≡ add_text from to escaped chain
 add_text-joined from mid to escaped chain first order =
     elim (cases_lt mid to) [
@@ -72,7 +72,7 @@ pub add_text-apart : (from to : ℕ) (escaped : Bool) (chain : List Item) → Ar
 add_text-apart from to escaped chain h =
     cond_both (nat_lt from to) (add_token chain (text_token from to escaped)) chain AreApart (λ b. add_token-apart chain (text_token from to escaped) h) (λ b. h)
 
--- a token that does not touch the last one is put behind the chain
+-- a token that does not touch the last one is put after the chain
 add_token-behind : (front : List Item) (x y : Item) → touches x y ≡ false → add_token (front ++ x ∷ []) y ≡ (front ++ x ∷ []) ++ y ∷ []
 add_token-behind [] x y apart = cond-false _ _ _ apart
 add_token-behind (p ∷ []) x y apart = ap (λ (ys : List Item). p ∷ ys) (add_token-behind [] x y apart)
@@ -83,12 +83,12 @@ add_tokens-behind front x [] h = refl
 add_tokens-behind front x (y ∷ ys) h =
     ap (λ (chain : List Item). add_tokens chain ys) (add_token-behind front x y h.0) ∙ add_tokens-behind (front ++ x ∷ []) y ys h.1 ∙ append_assoc front (x ∷ []) (y ∷ ys)
 
--- tokens of which none touches the one before it, put behind nothing
+-- tokens of which none touches the one before it, put after nothing
 pub add_tokens-none : (tokens : List Item) → AreApart tokens → add_tokens [] tokens ≡ tokens
 add_tokens-none [] h = refl
 add_tokens-none (x ∷ xs) h = add_tokens-behind [] x xs h
 
--- a token that is no text is put behind the chain
+-- a token that is no text is put after the chain
 pub add_token-plain : (chain : List Item) (x : Item) → is_text x.body ≡ false → add_token chain x ≡ chain ++ x ∷ []
 add_token-plain [] x plain = refl
 add_token-plain (y ∷ []) x plain = cond-false _ _ _ (and_left _ _ plain)
@@ -158,7 +158,7 @@ with_token-joined f y x t =
       | inr apart ↦ cond-false _ _ _ apart ∙ sym (ap (λ (g : Forest Item). with_token g x) (cond-false _ _ _ apart) ∙ joined_last f y x t)
     ]
 
--- the tree with a chain and then a token behind it, and with the chain that has the token
+-- the tree with a chain and then a token after it, and with the chain that has the token
 pub with_tokens-add : (f : Forest Item) (chain : List Item) (x : Item) → with_tokens f (add_token chain x) ≡ with_token (with_tokens f chain) x
 with_tokens-add f [] x = refl
 with_tokens-add f (y ∷ []) x =
@@ -200,7 +200,7 @@ joins_none-fresh f none at = ap (joins_at f at) none
 pub joins_none-appended : (f : Forest Item) (x : Item) → is_text x.body ≡ false → JoinsNone (appended f x)
 joins_none-appended f x plain at = joins_appended f x at ∙ and_left _ _ plain
 
--- a token behind a chain of one token at least
+-- a token after a chain of one token at least
 pub with_token-behind : (f : Forest Item) (y : Item) (ys : List Item) (x : Item) → with_token (chained f (y ∷ ys)) x ≡ chained f (add_token (y ∷ ys) x)
 with_token-behind f y [] x =
     elim (cases_Bool (touches y x)) [
@@ -229,11 +229,11 @@ pub appended-chained : (f : Forest Item) (chain : List Item) (x : Item) → appe
 appended-chained f [] x = refl
 appended-chained f (y ∷ ys) x = appended-chained (appended f y) ys x
 
--- a break behind a chain
+-- a break after a chain
 pub appended-break : (f : Forest Item) (chain : List Item) (x : Item) → is_break x.body ≡ true → appended (chained f chain) x ≡ chained f (add_token chain x)
 appended-break f chain x is = appended-chained f chain x ∙ ap (chained f) (sym (add_token-plain chain x (break-plain x.body is)))
 
--- a chain that a break by a backslash would stand behind, where the block ends, and any other chain
+-- a chain that a break by a backslash would stand after, where the block ends, and any other chain
 pub close_break-backslash : (f : Forest Item) (chain : List Item) (x : Item) → JoinsNone f → is_backslash_break x.body ≡ true → with_text (chained f chain) x.start (x.start + 1) false ≡ chained f (close_break (Some x) chain)
 close_break-backslash f chain x none is = with_text-chained f chain x.start (x.start + 1) false none (omega arith) ∙ ap (chained f) (sym (cond-true _ _ _ is))
 
@@ -276,7 +276,7 @@ chained-current f x (y ∷ ys) =
     let z : length (appended f x).nodes + length ys ≡ length f.nodes + suc (length ys) = omega arith in
     chained-current (appended f x) y ys ∙ ap (λ (m : ℕ). Some (place_at m)) z
 
--- a node that was just opened has nothing behind it, and none of its children is current
+-- a node that was just opened has nothing after it, and none of its children is current
 pub pushed-fresh : (g : Forest Item) (x : Item) (ix : TreeIndex) → ix.0 ≡ length g.nodes → (open_place (pushed (appended g x) ix).spine + 1 ≡ length (pushed (appended g x) ix).nodes) × ((pushed (appended g x) ix).current ≡ None)
 pushed-fresh g x ix at = (omega (arith, at, length-append g.nodes ((length g.spine + 1, x) ∷ [])), refl)
 

@@ -37,7 +37,7 @@ add_pieces_more texts s stop at b [] mid chain p same = ap (λ (t : Spot). add_p
 add_pieces_more texts s stop at b (q ∷ ps) mid chain p h =
     add_pieces_more texts s stop (at + size q) (braces_after (found_at s at) b) ps mid (add_piece stop at q chain) p h.2
 
--- pieces go on behind the place where they begin
+-- pieces continue after the place where they begin
 pub pieces_reach : (texts : List CowStr) (s : Source) (at : ℕ) (b : MathBraces) (ps : List Piece) (to : Spot) → ArePieces texts s at b ps to → at ≤ to.at
 pieces_reach texts s at b [] to is = (let same : at ≡ to.at = ap (λ (t : Spot). t.at) is in omega arith)
 pieces_reach texts s at b (p ∷ ps) to h = (let more = pieces_reach texts s (at + size p) (braces_after (found_at s at) b) ps to h.2 in omega arith)
@@ -295,7 +295,7 @@ ends_line {texts} {s} {tokens} {answer} {after} within line =
       broken = break_in_line s end c.order c.within;
     })
 
--- the same of what a call answers
+-- the same of what a call returns
 pub ends_line-if : (texts : List CowStr) (after : MathBraces) (s : Source) (old new : Forest Item) (r : Result (ℕ × Option Item) AllocError) → s.start ≤ length s.text → IfOk r (λ a. AppendsLine texts s old new a after) → IfOk r (λ a. EndsLine s a)
 ends_line-if texts after s old new (Ok a) within h = ends_line within h.line
 ends_line-if texts after s old new (Err e) within h = tt
@@ -353,7 +353,7 @@ line_apart {texts} {s} line = subst AreApart (sym line.tokens_are) (add_pieces-a
 pub line_alone : {texts : List CowStr} {s : Source} {tokens : List Item} {answer : ℕ × Option Item} {after : MathBraces} → IsLine texts s tokens answer after → add_tokens [] tokens ≡ tokens
 line_alone {texts} {s} {tokens} line = add_tokens-none tokens (line_apart line)
 
--- a cell appended behind a chain
+-- a cell appended after a chain
 pub appended_cell : {texts : List CowStr} {s : Source} {old new : Forest Item} {end : ℕ} {after : MathBraces} (f : Forest Item) (chain : List Item) (h : AppendsCell texts s old new end after)
     → old ≡ chained f chain → JoinsNone f → new ≡ chained f (add_tokens chain h.tokens)
 appended_cell f chain h is none = h.tree_is ∙ ap (λ (g : Forest Item). with_tokens g h.tokens) is ∙ with_tokens-chained f chain h.tokens none
@@ -362,6 +362,6 @@ appended_cell f chain h is none = h.tree_is ∙ ap (λ (g : Forest Item). with_t
 pub appended_cell_alone : {texts : List CowStr} {s : Source} {old new : Forest Item} {end : ℕ} {after : MathBraces} (h : AppendsCell texts s old new end after) → JoinsNone old → new ≡ chained old h.tokens
 appended_cell_alone {texts} {s} {old} h none = appended_cell old [] h refl none ∙ ap (chained old) (add_tokens-none h.tokens (cell_apart h.cell))
 
--- a line appended behind a chain
+-- a line appended after a chain
 pub appended_line : {texts : List CowStr} {s : Source} {old new : Forest Item} {answer : ℕ × Option Item} {after : MathBraces} (f : Forest Item) (chain : List Item) (h : AppendsLine texts s old new answer after) → old ≡ chained f chain → JoinsNone f → new ≡ chained f (add_tokens chain h.tokens)
 appended_line f chain h is none = h.tree_is ∙ ap (λ (g : Forest Item). with_tokens g h.tokens) is ∙ with_tokens-chained f chain h.tokens none

@@ -1,4 +1,4 @@
--- Tokens one behind the other: a chain in order stays so with a token behind it, and the tokens of a line or a cell are in order.
+-- Tokens one after the other: a chain in order stays so with a token after it, and the tokens of a line or a cell are in order.
 use Rattle.std.proofs.Common.{ℕ, zero, suc, ◌≡◌, ◌⊎◌, ◌+◌, ◌-◌, ◌≤◌, ◌<◌, ◌==◌, ◌%◌, min, Bool, true, false, List, [], ◌∷◌, ◌++◌, length, take, drop, get_or, slice_index, nat_lt, nat_le, if◌then◌else◌, Option, Some, None, IfSome, IsUtf8, IsCharBoundary, refl, sym, ap, subst, ◌∙◌, inl, inr, arith, length-drop}
 use Rattle.std.specs.List.{suffix_len, slice_range}
 use Rattle.std.proofs.lemmas.List.{get_or-drop}
@@ -23,7 +23,7 @@ use Rattle.first_pass_tokens.proofs.PieceFacts.{IsVisible, IsEscape, IsMarkup, I
 use Rattle.first_pass_tokens.proofs.LineLemmas.{piece_of, pieces_reach, ended_by, content_of, ends_line}
 use Rattle.first_pass_tokens.proofs.SoFar.{IsTextEnd, add_text_grows, line_text_end, cell_text_end}
 
--- the first of two offsets is not behind the other
+-- the first of two offsets is not after the other
 pub order_bound : (text : List ℕ) (from to : ℕ) (chain : List Item) → AreInOrder text from to chain → from ≤ to
 order_bound text from to [] h = h
 order_bound text from to (x ∷ xs) h = omega (arith, h.0, h.1, order_bound text x.«end» to xs h.4)
@@ -38,12 +38,12 @@ pub order_from : (text : List ℕ) (low from to : ℕ) (chain : List Item) → A
 order_from text low from to [] h less = omega arith
 order_from text low from to (x ∷ xs) h less = (omega (arith, h.0), h.1, h.2, h.3, h.4)
 
--- another list in order behind
+-- another list in order after
 pub order_append : (text : List ℕ) (from mid to : ℕ) (xs ys : List Item) → AreInOrder text from mid xs → AreInOrder text mid to ys → AreInOrder text from to (xs ++ ys)
 order_append text from mid to [] ys h k = order_from text from mid to ys k h
 order_append text from mid to (x ∷ xs) ys h k = (h.0, h.1, h.2, h.3, order_append text x.«end» mid to xs ys h.4 k)
 
--- a token behind
+-- a token after
 pub order_add : (text : List ℕ) (from mid : ℕ) (chain : List Item) (y : Item) → AreInOrder text from mid chain → mid ≤ y.start → y.start ≤ y.«end» → IsCharBoundary text y.start → IsCharBoundary text y.«end» → AreInOrder text from y.«end» (add_token chain y)
 order_add text from mid [] y h behind order starts ends = (omega arith, order, starts, ends, omega arith)
 order_add text from mid (x ∷ []) y h behind order starts ends =
@@ -52,19 +52,19 @@ order_add text from mid (x ∷ []) y h behind order starts ends =
     (λ b. (h.0, h.1, h.2, h.3, (omega (arith, h.4), order, starts, ends, omega arith)))
 order_add text from mid (x ∷ z ∷ zs) y h behind order starts ends = (h.0, h.1, h.2, h.3, order_add text x.«end» mid (z ∷ zs) y h.4 behind order starts ends)
 
--- tokens in order behind
+-- tokens in order after
 pub order_adds : (text : List ℕ) (from mid to : ℕ) (chain tokens : List Item) → AreInOrder text from mid chain → AreInOrder text mid to tokens → AreInOrder text from to (add_tokens chain tokens)
 order_adds text from mid to chain [] h k = order_to text from mid to chain h k
 order_adds text from mid to chain (x ∷ xs) h k = order_adds text from x.«end» to (add_token chain x) xs (order_add text from mid chain x h k.0 k.1 k.2 k.3) k.4
 
--- a text behind, or none
+-- a text after, or none
 pub order_text : (text : List ℕ) (from mid a b : ℕ) (escaped : Bool) (chain : List Item) → AreInOrder text from mid chain → mid ≤ a → a ≤ b → IsCharBoundary text a → IsCharBoundary text b → AreInOrder text from b (add_text a b escaped chain)
 order_text text from mid a b escaped chain h behind order starts ends =
     cond_both (nat_lt a b) (add_token chain (text_token a b escaped)) chain (AreInOrder text from b)
     (λ some. order_add text from mid chain (text_token a b escaped) h behind order starts ends)
     (λ none. order_to text from mid b chain h (omega arith))
 
--- a chain in order, the text that grows behind it, and pieces; texts stop at an offset
+-- a chain in order, the text that grows after it, and pieces; texts stop at an offset
 module _ (s : Source) (utf8 : IsUtf8 s.text) (stop : ℕ) (to : Spot) (from : ℕ) (stops : IsCharBoundary s.text stop) (last_text : IsTextEnd s to.at stop) where
   -- a visible byte stands between two characters
   place_before : (at : ℕ) → IsVisible (slice_index s.text at) → IsCharBoundary s.text at
@@ -253,7 +253,7 @@ text_end_place s end order within boundary =
     (last.0, IsCharBoundary-before_ascii s.text (end - 1) (omega (arith, last.1)) (omega (arith, last.2))))
     (λ other. blanks_by s end (blanks_at_end s end) refl order within boundary)
 
--- A break behind a text that ends at an offset, up to where its line ends; a backslash that makes it is one byte.
+-- A break after a text that ends at an offset, up to where its line ends; a backslash that makes it is one byte.
 pub record StandsBehind (text : List ℕ) (at next : ℕ) (x : Item) : Type 0 where
   pub from : at ≤ x.start
   pub order : x.start ≤ x.«end»
@@ -297,7 +297,7 @@ line_end_place {s} {answer} utf8 boundary ends =
       | inr past ↦ let e : answer.0 ≡ length s.text = omega arith in subst (IsCharBoundary s.text) (sym e) (IsCharBoundary-end s.text)
     ]
 
--- The tokens of a line are in order from its start up to an offset, behind which its break stands, and the line ends between two characters.
+-- The tokens of a line are in order from its start up to an offset, after which its break stands, and the line ends between two characters.
 pub record LineInOrder (s : Source) (stop : ℕ) (tokens : List Item) (answer : ℕ × Option Item) : Type 0 where
   pub tokens_fit : AreInOrder s.text s.start stop tokens
   pub before : stop ≤ answer.0
@@ -348,11 +348,11 @@ line_in_order {texts} {s} {tokens} {answer} {after} utf8 boundary within line =
       break_fits = subst (λ (o : Option Item). IfSome o (StandsBehind s.text (text_end s end) answer.0)) (sym break_is) (break_stands s end answer.0 answer_is c.order c.within finish next);
     }
 
--- the break alone: it begins where the line's tokens end or behind that, and ends with the line
+-- the break alone: it begins where the line's tokens end or after that, and ends with the line
 pub break_in_order : {texts : List CowStr} {s : Source} {tokens : List Item} {answer : ℕ × Option Item} {after : MathBraces} → IsUtf8 s.text → IsCharBoundary s.text s.start → s.start ≤ length s.text → (line : IsLine texts s tokens answer after) → IfSome answer.1 (StandsBehind s.text (text_end s line.content_end) answer.0)
 break_in_order utf8 boundary within line = (line_in_order utf8 boundary within line).break_fits
 
--- a chain behind which the last line's break stands, closed
+-- a chain after which the last line's break stands, closed
 pub order_closed : (text : List ℕ) (from at next : ℕ) (break : Option Item) (chain : List Item) → AreInOrder text from at chain → at ≤ next → IfSome break (StandsBehind text at next) → AreInOrder text from next (close_break break chain)
 order_closed text from at next None chain h later behind = order_to text from at next chain h later
 order_closed text from at next (Some x) chain h later behind =

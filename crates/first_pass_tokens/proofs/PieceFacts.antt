@@ -67,7 +67,7 @@ pub record IsEscape (text : List ℕ) (at dropped : ℕ) : Type 0 where
   pub punctuation : is_ascii_punctuation (slice_index text (at + dropped)) ≡ true
   pub other : (slice_index text (at + dropped) == 96) ≡ false
 
--- a token's bytes, behind those that are dropped
+-- a token's bytes, after those that are dropped
 pub record IsMarkup (text : List ℕ) (at dropped n : ℕ) (body : ItemBody) : Type 0 where
   pub some : 0 < n
   pub few : dropped ≤ 1
@@ -264,7 +264,7 @@ run_some text at within =
           absurd (false≢true (sym stops ∙ eq-eqb _ _ same))
     ]
 
--- behind the first of a run the others are one
+-- after the first of a run the others are one
 pub run_next : (text : List ℕ) (at n : ℕ) → suc n ≡ run_at text at → 0 < n → (n ≡ run_at text (at + 1)) × (slice_index text (at + 1) ≡ slice_index text at)
 unfolding run_at
 run_next text at n all some =

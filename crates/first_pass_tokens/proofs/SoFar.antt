@@ -26,7 +26,7 @@ use Rattle.first_pass_tokens.proofs.ChainLemmas.{add_text-none, add_text-joined,
 use Rattle.first_pass_tokens.proofs.NamedTexts.{pieces_more}
 use Rattle.first_pass_tokens.proofs.LineLemmas.{are_more, add_pieces_more, end_bounded, piece_of}
 
--- the text that is not appended begins with the content, or behind a byte that is no white space, and no backslash if the text is empty
+-- the text that is not appended begins with the content, or after a byte that is no white space, and no backslash if the text is empty
 abbrev pub BeginsText : List ℕ → ℕ → ℕ → ℕ → Type 0
 BeginsText text start begin at =
     (begin ≡ start) ⊎ ((0 < begin) × (is_white (slice_index text (begin - 1)) ≡ false) × ((begin < at) ⊎ ((slice_index text (begin - 1) == 92) ≡ false)))
@@ -42,7 +42,7 @@ pub record SoFar (texts : List CowStr) (z : Source) (chain : List Item) (pending
   pub begins : BeginsText z.text z.start pending.begin at
   pub shown : (stop : ℕ) → pending.begin ≤ stop → add_pieces stop z.start pieces [] ≡ add_text pending.begin (min at stop) pending.escaped chain
 
--- the chain behind a piece
+-- the chain after a piece
 abbrev pub chain_after : ℕ → Piece → Pending → List Item → List Item
 chain_after at (Left n) p chain = chain
 chain_after at (Begins dropped escaped) p chain = add_text p.begin at p.escaped chain
@@ -88,7 +88,7 @@ so_far_start z within = record {
   shown = λ stop h. sym (add_text-none z.start (min z.start stop) false [] (omega arith));
 }
 
--- a text grows by the bytes behind it
+-- a text grows by the bytes after it
 pub add_text_grows : (begin at n stop : ℕ) (escaped : Bool) (chain : List Item) → begin ≤ at → (begin < at) ⊎ (escaped ≡ false) → begin ≤ stop
     → add_text at (min (at + n) stop) false (add_text begin (min at stop) escaped chain) ≡ add_text begin (min (at + n) stop) escaped chain
 add_text_grows begin at n stop escaped chain upto mark ahead =
@@ -311,7 +311,7 @@ becomes_solid texts b text at (Dollar opens closes) p is solid = subst (EndsSoli
 becomes_solid texts b text at OpenBrace p is solid = subst (EndsSolid text at) (sym is) (omega arith)
 becomes_solid texts b text at CloseBrace p is solid = subst (EndsSolid text at) (sym is) (omega arith)
 
--- the tree behind a piece has the chain behind it
+-- the tree after a piece has the chain after it
 tree_is_after : (text : List ℕ) (old tree : Forest Item) (chain : List Item) (pending : Pending) (at : ℕ) (p : Piece) → IsPieceAt text at p
     → pending.begin ≤ at → tree ≡ with_tokens old chain → tree_after at p pending tree ≡ with_tokens old (chain_after at p pending chain)
 tree_is_after text old tree chain pending at (Left n) facts order same = same
@@ -371,7 +371,7 @@ read_line z old tree new pending end after plain r new_is = record {
   tree_is = new_is ∙ r.appended (text_end z end) r.before_break (text_end_within z end);
 }
 
--- the same of what a line's end answers
+-- the same of what a line's end returns
 pub read_ended : {texts : List CowStr} (z : Source) (old tree new : Forest Item) (pending : Pending) (end : ℕ) (after : MathBraces) (r : Result (ℕ × Option Item) AllocError)
     → z.row ≡ false → IsReadTo texts z old tree (spot end after) pending
     → OnOk r ((w : List ℕ) (b : MathBraces) → new ≡ with_text tree pending.begin (text_end (record z { whole = w; braces = b }) end) pending.escaped)

@@ -1,4 +1,4 @@
--- The tokens of a line: its content divided into pieces, the texts and other tokens that they give, and the break behind them.
+-- The tokens of a line: its content divided into pieces, the texts and other tokens that they give, and the break after them.
 use Rattle.std.specs.Prelude.{◌≡◌, ℕ, ◌+◌, ◌-◌, ◌%◌, ◌==◌, ◌<◌, ◌≤◌, ◌&&◌, ◌||◌, Bool, true, false, List, [], ◌∷◌, length, drop, slice_index, Option, Some, None, IfSome, nat_lt, nat_le, min, if◌then◌else◌}
 use Rattle.std.specs.List.{slice_range, prefix_len, suffix_len}
 use Rattle.first_pass_items.specs.Bytes.{line_feed, carriage_return, backslash, pipe}
@@ -50,7 +50,7 @@ add_piece stop at (Begins dropped escaped) chain = add_text (at + dropped) (min 
 add_piece stop at (Token dropped n body) chain = add_token chain (token (at + dropped) n body)
 add_piece stop at (Run n opens closes) chain = add_tokens chain (run_tokens at n opens closes)
 
--- the chain with the texts and tokens of these pieces behind it (this project)
+-- the chain with the texts and tokens of these pieces after it (this project)
 abbrev pub add_pieces : ℕ → ℕ → List Piece → List Item → List Item
 add_pieces stop at [] chain = chain
 add_pieces stop at (p ∷ ps) chain = add_pieces stop (at + size p) ps (add_piece stop at p chain)
@@ -69,7 +69,7 @@ blanks_at_end s end = suffix_len is_white (slice_range s.text s.start end)
 unfoldable pub backslashes_at_end : Source → ℕ → ℕ
 backslashes_at_end s end = suffix_len (λ b. b == backslash) (slice_range s.text s.start end)
 
--- a backslash that none before it escapes stands before the line end, and bytes behind the line end (CommonMark 6.7)
+-- a backslash that none before it escapes stands before the line end, and bytes after the line end (CommonMark 6.7)
 unfoldable pub breaks_by_backslash : Source → ℕ → Bool
 breaks_by_backslash s end = (backslashes_at_end s end % 2 == 1) && nat_lt (end + line_end_len s end) (length s.text)
 
@@ -77,14 +77,15 @@ breaks_by_backslash s end = (backslashes_at_end s end % 2 == 1) && nat_lt (end +
 unfoldable pub text_end : Source → ℕ → ℕ
 text_end s end = if breaks_by_backslash s end then end - 1 else end - blanks_at_end s end
 
--- the break from the end of a content up to an offset: hard by the last backslash of the content, hard by two or more bytes of white space at its end, or soft (CommonMark 6.7, 6.8)
+-- the break from the end of a content up to an offset: hard by the last backslash of the content, hard by two or more bytes of white space at its end, or soft
+-- (CommonMark 6.7, 6.8)
 abbrev pub break_of : ℕ → ℕ → Bool → ℕ → Item
 break_of end next by_backslash blanks =
     if by_backslash then record { start = end - 1; «end» = next; body = HardBreak true }
     else (if nat_le 2 blanks then record { start = end - blanks; «end» = next; body = HardBreak false }
     else record { start = end; «end» = next; body = SoftBreak })
 
--- the break behind the content; none where the text ends without a line end (CommonMark 6.7, 6.8)
+-- the break after the content; none where the text ends without a line end (CommonMark 6.7, 6.8)
 unfoldable pub line_break : Source → ℕ → Option Item
 line_break s end =
     if nat_le (length s.text) end then None
@@ -120,7 +121,7 @@ pub record IsBreak (start next : ℕ) (x : Item) : Type 0 where
   pub to : x.«end» ≡ next
   pub kind : is_break x.body ≡ true
 
--- where a line ends, and its break: behind the first line end from the content's start on, or with the text (CommonMark 2.1, 6.7, 6.8)
+-- where a line ends, and its break: after the first line end from the content's start on, or with the text (CommonMark 2.1, 6.7, 6.8)
 pub record EndsLine (s : Source) (answer : ℕ × Option Item) : Type 0 where
   pub within : answer.0 ≤ length s.text
   pub from : s.start ≤ answer.0
@@ -128,7 +129,7 @@ pub record EndsLine (s : Source) (answer : ℕ × Option Item) : Type 0 where
   pub place : answer.0 ≡ s.start + line_len (drop s.start s.text)
   pub broken : IfSome answer.1 (λ x. IsBreak s.start answer.0 x)
 
--- where the content of a cell ends: at a pipe that is not escaped or with its line, and behind its first byte unless it is empty (GFM 4.10)
+-- where the content of a cell ends: at a pipe that is not escaped or with its line, and after its first byte unless it is empty (GFM 4.10)
 pub record EndsCell (s : Source) (end : ℕ) : Type 0 where
   pub from : s.start ≤ end
   pub within : end ≤ length s.text

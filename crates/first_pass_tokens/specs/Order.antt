@@ -1,8 +1,8 @@
--- Tokens one behind the other.
+-- Tokens one after the other.
 use Rattle.std.specs.Prelude.{ℕ, ◌≤◌, ◌<◌, List, [], ◌∷◌, IsCharBoundary}
 use Rattle.first_pass_items.specs.declared.item.Item.{Item}
 
--- These items lie between two offsets, one behind the other, and each begins and ends between two characters (this project).
+-- These items lie between two offsets, one after the other, and each begins and ends between two characters (this project).
 abbrev pub AreInOrder : List ℕ → ℕ → ℕ → List Item → Type 0
 AreInOrder text from to [] = from ≤ to
 AreInOrder text from to (x ∷ xs) =

@@ -18,8 +18,8 @@ use Rattle.first_pass_tokens.specs.declared.pieces.Piece.TheVariants.{Left, Begi
 use Rattle.first_pass_tokens.specs.declared.pieces.Content.{Content}
 use Rattle.first_pass_tokens.specs.Braces.{MathBraces}
 
--- a content: the options that it is read under, the whole text that it stands in, that text up to where no content is left, where it begins, whether it is that
--- of a cell in a table's row, and the brace contexts before it (this project)
+-- a content: the options that it is read under, the whole text that it stands in, that text up to where no content is left, where it begins, whether it is
+-- that of a cell in a table's row, and the brace contexts before it (this project)
 pub record Source : Type 0 where
   pub options : Options
   pub whole : List ℕ

@@ -7,11 +7,11 @@ use Rattle.first_pass_tokens.specs.Braces.{MathBraces}
 use Rattle.first_pass_tokens.specs.Pieces.{Source}
 use Rattle.first_pass_tokens.specs.LineTokens.{IsLine, IsCell}
 
--- the tree with a token behind its nodes: a text is joined to the current node, where that is a text that ends where it begins (this project)
+-- the tree with a token after its nodes: a text is joined to the current node, where that is a text that ends where it begins (this project)
 abbrev pub with_token : Forest Item → Item → Forest Item
 with_token f x = if is_text x.body && joins_at f x.start f.current then with_end f x.«end» f.current else appended f x
 
--- the tree with these tokens behind its nodes, one after the other (this project)
+-- the tree with these tokens after its nodes, one after the other (this project)
 abbrev pub with_tokens : Forest Item → List Item → Forest Item
 with_tokens f [] = f
 with_tokens f (x ∷ xs) = with_tokens (with_token f x) xs

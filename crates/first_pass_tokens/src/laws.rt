@@ -51,8 +51,8 @@ pub fn line_is_joined()
 {}
 
 /// A token of possible markup in a line or a cell stands over the bytes of its kind: all of some backquotes, and
-/// after a backslash where it says so (CommonMark 6.1); a delimiter (6.2); `<` (6.5, 6.6); `![`, `[` or `]` (6.3, 6.4);
-/// a quote, or the bytes that its character stands for.
+/// after a backslash where it says so (CommonMark 6.1); a delimiter (6.2); `<` (6.5, 6.6); `![`, `[` or `]` (6.3,
+/// 6.4); a quote, or the bytes that its character stands for.
 pub fn markup_has_its_bytes()
     ensures line { (texts : List CowStr) (s : Source) (tokens : List Item) (answer : ℕ × Option Item)
         (after : MathBraces) → IsLine texts s tokens answer after

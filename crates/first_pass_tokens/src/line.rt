@@ -29,8 +29,8 @@ use std::alloc::AllocError;
 /// Appends the tokens of one line to the innermost open node: the texts, the references (CommonMark 2.5) and the
 /// tokens of possible code, emphasis, HTML, links and images (6.1 to 6.6) of a content, up to the first line end, or
 /// the end that is set, or the text's end. `lut` is the table of the bytes that are special under its options. What a
-/// reference or a run of four and more hyphens stands for is put after `texts`, those that tokens name by an index, and
-/// `braces`, the brace contexts before the line, become those after it.
+/// reference or a run of four and more hyphens stands for is put after `texts`, those that tokens name by an index,
+/// and `braces`, the brace contexts before the line, become those after it.
 ///
 /// Returns the offset after the line's line end, and the line break there (CommonMark 6.7, 6.8), which
 /// is not appended; `None` where no line end is left. A backslash before ASCII punctuation
@@ -92,7 +92,7 @@ pub fn append_cell(
     Ok(end)
 }
 
-// A text that began at an offset and may go on, and is not in the tree yet.
+// A text that began at an offset and may continue, and is not in the tree yet.
 #[derive(Clone, Copy, Drop)]
 struct Pending {
     begin: usize,
@@ -230,7 +230,7 @@ fn append_run(
     Ok(())
 }
 
-// Ends a line: appends the last text, and answers where the line ends, and its break.
+// Ends a line: appends the last text, and returns where the line ends, and its break.
 #[inline(always)]
 #[tactic(auto, unfolding(crate::specs::LineTokens::text_end, crate::specs::LineTokens::line_break, crate::specs::LineTokens::breaks_by_backslash, crate::specs::LineTokens::backslashes_at_end, crate::specs::LineTokens::blanks_at_end))]
 fn end_line(

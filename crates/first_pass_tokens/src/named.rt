@@ -14,9 +14,9 @@ use first_pass_items::cow_str::{CowStr, InlineStr};
 use first_pass_items::item::{CowIndex, ItemBody};
 use std::alloc::{AllocError, Global};
 
-/// The piece of what stands at a place. The text that its token names, if it names one, is put after `texts`, those that
-/// tokens name, and `braces`, the brace contexts before it, become those after it. A reference's text takes no memory,
-/// nor do seven dashes or fewer. The error is want of memory.
+/// The piece of what stands at a place. The text that its token names, if it names one, is put after `texts`, those
+/// that tokens name, and `braces`, the brace contexts before it, become those after it. A reference's text takes no
+/// memory, nor do seven dashes or fewer. The error is want of memory.
 #[inline(always)]
 pub fn named_piece<'a>(
     texts: &mut Vec<CowStr<'a>>,

@@ -38,8 +38,8 @@ pub enum Piece {
     Run(usize, bool, bool),
 }
 
-/// What stands at a place of a content: a piece, or what `named_piece` makes one of, with the texts that tokens name and
-/// the brace contexts.
+/// What stands at a place of a content: a piece, or what `named_piece` makes one of, with the texts that tokens name
+/// and the brace contexts.
 #[derive(Clone, Copy, Drop)]
 pub enum Found {
     /// A piece that names no text.
@@ -133,12 +133,12 @@ fn dash_found(text: &[u8], at: usize) -> Found
 }
 
 // The piece at any other special byte of a content; `at` is its offset into the text `whole`, and `text` is that text
-// up to the content's end. A run of `*`, `_`, `^` or at most two `~` that can open or close is a token for each of them
-// (CommonMark 6.2, GFM 6.5). All backquotes in a row are a token of possible code (CommonMark 6.1), `<` with no
+// up to the content's end. A run of `*`, `_`, `^` or at most two `~` that can open or close is a token for each of
+// them (CommonMark 6.2, GFM 6.5). All backquotes in a row are a token of possible code (CommonMark 6.1), `<` with no
 // backslash after it is one of possible HTML or an autolink (6.5, 6.6), `[`, `]` and `![` are tokens of possible links
 // and images (6.3, 6.4). With smart punctuation a quote is a token, and three full stops are a token of the character
-// that they stand for. A backslash before backquotes or other ASCII punctuation is dropped (2.4). In a row of a table a
-// backslash before a pipe is dropped, and so are two of them (GFM 4.10). Any other byte is left over.
+// that they stand for. A backslash before backquotes or other ASCII punctuation is dropped (2.4). In a row of a table
+// a backslash before a pipe is dropped, and so are two of them (GFM 4.10). Any other byte is left over.
 #[tactic(auto, unfolding(crate::specs::Pieces::special_piece))]
 fn special_piece(whole: &str, text: &[u8], start: usize, row: bool, at: usize) -> Piece
     requires front { text.now ≡ take (length text.now) whole.now }
@@ -189,7 +189,7 @@ fn backslash_piece_in(text: &[u8], at: usize, row: bool) -> Piece
     backslash_piece(text, at)
 }
 
-// The piece at a backslash that no pipe is behind.
+// The piece at a backslash that no pipe is after.
 #[tactic(auto, unfolding(crate::specs::Pieces::backslash_piece))]
 fn backslash_piece(text: &[u8], at: usize) -> Piece
     requires within { at < length text.now }

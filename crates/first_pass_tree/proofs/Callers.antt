@@ -25,7 +25,7 @@ child-appended f x h =
       behind = omega (arith, w, o.within);
     }
 
--- a child stays one where the list goes on after it
+-- a child stays one where the list continues after it
 pub child-kept : {T : Type 0} (f g : Forest T) (more : List (ℕ × T)) (ix : TreeIndex) → g.nodes ≡ f.nodes ++ more → g.spine ≡ f.spine → IsChild f ix → IsChild g ix
 child-kept {T = T} f g more ix n s h =
     let w = length-map f.nodes (λ n. n.0) in

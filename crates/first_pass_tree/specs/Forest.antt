@@ -7,7 +7,8 @@ use Rattle.first_pass_items.specs.declared.item.Item.{Item}
 use Rattle.first_pass_items.specs.declared.item.ItemBody.{ItemBody}
 use Rattle.first_pass_items.specs.declared.item.ItemBody.TheVariants.{Root, Text, Table, TableHead, TableRow, TableCell}
 
--- a tree as a list: the items in reading order, each with its depth (the root's is 0), the places of the open nodes, innermost first and without the root, and of the current node
+-- a tree as a list: the items in reading order, each with its depth (the root's is 0), the places of the open nodes, innermost first and without the root, and
+-- of the current node
 pub record Forest (T : Type 0) : Type 0 where
   pub nodes : List (ℕ × T)
   pub spine : List TreeIndex
@@ -51,7 +52,8 @@ IsOpenPath ds (i ∷ is) = IsLastAt ds (length is + 1) i.0 × IsOpenPath ds is
 abbrev pub IsPreorder : List ℕ → Type 0
 IsPreorder ds = (k : ℕ) → k + 1 < length ds → slice_index ds (k + 1) ≤ slice_index ds k + 1
 
--- what each tree keeps: the list is a tree in reading order, the open nodes a path from the root to its edge, and the current node is the innermost open one's last child
+-- what each tree keeps: the list is a tree in reading order, the open nodes a path from the root to its edge, and the current node is the innermost open one's
+-- last child
 pub record IsForest {T : Type 0} (f : Forest T) : Type 0 where
   pub preorder : IsPreorder (depths f.nodes)
   pub opened : IsOpenPath (depths f.nodes) f.spine

@@ -232,7 +232,7 @@ impl Tree<Item> {
     }
 
     /// Puts a node between the current node, which there must be, and its children: it is the current
-    /// node's only child, with all former children below it. Answers its place; the current node stays
+    /// node's only child, with all former children below it. Returns its place; the current node stays
     /// current. An error where memory is refused; then the tree is as before.
     pub fn create_node(&mut self, item: Item) -> Result<TreeIndex, AllocError>
         requires { IsSome self.old.current }

@@ -18,7 +18,7 @@ fn interrupts_lazily(alloc: Global, text: &str, line: &str) -> Result<bool, Allo
     pass.scan_paragraph_interrupt(line, false, 0)
 }
 
-// How many bytes of a text that is one line stand before what goes on with a run of link reference definitions.
+// How many bytes of a text that is one line stand before what continues a run of link reference definitions.
 fn bytes_before_rest(alloc: Global, text: &str) -> Result<Option<usize>, AllocError> {
     let mut pass = FirstPass::new(alloc, text, Options::empty())?;
     match pass.scan_next_line_or_lazy_continuation(text.as_bytes())? {
@@ -80,7 +80,7 @@ fn line_end(alloc: Global) -> Result<(usize, bool), AllocError> {
     Ok((next, line_break.is_some()))
 }
 
-// How far a line with a pipe is read in a mode, and whether a break or a table is answered.
+// How far a line with a pipe is read in a mode, and whether a break or a table is returned.
 fn line_read(alloc: Global, mode: TableParseMode) -> Result<(usize, bool), AllocError> {
     let mut pass = FirstPass::new(alloc, "a|b\n-|-\n", Options::ENABLE_TABLES)?;
     let (next, item) = pass.parse_line(0, None, mode)?;
@@ -95,7 +95,7 @@ fn a_line_in_each_mode(rt: HostRuntime) -> Result<(), Fail> {
     Ok(())
 }
 
-// Where reading goes on behind a paragraph that is added to an empty item by a call of its own, and behind the
+// Where reading continues after a paragraph that is added to an empty item by a call of its own, and after the
 // blank line there: the item is empty no more.
 fn ends_in_an_empty_item(alloc: Global) -> Result<(usize, usize), AllocError> {
     let text = "-\n  a\n\n\nb";
@@ -113,7 +113,7 @@ fn rule_end(alloc: Global) -> Result<usize, AllocError> {
     pass.parse_hrule(4, 0)
 }
 
-// Where the content of a heading's text ends, and whether an id is given behind it.
+// Where the content of a heading's text ends, and whether an id is given after it.
 fn content_end(alloc: Global, options: Options) -> Result<(usize, bool), AllocError> {
     let pass = FirstPass::new(alloc, "a {#x}\n", options)?;
     let (end, given) = pass.extract_and_parse_heading_attribute_block(0, 6)?;

@@ -1,5 +1,5 @@
-//! Every public name of the two library crates, by the module that hands it out: one that is missing is an error of the
-//! compiler.
+//! Every public name of the two library crates, by the module that hands it out: one that is missing is an error of
+//! the compiler.
 
 pub use first_pass::attrs::{
     extract_attribute_block_content_from_header_text, parse_inside_attribute_block,

@@ -16,13 +16,13 @@ walks_past step marking a b [] f answer last past_a past_b w =
     ]
 walks_past step marking a b (n ∷ ns) f answer last past_a past_b w = let in_range = next_within w.1 in absurd (omega arith)
 
--- a walk from where the sum stops short goes on as from the sum, which is past the end
+-- a walk from where the sum stops short continues as from the sum, which is past the end
 pub walks_from_sum : {F T : Type 0} (step : F → ℕ → ℕ → LoopInstruction (Option T) → F → Type 0) (marking : Marking) (a b : ℕ) (skips : List ℕ) (f : F) (answer : ℕ × Option T) (last : F)
     → (a ≡ b) ⊎ ((length marking.bytes ≤ a) × (length marking.bytes ≤ b)) → Walks step marking skips (a, f) (answer, last) → Walks step marking skips (b, f) (answer, last)
 walks_from_sum step marking a b skips f answer last (inl same) w = subst (λ (x : ℕ). Walks step marking skips (x, f) (answer, last)) same w
 walks_from_sum step marking a b skips f answer last (inr past) w = walks_past step marking a b skips f answer last past.0 past.1 w
 
--- what a walk answers, from what the closure's calls keep and break with
+-- what a walk returns, from what the closure's calls keep and break with
 pub walks_answer : {F T : Type 0} (step : F → ℕ → ℕ → LoopInstruction (Option T) → F → Type 0) (marking : Marking) (Keeps : F → Type 0) (Answers : ℕ → Option T → Type 0)
     → ((f : F) (j n : ℕ) (g : F) → Keeps f → step f j (slice_index marking.bytes j) (ContinueAndSkip n) g → Keeps g)
     → ((f : F) (j e : ℕ) (v : Option T) (g : F) → Keeps f → step f j (slice_index marking.bytes j) (BreakAtWith e v) g → Answers e v)

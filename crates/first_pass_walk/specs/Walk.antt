@@ -72,7 +72,7 @@ pub record Marking : Type 0 where
   pub bytes : List ℕ
 
 -- Where step f k b i g says that the closure f, called at the place k with the byte b, may answer i and be g then:
--- the walk from a place calls it at the next marked place, from behind what that call skips at the next one again, and so on, once for each of the skips.
+-- the walk from a place calls it at the next marked place, from after what that call skips at the next one again, and so on, once for each of the skips.
 -- It ends with the length where no marked place is left, or with what the next call breaks with. It goes from a place and the closure as it is there to an
 -- answer and the closure as it is then (this project).
 abbrev pub Walks : {F T : Type 0} → (F → ℕ → ℕ → LoopInstruction (Option T) → F → Type 0) → Marking → List ℕ → ℕ × F → (ℕ × Option T) × F → Type 0

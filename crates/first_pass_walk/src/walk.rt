@@ -12,9 +12,9 @@ use std::simd::prelude::*;
 /// What a walk does after a call at a place.
 #[derive(Drop)]
 pub enum LoopInstruction<T> {
-    /// It goes on, behind as many bytes after the place as the number says.
+    /// It continues, after as many bytes after the place as the number says.
     ContinueAndSkip(usize),
-    /// It ends, and answers the number and the value.
+    /// It ends, and returns the number and the value.
     BreakAtWith(usize, T),
 }
 
@@ -30,7 +30,7 @@ pub fn special_bytes(options: &Options) -> [bool; 256]
     table
 }
 
-/// The least place at or behind the offset `ix` of `bytes` whose byte the table marks. `None` where
+/// The least place at or after the offset `ix` of `bytes` whose byte the table marks. `None` where
 /// there is none. CommonMark 6.
 pub fn next_special(lut: &[bool; 256], bytes: &[u8], ix: usize) -> Option<usize>
     ensures found { IfSome result (λ j. IsNextMarked lut.now bytes.now ix j) }
@@ -79,9 +79,9 @@ fn word_run(bytes: &[u8], at: usize) -> usize
     first_set(stops.to_bitmask())
 }
 
-/// Calls the closure at the least place at or behind the offset `ix` of `bytes` whose byte the table
-/// marks, with the place and its byte, then at the least marked place behind what that call skips, and
-/// so on. Answers what a call breaks with; the length and `None` where no marked place is left, also
+/// Calls the closure at the least place at or after the offset `ix` of `bytes` whose byte the table
+/// marks, with the place and its byte, then at the least marked place after what that call skips, and
+/// so on. Returns what a call breaks with; the length and `None` where no marked place is left, also
 /// where a call skips past the end. CommonMark 6.
 pub fn iterate_special_bytes<F, T>(
     lut: &[bool; 256],

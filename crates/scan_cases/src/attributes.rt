@@ -7,7 +7,7 @@ use first_pass_attributes::attrs::{
 use first_pass_cases::answer::Answer;
 use std::alloc::{AllocError, Global};
 
-/// Answers a call for a heading's attribute block, or for the attributes that one gives, or tells that it is another
+/// Returns a call for a heading's attribute block, or for the attributes that one gives, or tells that it is another
 /// one.
 pub fn answer_attributes(
     alloc: Global,
@@ -29,8 +29,8 @@ pub fn answer_attributes(
     Ok(true)
 }
 
-/// How many bytes stand before a heading's attribute block, and the offsets at which what its braces enclose begins and
-/// ends.
+/// How many bytes stand before a heading's attribute block, and the offsets at which what its braces enclose begins
+/// and ends.
 fn append_block(heading: &[u8], answer: &mut Answer) -> Result<(), AllocError> {
     let (len, inside) = extract_attribute_block_content_from_header_text(heading);
     answer.number(len)?;

@@ -12,7 +12,7 @@ use first_pass_text::interrupt::scan_paragraph_interrupt_no_table;
 use first_pass_tree::forest::Tree;
 use std::alloc::{AllocError, Global};
 
-/// Answers a call for open containers, or tells that it is another one.
+/// Returns a call for open containers, or tells that it is another one.
 pub fn answer_containers(
     alloc: Global,
     call: &str,
@@ -35,7 +35,7 @@ pub fn answer_containers(
     Ok(true)
 }
 
-/// How many of the open nodes a line goes on with, and how many bytes of it they take. The first value is the path of
+/// How many of the open nodes a line continues, and how many bytes of it they take. The first value is the path of
 /// the open containers (see `open_path`), the second one the options.
 fn append_containers(
     alloc: Global,
@@ -55,8 +55,8 @@ pub fn options_of(bits: usize) -> Options {
     Options::from_bits_truncate(u32::try_from(bits).unwrap_or(0))
 }
 
-/// A tree in which these containers are open, the outermost first: a digit 1 is a block quote, 9 a footnote definition,
-/// any other a list item of so many columns.
+/// A tree in which these containers are open, the outermost first: a digit 1 is a block quote, 9 a footnote
+/// definition, any other a list item of so many columns.
 pub fn open_path(alloc: Global, path: usize) -> Result<Tree<Item>, AllocError> {
     let mut tree = Tree::with_capacity(alloc, 8)?;
     for place in [1000, 100, 10, 1] {

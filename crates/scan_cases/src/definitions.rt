@@ -12,7 +12,7 @@ use first_pass_labels::label_table::LinkDef;
 use first_pass_open::source::Source;
 use std::alloc::{AllocError, Global};
 
-/// Answers a call for a definition or a footnote's head, or tells that it is another one.
+/// Returns a call for a definition or a footnote's head, or tells that it is another one.
 pub fn answer_definitions(
     alloc: Global,
     call: &str,

@@ -12,7 +12,7 @@ use first_pass_scan::leaf_scan::{
 use first_pass_scan::metadata_search::{MetadataEnds, metadata_at};
 use std::alloc::AllocError;
 
-/// Answers a call for a thematic break, an underline, a fence or an indent, or tells that it is another one.
+/// Returns a call for a thematic break, an underline, a fence or an indent, or tells that it is another one.
 pub fn answer_leaves(
     call: &str,
     given: &Given,
@@ -59,7 +59,7 @@ fn append_fence(found: Option<(usize, u8)>, answer: &mut Answer) -> Result<(), A
     }
 }
 
-/// Answers a call for a metadata block, or tells that it is another one. The flags that are given turn on `---` and
+/// Returns a call for a metadata block, or tells that it is another one. The flags that are given turn on `---` and
 /// `+++`; then places may follow.
 pub fn answer_metadata(
     call: &str,

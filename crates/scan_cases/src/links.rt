@@ -12,7 +12,7 @@ use first_pass_links::label::scan_link_label_rest;
 use std::alloc::{AllocError, Global};
 use std::ops::DerefStr;
 
-/// Answers a call for a reference, an escape, a destination or a label, or tells that it is another one.
+/// Returns a call for a reference, an escape, a destination or a label, or tells that it is another one.
 pub fn answer_links(
     alloc: Global,
     call: &str,

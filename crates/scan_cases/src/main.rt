@@ -1,5 +1,5 @@
-//! `scan_cases`: reads a table of calls of the parts below the pass, and of the words and the line of the programs, and
-//! tells whose answers differ.
+//! `scan_cases`: reads a table of calls of the parts below the pass, and of the words and the line of the programs,
+//! and tells whose answers differ.
 //!
 //! A line is a case: the name of a call, what it is given beside its text, the text between `‹` and `›`, and the
 //! answer as it is printed.

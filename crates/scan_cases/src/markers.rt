@@ -6,7 +6,7 @@ use first_pass_items::item::BlockQuoteKind;
 use first_pass_scan::line_start::{LineStart, scan_listitem};
 use std::alloc::AllocError;
 
-/// Answers a call for a marker or a line end, and after that how many bytes it took, or tells that it is another one.
+/// Returns a call for a marker or a line end, and after that how many bytes it took, or tells that it is another one.
 pub fn answer_markers(
     call: &str,
     given: &Given,

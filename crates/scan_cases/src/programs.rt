@@ -1,5 +1,5 @@
-//! Calls of `first_pass_host` and `first_pass_timing`: the words that the programs are given, and the line that `bench`
-//! writes.
+//! Calls of `first_pass_host` and `first_pass_timing`: the words that the programs are given, and the line that
+//! `bench` writes.
 
 use crate::walks::append_bits;
 use bitflags::Flags;
@@ -10,7 +10,7 @@ use first_pass_timing::task::{Task, parse_task};
 use first_pass_timing::timing::Timing;
 use std::alloc::{AllocError, Global};
 
-/// Answers a call for words or for a line of `bench`, or tells that it is another one.
+/// Returns a call for words or for a line of `bench`, or tells that it is another one.
 pub fn answer_programs(
     alloc: Global,
     call: &str,

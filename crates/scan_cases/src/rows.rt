@@ -8,7 +8,7 @@ use first_pass_table_scan::table_scan::scan_table_head;
 use first_pass_table_scan::table_start::{scan_delimiter_row, scan_head_columns};
 use std::alloc::{AllocError, Global};
 
-/// Answers a call for a header row or a delimiter row, or tells that it is another one.
+/// Returns a call for a header row or a delimiter row, or tells that it is another one.
 pub fn answer_rows(
     alloc: Global,
     call: &str,

@@ -6,7 +6,7 @@ use std::alloc::{AllocError, Global};
 use std::boxed::BoxedStr;
 use std::ops::DerefStr;
 
-/// Answers a call of a text, or tells that it is another one.
+/// Returns a call of a text, or tells that it is another one.
 pub fn answer_texts(
     alloc: Global,
     call: &str,

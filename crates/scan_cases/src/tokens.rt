@@ -15,7 +15,7 @@ use first_pass_tree::forest::Tree;
 use first_pass_walk::walk::special_bytes;
 use std::alloc::{AllocError, Global};
 
-/// Answers a call for tokens under the options whose bits are given, or tells that it is another one.
+/// Returns a call for tokens under the options whose bits are given, or tells that it is another one.
 pub fn answer_tokens(
     alloc: Global,
     call: &str,

@@ -9,7 +9,7 @@ use first_pass_items::option_set::Options;
 use first_pass_walk::walk::{LoopInstruction, iterate_special_bytes, next_special, special_bytes};
 use std::alloc::{AllocError, Global};
 
-/// Answers a call of the options or of the bytes that these make special, or tells that it is another one.
+/// Returns a call of the options or of the bytes that these make special, or tells that it is another one.
 pub fn answer_walks(
     alloc: Global,
     call: &str,
@@ -75,7 +75,7 @@ fn append_special(alloc: Global, bits: usize, answer: &mut Answer) -> Result<(),
     answer.text(special.as_str())
 }
 
-/// Answers whether a run can open or close, or tells that it is another call. Given are the mode (0 for no table, 1
+/// Returns whether a run can open or close, or tells that it is another call. Given are the mode (0 for no table, 1
 /// for a line that may be a row, 2 for a cell), the run's place, and how many bytes it has.
 pub fn answer_flanks(
     call: &str,

@@ -44,7 +44,7 @@ scan_task-marker-requires-clause-place c =
 taken : (c : goal.After-behind_marker) → item_at c.place.inside.rest ≡ Some ((c.in-Some.item.byte, c.in-Some.item.number, c.in-Some.item.indent), c.scan_item.new.line_start)
 taken c = item_found _ c.scan_item.result c.in-Some.item c.place.inside.rest c.scan_item.new.line_start c.in-Some.is c.scan_item.ensures
 
--- what stands behind its marker
+-- what stands after its marker
 both : (o : Option Item) (r : Rest) (q : Option Item × Rest) → o ≡ q.0 → r ≡ q.1 → q ≡ (o, r)
 both o r q e f = ap (λ z. (z, q.1)) (sym e) ∙ ap (λ z. (o, z)) (sym f)
 
@@ -91,7 +91,7 @@ returns-then-is_none-clause-ready c = rw (← c.place.view_is, c.scan_task-marke
     (subst (λ (q : Reading). ReadyIn d defined q (place_at c.place.inside.line rest) (line_end p) (task_text c.scan_task-marker.result)) (sym (opened_is c))
     (ready_behind d defined (item_opened (offset p) c.in-Some.item.byte c.in-Some.item.number c.in-Some.item.indent c.args.reading.now) (place_at c.place.inside.line rest) (line_end p) c.scan_task-marker.result done)))
 
--- the item that is taken, where its line ends behind it
+-- the item that is taken, where its line ends after it
 taken_whole : (c : goal.After-as_bytes) → item_at c.place.inside.rest ≡ Some ((c.in-Some.item.byte, c.in-Some.item.number, c.in-Some.item.indent), c.scan_item.new.line_start)
 taken_whole c = item_found _ c.scan_item.result c.in-Some.item c.place.inside.rest c.scan_item.new.line_start c.in-Some.is c.scan_item.ensures
 

@@ -7,7 +7,7 @@ use Rattle.first_pass_definitions.proofs.Places.{rest_further, no_feed, some_lef
 use Rattle.first_pass_definitions.proofs.title.scan_title_break.Goals as goal
 use Rattle.first_pass_definitions.proofs.title.scan_title_break.Goals.{After-rest_of-2}
 
--- behind the line end
+-- after the line end
 line_place : (c : After-rest_of-2) → IsCharBoundary c.args.bytes.now (c.args.at + c.in-Some.line_end)
 line_place c =
     eol_behind c.args.bytes.now c.args.at c.in-Some.line_end c.requires.utf8 c.requires.at

@@ -104,7 +104,7 @@ loop-bytes-preserved c =
           c.requires.close c.loop-bytes.invariant.title (line_stops at) (omega arith) k plain written;
     }
 
--- the title goes on over a line end, or may
+-- the title continues over a line end, or may
 pub returns-in_err-next-clause-err : goal.returns-in_err-next-clause-err
 returns-in_err-next-clause-err c =
     let at = (goal.at.returns-in_err-next-clause-err c).After-begins in

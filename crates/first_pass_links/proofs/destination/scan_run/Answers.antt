@@ -40,7 +40,7 @@ loop-at-preserved c =
       passed = ap (λ n. longer (c.loop-at.at + c.unit_len-at.result) (run_len c.args.deepest n 0 (drop (c.loop-at.at + c.unit_len-at.result) bs))) behind ∙ u ∙ c.loop-at.invariant.passed;
     }
 
--- behind the loop the run has ended
+-- after the loop the run has ended
 pub returns-then-nesting-eq0-clause-value : goal.returns-then-nesting-eq0-clause-value
 returns-then-nesting-eq0-clause-value c =
     let z : c.loop-at.at + 0 ≡ c.loop-at.at = omega arith in

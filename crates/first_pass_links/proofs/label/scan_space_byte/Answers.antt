@@ -8,11 +8,11 @@ use Rattle.first_pass_links.proofs.label.scan_space_byte.Goals as goal
 use Rattle.first_pass_links.proofs.label.scan_space_byte.Goals.{After-rest_of-behind, In-Some}
 use Rattle.first_pass_links.proofs.label.scan_space_byte.Given.{Over}
 
--- behind a byte of white space
+-- after a byte of white space
 behind_white : (text : List ℕ) (at : ℕ) → IsUtf8 text → at < length text → is_ascii_white (slice_index text at) ≡ true → IsCharBoundary text (at + 1)
 behind_white text at u l w = IsCharBoundary-after_ascii text at u l (white_is_ascii _ w).0
 
--- behind the byte
+-- after the byte
 after : (g : Over) (c : After-rest_of-behind g) → IsCharBoundary c.args.bytes.now (c.args.at + 1)
 after g c = IsCharBoundary-after_ascii c.args.bytes.now c.args.at c.requires.text c.requires.within (white_is_ascii _ c.requires.white).0
 
@@ -23,7 +23,7 @@ pub returns-then-not-ends_line-clause-reads : goal.returns-then-not-ends_line-cl
 returns-then-not-ends_line-clause-reads g c =
     λ h a. left-byte h c.args.bytes.now c.args.at c.requires.within (ap (ends_line (get_or c.args.bytes.now c.args.at 0)) (sym c.rest_of-behind.ensures.value) ∙ sym c.ends_line.ensures ∙ c.if-not-ends_line.true)
 
--- the prefix is a part of the bytes behind the line end
+-- the prefix is a part of the bytes after the line end
 prefix_place : (g : Over) (c : In-Some g) → IsCharBoundary c.args.bytes.now (c.args.at + 1 + c.in-Some.prefix)
 prefix_place g c =
     let e = c.rest_of-behind.ensures.value in

@@ -23,7 +23,7 @@ parse_table-requires-clause-open c = opened_alone c.args.tree.now c.open_block.n
 pub parse_table-requires-clause-table : goal.parse_table-requires-clause-table
 parse_table-requires-clause-table c = subst (λ (f : Forest Item). in_table f.nodes f.spine ≡ true) (sym c.in_ok-open_block.ensures) (opened_table c.args.tree.now c.args.start c.in_ok-index.index)
 
--- what is named once the table's rows are read goes on with its alignments
+-- what is named once the table's rows are read continues its alignments
 grown_table : (c : goal.In_ok-next) → Extends (names_of c.parse_table.new.allocs) (names_of c.allocate_alignment.new.self)
 grown_table c = c.in_ok-next.ensures.names
 

@@ -37,7 +37,7 @@ all_by false = refl
 ended_by : (said by_text by_line last : Bool) → said ≡ by_text → by_text ≡ by_line → said ≡ true → true ≡ by_line || last
 ended_by said by_text by_line last e f g = let z : by_line ≡ true = sym f ∙ sym e ∙ g in rw z refl
 
--- it doesn't, and an underline of it is none to a label in a line that doesn't go on with all containers
+-- it doesn't, and an underline of it is none to a label in a line that doesn't continue all containers
 lazy_by : (said by_text by_line last in_label whole : Bool) → said ≡ by_text → by_text ≡ by_line → said ≡ false → (in_label && not whole) ≡ true → false ≡
     by_line || (last && (not in_label || whole))
 lazy_by said by_text by_line last true false e f g h = let z : by_line ≡ false = sym f ∙ sym e ∙ g in rw z (none_by last)

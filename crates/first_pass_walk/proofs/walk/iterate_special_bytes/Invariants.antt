@@ -2,7 +2,7 @@ use Rattle.std.proofs.Common.{ℕ, List, length, ◌-◌}
 use Rattle.first_pass_walk.specs.Walk.{Walks}
 use Rattle.first_pass_walk.proofs.walk.iterate_special_bytes.Given as goal
 
--- a walk that goes on from here is a walk from the start
+-- a walk that continues from here is a walk from the start
 abbrev pub invariant-loop-at : goal.invariant-loop-at
 invariant-loop-at g l =
     goal.F-IsAlwaysCallable g l.callback

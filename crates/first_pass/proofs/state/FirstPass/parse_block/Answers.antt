@@ -31,7 +31,7 @@ returns-in_ok-next-in-TaskText-clause-later c =
     let e = c.in_ok-next-in-TaskText.ensures.read in
     line_later c.args.self.now.source.text.now c.args.start_ix _ _ c.requires.within (c.in_ok-open_containers.ensures.same_end ∙ c.in-Some.ensures.same_end) e.later e.boundary
 
--- the line ends behind the empty item
+-- the line ends after the empty item
 item_end : (c : goal.After-drop-place-inside-in-NextLine-1) → c.in-NextLine.next ≡ c.args.start_ix + line_len (drop c.args.start_ix c.args.self.now.source.text.now)
 item_end c =
     subst (λ o. IsBehind o c.open_containers.new.reading c.open_containers.new.place.rest (line_end c.in-Some.place)) c.in-NextLine.is c.in_ok-open_containers.ensures.behind
@@ -152,7 +152,7 @@ returns-in-NextLine-clause-written c = λ h. h
 pub returns-in_ok-next-in-Tag-clause-written : goal.returns-in_ok-next-in-Tag-clause-written
 returns-in_ok-next-in-Tag-clause-written c = c.in_ok-next-in-Tag.ensures.read.written
 
--- what is behind the containers that begin in the line goes on
+-- what is after the containers that begin in the line continues
 opened_ready : (d : Document) (defined : Tables) (before after : Reading) («end» : ℕ) (p q : Place) (behind answer : Behind) → line_end p ≡ «end»
     → behind ≡ answer
     → (ReadyAt d defined before.tree before.blank (Inside p) (lines_from d.text (line_end p)) → ReadyBehind d defined after q (line_end p) behind)
