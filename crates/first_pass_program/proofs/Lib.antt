@@ -1,3 +1,1 @@
 mod FaultLemmas
-mod Lines
-mod LinkLines

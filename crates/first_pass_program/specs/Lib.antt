@@ -1,5 +1,2 @@
 pub mod Bench
-pub mod HeadingValues
-pub mod Printed
 pub mod Runs
-pub mod Visible

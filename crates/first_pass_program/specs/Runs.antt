@@ -10,7 +10,7 @@ use Rattle.first_pass_host.specs.declared.fault.BlocksFault.{BlocksFault}
 use Rattle.first_pass_host.specs.declared.fault.BlocksFault.TheVariants.{OutOfMemory, NotUtf8, BadOptions, ReadFailed, WriteFailed}
 use Rattle.first_pass_host.specs.OptionWord.{StandFor}
 use Rattle.first_pass_host.specs.Streams.{Stream, IsUntouched, AppendsFront, ReadsWhole}
-use Rattle.first_pass_program.specs.Printed.{printed_lines}
+use Rattle.first_pass_printed.specs.Printed.{printed_lines}
 
 -- the whole output for a UTF-8 text under options: the lines of the nodes and of the link definitions that the block grammar derives
 pub record IsPrinted (options : Options) (text output : List ℕ) : Type 0 where

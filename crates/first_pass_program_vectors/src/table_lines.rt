@@ -4,7 +4,7 @@ use bitflags::Flags;
 use first_pass::below::{Alignment, AlignmentIndex, Item, ItemBody};
 use first_pass::items::Allocations;
 use first_pass_items::item::ListFlags;
-use first_pass_program::printed::append_node;
+use first_pass_printed::node::append_node;
 use std::alloc::Global;
 use std::process::Abort;
 use std::test::Fail;

@@ -1,0 +1,3 @@
+pub mod HeadingValues
+pub mod Printed
+pub mod Visible

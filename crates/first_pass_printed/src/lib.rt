@@ -1,0 +1,8 @@
+//! The printed form of a tree: a line for each node and for each link definition.
+#![tactic(auto)]
+
+pub mod heading;
+pub mod links;
+pub mod node;
+pub mod table;
+pub mod written;
