@@ -18,7 +18,8 @@ use Rattle.first_pass_grammar.specs.declared.kind.Container.TheVariants.{BlockQu
 use Rattle.first_pass_grammar.specs.Containers.{at_rest, has_columns, prefix, after}
 use Rattle.first_pass_grammar.specs.Kinds.{Blank, all_taken, is_blank_rest, item_at}
 use Rattle.first_pass_grammar.specs.Leaves.{Document}
-use Rattle.first_pass_grammar.specs.Skeleton.{BlankLine, From, Line, Inside, Blanks, OpensLeaf, OpensAs, OpensQuote, OpensFrom, Opens, is_blank_behind, next_is_blank, end_before}
+use Rattle.first_pass_grammar.specs.Blocks.{BlankLine}
+use Rattle.first_pass_grammar.specs.Skeleton.{From, Line, Inside, Blanks, OpensLeaf, OpensAs, OpensQuote, OpensFrom, Opens, is_blank_behind, next_is_blank, end_before}
 use Rattle.first_pass_grammar.specs.Derivation.{Tables, node_of}
 use Rattle.first_pass_grammar.specs.Completion.{Frame, InContainer, InList, containers_of, AreBelow}
 use Rattle.first_pass_grammar.proofs.Finishes.{CompletesAt}

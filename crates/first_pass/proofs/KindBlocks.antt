@@ -19,7 +19,8 @@ use Rattle.first_pass_grammar.specs.Extents.{Extent}
 use Rattle.first_pass_grammar.specs.CodeBlocks.{code_lines, last_is_blank, IsIndentedCode, metadata_lines, IsMetadata, fenced_lines, IsFencedCode}
 use Rattle.first_pass_grammar.specs.HtmlBlocks.{until_end, until_blank, IsHtml}
 use Rattle.first_pass_grammar.specs.Rows.{is_paragraph}
-use Rattle.first_pass_grammar.specs.Skeleton.{block_at, leaf_block, Line, Opening, OpensLeaf, OpensAs}
+use Rattle.first_pass_grammar.specs.Blocks.{block_at, leaf_block}
+use Rattle.first_pass_grammar.specs.Skeleton.{Line, Opening, OpensLeaf, OpensAs}
 use Rattle.first_pass_grammar.specs.Completion.{lines_from}
 use Rattle.first_pass_open.specs.Path.{path_of, context_of}
 use Rattle.first_pass_raw.specs.RawBlocks.{IsPlaceAt, behind_line_at, code_behind, AddsIndented, AddsRaw, metadata_behind, fenced_behind, html_to_end, html_to_blank}

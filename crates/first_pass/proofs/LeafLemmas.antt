@@ -24,7 +24,8 @@ use Rattle.first_pass_grammar.specs.Kinds.{Kind, Blank, ThematicBreak, AtxHeadin
 use Rattle.first_pass_grammar.specs.Names.{Names, Extends}
 use Rattle.first_pass_items.specs.declared.option_set.Options.{Options}
 use Rattle.first_pass_grammar.specs.Leaves.{Document, document, around, IsHeading, heading_text_at, rule_block, heading_block}
-use Rattle.first_pass_grammar.specs.Skeleton.{BlankLine, LeafBlock, Block, run_block, flowing_block, OpensBeyond, OpensRun, block_at, leaf_block, Line, Inside, At, ALeafAlone, IsFirst, Opening, OpensLeaf, OpensText, OpensAs, OpensBlockAt, OpensQuote, OpensFrom, Opens}
+use Rattle.first_pass_grammar.specs.Blocks.{BlankLine, LeafBlock, Block, run_block, flowing_block, block_at, leaf_block}
+use Rattle.first_pass_grammar.specs.Skeleton.{OpensBeyond, OpensRun, Line, Inside, At, ALeafAlone, IsFirst, Opening, OpensLeaf, OpensText, OpensAs, OpensBlockAt, OpensQuote, OpensFrom, Opens}
 use Rattle.first_pass_grammar.specs.Tables.{taking}
 use Rattle.first_pass_grammar.specs.Texts.{IsText}
 use Rattle.first_pass_grammar.specs.Completion.{lines_from, Frame, containers_of, AreBelow}

@@ -13,8 +13,7 @@ use Rattle.first_pass_tree.proofs.Keeps.{appended-is, modified-is}
 use Rattle.first_pass_tokens.specs.Order.{AreInOrder}
 use Rattle.first_pass_tokens.specs.TreeTokens.{with_token, with_tokens, AppendsLine, AppendsCell}
 use Rattle.first_pass_tokens.proofs.OrderLemmas.{order_bound, order_to, order_from, line_in_order, cell_in_order, cell_end_place}
-use Rattle.first_pass_names.specs.TableEntries.{no_names}
-use Rattle.first_pass_grammar.specs.Leaves.{Document, document, content_at}
+use Rattle.first_pass_grammar.specs.Leaves.{Document}
 use Rattle.first_pass_tokens.specs.Pieces.{text_upto}
 use Rattle.first_pass_text.proofs.TextFronts.{front_utf8, place_in_front, place_in_text, order_in_text}
 use Rattle.first_pass_grammar.specs.Order.{Extent, extent_of, extents, is_task_marker, Row, Empty, Node, laid, IsBetween, Within, Elsewhere, InItem, InText, in_item, below, beyond, IsLead, Fits}
@@ -23,7 +22,6 @@ use Rattle.first_pass_grammar.proofs.Orders.{beside, ended_at, laid_open-beside,
 use Rattle.first_pass_lists.specs.declared.reading.Reading.{Reading}
 use Rattle.first_pass.specs.Ordered.{reached, IsOrderedAt}
 use Rattle.first_pass.proofs.OrderLemmas.{ordered_later, ordered_appended, ordered_none}
-use Rattle.first_pass_grammar.specs.Tables.{cell_content}
 use Rattle.first_pass_items.specs.declared.option_set.Options.{Options}
 
 -- a row's last node, with what is below it, and those before it

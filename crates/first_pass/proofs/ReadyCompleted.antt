@@ -12,7 +12,7 @@ use Rattle.first_pass_grammar.specs.Names.{Names, Extends}
 use Rattle.first_pass_grammar.specs.Leaves.{Document, document}
 use Rattle.first_pass_grammar.specs.Derivation.{Tables}
 use Rattle.first_pass_grammar.specs.Skeleton.{From, Line, Blanks, next_is_blank}
-use Rattle.first_pass_grammar.specs.Completion.{NoList, Standing, Frame, Completes, CanGoOn}
+use Rattle.first_pass_grammar.specs.Completion.{NoList, Standing, Frame, last_of, Completes, CanGoOn}
 use Rattle.first_pass_grammar.proofs.MoreNames.{extends_none}
 use Rattle.first_pass_grammar.proofs.Completed.{line_goes_on, completion_derives}
 use Rattle.first_pass_open.specs.Path.{container_of, with_container, path_in, path_of}
@@ -44,8 +44,8 @@ open_once nodes (ix ∷ spine) (frame ∷ frames) (other ∷ others) o p =
     let rest = open_once nodes spine frames others o.1 p.1 in
     cc
 
-standing_of : Tables → Forest Item → Bool → Standing
-standing_of defined tree run = record { nodes = tree.nodes; list = NoList; run = run; defined = defined }
+standing_of : Tables → Forest Item → List Frame → Bool → Standing
+standing_of defined tree frames run = record { nodes = tree.nodes; list = NoList; before = record { last = last_of frames; counted = run }; defined = defined }
 
 -- what is ready at a place, with all names
 abbrev AlwaysReady : Document → Tables → Forest Item → Bool → From → List Place → Type 0
@@ -57,14 +57,14 @@ unfolding standing_of
 completed_at d defined tree run from lines can ready =
     let now = ready d.names (extends_none d.names) in
     let places : List ℕ = map (λ (ix : TreeIndex). ix.0) tree.spine in
-    let always : (more : Names) → Extends more d.names → Completes (document d.text d.options more) now.frames places (standing_of defined tree run) from lines =
+    let always : (more : Names) → Extends more d.names → Completes (document d.text d.options more) now.frames places (standing_of defined tree now.frames run) from lines =
     λ more x.
     let at_last = ready more x in
-    subst (λ z. Completes (document d.text d.options more) z places (standing_of defined tree run) from lines)
+    subst (λ z. Completes (document d.text d.options more) z places (standing_of defined tree z run) from lines)
     (open_once tree.nodes tree.spine at_last.frames now.frames at_last.are_open now.are_open) at_last.completes in
     let inside = subst (λ z. CanGoOn z from) (open_path d.options tree.nodes tree.spine now.frames now.are_open) can in
     let size = open_length tree.nodes tree.spine now.frames now.are_open in
-    let done = completion_derives d now.frames places (standing_of defined tree run) from lines size inside always in
+    let done = completion_derives d now.frames places (standing_of defined tree now.frames run) from lines size inside always in
     record { frames = now.frames; are_open = now.are_open; completion = done.0; derives = done.1 }
 
 -- an empty item is a container

@@ -12,7 +12,7 @@ use Rattle.first_pass_grammar.specs.Names.{Names, Extends, AreNamed}
 use Rattle.first_pass_grammar.specs.Leaves.{Document}
 use Rattle.first_pass_grammar.specs.Derivation.{Tables}
 use Rattle.first_pass_grammar.specs.Skeleton.{From, Line, Blanks, next_is_blank}
-use Rattle.first_pass_grammar.specs.Completion.{lines_from, NoList, Frame}
+use Rattle.first_pass_grammar.specs.Completion.{lines_from, NoList, Frame, last_of}
 use Rattle.first_pass_grammar.specs.WholeTables.{marks, AreWholeTables}
 use Rattle.first_pass_grammar.proofs.LinesLeft.{lines_from_at}
 use Rattle.first_pass_grammar.proofs.MoreNames.{extends_none}
@@ -58,8 +58,8 @@ module _ (d : Document) (defined : Tables) (lines : List Place) (at : AreAt d.te
   whole_at tree run from plain c = (
     c.completion.names,
     c.completion.extends,
-    completed_whole d c.frames (map (λ (ix : TreeIndex). ix.0) tree.spine) (record { nodes = tree.nodes; list = NoList; run = run; defined = defined }) from
-        lines plain at (all_silent tree.nodes tree.spine c.frames c.are_open) tt c.completion c.derives,
+    completed_whole d c.frames (map (λ (ix : TreeIndex). ix.0) tree.spine)
+        (record { nodes = tree.nodes; list = NoList; before = record { last = last_of c.frames; counted = run }; defined = defined }) from lines plain at (all_silent tree.nodes tree.spine c.frames c.are_open) tt c.completion c.derives,
   )
 
   -- an item that takes blank lines alone shows nothing either

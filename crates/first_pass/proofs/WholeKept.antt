@@ -20,7 +20,8 @@ use Rattle.first_pass_grammar.specs.Leaves.{Document, document}
 use Rattle.first_pass_grammar.specs.Completion.{lines_from}
 use Rattle.first_pass_grammar.specs.Derivation.{list_flags}
 use Rattle.first_pass_grammar.specs.Order.{is_task_marker}
-use Rattle.first_pass_grammar.specs.Skeleton.{Line, OpensLeaf, leaf_block}
+use Rattle.first_pass_grammar.specs.Blocks.{leaf_block}
+use Rattle.first_pass_grammar.specs.Skeleton.{Line, OpensLeaf}
 use Rattle.first_pass_grammar.specs.Tables.{Taken}
 use Rattle.first_pass_grammar.specs.Texts.{IsText}
 use Rattle.first_pass_grammar.specs.Counting.{is_row}

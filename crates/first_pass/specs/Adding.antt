@@ -6,7 +6,8 @@ use Rattle.first_pass_lines.specs.Places.{Place, offset, line_end}
 use Rattle.first_pass_grammar.specs.Kinds.{Kind}
 use Rattle.first_pass_grammar.specs.Names.{Names, Extends}
 use Rattle.first_pass_grammar.specs.Leaves.{Document, document}
-use Rattle.first_pass_grammar.specs.Skeleton.{leaf_block, Line, OpensLeaf, OpensAs}
+use Rattle.first_pass_grammar.specs.Blocks.{leaf_block}
+use Rattle.first_pass_grammar.specs.Skeleton.{Line, OpensLeaf, OpensAs}
 use Rattle.first_pass_grammar.specs.Completion.{lines_from}
 use Rattle.first_pass_open.specs.Path.{path_of}
 use Rattle.first_pass_text.specs.Between.{AddsBetween}

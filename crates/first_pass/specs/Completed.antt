@@ -6,7 +6,7 @@ use Rattle.first_pass_lines.specs.Places.{Place}
 use Rattle.first_pass_grammar.specs.Leaves.{Document, document}
 use Rattle.first_pass_grammar.specs.Skeleton.{From, Line, Blanks, next_is_blank}
 use Rattle.first_pass_grammar.specs.Derivation.{Tables, Derives}
-use Rattle.first_pass_grammar.specs.Completion.{NoList, Frame, Completion}
+use Rattle.first_pass_grammar.specs.Completion.{NoList, Frame, last_of, Completion}
 use Rattle.first_pass_lists.specs.Closing.{emptied}
 use Rattle.first_pass_lists.specs.declared.reading.Reading.{Reading}
 use Rattle.first_pass_open.specs.Path.{path_of}
@@ -16,7 +16,8 @@ use Rattle.first_pass.specs.State.{AreOpen}
 pub record CompletedAt (d : Document) (defined : Tables) (tree : Forest Item) (run : Bool) (from : From) (lines : List Place) : Type 0 where
   pub frames : List Frame
   pub are_open : AreOpen tree.nodes tree.spine frames
-  pub completion : Completion d frames (map (λ ix. ix.0) tree.spine) (record { nodes = tree.nodes; list = NoList; run = run; defined = defined }) from lines
+  pub completion : Completion d frames (map (λ ix. ix.0) tree.spine)
+      (record { nodes = tree.nodes; list = NoList; before = record { last = last_of frames; counted = run }; defined = defined }) from lines
   pub derives : Derives (document d.text d.options completion.names) completion.forest completion.tables
 
 -- the same with an empty item innermost, whose marker's line ends at an offset: whether it takes blank lines alone is seen at the next line

@@ -12,7 +12,7 @@ use Rattle.first_pass_grammar.specs.Names.{Names, Extends}
 use Rattle.first_pass_grammar.specs.Leaves.{Document, document}
 use Rattle.first_pass_grammar.specs.Derivation.{Tables}
 use Rattle.first_pass_grammar.specs.Skeleton.{From, Line, Blanks, Ends, next_is_blank}
-use Rattle.first_pass_grammar.specs.Completion.{NoList, Frame, InContainer, InList, Completes}
+use Rattle.first_pass_grammar.specs.Completion.{NoList, Frame, InContainer, InList, last_of, Completes}
 use Rattle.first_pass_lists.specs.Closing.{emptied}
 use Rattle.first_pass_lists.specs.declared.reading.Reading.{Reading}
 use Rattle.first_pass_open.specs.Path.{path_in, path_of, outer}
@@ -44,7 +44,8 @@ AreOpen nodes (ix ∷ spine) (frame ∷ frames) = (frame_at nodes ix.0 ≡ Some 
 pub record ReadyAt (d : Document) (defined : Tables) (tree : Forest Item) (run : Bool) (from : From) (lines : List Place) : Type 0 where
   pub frames : List Frame
   pub are_open : AreOpen tree.nodes tree.spine frames
-  pub completes : Completes d frames (map (λ ix. ix.0) tree.spine) (record { nodes = tree.nodes; list = NoList; run = run; defined = defined }) from lines
+  pub completes : Completes d frames (map (λ ix. ix.0) tree.spine)
+      (record { nodes = tree.nodes; list = NoList; before = record { last = last_of frames; counted = run }; defined = defined }) from lines
 
 -- the same with an empty item innermost, whose marker's line ends at an offset: whether it takes blank lines alone is seen at the next line
 abbrev pub ReadyBeforeLine : Document → Tables → Forest Item → ℕ → List Place → Bool → Type 0

@@ -6,12 +6,13 @@ use Rattle.first_pass_items.specs.declared.option_set.Options.{Options}
 use Rattle.first_pass_lines.specs.Places.{Place, lines_at}
 use Rattle.first_pass_grammar.specs.declared.kind.Container.{Container}
 use Rattle.first_pass_grammar.specs.Names.{Names, Extends}
-use Rattle.first_pass_grammar.specs.Containers.{after}
+use Rattle.first_pass_grammar.specs.Containers.{after, is_quote}
 use Rattle.first_pass_grammar.specs.Leaves.{Document, document}
 use Rattle.first_pass_grammar.specs.Skeleton.{From, Line, Ends, end_before, IsSequence}
+use Rattle.first_pass_grammar.specs.Before.{nothing}
 use Rattle.first_pass_grammar.specs.Rows.{Rows, any_gap, rows_of}
 use Rattle.first_pass_grammar.specs.Derivation.{Tables, Derives, told, definitions_of, tables_of, root_of, items_of}
-use Rattle.first_pass_grammar.specs.Completion.{OneList, Standing, Further, AreFurther, rows_on, rows_beyond, rendered, Frame, InContainer, InList, containers_of, is_quote, loosened, container_closed, Becomes, Completes, CanGoOn, Completion}
+use Rattle.first_pass_grammar.specs.Completion.{OneList, Standing, Further, AreFurther, rows_on, rows_beyond, rendered, Frame, InContainer, InList, containers_of, loosened, container_closed, Becomes, Completes, CanGoOn, Completion}
 use Rattle.first_pass_grammar.proofs.Found.{Found}
 use Rattle.first_pass_grammar.proofs.MoreNames.{extends_none, extends_both}
 use Rattle.first_pass_grammar.proofs.Finishes.{containers-loosened}
@@ -66,12 +67,13 @@ becomes_some d [] [] w (f ∷ g ∷ more) from lines size are = absurd are
 becomes_some d [] (place ∷ places) w further from lines size are = absurd (omega arith)
 becomes_some d (frame ∷ frames) [] w further from lines size are = absurd (omega arith)
 becomes_some d (InList byte loose ∷ frames) (place ∷ places) w further from lines size are =
-    becomes_some d frames places (record { nodes = w.nodes; list = OneList place byte loose; run = w.run; defined = w.defined }) further from lines (omega arith) are
+    let inside : Standing = record { nodes = w.nodes; list = OneList place byte loose; before = w.before; defined = w.defined } in
+    becomes_some d frames places inside further from lines (omega arith) are
 becomes_some d (InContainer c ∷ frames) (place ∷ places) w [] from lines size are = absurd are
 becomes_some d (InContainer c ∷ frames) (place ∷ places) w (f ∷ further) from lines size (left, sequence, ends, are) =
     let rows : Rows = rows_on (is_quote c) w f in
     let gap : Bool = any_gap (rows_beyond w.list rows) in
-    let now : Standing = container_closed (suc (length (place ∷ places))) place w f rows in
+    let now : Standing = container_closed c (suc (length (place ∷ places))) place w f rows in
     becomes_some d (loosened gap frames) places now further Line left (omega (arith, length-loosened gap frames))
     (subst (λ (path : List Container). AreFurther d path Line left further) (sym (containers-loosened gap frames)) are)
 
@@ -106,7 +108,7 @@ text_derives text options names =
     let s = sequence_found text options names [] Line (lines_at 0 text) in
     let none : s.left ≡ [] = all_taken_by s.left (s.ends refl) in (
       s.more,
-      root_of (length text) ∷ items_of 1 false (rows_of false (length text) s.blocks),
+      root_of (length text) ∷ items_of 1 false (rows_of false nothing (length text) s.blocks),
       tables_of s.blocks,
       s.extends,
       record {

@@ -1,6 +1,7 @@
 -- Each step of reading a text, over what the nodes so far can still become.
 use Rattle.std.proofs.Common.{◌≡◌, ℕ, zero, suc, ◌+◌, ◌<◌, ◌≤◌, Bool, true, false, not, ◌||◌, ◌==◌, List, [], ◌∷◌, ◌++◌, length, map, Option, Some, None, refl, sym, ap, ◌∙◌, subst, arith, append_assoc, length-append, if◌then◌else◌}
 use Rattle.std.proofs.lemmas.List.{append-nil}
+use Rattle.std.proofs.Math.Bool.{or-false, or-true}
 use Rattle.first_pass_items.specs.declared.item.Item.{Item}
 use Rattle.first_pass_items.specs.declared.item.ItemBody.{ItemBody}
 use Rattle.first_pass_items.specs.declared.item.ListFlags.{ListFlags}
@@ -12,19 +13,20 @@ use Rattle.first_pass_tree.proofs.Blocks.{modify-at}
 use Rattle.first_pass_lines.specs.Places.{Place, lines_at, start_of}
 use Rattle.first_pass_grammar.specs.declared.kind.Container.{Container}
 use Rattle.first_pass_grammar.specs.declared.kind.Container.TheVariants.{BlockQuote, ListItem}
-use Rattle.first_pass_grammar.specs.Containers.{taken}
+use Rattle.first_pass_grammar.specs.Containers.{taken, is_quote}
 use Rattle.first_pass_grammar.specs.Names.{Names}
 use Rattle.first_pass_grammar.specs.Leaves.{Document}
-use Rattle.first_pass_grammar.specs.Skeleton.{Leaf, LeafBlock, BlankLine, Block, block_at, Head, Opener, QuoteMarker, ItemMarker, From, Line, Inside, Blanks, At, TextOf, MarkAlone, behind_marker, Opening, OpensLeaf, OpensNode, OpensText, Opens, Skeleton, Nil, Then, Node, Begins, Ends, behind_first, end_after, end_before, IsFirst, IsSequence}
+use Rattle.first_pass_grammar.specs.Blocks.{Leaf, LeafBlock, BlankLine, Block, block_at, Head, Opener, QuoteMarker, ItemMarker, Skeleton, Nil, Then, Node}
+use Rattle.first_pass_grammar.specs.Before.{Last, LastOther, LastItem, Before, nothing, last_container, after_blank, after_block, after_container, before_end}
+use Rattle.first_pass_grammar.specs.Skeleton.{From, Line, Inside, Blanks, At, TextOf, MarkAlone, behind_marker, Opening, OpensLeaf, OpensNode, OpensText, Opens, Begins, Ends, behind_first, end_after, end_before, IsFirst, IsSequence}
 use Rattle.first_pass_grammar.specs.Kinds.{Kind, Paragraph}
-use Rattle.first_pass_grammar.specs.Rows.{ALeaf, AList, Row, Rows, End, OneOf, behind, ends_in_gap, any_gap, is_loose, is_paragraph, closing_place, list_until, items_behind, list_behind, what_of, row_of, container_row, begins_blank, rows_of}
+use Rattle.first_pass_grammar.specs.Rows.{ALeaf, AList, Rows, End, OneOf, gapped, any_gap, is_loose, is_paragraph, closing_place, list_until, items_behind, list_behind, what_of, row_of, container_row, rows_of}
 use Rattle.first_pass_grammar.specs.LinkTables.{LinkEntry, with_link, with_links}
 use Rattle.first_pass_grammar.specs.Derivation.{Tables, Derives, no_tables, told, definitions_of, node_of, root_of, list_flags, block_items, items_of}
-use Rattle.first_pass_grammar.specs.Completion.{ended, flagged, list_closed, Pending, NoList, OneList, rows_beyond, rendered, Frame, InContainer, InList, containers_of, is_quote, loosened, AreBelow, IsPlain, IsShaped}
+use Rattle.first_pass_grammar.specs.Completion.{ended, flagged, list_closed, Pending, NoList, OneList, rows_beyond, rendered, Frame, InContainer, InList, containers_of, loosened, AreBelow, IsPlain, last_of, IsShaped}
 use Rattle.first_pass_grammar.proofs.Tightening.{eqb-same, modify-append, length-modify, list_closed-append, length-closed, list_closed-mid, closed_item}
 use Rattle.first_pass_grammar.proofs.Alike.{AlikeOpening}
-use Rattle.first_pass_grammar.proofs.RowLemmas.{or-none, or-some, behind-twice, behind-none, items-run, ends-behind}
-use Rattle.first_pass_grammar.proofs.Finishes.{rows_next, Finish, containers-loosened, CompletesAt, finish_derives, whole_by}
+use Rattle.first_pass_grammar.proofs.Finishes.{Finish, containers-loosened, before_of, CompletesAt, FinishesAt, finish_derives, whole_by}
 use Rattle.first_pass_grammar.proofs.Unique.{one_opening, ends_at_once}
 
 -- where a list ends before a leaf block or a container (this project)
@@ -39,17 +41,14 @@ abbrev pub joins : ℕ → Opener → Bool
 joins list (QuoteMarker kind) = false
 joins list (ItemMarker byte number columns) = list == byte
 
--- Whether a run of blank lines holds one that counts, with one more, in a block quote or not, after an item of a list, if any.
-abbrev pub counts_with : Bool → Pending → Bool → Bool
-counts_with quoted (OneList place byte loose) run = true
-counts_with quoted NoList run = run || not quoted
-
 -- what is equal comes about alike
-finish_moved : (d : Document) (defined : Tables) (run run' : Bool) (frames frames' : List Frame) (nodes nodes' : List (ℕ × Item)) (os : List ℕ) (lines : List Place) (forest : List (ℕ × Item)) (tables : Tables)
-    → run ≡ run' → frames ≡ frames' → nodes ≡ nodes' → Finish d defined NoList run frames nodes os Line lines forest tables → Finish d defined NoList run' frames' nodes' os Line lines forest tables
-finish_moved d defined run run' frames frames' nodes nodes' os lines forest tables runs same alike fin =
-    subst (λ z. Finish d defined NoList run' frames' z os Line lines forest tables) alike
-    (subst (λ z. Finish d defined NoList run' z nodes os Line lines forest tables) same (subst (λ z. Finish d defined NoList z frames nodes os Line lines forest tables) runs fin))
+finish_moved : (d : Document) (defined : Tables) (before before' : Before) (frames frames' : List Frame) (nodes nodes' : List (ℕ × Item)) (os : List ℕ)
+    (from : From) (lines : List Place) (forest : List (ℕ × Item)) (tables : Tables) → before ≡ before' → frames ≡ frames' → nodes ≡ nodes'
+    → Finish d defined NoList before frames nodes os from lines forest tables → Finish d defined NoList before' frames' nodes' os from lines forest tables
+finish_moved d defined before before' frames frames' nodes nodes' os from lines forest tables stand same alike fin =
+    subst (λ z. Finish d defined NoList before' frames' z os from lines forest tables) alike
+    (subst (λ z. Finish d defined NoList before' z nodes os from lines forest tables) same
+    (subst (λ z. Finish d defined NoList z frames nodes os from lines forest tables) stand fin))
 
 -- the nodes once the list at a place is said to be loose or not
 unfoldable pub reflagged : List (ℕ × Item) → ℕ → Bool → List (ℕ × Item)
@@ -98,18 +97,35 @@ plain_loosened gap [] h = refl
 plain_loosened gap (InContainer c ∷ frames) h = refl
 plain_loosened gap (InList byte loose ∷ frames) h = absurd h
 
+-- what stands before the next block, where no list is innermost
+plain_before : (run : Bool) (frames : List Frame) → IsPlain frames → before_of frames run ≡ record { last = LastOther; counted = run }
+plain_before run [] h = refl
+plain_before run (InContainer c ∷ frames) h = refl
+plain_before run (InList byte loose ∷ frames) h = absurd h
+
+last-loosened : (gap : Bool) (frames : List Frame) → last_of (loosened gap frames) ≡ last_of frames
+last-loosened gap [] = refl
+last-loosened gap (InContainer c ∷ frames) = refl
+last-loosened gap (InList byte loose ∷ frames) = refl
+
 -- the innermost open node is a block quote
 abbrev pub in_quote : List Frame → Bool
 in_quote [] = false
 in_quote (InContainer c ∷ frames) = is_quote c
 in_quote (InList byte loose ∷ frames) = false
 
--- What a block adds, or a list's end: the same items come of it, the same run of blank lines, and the same gaps with one that is noted.
-pub record Adds (d : Document) (quoted : Bool) (depth : ℕ) (path : List Container) (list list' : Pending) (run run' gap : Bool) (nodes nodes' : List (ℕ × Item)) (from : From) (lines : List Place) (s t : Skeleton) (mid : List Place) : Type 0 where
+-- where blocks continue at the next line and end before these lines, what they stand in ends at the start of the first of these
+abbrev pub EndsAt : ℕ → From → List Place → ℕ → Type 0
+EndsAt n from mid last = from ≡ Line → last ≡ start_of n mid
+
+-- What a block adds, or a list's end: the same items come of it, blank lines at the end count alike, and the same gaps with one that is noted.
+pub record Adds (d : Document) (quoted : Bool) (depth : ℕ) (path : List Container) (list list' : Pending) (before before' : Before) (gap : Bool)
+    (nodes nodes' : List (ℕ × Item)) (from : From) (lines : List Place) (s t : Skeleton) (mid : List Place) : Type 0 where
   pub seq : IsSequence d t path from lines mid
-  pub items : (last : ℕ) → rendered depth last nodes list (rows_next quoted last list run t) ≡ rendered depth last nodes' list' (rows_next quoted last list' run' s)
-  pub runs : (last : ℕ) → ends_in_gap (rows_next quoted last list run t) ≡ ends_in_gap (rows_next quoted last list' run' s)
-  pub gaps : (last : ℕ) → any_gap (rows_beyond list (rows_next quoted last list run t)) ≡ (gap || any_gap (rows_beyond list' (rows_next quoted last list' run' s)))
+  pub items : (last : ℕ) → EndsAt (length d.text) from mid last
+      → rendered depth last nodes list (rows_of quoted before last t) ≡ rendered depth last nodes' list' (rows_of quoted before' last s)
+  pub counts : (before_end quoted before t).counted ≡ (before_end quoted before' s).counted
+  pub gaps : (last : ℕ) → any_gap (rows_beyond list (rows_of quoted before last t)) ≡ (gap || any_gap (rows_beyond list' (rows_of quoted before' last s)))
 
 -- a container ends alike, wherever the blocks in it continue
 abbrev pub EndsAlike : ℕ → From → From → Type 0
@@ -128,39 +144,52 @@ told_by footnotes links = record { links = links; footnotes = footnotes }
 pub told-append : (defined : Tables) (a b : List LinkEntry) → told (told defined a) b ≡ told defined (a ++ b)
 told-append defined a b = ap (told_by defined.footnotes) (sym (told_links defined.links a b))
 
-finish_told : (d : Document) (defined defined' : Tables) (list : Pending) (run : Bool) (frames : List Frame) (nodes : List (ℕ × Item)) (os : List ℕ) (from : From) (lines : List Place) (forest : List (ℕ × Item)) (tables : Tables)
-    → defined ≡ defined' → Finish d defined list run frames nodes os from lines forest tables → Finish d defined' list run frames nodes os from lines forest tables
-finish_told d defined defined' list run frames nodes os from lines forest tables is fin = subst (λ z. Finish d z list run frames nodes os from lines forest tables) is fin
+finish_told : (d : Document) (defined defined' : Tables) (list : Pending) (before : Before) (frames : List Frame) (nodes : List (ℕ × Item)) (os : List ℕ)
+    (from : From) (lines : List Place) (forest : List (ℕ × Item)) (tables : Tables) → defined ≡ defined'
+    → Finish d defined list before frames nodes os from lines forest tables → Finish d defined' list before frames nodes os from lines forest tables
+finish_told d defined defined' list before frames nodes os from lines forest tables is fin =
+    subst (λ z. Finish d z list before frames nodes os from lines forest tables) is fin
 
-pub extend : (d : Document) (defined defined' : Tables) (frames : List Frame) (list list' : Pending) (run run' gap : Bool) (nodes nodes' : List (ℕ × Item)) (os : List ℕ) (from there : From) (lines left : List Place) (forest : List (ℕ × Item)) (tables : Tables) (f : Skeleton → Skeleton)
+pub extend : (d : Document) (defined defined' : Tables) (frames : List Frame) (list list' : Pending) (before before' : Before) (gap : Bool)
+    (nodes nodes' : List (ℕ × Item)) (os : List ℕ) (from there : From) (lines left : List Place) (forest : List (ℕ × Item)) (tables : Tables)
+    (f : Skeleton → Skeleton)
     → IsPlain frames → EndsAlike (length d.text) from there
-    → ((s : Skeleton) (mid : List Place) → IsSequence d s (containers_of frames) there left mid → Adds d (in_quote frames) (suc (length os)) (containers_of frames) list list' run run' gap nodes nodes' from lines s (f s) mid)
+    → ((s : Skeleton) (mid : List Place) → IsSequence d s (containers_of frames) there left mid
+    → Adds d (in_quote frames) (suc (length os)) (containers_of frames) list list' before before' gap nodes nodes' from lines s (f s) mid)
     → ((s : Skeleton) → told defined' (definitions_of s) ≡ told defined (definitions_of (f s)))
-    → Finish d defined' list' run' (loosened_in gap frames) nodes' os there left forest tables → Finish d defined list run frames nodes os from lines forest tables
+    → Finish d defined' list' before' (loosened_in gap frames) nodes' os there left forest tables
+    → Finish d defined list before frames nodes os from lines forest tables
 unfolding Finish
-extend d defined defined' [] list list' run run' gap nodes nodes' [] from there lines left forest tables f plain ends adds tells (s, seq, is, tables_are) =
-    let a = adds s [] seq in (f s, a.seq, is ∙ sym (a.items (length d.text)), tables_are ∙ tells s)
-extend d defined defined' [] list list' run run' gap nodes nodes' (o ∷ os) from there lines left forest tables f plain ends adds tells fin = fin
-extend d defined defined' (InContainer c ∷ frames) list list' run run' gap nodes nodes' [] from there lines left forest tables f plain ends adds tells fin = fin
-extend d defined defined' (InList byte loose ∷ frames) list list' run run' gap nodes nodes' os from there lines left forest tables f plain ends adds tells fin = absurd plain
-extend d defined defined' (InContainer c ∷ frames) list list' run run' gap nodes nodes' (o ∷ os) from there lines left forest tables f plain ends adds tells (s, mid, seq, fin) =
+extend d defined defined' [] list list' before before' gap nodes nodes' [] from there lines left forest tables f plain ends adds tells
+    (s, seq, is, tables_are) =
+    let a = adds s [] seq in (f s, a.seq, is ∙ sym (a.items (length d.text) (λ line. refl)), tables_are ∙ tells s)
+extend d defined defined' [] list list' before before' gap nodes nodes' (o ∷ os) from there lines left forest tables f plain ends adds tells fin = fin
+extend d defined defined' (InContainer c ∷ frames) list list' before before' gap nodes nodes' [] from there lines left forest tables f plain ends
+    adds tells fin = fin
+extend d defined defined' (InList byte loose ∷ frames) list list' before before' gap nodes nodes' os from there lines left forest tables f plain ends
+    adds tells fin = absurd plain
+extend d defined defined' (InContainer c ∷ frames) list list' before before' gap nodes nodes' (o ∷ os) from there lines left forest tables f plain ends
+    adds tells (s, mid, seq, fin) =
     let path : List Container = containers_of frames in
     let a = adds s mid (subst (λ p. IsSequence d s (c ∷ p) there left mid) (containers-loosened gap frames) seq) in
     let same : end_before (length d.text) (containers_of (loosened gap frames)) there mid ≡ end_before (length d.text) path from mid =
     ap (λ p. end_before (length d.text) p there mid) (containers-loosened gap frames) ∙ sym (ends path mid) in
     let e : ℕ = end_before (length d.text) path from mid in
+    let at : EndsAt (length d.text) from mid e = λ line. ap (λ z. end_before (length d.text) path z mid) line in
     let depth : ℕ = suc (length (o ∷ os)) in
-    let q : Bool = is_quote c in
-    let rows : Rows = rows_next q e list' run' s in
-    let g : loosened (any_gap (rows_beyond list' rows)) (loosened gap frames) ≡ loosened (any_gap (rows_beyond list (rows_next q e list run (f s)))) frames =
+    let rows : ℕ → Rows = λ last. rows_of (is_quote c) before' last s in
+    let now : Before = after_container c (before_end (is_quote c) before' s) in
+    let g : loosened (any_gap (rows_beyond list' (rows e))) (loosened gap frames)
+    ≡ loosened (any_gap (rows_beyond list (rows_of (is_quote c) before e (f s)))) frames =
     loosened-twice gap _ frames ∙ ap (λ z. loosened z frames) (sym (a.gaps e)) in (
       f s,
       mid,
       a.seq,
-      finish_moved d _ _ _ _ _ _ _ os mid forest tables (sym (a.runs e)) g (ap (λ z. ended z o e) (sym (a.items e)))
+      finish_moved d _ _ _ _ _ _ _ os Line mid forest tables (ap (λ z. record { last = last_container c; counted = z }) (sym a.counts)) g
+          (ap (λ z. ended z o e) (sym (a.items e at)))
           (finish_told d _ _ _ _ _ _ os Line mid forest tables (tells s)
-          (subst (λ z. Finish d (told defined' (definitions_of s)) NoList (ends_in_gap (rows_next q z list' run' s)) (loosened (any_gap (rows_beyond list' (rows_next q z list' run' s))) (loosened gap frames))
-          (ended (rendered depth z nodes' list' (rows_next q z list' run' s)) o z) os Line mid forest tables) same fin)),
+          (subst (λ z. Finish d (told defined' (definitions_of s)) NoList now (loosened (any_gap (rows_beyond list' (rows z))) (loosened gap frames))
+          (ended (rendered depth z nodes' list' (rows z)) o z) os Line mid forest tables) same fin)),
     )
 
 -- What begins inside a line begins at the line.
@@ -177,77 +206,69 @@ enter_seq d (Then leaf next) path line q lines left is (there, mid, first, seq) 
 enter_seq d (Node head e kids next) path line q lines left is (inside, behind, mid, first, inner, ends, seq) =
     (inside, behind, mid, enter_first d path line q lines (OpensNode head inside behind) is first, inner, ends, seq)
 
-enter_step : (d : Document) (defined : Tables) (frames : List Frame) (list : Pending) (run : Bool) (nodes : List (ℕ × Item)) (os : List ℕ) (line q : Place) (lines : List Place) (forest : List (ℕ × Item)) (tables : Tables)
-    → taken (containers_of frames) line ≡ Some q
-    → Finish d defined list run frames nodes os (Inside q) lines forest tables → Finish d defined list run frames nodes os Line (line ∷ lines) forest tables
+enter_step : (d : Document) (defined : Tables) (frames : List Frame) (list : Pending) (before : Before) (nodes : List (ℕ × Item)) (os : List ℕ)
+    (line q : Place) (lines : List Place) (forest : List (ℕ × Item)) (tables : Tables) → taken (containers_of frames) line ≡ Some q
+    → Finish d defined list before frames nodes os (Inside q) lines forest tables
+    → Finish d defined list before frames nodes os Line (line ∷ lines) forest tables
 unfolding Finish
-enter_step d defined [] list run nodes [] line q lines forest tables is (s, seq, forest_is, tables_are) = (s, enter_seq d s [] line q lines [] is seq, forest_is, tables_are)
-enter_step d defined [] list run nodes (o ∷ os) line q lines forest tables is fin = fin
-enter_step d defined (InContainer c ∷ frames) list run nodes [] line q lines forest tables is fin = fin
-enter_step d defined (InList byte loose ∷ frames) list run nodes [] line q lines forest tables is fin = fin
-enter_step d defined (InList byte loose ∷ frames) list run nodes (o ∷ os) line q lines forest tables is fin = enter_step d defined frames (OneList o byte loose) run nodes os line q lines forest tables is fin
-enter_step d defined (InContainer c ∷ frames) list run nodes (o ∷ os) line q lines forest tables is (s, mid, seq, fin) =
+enter_step d defined [] list before nodes [] line q lines forest tables is (s, seq, forest_is, tables_are) =
+    (s, enter_seq d s [] line q lines [] is seq, forest_is, tables_are)
+enter_step d defined [] list before nodes (o ∷ os) line q lines forest tables is fin = fin
+enter_step d defined (InContainer c ∷ frames) list before nodes [] line q lines forest tables is fin = fin
+enter_step d defined (InList byte loose ∷ frames) list before nodes [] line q lines forest tables is fin = fin
+enter_step d defined (InList byte loose ∷ frames) list before nodes (o ∷ os) line q lines forest tables is fin =
+    enter_step d defined frames (OneList o byte loose) before nodes os line q lines forest tables is fin
+enter_step d defined (InContainer c ∷ frames) list before nodes (o ∷ os) line q lines forest tables is (s, mid, seq, fin) =
     (s, mid, enter_seq d s (c ∷ containers_of frames) line q lines mid is seq, fin)
 
 first_here : (d : Document) (path : List Container) (p : Place) (lines : List Place) (opening : Opening) → Opens d path p lines opening → IsFirst d path (Inside p) lines opening
 first_here d path p lines opening opens = record { place = p; behind = lines; begins = (refl, refl); opens = opens }
 
 -- a block with no blocks in it, before which no gap is to be noted
-block_step : (d : Document) (defined : Tables) (frames : List Frame) (nodes : List (ℕ × Item)) (os : List ℕ) (from : From) (lines left : List Place) (b : LeafBlock) (forest : List (ℕ × Item)) (tables : Tables)
+block_step : (d : Document) (defined : Tables) (frames : List Frame) (nodes : List (ℕ × Item)) (os : List ℕ) (from : From) (lines left : List Place)
+    (b : LeafBlock) (forest : List (ℕ × Item)) (tables : Tables)
     → IsPlain frames → EndsAlike (length d.text) from (behind_first from Line) → IsFirst d (containers_of frames) from lines (OpensLeaf (Block b) Line left)
-    → Finish d (told defined b.definitions) NoList b.gap frames (nodes ++ block_items (suc (length os)) false b) os (behind_first from Line) left forest tables → Finish d defined NoList false frames nodes os from lines forest tables
-unfolding IsSequence items_of rows_of ends_in_gap any_gap rendered definitions_of
+    → FinishesAt d (told defined b.definitions) b.gap frames (nodes ++ block_items (suc (length os)) false b) os (behind_first from Line) left forest tables
+    → FinishesAt d defined false frames nodes os from lines forest tables
+unfolding IsSequence items_of rows_of before_end any_gap rendered definitions_of
 block_step d defined frames nodes os from lines left b forest tables plain alike first fin =
-    let k : ℕ = suc (length os) in
-    let q : Bool = in_quote frames in
-    let added : List (ℕ × Item) = block_items k false b in
-    extend d defined (told defined b.definitions) frames NoList NoList false b.gap false nodes (nodes ++ added) os from (behind_first from Line) lines left forest tables (λ s. Then (Block b) s) plain alike
+    let added : List (ℕ × Item) = block_items (suc (length os)) false b in
+    extend d defined (told defined b.definitions) frames NoList NoList (before_of frames false) (after_block b) false nodes (nodes ++ added) os
+    from (behind_first from Line) lines left forest tables (λ s. Then (Block b) s) plain alike
     (λ s mid seq. record {
       seq = (Line, left, first, seq);
-      items = λ last. sym (ap (λ z. (nodes ++ added) ++ items_of k false (behind z (rows_of q last s))) (or-none b.gap) ∙ append_assoc nodes added (items_of k false (behind b.gap (rows_of q last s))));
-      runs = λ last. ap (λ z. ends_in_gap (behind z (rows_of q last s))) (sym (or-none b.gap));
-      gaps = λ last. ap (λ z. any_gap (behind z (rows_of q last s))) (sym (or-none b.gap));
+      items = λ last is. sym (append_assoc nodes added _);
+      counts = refl;
+      gaps = λ last. refl;
     })
     (λ s. told-append defined b.definitions (definitions_of s))
-    (subst (λ z. Finish d (told defined b.definitions) NoList b.gap z (nodes ++ added) os (behind_first from Line) left forest tables) (sym (loosened_in-false frames)) fin)
-
--- a blank line more
-blank_noted : (quoted : Bool) (list : Pending) (run : Bool) (last : ℕ) (s : Skeleton) → rows_next quoted last list run (Then BlankLine s) ≡ rows_next quoted last list (counts_with quoted list run) s
-unfolding rows_of
-blank_noted quoted NoList run last s =
-    let r : Rows = rows_of quoted last s in
-    behind-twice (run || false) (not quoted) r ∙ ap (λ z. behind (z || not quoted) r) (or-none run) ∙ ap (λ z. behind z r) (sym (or-none (run || not quoted)))
-blank_noted quoted (OneList place byte loose) run last s =
-    let r : Rows = rows_of quoted last s in behind-twice (run || true) (not quoted) r ∙ ap (λ z. behind (z || not quoted) r) (or-some run)
+    (finish_moved d _ _ _ _ _ _ _ os (behind_first from Line) left forest tables (plain_before b.gap frames plain) (sym (loosened_in-false frames)) refl fin)
 
 -- a blank line, where a list may continue
-blank_step : (d : Document) (defined : Tables) (frames : List Frame) (list : Pending) (run : Bool) (nodes : List (ℕ × Item)) (os : List ℕ) (from : From) (lines left : List Place) (forest : List (ℕ × Item)) (tables : Tables)
+blank_step : (d : Document) (defined : Tables) (frames : List Frame) (list : Pending) (before : Before) (nodes : List (ℕ × Item)) (os : List ℕ) (from : From)
+    (lines left : List Place) (forest : List (ℕ × Item)) (tables : Tables)
     → IsPlain frames → EndsAlike (length d.text) from (behind_first from Line) → IsFirst d (containers_of frames) from lines (OpensLeaf BlankLine Line left)
-    → Finish d defined list (counts_with (in_quote frames) list run) frames nodes os (behind_first from Line) left forest tables → Finish d defined list run frames nodes os from lines forest tables
-unfolding IsSequence definitions_of
-blank_step d defined frames list run nodes os from lines left forest tables plain alike first fin =
-    let q : Bool = in_quote frames in
-    let counts : Bool = counts_with q list run in
-    extend d defined defined frames list list run counts false nodes nodes os from (behind_first from Line) lines left forest tables (λ s. Then BlankLine s) plain alike
-    (λ s mid seq. record {
-      seq = (Line, left, first, seq);
-      items = λ last. ap (rendered (suc (length os)) last nodes list) (blank_noted q list run last s);
-      runs = λ last. ap ends_in_gap (blank_noted q list run last s);
-      gaps = λ last. ap (λ z. any_gap (rows_beyond list z)) (blank_noted q list run last s);
-    })
-    (λ s. refl)
-    (subst (λ z. Finish d defined list counts z nodes os (behind_first from Line) left forest tables) (sym (loosened_in-false frames)) fin)
+    → Finish d defined list (after_blank (in_quote frames) before) frames nodes os (behind_first from Line) left forest tables
+    → Finish d defined list before frames nodes os from lines forest tables
+unfolding IsSequence rows_of before_end definitions_of
+blank_step d defined frames list before nodes os from lines left forest tables plain alike first fin =
+    let now : Before = after_blank (in_quote frames) before in
+    extend d defined defined frames list list before now false nodes nodes os from (behind_first from Line) lines left forest tables (λ s. Then BlankLine s)
+    plain alike (λ s mid seq. record { seq = (Line, left, first, seq); items = λ last is. refl; counts = refl; gaps = λ last. refl }) (λ s. refl)
+    (subst (λ z. Finish d defined list now z nodes os (behind_first from Line) left forest tables) (sym (loosened_in-false frames)) fin)
 
 ended-mid : (nodes more : List (ℕ × Item)) (k e : ℕ) (x : Item) → ended (nodes ++ (k, x) ∷ more) (length nodes) e ≡ nodes ++ (k, record { start = x.start; «end» = e; body = x.body }) ∷ more
 unfolding ended
 ended-mid nodes more k e x = modify-at nodes more (k, x) (length nodes) (λ y. record { start = y.start; «end» = e; body = y.body }) refl
 
 -- a block quote opened, before which no gap is to be noted
-quote_step : (d : Document) (defined : Tables) (frames : List Frame) (nodes : List (ℕ × Item)) (os : List ℕ) (p : Place) (lines behind : List Place) (kind : Option BlockQuoteKind) (start line some_end : ℕ) (inside : From) (forest : List (ℕ × Item)) (tables : Tables)
+quote_step : (d : Document) (defined : Tables) (frames : List Frame) (nodes : List (ℕ × Item)) (os : List ℕ) (p : Place) (lines behind : List Place)
+    (kind : Option BlockQuoteKind) (start line some_end : ℕ) (inside : From) (forest : List (ℕ × Item)) (tables : Tables)
     → IsPlain frames → Opens d (containers_of frames) p lines (OpensNode (record { opener = QuoteMarker kind; start = start; line = line }) inside behind)
-    → Finish d defined NoList false (InContainer (BlockQuote kind) ∷ frames) (nodes ++ (suc (length os), node_of start some_end (BlockQuoteBody kind)) ∷ []) (length nodes ∷ os) inside behind forest tables
-    → Finish d defined NoList false frames nodes os (Inside p) lines forest tables
-unfolding Finish IsSequence rows_of items_of ends_in_gap any_gap rendered definitions_of
+    → FinishesAt d defined false (InContainer (BlockQuote kind) ∷ frames) (nodes ++ (suc (length os), node_of start some_end (BlockQuoteBody kind)) ∷ [])
+    (length nodes ∷ os) inside behind forest tables
+    → FinishesAt d defined false frames nodes os (Inside p) lines forest tables
+unfolding Finish IsSequence rows_of before_end items_of any_gap rendered definitions_of
 quote_step d defined frames nodes os p lines behind kind start line some_end inside forest tables plain opens (kids, mid, inner, fin) =
     let n : ℕ = length d.text in
     let path : List Container = containers_of frames in
@@ -256,22 +277,23 @@ quote_step d defined frames nodes os p lines behind kind start line some_end ins
     let head : Head = record { opener = QuoteMarker kind; start = start; line = line } in
     let x : ℕ × Item = (k, node_of start some_end (BlockQuoteBody kind)) in
     let y : ℕ × Item = (k, node_of start e (BlockQuoteBody kind)) in
-    let rows : Rows = rows_of true e kids in
+    let rows : Rows = rows_of true nothing e kids in
     let items : List (ℕ × Item) = items_of (suc k) false rows in
     let later : List (ℕ × Item) = nodes ++ y ∷ items in
     let same : ended ((nodes ++ x ∷ []) ++ items) (length nodes) e ≡ later =
     ap (λ z. ended z (length nodes) e) (append_assoc nodes (x ∷ []) items) ∙ ended-mid nodes items k e (node_of start some_end (BlockQuoteBody kind)) in
-    let run : Bool = ends_in_gap rows in
-    extend d defined (told defined (definitions_of kids)) frames NoList NoList false run false nodes later os (Inside p) Line lines mid forest tables (λ s. Node head e kids s) plain (λ path mid. refl)
+    let now : Before = after_container (BlockQuote kind) (before_end true nothing kids) in
+    extend d defined (told defined (definitions_of kids)) frames NoList NoList (before_of frames false) now false nodes later os
+    (Inside p) Line lines mid forest tables (λ s. Node head e kids s) plain (λ path mid. refl)
     (λ s left seq. record {
       seq = (inside, behind, mid, first_here d path p lines (OpensNode head inside behind) opens, inner, refl, seq);
-      items = λ last. sym (append_assoc nodes (y ∷ items) _);
-      runs = λ last. refl;
+      items = λ last is. sym (append_assoc nodes (y ∷ items) _);
+      counts = refl;
       gaps = λ last. refl;
     })
     (λ s. told-append defined (definitions_of kids) (definitions_of s))
-    (finish_moved d _ run run _ _ _ later os mid forest tables refl (plain_loosened (any_gap rows) frames plain ∙ sym (loosened_in-false frames)) same
-    (subst (λ r. Finish d (told defined (definitions_of kids)) NoList (ends_in_gap r) (loosened (any_gap r) frames) (ended (rendered (suc k) e (nodes ++ x ∷ []) NoList r) (length nodes) e) os Line mid forest tables) (behind-none rows) fin))
+    (finish_moved d _ now now _ _ _ later os Line mid forest tables refl
+    (plain_loosened (any_gap rows) frames plain ∙ sym (loosened_in-false frames)) same fin)
 
 ended-second : (nodes more : List (ℕ × Item)) (y : ℕ × Item) (k e : ℕ) (x : Item)
     → ended (nodes ++ y ∷ (k, x) ∷ more) (suc (length nodes)) e ≡ nodes ++ y ∷ (k, record { start = x.start; «end» = e; body = x.body }) ∷ more
@@ -279,16 +301,18 @@ unfolding ended
 ended-second [] more y k e x = refl
 ended-second (z ∷ nodes) more y k e x = ap (λ w. z ∷ w) (ended-second nodes more y k e x)
 
-list_items : (quoted : Bool) (d last e start some_end byte number columns line : ℕ) (flags : ListFlags) (nodes : List (ℕ × Item)) (kids s : Skeleton)
+list_items : (quoted : Bool) (d last e start some_end byte number columns line : ℕ) (flags : ListFlags) (before : Before) (nodes : List (ℕ × Item))
+    (kids s : Skeleton)
     → (let head : Head = record { opener = ItemMarker byte number columns; start = start; line = line } in
-    let rows : Rows = rows_of false e kids in
-    rendered d last nodes NoList (rows_next quoted last NoList false (Node head e kids s))
+    let rows : Rows = rows_of false nothing e kids in
+    let now : Before = after_container (ListItem columns) (before_end false nothing kids) in
+    rendered d last nodes NoList (rows_of quoted before last (Node head e kids s))
     ≡ rendered d last (nodes ++ (d, node_of start some_end (ListBody flags byte number)) ∷ (suc d, node_of start e (ListItemBody columns)) ∷ items_of (suc (suc d)) false rows)
-    (OneList (length nodes) byte (any_gap rows)) (rows_next quoted last (OneList (length nodes) byte (any_gap rows)) (ends_in_gap rows) s))
+    (OneList (length nodes) byte (any_gap rows)) (rows_of quoted now last s))
 unfolding items_of rows_of is_loose rendered
-list_items quoted d last e start some_end byte number columns line flags nodes kids s =
-    let rows : Rows = rows_of false e kids in
-    let next : Rows = behind (ends_in_gap rows || begins_blank s) (rows_of quoted last s) in
+list_items quoted d last e start some_end byte number columns line flags before nodes kids s =
+    let rows : Rows = rows_of false nothing e kids in
+    let next : Rows = rows_of quoted (after_container (ListItem columns) (before_end false nothing kids)) last s in
     let loose : Bool = any_gap rows || is_loose (items_behind byte next) in
     let until : ℕ = list_until byte last next in
     let entry : ℕ × Item = (suc d, node_of start e (ListItemBody columns)) in
@@ -302,12 +326,14 @@ list_items quoted d last e start some_end byte number columns line flags nodes k
     ∙ ap (λ z. nodes ++ list ∷ entry ∷ z) (sym (append_assoc a b c)))
 
 -- a list opened with its first item, before which no gap is to be noted
-list_step : (d : Document) (defined : Tables) (frames : List Frame) (nodes : List (ℕ × Item)) (os : List ℕ) (p : Place) (lines behind : List Place) (byte number columns start line some_end other_end : ℕ) (flags : ListFlags) (inside : From) (forest : List (ℕ × Item)) (tables : Tables)
+list_step : (d : Document) (defined : Tables) (frames : List Frame) (nodes : List (ℕ × Item)) (os : List ℕ) (p : Place) (lines behind : List Place)
+    (byte number columns start line some_end other_end : ℕ) (flags : ListFlags) (inside : From) (forest : List (ℕ × Item)) (tables : Tables)
     → IsPlain frames → Opens d (containers_of frames) p lines (OpensNode (record { opener = ItemMarker byte number columns; start = start; line = line }) inside behind)
-    → Finish d defined NoList false (InContainer (ListItem columns) ∷ InList byte false ∷ frames)
-    (nodes ++ (suc (length os), node_of start some_end (ListBody flags byte number)) ∷ (suc (suc (length os)), node_of start other_end (ListItemBody columns)) ∷ []) (suc (length nodes) ∷ length nodes ∷ os) inside behind forest tables
-    → Finish d defined NoList false frames nodes os (Inside p) lines forest tables
-unfolding Finish IsSequence rows_of items_of ends_in_gap any_gap rendered definitions_of
+    → FinishesAt d defined false (InContainer (ListItem columns) ∷ InList byte false ∷ frames)
+    (nodes ++ (suc (length os), node_of start some_end (ListBody flags byte number)) ∷
+    (suc (suc (length os)), node_of start other_end (ListItemBody columns)) ∷ []) (suc (length nodes) ∷ length nodes ∷ os) inside behind forest tables
+    → FinishesAt d defined false frames nodes os (Inside p) lines forest tables
+unfolding Finish IsSequence rows_of before_end items_of any_gap rendered definitions_of
 list_step d defined frames nodes os p lines behind byte number columns start line some_end other_end flags inside forest tables plain opens (kids, mid, inner, fin) =
     let n : ℕ = length d.text in
     let path : List Container = containers_of frames in
@@ -316,25 +342,24 @@ list_step d defined frames nodes os p lines behind byte number columns start lin
     let head : Head = record { opener = ItemMarker byte number columns; start = start; line = line } in
     let y : ℕ × Item = (k, node_of start some_end (ListBody flags byte number)) in
     let x : ℕ × Item = (suc k, node_of start other_end (ListItemBody columns)) in
-    let rows : Rows = rows_of false e kids in
+    let rows : Rows = rows_of false nothing e kids in
     let items : List (ℕ × Item) = items_of (suc (suc k)) false rows in
     let later : List (ℕ × Item) = nodes ++ y ∷ (suc k, node_of start e (ListItemBody columns)) ∷ items in
     let same : ended ((nodes ++ y ∷ x ∷ []) ++ items) (suc (length nodes)) e ≡ later =
     ap (λ z. ended z (suc (length nodes)) e) (append_assoc nodes (y ∷ x ∷ []) items) ∙ ended-second nodes items y (suc k) e (node_of start other_end (ListItemBody columns)) in
-    let run : Bool = ends_in_gap rows in
+    let now : Before = after_container (ListItem columns) (before_end false nothing kids) in
     let list : Pending = OneList (length nodes) byte (any_gap rows) in
-    extend d defined (told defined (definitions_of kids)) frames NoList list false run false nodes later os (Inside p) Line lines mid forest tables (λ s. Node head e kids s) plain (λ path mid. refl)
+    extend d defined (told defined (definitions_of kids)) frames NoList list (before_of frames false) now false nodes later os
+    (Inside p) Line lines mid forest tables (λ s. Node head e kids s) plain (λ path mid. refl)
     (λ s left seq. record {
       seq = (inside, behind, mid, first_here d path p lines (OpensNode head inside behind) opens, inner, refl, seq);
-      items = λ last. list_items (in_quote frames) k last e start some_end byte number columns line flags nodes kids s;
-      runs = λ last. ends-behind byte (rows_next (in_quote frames) last list run s);
+      items = λ last is. list_items (in_quote frames) k last e start some_end byte number columns line flags (before_of frames false) nodes kids s;
+      counts = refl;
       gaps = λ last. refl;
     })
     (λ s. told-append defined (definitions_of kids) (definitions_of s))
-    (subst (λ z. Finish d (told defined (definitions_of kids)) list run z later os Line mid forest tables) (sym (loosened_in-false frames))
-    (subst (λ z. Finish d (told defined (definitions_of kids)) list run frames z os Line mid forest tables) same
-    (subst (λ r. Finish d (told defined (definitions_of kids)) (OneList (length nodes) byte (any_gap r)) (ends_in_gap r) frames (ended (rendered (suc (suc k)) e (nodes ++ y ∷ x ∷ []) NoList r) (suc (length nodes)) e) os Line mid forest tables)
-    (behind-none rows) fin)))
+    (subst (λ z. Finish d (told defined (definitions_of kids)) list now z later os Line mid forest tables) (sym (loosened_in-false frames))
+    (subst (λ z. Finish d (told defined (definitions_of kids)) list now frames z os Line mid forest tables) same fin))
 
 or_four : (a b c e : Bool) → (a || (b || (c || e))) ≡ (((a || b) || c) || e)
 or_four true b c e = refl
@@ -344,56 +369,60 @@ or_four false false c e = refl
 -- rows that begin with a list of this byte
 list_first : (byte number until line start : ℕ) (gap : Bool) (last : ℕ) (items past : Rows)
     → (let rows : Rows = OneOf (record { what = AList byte number until; line = line; start = start; gap = gap }) items past in
-    (items_behind byte rows ≡ behind gap items) × (list_until byte last rows ≡ until) × (list_behind byte rows ≡ past))
+    (items_behind byte rows ≡ gapped gap items) × (list_until byte last rows ≡ until) × (list_behind byte rows ≡ past))
 list_first byte number until line start gap last items past = let t = eqb-same byte in (rw t refl, rw t refl, rw t refl)
 
-joined_items : (quoted : Bool) (d last e start byte number columns line o : ℕ) (run loose : Bool) (nodes : List (ℕ × Item)) (kids s : Skeleton) → o < length nodes
+joined_items : (quoted : Bool) (d last e start byte number columns line o : ℕ) (before : Before) (loose : Bool) (nodes : List (ℕ × Item)) (kids s : Skeleton)
+    → o < length nodes
     → (let head : Head = record { opener = ItemMarker byte number columns; start = start; line = line } in
-    let inner : Rows = rows_of false e kids in
-    let list : Pending = OneList o byte ((loose || run) || any_gap inner) in
-    let rows : Rows = rows_next quoted last (OneList o byte loose) run (Node head e kids s) in
-    let next : Rows = rows_next quoted last list (ends_in_gap inner) s in
-    (rendered d last nodes (OneList o byte loose) rows ≡ rendered d last (nodes ++ (suc d, node_of start e (ListItemBody columns)) ∷ items_of (suc (suc d)) false inner) list next)
-    × (ends_in_gap rows ≡ ends_in_gap next) × (any_gap (list_behind byte rows) ≡ any_gap (list_behind byte next)))
-unfolding items_of rows_of is_loose ends_in_gap rendered
-joined_items quoted d last e start byte number columns line o run loose nodes kids s h =
+    let inner : Rows = rows_of false nothing e kids in
+    let now : Before = after_container (ListItem columns) (before_end false nothing kids) in
+    let list : Pending = OneList o byte ((loose || before.counted) || any_gap inner) in
+    let rows : Rows = rows_of quoted before last (Node head e kids s) in
+    let next : Rows = rows_of quoted now last s in
+    (rendered d last nodes (OneList o byte loose) rows
+    ≡ rendered d last (nodes ++ (suc d, node_of start e (ListItemBody columns)) ∷ items_of (suc (suc d)) false inner) list next)
+    × (any_gap (list_behind byte rows) ≡ any_gap (list_behind byte next)))
+unfolding items_of rows_of is_loose rendered
+joined_items quoted d last e start byte number columns line o before loose nodes kids s h =
     let head : Head = record { opener = ItemMarker byte number columns; start = start; line = line } in
-    let inner : Rows = rows_of false e kids in
-    let rows : Rows = rows_next quoted last (OneList o byte loose) run (Node head e kids s) in
-    let next : Rows = behind (ends_in_gap inner || begins_blank s) (rows_of quoted last s) in
+    let inner : Rows = rows_of false nothing e kids in
+    let rows : Rows = rows_of quoted before last (Node head e kids s) in
+    let next : Rows = rows_of quoted (after_container (ListItem columns) (before_end false nothing kids)) last s in
     let more : Rows = items_behind byte next in
     let past : Rows = list_behind byte next in
     let until : ℕ = list_until byte last next in
-    let gap : Bool = (run || false) || false in
-    let items : Rows = OneOf (row_of head e) inner more in
-    let first = list_first byte number until line start gap last items past in
-    let all : Bool = ((loose || run) || any_gap inner) || is_loose more in
-    let is : (loose || is_loose (behind gap items)) ≡ all =
-    ap (λ z. loose || (z || (any_gap inner || is_loose more))) (or-none gap ∙ or-none (run || false) ∙ or-none run) ∙ or_four loose run (any_gap inner) (is_loose more) in
+    let items : Rows = OneOf (row_of head e before.counted) inner more in
+    let first = list_first byte number until line start before.counted last (OneOf (row_of head e false) inner more) past in
+    let now : Bool = loose || (before.counted || (any_gap inner || is_loose more)) in
+    let all : Bool = ((loose || before.counted) || any_gap inner) || is_loose more in
+    let is : now ≡ all = or_four loose before.counted (any_gap inner) (is_loose more) in
     let entry : ℕ × Item = (suc d, node_of start e (ListItemBody columns)) in
     let closed : List (ℕ × Item) = list_closed nodes o (suc (suc d)) all until in
     let a : List (ℕ × Item) = items_of (suc (suc d)) (not all) inner in
     let b : List (ℕ × Item) = items_of (suc d) (not all) more in
     let c : List (ℕ × Item) = items_of d false past in (
-      ap (λ z. list_closed nodes o (suc (suc d)) (loose || is_loose z) (list_until byte last rows) ++ (items_of (suc d) (not (loose || is_loose z)) z ++ items_of d false (list_behind byte rows))) first.0
-          ∙ ap (λ z. list_closed nodes o (suc (suc d)) (loose || is_loose (behind gap items)) z ++ (items_of (suc d) (not (loose || is_loose (behind gap items))) (behind gap items) ++ items_of d false (list_behind byte rows))) first.1
-          ∙ ap (λ z. list_closed nodes o (suc (suc d)) (loose || is_loose (behind gap items)) until ++ (items_of (suc d) (not (loose || is_loose (behind gap items))) (behind gap items) ++ items_of d false z)) first.2
-          ∙ ap (λ z. list_closed nodes o (suc (suc d)) z until ++ (items_of (suc d) (not z) (behind gap items) ++ c)) is
+      ap (λ z. list_closed nodes o (suc (suc d)) (loose || is_loose z) (list_until byte last rows)
+          ++ (items_of (suc d) (not (loose || is_loose z)) z ++ items_of d false (list_behind byte rows))) first.0
+          ∙ ap (λ z. list_closed nodes o (suc (suc d)) now z ++ (items_of (suc d) (not now) items ++ items_of d false (list_behind byte rows))) first.1
+          ∙ ap (λ z. list_closed nodes o (suc (suc d)) now until ++ (items_of (suc d) (not now) items ++ items_of d false z)) first.2
+          ∙ ap (λ z. list_closed nodes o (suc (suc d)) z until ++ (items_of (suc d) (not z) items ++ c)) is
           ∙ sym (ap (λ z. z ++ (b ++ c)) (list_closed-append nodes (entry ∷ items_of (suc (suc d)) false inner) o (suc (suc d)) all until h)
           ∙ ap (λ z. (closed ++ z) ++ (b ++ c)) (closed_item d e all (node_of start e (ListItemBody columns)) kids)
           ∙ append_assoc closed (entry ∷ a) (b ++ c)
           ∙ ap (λ z. closed ++ entry ∷ z) (sym (append_assoc a b c))),
-      ends-behind byte next,
       ap any_gap first.2,
     )
 
 -- an item opened in a list that continues
-item_step : (d : Document) (defined : Tables) (frames : List Frame) (run loose : Bool) (nodes : List (ℕ × Item)) (o : ℕ) (os : List ℕ) (p : Place) (lines behind : List Place) (byte number columns start line some_end : ℕ) (inside : From) (forest : List (ℕ × Item)) (tables : Tables)
-    → IsPlain frames → o < length nodes → Opens d (containers_of frames) p lines (OpensNode (record { opener = ItemMarker byte number columns; start = start; line = line }) inside behind)
-    → Finish d defined NoList false (InContainer (ListItem columns) ∷ InList byte (loose || run) ∷ frames)
+item_step : (d : Document) (defined : Tables) (frames : List Frame) (run loose : Bool) (nodes : List (ℕ × Item)) (o : ℕ) (os : List ℕ) (p : Place)
+    (lines behind : List Place) (byte number columns start line some_end : ℕ) (inside : From) (forest : List (ℕ × Item)) (tables : Tables)
+    → IsPlain frames → o < length nodes
+    → Opens d (containers_of frames) p lines (OpensNode (record { opener = ItemMarker byte number columns; start = start; line = line }) inside behind)
+    → FinishesAt d defined false (InContainer (ListItem columns) ∷ InList byte (loose || run) ∷ frames)
     (nodes ++ (suc (suc (length os)), node_of start some_end (ListItemBody columns)) ∷ []) (length nodes ∷ o ∷ os) inside behind forest tables
-    → Finish d defined NoList run (InList byte loose ∷ frames) nodes (o ∷ os) (Inside p) lines forest tables
-unfolding Finish IsSequence any_gap rendered definitions_of
+    → FinishesAt d defined run (InList byte loose ∷ frames) nodes (o ∷ os) (Inside p) lines forest tables
+unfolding Finish IsSequence before_end any_gap rendered definitions_of
 item_step d defined frames run loose nodes o os p lines behind byte number columns start line some_end inside forest tables plain below opens (kids, mid, inner, fin) =
     let n : ℕ = length d.text in
     let path : List Container = containers_of frames in
@@ -402,25 +431,25 @@ item_step d defined frames run loose nodes o os p lines behind byte number colum
     let e : ℕ = end_before n path inside mid in
     let head : Head = record { opener = ItemMarker byte number columns; start = start; line = line } in
     let x : ℕ × Item = (suc k, node_of start some_end (ListItemBody columns)) in
-    let rows : Rows = rows_of false e kids in
+    let rows : Rows = rows_of false nothing e kids in
     let items : List (ℕ × Item) = items_of (suc (suc k)) false rows in
     let later : List (ℕ × Item) = nodes ++ (suc k, node_of start e (ListItemBody columns)) ∷ items in
     let same : ended ((nodes ++ x ∷ []) ++ items) (length nodes) e ≡ later =
     ap (λ z. ended z (length nodes) e) (append_assoc nodes (x ∷ []) items) ∙ ended-mid nodes items (suc k) e (node_of start some_end (ListItemBody columns)) in
-    let next : Bool = ends_in_gap rows in
+    let before : Before = record { last = LastItem; counted = run } in
+    let now : Before = after_container (ListItem columns) (before_end false nothing kids) in
     let list : Pending = OneList o byte ((loose || run) || any_gap rows) in
-    extend d defined (told defined (definitions_of kids)) frames (OneList o byte loose) list run next false nodes later os (Inside p) Line lines mid forest tables (λ s. Node head e kids s) plain (λ path mid. refl)
+    extend d defined (told defined (definitions_of kids)) frames (OneList o byte loose) list before now false nodes later os
+    (Inside p) Line lines mid forest tables (λ s. Node head e kids s) plain (λ path mid. refl)
     (λ s left seq. record {
       seq = (inside, behind, mid, first_here d path p lines (OpensNode head inside behind) opens, inner, refl, seq);
-      items = λ last. (joined_items q k last e start byte number columns line o run loose nodes kids s below).0;
-      runs = λ last. (joined_items q k last e start byte number columns line o run loose nodes kids s below).1;
-      gaps = λ last. (joined_items q k last e start byte number columns line o run loose nodes kids s below).2;
+      items = λ last is. (joined_items q k last e start byte number columns line o before loose nodes kids s below).0;
+      counts = refl;
+      gaps = λ last. (joined_items q k last e start byte number columns line o before loose nodes kids s below).1;
     })
     (λ s. told-append defined (definitions_of kids) (definitions_of s))
-    (subst (λ z. Finish d (told defined (definitions_of kids)) list next z later os Line mid forest tables) (sym (loosened_in-false frames))
-    (subst (λ z. Finish d (told defined (definitions_of kids)) list next frames z os Line mid forest tables) same
-    (subst (λ r. Finish d (told defined (definitions_of kids)) (OneList o byte ((loose || run) || any_gap r)) (ends_in_gap r) frames (ended (rendered (suc (suc k)) e (nodes ++ x ∷ []) NoList r) (length nodes) e) os Line mid forest tables)
-    (behind-none rows) fin)))
+    (subst (λ z. Finish d (told defined (definitions_of kids)) list now z later os Line mid forest tables) (sym (loosened_in-false frames))
+    (subst (λ z. Finish d (told defined (definitions_of kids)) list now frames z os Line mid forest tables) same fin))
 
 -- what opens ends a list of this byte, at an offset
 abbrev pub OpensAway : ℕ → ℕ → Opening → Type 0
@@ -462,49 +491,67 @@ ends_list d path p lines mid byte at o (Node head e kids next) opens away (insid
 
 -- The rows of what ends a list have no item of it.
 pub record AreAway (byte at last : ℕ) (rows : Rows) : Type 0 where
-  pub none : items_behind byte rows ≡ End false
+  pub none : items_behind byte rows ≡ End
   pub until : list_until byte last rows ≡ at
   pub past : list_behind byte rows ≡ rows
 
-container_away : (byte at last : ℕ) (run : Bool) (opener : Opener) (line start e : ℕ) (inner next : Rows) → (let head : Head = record { opener = opener; line = line; start = start } in
-    head_closes head ≡ at → joins byte opener ≡ false → AreAway byte at last (behind run (container_row last opener (row_of head e) inner next)))
-container_away byte at last run (QuoteMarker kind) line start e inner next closes other = record { none = refl; until = closes; past = refl }
-container_away byte at last run (ItemMarker list number columns) line start e inner next closes other = record { none = rw other refl; until = rw other closes; past = rw other refl }
+container_away : (byte at last : ℕ) (opener : Opener) (line start e : ℕ) (gap : Bool) (inner next : Rows)
+    → (let head : Head = record { opener = opener; line = line; start = start } in
+    head_closes head ≡ at → joins byte opener ≡ false → AreAway byte at last (container_row last opener (row_of head e gap) inner next))
+container_away byte at last (QuoteMarker kind) line start e gap inner next closes other = record { none = refl; until = closes; past = refl }
+container_away byte at last (ItemMarker list number columns) line start e gap inner next closes other =
+    record { none = rw other refl; until = rw other closes; past = rw other refl }
 
-rows_away : (quoted : Bool) (byte at last : ℕ) (run : Bool) (s : Skeleton) → EndsList byte at s → (begins_blank s ≡ false) × AreAway byte at last (rows_next quoted last NoList run s)
+rows_away : (quoted : Bool) (byte at last : ℕ) (before : Before) (s : Skeleton) → EndsList byte at s → AreAway byte at last (rows_of quoted before last s)
 unfolding rows_of
-rows_away quoted byte at last run Nil u = absurd u
-rows_away quoted byte at last run (Then BlankLine next) u = absurd u
-rows_away quoted byte at last run (Then (Block b) next) u = (refl, record { none = refl; until = u; past = refl })
-rows_away quoted byte at last run (Node head e kids next) u = (refl, container_away byte at last (run || false) head.opener head.line head.start e _ _ u.0 u.1)
+rows_away quoted byte at last before Nil u = absurd u
+rows_away quoted byte at last before (Then BlankLine next) u = absurd u
+rows_away quoted byte at last before (Then (Block b) next) u = record { none = refl; until = u; past = refl }
+rows_away quoted byte at last before (Node head e kids next) u = container_away byte at last head.opener head.line head.start e before.counted _ _ u.0 u.1
+
+-- To what ends a list it is the same whether the list is still open before it, or is closed.
+same_away : (quoted : Bool) (byte at : ℕ) (run : Bool) (s : Skeleton) → EndsList byte at s
+    → (let here : Before = record { last = LastItem; counted = run } in
+    let closed : Before = record { last = LastOther; counted = run } in
+    ((last : ℕ) → rows_of quoted here last s ≡ rows_of quoted closed last s) × ((before_end quoted here s).counted ≡ (before_end quoted closed s).counted))
+unfolding rows_of before_end
+same_away quoted byte at run Nil u = absurd u
+same_away quoted byte at run (Then BlankLine next) u = absurd u
+same_away quoted byte at run (Then (Block b) next) u = (λ last. refl, refl)
+same_away quoted byte at run (Node head e kids next) u = (λ last. refl, refl)
 
 -- a list closed before a block that ends it
-close_step : (d : Document) (defined : Tables) (frames : List Frame) (run loose : Bool) (nodes : List (ℕ × Item)) (o : ℕ) (os : List ℕ) (p : Place) (lines : List Place) (byte at : ℕ) (opening : Opening) (forest : List (ℕ × Item)) (tables : Tables)
+close_step : (d : Document) (defined : Tables) (frames : List Frame) (run loose : Bool) (nodes : List (ℕ × Item)) (o : ℕ) (os : List ℕ) (p : Place)
+    (lines : List Place) (byte at : ℕ) (opening : Opening) (forest : List (ℕ × Item)) (tables : Tables)
     → IsPlain frames → Opens d (containers_of frames) p lines opening → OpensAway byte at opening
-    → Finish d defined NoList run frames (list_closed nodes o (suc (suc (suc (length os)))) loose at) os (Inside p) lines forest tables
-    → Finish d defined NoList run (InList byte loose ∷ frames) nodes (o ∷ os) (Inside p) lines forest tables
+    → FinishesAt d defined run frames (list_closed nodes o (suc (suc (suc (length os)))) loose at) os (Inside p) lines forest tables
+    → FinishesAt d defined run (InList byte loose ∷ frames) nodes (o ∷ os) (Inside p) lines forest tables
 unfolding Finish items_of is_loose rendered
 close_step d defined frames run loose nodes o os p lines byte at opening forest tables plain opens away fin =
     let k : ℕ = suc (length os) in
     let q : Bool = in_quote frames in
-    let closed : List (ℕ × Item) = list_closed nodes o (suc (suc k)) loose at in
-    extend d defined defined frames (OneList o byte loose) NoList run run false nodes closed os (Inside p) (Inside p) lines lines forest tables (λ s. s) plain (λ path mid. refl)
+    let nodes' : List (ℕ × Item) = list_closed nodes o (suc (suc k)) loose at in
+    let here : Before = record { last = LastItem; counted = run } in
+    let closed : Before = record { last = LastOther; counted = run } in
+    extend d defined defined frames (OneList o byte loose) NoList here closed false nodes nodes' os (Inside p) (Inside p) lines lines forest tables
+    (λ s. s) plain (λ path mid. refl)
     (λ s mid seq. let u = ends_list d (containers_of frames) p lines mid byte at opening s opens away seq in
-    let r : ℕ → Rows = λ last. rows_next q last NoList run s in
-    let w = λ (last : ℕ). (rows_away q byte at last run s u).1 in
-    let same : (last : ℕ) → rows_next q last (OneList o byte loose) run s ≡ r last = λ last. ap (λ z. behind (run || z) (rows_of q last s)) (rows_away q byte at last run s u).0 in
+    let r : ℕ → Rows = λ last. rows_of q closed last s in
+    let w = λ (last : ℕ). rows_away q byte at last closed s u in
+    let same = same_away q byte at run s u in
     record {
       seq = seq;
-      items = λ last. ap (rendered k last nodes (OneList o byte loose)) (same last)
-          ∙ ap (λ z. list_closed nodes o (suc (suc k)) (loose || is_loose z) (list_until byte last (r last)) ++ (items_of (suc k) (not (loose || is_loose z)) z ++ items_of k false (list_behind byte (r last)))) (w last).none
+      items = λ last is. ap (rendered k last nodes (OneList o byte loose)) (same.0 last)
+          ∙ ap (λ z. list_closed nodes o (suc (suc k)) (loose || is_loose z) (list_until byte last (r last))
+          ++ (items_of (suc k) (not (loose || is_loose z)) z ++ items_of k false (list_behind byte (r last)))) (w last).none
           ∙ ap (λ z. list_closed nodes o (suc (suc k)) (loose || false) z ++ items_of k false (list_behind byte (r last))) (w last).until
           ∙ ap (λ z. list_closed nodes o (suc (suc k)) (loose || false) at ++ items_of k false z) (w last).past
-          ∙ ap (λ z. list_closed nodes o (suc (suc k)) z at ++ items_of k false (r last)) (or-none loose);
-      runs = λ last. ap ends_in_gap (same last);
-      gaps = λ last. ap (λ z. any_gap (list_behind byte z)) (same last) ∙ ap any_gap (w last).past;
+          ∙ ap (λ z. list_closed nodes o (suc (suc k)) z at ++ items_of k false (r last)) (or-false loose);
+      counts = same.1;
+      gaps = λ last. ap (λ z. any_gap (list_behind byte z)) (same.0 last) ∙ ap any_gap (w last).past;
     })
     (λ s. refl)
-    (subst (λ z. Finish d defined NoList run z closed os (Inside p) lines forest tables) (sym (loosened_in-false frames)) fin)
+    (finish_moved d _ _ _ _ _ _ _ os (Inside p) lines forest tables (plain_before run frames plain) (sym (loosened_in-false frames)) refl fin)
 
 -- what opens is a block, not a blank line
 abbrev pub OpensBlock : Opening → Type 0
@@ -522,124 +569,107 @@ alike_block m n (OpensNode head inside behind) (OpensLeaf leaf' there' left') a 
 alike_block m n (OpensNode head inside behind) (OpensNode head' inside' behind') a block = tt
 
 -- where a block is first, the run of blank lines before it is its own
-abbrev Noted : Bool → ℕ → Bool → Skeleton → Type 0
-Noted quoted last run s =
-    (ends_in_gap (rows_next quoted last NoList run s) ≡ ends_in_gap (rows_next quoted last NoList false s))
-    × (any_gap (rows_next quoted last NoList run s) ≡ (run || any_gap (rows_next quoted last NoList false s)))
+record IsNoted (quoted : Bool) (run : Bool) (last last' : Last) (s : Skeleton) : Type 0 where
+  pub items : (depth e : ℕ) → items_of depth false (rows_of quoted (record { last = last; counted = run }) e s)
+      ≡ items_of depth false (rows_of quoted (record { last = last'; counted = false }) e s)
+  pub counts : (before_end quoted (record { last = last; counted = run }) s).counted ≡ (before_end quoted (record { last = last'; counted = false }) s).counted
+  pub gaps : (e : ℕ) → any_gap (rows_of quoted (record { last = last; counted = run }) e s)
+      ≡ (run || any_gap (rows_of quoted (record { last = last'; counted = false }) e s))
 
-block_noted : (quoted : Bool) (last : ℕ) (run : Bool) (b : LeafBlock) (next : Skeleton) → Noted quoted last run (Then (Block b) next)
-unfolding rows_of ends_in_gap any_gap
-block_noted quoted last true b next = (refl, refl)
-block_noted quoted last false b next = (refl, refl)
+leaf_noted : (quoted run : Bool) (last last' : Last) (leaf : Leaf) (there : From) (left : List Place) (next : Skeleton)
+    → OpensBlock (OpensLeaf leaf there left) → IsNoted quoted run last last' (Then leaf next)
+unfolding rows_of before_end items_of any_gap
+leaf_noted quoted run last last' BlankLine there left next block = absurd block
+leaf_noted quoted run last last' (Block b) there left next block = record { items = λ depth e. refl; counts = refl; gaps = λ e. refl }
 
-container_noted : (last : ℕ) (run : Bool) (opener : Opener) (row : Row) (inner next : Rows) → row.gap ≡ false
-    → (let rows : Rows = container_row last opener row inner next in (ends_in_gap (behind (run || false) rows) ≡ ends_in_gap (behind false rows)) × (any_gap (behind (run || false) rows) ≡ (run || any_gap (behind false rows))))
-unfolding ends_in_gap any_gap
-container_noted last true (QuoteMarker kind) row inner next h = (refl, refl)
-container_noted last false (QuoteMarker kind) row inner next h = (refl, refl)
-container_noted last true (ItemMarker byte number columns) row inner next h = (refl, refl)
-container_noted last false (ItemMarker byte number columns) row inner next h = (refl, refl)
+container_noted : (opener : Opener) (line start e at : ℕ) (run : Bool) (inner next : Rows)
+    → (let rows : Bool → Rows = λ gap. container_row at opener (row_of (record { opener = opener; line = line; start = start }) e gap) inner next in
+    ((depth : ℕ) → items_of depth false (rows run) ≡ items_of depth false (rows false)) × (any_gap (rows run) ≡ (run || any_gap (rows false))))
+unfolding items_of any_gap
+container_noted (QuoteMarker kind) line start e at run inner next = (λ depth. refl, refl)
+container_noted (ItemMarker byte number columns) line start e at run inner next = (λ depth. refl, refl)
 
-node_noted : (quoted : Bool) (last : ℕ) (run : Bool) (head : Head) (e : ℕ) (kids next : Skeleton) → Noted quoted last run (Node head e kids next)
-unfolding rows_of
-node_noted quoted last run head e kids next = container_noted last run head.opener (row_of head e) _ _ refl
+node_noted : (quoted run : Bool) (last last' : Last) (head : Head) (e : ℕ) (kids next : Skeleton) → IsNoted quoted run last last' (Node head e kids next)
+unfolding rows_of before_end
+node_noted quoted run last last' head e kids next = record {
+  items = λ depth at. (container_noted head.opener head.line head.start e at run _ _).0 depth;
+  counts = refl;
+  gaps = λ at. (container_noted head.opener head.line head.start e at run _ _).1;
+}
 
-leaf_noted : (quoted : Bool) (last : ℕ) (run : Bool) (leaf : Leaf) (there : From) (left : List Place) (next : Skeleton) → OpensBlock (OpensLeaf leaf there left) → Noted quoted last run (Then leaf next)
-leaf_noted quoted last run BlankLine there left next block = absurd block
-leaf_noted quoted last run (Block b) there left next block = block_noted quoted last run b next
-
-gap_noted : (d : Document) (path : List Container) (p : Place) (lines mid : List Place) (o : Opening) (quoted : Bool) (last : ℕ) (run : Bool) (s : Skeleton) → Opens d path p lines o → OpensBlock o → IsSequence d s path (Inside p) lines mid
-    → Noted quoted last run s
+gap_noted : (d : Document) (path : List Container) (p : Place) (lines mid : List Place) (o : Opening) (quoted run : Bool) (last last' : Last) (s : Skeleton)
+    → Opens d path p lines o → OpensBlock o → IsSequence d s path (Inside p) lines mid → IsNoted quoted run last last' s
 unfolding IsSequence
-gap_noted d path p lines mid o quoted last run Nil opens block seq = absurd seq.0
-gap_noted d path p lines mid o quoted last run (Then leaf next) opens block (there, left, first, seq) =
-    leaf_noted quoted last run leaf there left next
-    (alike_block d.names d.names o (OpensLeaf leaf there left) (one_opening d d.names path p lines _ _ opens (opens_first d path p lines (OpensLeaf leaf there left) first)) block)
-gap_noted d path p lines mid o quoted last run (Node head e kids next) opens block seq = node_noted quoted last run head e kids next
+gap_noted d path p lines mid o quoted run last last' Nil opens block seq = absurd seq.0
+gap_noted d path p lines mid o quoted run last last' (Then leaf next) opens block (there, left, first, seq) =
+    leaf_noted quoted run last last' leaf there left next
+    (alike_block d.names d.names o (OpensLeaf leaf there left)
+    (one_opening d d.names path p lines _ _ opens (opens_first d path p lines (OpensLeaf leaf there left) first)) block)
+gap_noted d path p lines mid o quoted run last last' (Node head e kids next) opens block seq = node_noted quoted run last last' head e kids next
 
 -- a gap noted before a block
-note_step : (d : Document) (defined : Tables) (frames : List Frame) (run : Bool) (nodes : List (ℕ × Item)) (os : List ℕ) (p : Place) (lines : List Place) (opening : Opening) (forest : List (ℕ × Item)) (tables : Tables)
+note_step : (d : Document) (defined : Tables) (frames : List Frame) (run : Bool) (nodes : List (ℕ × Item)) (os : List ℕ) (p : Place) (lines : List Place)
+    (opening : Opening) (forest : List (ℕ × Item)) (tables : Tables)
     → IsPlain frames → Opens d (containers_of frames) p lines opening → OpensBlock opening
-    → Finish d defined NoList false (loosened_in run frames) nodes os (Inside p) lines forest tables → Finish d defined NoList run frames nodes os (Inside p) lines forest tables
+    → FinishesAt d defined false (loosened_in run frames) nodes os (Inside p) lines forest tables
+    → FinishesAt d defined run frames nodes os (Inside p) lines forest tables
 unfolding rendered
 note_step d defined frames run nodes os p lines opening forest tables plain opens block fin =
-    extend d defined defined frames NoList NoList run false run nodes nodes os (Inside p) (Inside p) lines lines forest tables (λ s. s) plain (λ path mid. refl)
-    (λ s mid seq. let g = λ (last : ℕ). gap_noted d (containers_of frames) p lines mid opening (in_quote frames) last run s opens block seq in
+    let now : List Frame = loosened_in run frames in
+    extend d defined defined frames NoList NoList (before_of frames run) (before_of now false) run nodes nodes os (Inside p) (Inside p) lines lines
+    forest tables (λ s. s) plain (λ path mid. refl)
+    (λ s mid seq. let g = gap_noted d (containers_of frames) p lines mid opening (in_quote frames) run (last_of frames) (last_of now) s opens block seq in
     record {
       seq = seq;
-      items = λ last. ap (λ z. nodes ++ z) (items-run (suc (length os)) false (run || false) (rows_of (in_quote frames) last s) ∙ sym (items-run (suc (length os)) false false (rows_of (in_quote frames) last s)));
-      runs = λ last. (g last).0;
-      gaps = λ last. (g last).1;
+      items = λ last is. ap (λ z. nodes ++ z) (g.items (suc (length os)) last);
+      counts = g.counts;
+      gaps = g.gaps;
     })
     (λ s. refl)
     fin
 
 -- the innermost container closed
-pop_step : (d : Document) (defined : Tables) (c : Container) (frames : List Frame) (run : Bool) (nodes : List (ℕ × Item)) (o : ℕ) (os : List ℕ) (from : From) (lines : List Place) (forest : List (ℕ × Item)) (tables : Tables)
-    → Ends (c ∷ containers_of frames) from lines
-    → (let e : ℕ = end_before (length d.text) (containers_of frames) from lines in Finish d defined NoList run frames (ended nodes o e) os Line lines forest tables)
-    → Finish d defined NoList run (InContainer c ∷ frames) nodes (o ∷ os) from lines forest tables
-unfolding Finish IsSequence items_of rows_of ends_in_gap any_gap rendered definitions_of with_links
-pop_step d defined c frames run nodes o os from lines forest tables ends fin =
+pop_step : (d : Document) (defined : Tables) (c : Container) (frames : List Frame) (run : Bool) (nodes : List (ℕ × Item)) (o : ℕ) (os : List ℕ) (from : From)
+    (lines : List Place) (forest : List (ℕ × Item)) (tables : Tables)
+    → last_container c ≡ last_of frames → Ends (c ∷ containers_of frames) from lines
+    → (let e : ℕ = end_before (length d.text) (containers_of frames) from lines in
+    FinishesAt d defined run frames (ended nodes o e) os Line lines forest tables)
+    → FinishesAt d defined run (InContainer c ∷ frames) nodes (o ∷ os) from lines forest tables
+unfolding Finish IsSequence items_of rows_of before_end any_gap rendered definitions_of with_links
+pop_step d defined c frames run nodes o os from lines forest tables shape ends fin =
     let e : ℕ = end_before (length d.text) (containers_of frames) from lines in (
       Nil,
       lines,
       (ends, refl),
-      finish_moved d defined run _ frames _ (ended nodes o e) _ os lines forest tables (sym (or-none (run || false) ∙ or-none run)) (sym (loosened-false frames))
-          (ap (λ z. ended z o e) (sym (append-nil nodes))) (finish_told d defined (told defined (definitions_of Nil)) NoList run frames (ended nodes o e) os Line lines forest tables refl fin),
+      finish_moved d defined _ _ frames _ (ended nodes o e) _ os Line lines forest tables (ap (λ z. record { last = z; counted = run }) (sym shape))
+          (sym (loosened-false frames)) (ap (λ z. ended z o e) (sym (append-nil nodes))) fin,
     )
-
-closed_at_end : (quoted : Bool) (depth last : ℕ) (nodes : List (ℕ × Item)) (o byte : ℕ) (loose run : Bool)
-    → rendered depth last (list_closed nodes o (suc (suc depth)) loose last) NoList (rows_next quoted last NoList run Nil) ≡ rendered depth last nodes (OneList o byte loose) (rows_next quoted last (OneList o byte loose) run Nil)
-unfolding rendered is_loose rows_of items_of
-closed_at_end quoted depth last nodes o byte loose run = ap (λ z. list_closed nodes o (suc (suc depth)) z last ++ []) (sym (or-none loose))
-
-runs_at_end : (quoted : Bool) (last o byte : ℕ) (loose run : Bool)
-    → (ends_in_gap (rows_next quoted last NoList run Nil) ≡ ends_in_gap (rows_next quoted last (OneList o byte loose) run Nil))
-    × (any_gap (rows_next quoted last NoList run Nil) ≡ any_gap (list_behind byte (rows_next quoted last (OneList o byte loose) run Nil)))
-unfolding rows_of ends_in_gap any_gap
-runs_at_end quoted last o byte loose run = (refl, refl)
 
 -- a list closed with what is around it
-pop_list_step : (d : Document) (defined : Tables) (frames : List Frame) (byte : ℕ) (loose run : Bool) (nodes : List (ℕ × Item)) (o : ℕ) (os : List ℕ) (lines : List Place) (forest : List (ℕ × Item)) (tables : Tables)
+pop_list_step : (d : Document) (defined : Tables) (frames : List Frame) (byte : ℕ) (loose run : Bool) (nodes : List (ℕ × Item)) (o : ℕ) (os : List ℕ)
+    (lines : List Place) (forest : List (ℕ × Item)) (tables : Tables)
     → IsPlain frames → Ends (containers_of frames) Line lines
-    → Finish d defined NoList run frames (list_closed nodes o (suc (suc (suc (length os)))) loose (start_of (length d.text) lines)) os Line lines forest tables
-    → Finish d defined (OneList o byte loose) run frames nodes os Line lines forest tables
-unfolding Finish
-pop_list_step d defined [] byte loose run nodes o [] lines forest tables plain ends (s, seq, is, tables_are) =
+    → FinishesAt d defined run frames (list_closed nodes o (suc (suc (suc (length os)))) loose (start_of (length d.text) lines)) os Line lines forest tables
+    → FinishesAt d defined run (InList byte loose ∷ frames) nodes (o ∷ os) Line lines forest tables
+unfolding Finish IsSequence rows_of before_end is_loose items_of any_gap rendered
+pop_list_step d defined frames byte loose run nodes o os lines forest tables plain ends fin =
     let n : ℕ = length d.text in
-    let over = ends_at_once d s [] Line lines [] ends seq in
-    let last : start_of n lines ≡ n = ap (start_of n) (sym over.1) in (
-      s,
-      seq,
-      is
-          ∙ ap (λ z. rendered 1 n (list_closed nodes o 3 loose z) NoList (rows_next false n NoList run s)) last
-          ∙ ap (λ z. rendered 1 n (list_closed nodes o 3 loose n) NoList (rows_next false n NoList run z)) over.0
-          ∙ closed_at_end false 1 n nodes o byte loose run
-          ∙ ap (λ z. rendered 1 n nodes (OneList o byte loose) (rows_next false n (OneList o byte loose) run z)) (sym over.0),
-      tables_are,
-    )
-pop_list_step d defined [] byte loose run nodes o (x ∷ os) lines forest tables plain ends fin = fin
-pop_list_step d defined (InContainer c ∷ frames) byte loose run nodes o [] lines forest tables plain ends fin = fin
-pop_list_step d defined (InList b l ∷ frames) byte loose run nodes o os lines forest tables plain ends fin = absurd plain
-pop_list_step d defined (InContainer c ∷ frames) byte loose run nodes o (x ∷ os) lines forest tables plain ends (s, mid, seq, fin) =
-    let n : ℕ = length d.text in
-    let over = ends_at_once d s (c ∷ containers_of frames) Line lines mid ends seq in
-    let k : ℕ = suc (length (x ∷ os)) in
-    let e : ℕ = start_of n mid in
-    let q : Bool = is_quote c in
-    let last : start_of n lines ≡ e = ap (start_of n) (sym over.1) in
+    let k : ℕ = suc (length os) in
+    let nodes' : List (ℕ × Item) = list_closed nodes o (suc (suc k)) loose (start_of n lines) in
     let list : Pending = OneList o byte loose in
-    let items : rendered k e (list_closed nodes o (suc (suc k)) loose (start_of n lines)) NoList (rows_next q e NoList run s) ≡ rendered k e nodes list (rows_next q e list run s) =
-    ap (λ z. rendered k e (list_closed nodes o (suc (suc k)) loose z) NoList (rows_next q e NoList run s)) last
-    ∙ ap (λ z. rendered k e (list_closed nodes o (suc (suc k)) loose e) NoList (rows_next q e NoList run z)) over.0
-    ∙ closed_at_end q k e nodes o byte loose run
-    ∙ ap (λ z. rendered k e nodes list (rows_next q e list run z)) (sym over.0) in
-    let runs : ends_in_gap (rows_next q e NoList run s) ≡ ends_in_gap (rows_next q e list run s) =
-    ap (λ z. ends_in_gap (rows_next q e NoList run z)) over.0 ∙ (runs_at_end q e o byte loose run).0 ∙ ap (λ z. ends_in_gap (rows_next q e list run z)) (sym over.0) in
-    let gaps : any_gap (rows_next q e NoList run s) ≡ any_gap (list_behind byte (rows_next q e list run s)) =
-    ap (λ z. any_gap (rows_next q e NoList run z)) over.0 ∙ (runs_at_end q e o byte loose run).1 ∙ ap (λ z. any_gap (list_behind byte (rows_next q e list run z))) (sym over.0) in
-    (s, mid, seq, finish_moved d _ _ _ _ _ _ _ os mid forest tables runs (ap (λ z. loosened z frames) gaps) (ap (λ z. ended z x e) items) fin)
+    let here : Before = record { last = LastItem; counted = run } in
+    let closed : Before = record { last = LastOther; counted = run } in
+    extend d defined defined frames list NoList here closed false nodes nodes' os Line Line lines lines forest tables (λ s. s) plain (λ path mid. refl)
+    (λ s mid seq. let over = ends_at_once d s (containers_of frames) Line lines mid ends seq in
+    subst (λ z. Adds d (in_quote frames) k (containers_of frames) list NoList here closed false nodes nodes' Line lines z z mid) (sym over.0) (record {
+      seq = (ends, over.1);
+      items = λ last is. ap (λ z. list_closed nodes o (suc (suc k)) z last ++ []) (or-false loose)
+          ∙ ap (λ z. list_closed nodes o (suc (suc k)) loose z ++ []) (is refl ∙ ap (start_of n) over.1);
+      counts = refl;
+      gaps = λ last. refl;
+    }))
+    (λ s. refl)
+    (finish_moved d _ _ _ _ _ _ _ os Line lines forest tables (plain_before run frames plain) (sym (loosened_in-false frames)) refl fin)
 
 -- What a list's flags were doesn't matter once it is closed.
 absorbed : (nodes : List (ℕ × Item)) (o : ℕ) (g f : Item → Item) → ((x : Item) → f (g x) ≡ f x) → modify (modify nodes o g) o f ≡ modify nodes o f
@@ -695,43 +725,48 @@ unfolding reflagged
 length-reflagged nodes o l = length-modify nodes o _
 
 -- the flags of a list that may continue
-reflag_list : (d : Document) (defined : Tables) (frames : List Frame) (byte : ℕ) (loose run l : Bool) (nodes : List (ℕ × Item)) (o : ℕ) (os : List ℕ) (from : From) (lines : List Place) (forest : List (ℕ × Item)) (tables : Tables)
-    → IsPlain frames → Finish d defined (OneList o byte loose) run frames (reflagged nodes o l) os from lines forest tables → Finish d defined (OneList o byte loose) run frames nodes os from lines forest tables
-unfolding Finish rendered
-reflag_list d defined [] byte loose run l nodes o [] from lines forest tables plain (s, seq, is, tables_are) =
-    let n : ℕ = length d.text in
-    let rows : Rows = rows_next false n (OneList o byte loose) run s in
-    let now : Bool = loose || is_loose (items_behind byte rows) in
-    let further : List (ℕ × Item) = items_of 2 (not now) (items_behind byte rows) ++ items_of 1 false (list_behind byte rows) in
-    (s, seq, is ∙ ap (λ z. z ++ further) (closed-reflagged nodes o 3 l now (list_until byte n rows)), tables_are)
-reflag_list d defined [] byte loose run l nodes o (x ∷ os) from lines forest tables plain fin = fin
-reflag_list d defined (InContainer c ∷ frames) byte loose run l nodes o [] from lines forest tables plain fin = fin
-reflag_list d defined (InList b k ∷ frames) byte loose run l nodes o os from lines forest tables plain fin = absurd plain
-reflag_list d defined (InContainer c ∷ frames) byte loose run l nodes o (x ∷ os) from lines forest tables plain (s, mid, seq, fin) =
-    let k : ℕ = suc (length (x ∷ os)) in
-    let e : ℕ = end_before (length d.text) (containers_of frames) from mid in
-    let rows : Rows = rows_next (is_quote c) e (OneList o byte loose) run s in
-    let now : Bool = loose || is_loose (items_behind byte rows) in
-    let further : List (ℕ × Item) = items_of (suc k) (not now) (items_behind byte rows) ++ items_of k false (list_behind byte rows) in
-    (s, mid, seq, finish_moved d _ _ _ _ _ _ _ os mid forest tables refl refl (ap (λ z. ended (z ++ further) x e) (closed-reflagged nodes o (suc (suc k)) l now (list_until byte e rows))) fin)
+reflag_list : (d : Document) (defined : Tables) (frames : List Frame) (byte : ℕ) (loose : Bool) (before : Before) (l : Bool) (nodes : List (ℕ × Item)) (o : ℕ)
+    (os : List ℕ) (from : From) (lines : List Place) (forest : List (ℕ × Item)) (tables : Tables)
+    → IsPlain frames → Finish d defined (OneList o byte loose) before frames (reflagged nodes o l) os from lines forest tables
+    → Finish d defined (OneList o byte loose) before frames nodes os from lines forest tables
+unfolding rendered
+reflag_list d defined frames byte loose before l nodes o os from lines forest tables plain fin =
+    let list : Pending = OneList o byte loose in
+    let k : ℕ = suc (length os) in
+    extend d defined defined frames list list before before false nodes (reflagged nodes o l) os from from lines lines forest tables
+    (λ s. s) plain (λ path mid. refl)
+    (λ s mid seq. record {
+      seq = seq;
+      items = λ last is. let rows : Rows = rows_of (in_quote frames) before last s in
+          let now : Bool = loose || is_loose (items_behind byte rows) in
+          let further : List (ℕ × Item) = items_of (suc k) (not now) (items_behind byte rows) ++ items_of k false (list_behind byte rows) in
+          ap (λ z. z ++ further) (sym (closed-reflagged nodes o (suc (suc k)) l now (list_until byte last rows)));
+      counts = refl;
+      gaps = λ last. refl;
+    })
+    (λ s. refl)
+    (subst (λ z. Finish d defined list before z (reflagged nodes o l) os from lines forest tables) (sym (loosened_in-false frames)) fin)
 
 -- the flags of the list in whose item blocks continue
-reflag_outer : (d : Document) (defined : Tables) (c : Container) (frames : List Frame) (byte : ℕ) (loose run l : Bool) (nodes : List (ℕ × Item)) (x o : ℕ) (os : List ℕ) (from : From) (lines : List Place) (forest : List (ℕ × Item)) (tables : Tables)
+reflag_outer : (d : Document) (defined : Tables) (c : Container) (frames : List Frame) (byte : ℕ) (loose : Bool) (before : Before) (l : Bool)
+    (nodes : List (ℕ × Item)) (x o : ℕ) (os : List ℕ) (from : From) (lines : List Place) (forest : List (ℕ × Item)) (tables : Tables)
     → IsPlain frames → o < length nodes
-    → Finish d defined NoList run (InContainer c ∷ InList byte loose ∷ frames) (reflagged nodes o l) (x ∷ o ∷ os) from lines forest tables → Finish d defined NoList run (InContainer c ∷ InList byte loose ∷ frames) nodes (x ∷ o ∷ os) from lines forest tables
+    → Finish d defined NoList before (InContainer c ∷ InList byte loose ∷ frames) (reflagged nodes o l) (x ∷ o ∷ os) from lines forest tables
+    → Finish d defined NoList before (InContainer c ∷ InList byte loose ∷ frames) nodes (x ∷ o ∷ os) from lines forest tables
 unfolding Finish rendered
-reflag_outer d defined c frames byte loose run l nodes x o os from lines forest tables plain below (s, mid, seq, fin) =
+reflag_outer d defined c frames byte loose before l nodes x o os from lines forest tables plain below (s, mid, seq, fin) =
     let k : ℕ = suc (length (x ∷ o ∷ os)) in
     let e : ℕ = end_before (length d.text) (containers_of frames) from mid in
-    let rows : Rows = rows_next (is_quote c) e NoList run s in
+    let rows : Rows = rows_of (is_quote c) before e s in
     let items : List (ℕ × Item) = items_of k false rows in
-    let run' : Bool = ends_in_gap rows in
+    let now : Before = after_container c (before_end (is_quote c) before s) in
     let loose' : Bool = loose || any_gap rows in (
       s,
       mid,
       seq,
-      reflag_list d (told defined (definitions_of s)) frames byte loose' run' l (ended (nodes ++ items) x e) o os Line mid forest tables plain
-          (subst (λ z. Finish d (told defined (definitions_of s)) (OneList o byte loose') run' frames z os Line mid forest tables) (ended-reflagged nodes items o x e l below) fin),
+      reflag_list d (told defined (definitions_of s)) frames byte loose' now l (ended (nodes ++ items) x e) o os Line mid forest tables plain
+          (subst (λ z. Finish d (told defined (definitions_of s)) (OneList o byte loose') now frames z os Line mid forest tables)
+          (ended-reflagged nodes items o x e l below) fin),
     )
 
 -- before the first line
@@ -743,7 +778,7 @@ completes-first d = record {
   whole = whole_by _ _ _ _ _ _ _ _ (λ forest tables fin. record {
     skeleton = fin.0;
     sequence = fin.1;
-    forest_is = fin.2 ∙ ap (λ z. root_of (length d.text) ∷ z) (items-run 1 false false (rows_of false (length d.text) fin.0));
+    forest_is = fin.2;
     tables_are = fin.3;
   });
 }
@@ -754,7 +789,8 @@ pub completes-enter : (d : Document) (defined : Tables) (run : Bool) (frames : L
 completes-enter d defined run frames nodes os line q lines is c = record {
   below = c.below;
   shape = c.shape;
-  whole = whole_by _ _ _ _ _ _ _ _ (λ forest tables fin. finish_derives _ _ _ _ _ _ _ _ c forest tables (enter_step d defined frames NoList run nodes os line q lines forest tables is fin));
+  whole = whole_by _ _ _ _ _ _ _ _ (λ forest tables fin.
+      finish_derives _ _ _ _ _ _ _ _ c forest tables (enter_step d defined frames NoList (before_of frames run) nodes os line q lines forest tables is fin));
 }
 
 -- after a block with no blocks in it, wherever it begins
@@ -798,18 +834,28 @@ completes-mark d defined frames nodes os marker p blanks lines plain c =
 
 -- whether a run of blank lines counts with one more, inside what is open
 abbrev pub counts_in : List Frame → Bool → Bool
-counts_in [] run = counts_with false NoList run
-counts_in (InContainer c ∷ frames) run = counts_with (is_quote c) NoList run
+counts_in [] run = run || true
+counts_in (InContainer c ∷ frames) run = run || not (is_quote c)
 counts_in (InList byte loose ∷ frames) run = true
 
-blank_any : (d : Document) (defined : Tables) (frames : List Frame) (run : Bool) (nodes : List (ℕ × Item)) (os : List ℕ) (from : From) (lines left : List Place) (forest : List (ℕ × Item)) (tables : Tables)
+blank_any : (d : Document) (defined : Tables) (frames : List Frame) (run : Bool) (nodes : List (ℕ × Item)) (os : List ℕ) (from : From)
+    (lines left : List Place) (forest : List (ℕ × Item)) (tables : Tables)
     → IsShaped frames → EndsAlike (length d.text) from (behind_first from Line) → IsFirst d (containers_of frames) from lines (OpensLeaf BlankLine Line left)
-    → Finish d defined NoList (counts_in frames run) frames nodes os (behind_first from Line) left forest tables → Finish d defined NoList run frames nodes os from lines forest tables
+    → FinishesAt d defined (counts_in frames run) frames nodes os (behind_first from Line) left forest tables
+    → FinishesAt d defined run frames nodes os from lines forest tables
 unfolding Finish
-blank_any d defined [] run nodes os from lines left forest tables shape alike first fin = blank_step d defined [] NoList run nodes os from lines left forest tables tt alike first fin
-blank_any d defined (InContainer c ∷ frames) run nodes os from lines left forest tables shape alike first fin = blank_step d defined (InContainer c ∷ frames) NoList run nodes os from lines left forest tables tt alike first fin
+blank_any d defined [] run nodes os from lines left forest tables shape alike first fin =
+    blank_step d defined [] NoList (before_of [] run) nodes os from lines left forest tables tt alike first fin
+blank_any d defined (InContainer c ∷ frames) run nodes os from lines left forest tables shape alike first fin =
+    let here : List Frame = InContainer c ∷ frames in
+    blank_step d defined here NoList (before_of here run) nodes os from lines left forest tables tt alike first
+    (subst (λ z. FinishesAt d defined (run || z) here nodes os (behind_first from Line) left forest tables) (sym (or-false (not (is_quote c)))) fin)
 blank_any d defined (InList byte loose ∷ frames) run nodes [] from lines left forest tables shape alike first fin = fin
-blank_any d defined (InList byte loose ∷ frames) run nodes (o ∷ os) from lines left forest tables shape alike first fin = blank_step d defined frames (OneList o byte loose) run nodes os from lines left forest tables shape.0 alike first fin
+blank_any d defined (InList byte loose ∷ frames) run nodes (o ∷ os) from lines left forest tables shape alike first fin =
+    let counts : (run || (not (in_quote frames) || true)) ≡ true = ap (λ z. run || z) (or-true (not (in_quote frames))) ∙ or-true run in
+    blank_step d defined frames (OneList o byte loose) (record { last = LastItem; counted = run }) nodes os from lines left forest tables shape.0 alike first
+    (subst (λ z. Finish d defined (OneList o byte loose) (record { last = LastItem; counted = z }) frames nodes os (behind_first from Line) left forest tables)
+    (sym counts) fin)
 
 -- after a blank line, wherever it begins
 pub completes-blank : (d : Document) (defined : Tables) (run : Bool) (frames : List Frame) (nodes : List (ℕ × Item)) (os : List ℕ) (from : From) (lines left : List Place)
@@ -832,7 +878,7 @@ pub completes-only_blank : (d : Document) (defined : Tables) (run : Bool) (colum
     → Begins (ListItem columns ∷ containers_of frames) (Blanks e) (line ∷ lines) p lines → Opens d (ListItem columns ∷ containers_of frames) p lines (OpensLeaf BlankLine Line lines)
     → CompletesAt d defined run (InContainer (ListItem columns) ∷ frames) nodes os (Blanks e) (line ∷ lines) → CompletesAt d defined true (InContainer (ListItem columns) ∷ frames) nodes os (Blanks e) lines
 completes-only_blank d defined run columns frames nodes os e line p lines begins opens c =
-    subst (λ z. CompletesAt d defined z (InContainer (ListItem columns) ∷ frames) nodes os (Blanks e) lines) (or-some run)
+    subst (λ z. CompletesAt d defined z (InContainer (ListItem columns) ∷ frames) nodes os (Blanks e) lines) (or-true run)
     (completes-blank d defined run (InContainer (ListItem columns) ∷ frames) nodes os (Blanks e) (line ∷ lines) lines (λ path mid. refl) (record { place = p; behind = lines; begins = begins; opens = opens }) c)
 
 -- At the text's end, with nothing open, the nodes are the forest.
@@ -846,16 +892,10 @@ pub completes-pop : (d : Document) (defined : Tables) (run : Bool) (c : Containe
     → CompletesAt d defined run frames (ended nodes o (end_before (length d.text) (containers_of frames) from lines)) os Line lines
 completes-pop d defined run c frames nodes o os from lines ends k = record {
   below = AreBelow-more o _ os (let l = length-ended nodes o (end_before (length d.text) (containers_of frames) from lines) in let b : o < length nodes = k.below.0 in omega arith) k.below.1;
-  shape = k.shape;
-  whole = whole_by _ _ _ _ _ _ _ _ (λ forest tables fin. finish_derives _ _ _ _ _ _ _ _ k forest tables (pop_step d defined c frames run nodes o os from lines forest tables ends fin));
+  shape = k.shape.1;
+  whole = whole_by _ _ _ _ _ _ _ _ (λ forest tables fin.
+      finish_derives _ _ _ _ _ _ _ _ k forest tables (pop_step d defined c frames run nodes o os from lines forest tables k.shape.0 ends fin));
 }
-
-pop_list_whole : (d : Document) (defined : Tables) (frames : List Frame) (byte : ℕ) (loose run : Bool) (nodes : List (ℕ × Item)) (o : ℕ) (os : List ℕ) (lines : List Place) (forest : List (ℕ × Item)) (tables : Tables)
-    → IsPlain frames → Ends (containers_of frames) Line lines
-    → Finish d defined NoList run frames (list_closed nodes o (suc (suc (suc (length os)))) loose (start_of (length d.text) lines)) os Line lines forest tables
-    → Finish d defined NoList run (InList byte loose ∷ frames) nodes (o ∷ os) Line lines forest tables
-unfolding Finish
-pop_list_whole d defined frames byte loose run nodes o os lines forest tables plain ends fin = pop_list_step d defined frames byte loose run nodes o os lines forest tables plain ends fin
 
 -- a list closed with what is around it
 pub completes-pop_list : (d : Document) (defined : Tables) (run : Bool) (byte : ℕ) (loose : Bool) (frames : List Frame) (nodes : List (ℕ × Item)) (o : ℕ) (os : List ℕ) (lines : List Place)
@@ -864,7 +904,8 @@ pub completes-pop_list : (d : Document) (defined : Tables) (run : Bool) (byte : 
 completes-pop_list d defined run byte loose frames nodes o os lines ends k = record {
   below = AreBelow-more o _ os (let l = length-closed nodes o (suc (suc (suc (length os)))) loose (start_of (length d.text) lines) in let b : o < length nodes = k.below.0 in omega arith) k.below.1;
   shape = k.shape.1;
-  whole = whole_by _ _ _ _ _ _ _ _ (λ forest tables fin. finish_derives _ _ _ _ _ _ _ _ k forest tables (pop_list_whole d defined frames byte loose run nodes o os lines forest tables k.shape.0 ends fin));
+  whole = whole_by _ _ _ _ _ _ _ _ (λ forest tables fin.
+      finish_derives _ _ _ _ _ _ _ _ k forest tables (pop_list_step d defined frames byte loose run nodes o os lines forest tables k.shape.0 ends fin));
 }
 
 -- a list closed before a block that ends it
@@ -890,7 +931,7 @@ shaped-loosened gap (InList byte loose ∷ frames) h = h
 
 shaped-loosened_in : (gap : Bool) (frames : List Frame) → IsShaped frames → IsShaped (loosened_in gap frames)
 shaped-loosened_in gap [] h = h
-shaped-loosened_in gap (InContainer c ∷ frames) h = shaped-loosened gap frames h
+shaped-loosened_in gap (InContainer c ∷ frames) h = (h.0 ∙ sym (last-loosened gap frames), shaped-loosened gap frames h.1)
 shaped-loosened_in gap (InList byte loose ∷ frames) h = (plain-loosened gap frames h.0, shaped-loosened gap frames h.1)
 
 -- a gap noted before a block
@@ -910,13 +951,17 @@ completes-reflag d defined run c byte loose l frames nodes x o os from lines k =
   below = AreBelow-more _ _ (x ∷ o ∷ os) (let n = length-reflagged nodes o l in omega arith) k.below;
   shape = k.shape;
   whole = whole_by _ _ _ _ _ _ _ _ (λ forest tables fin. finish_derives _ _ _ _ _ _ _ _ k forest tables
-      (reflag_outer d defined c frames byte loose run l nodes x o os from lines forest tables k.shape.0 (let a : x < length nodes = k.below.0 in let b : o < x = k.below.1.0 in omega arith) fin));
+      (reflag_outer d defined c frames byte loose (record { last = LastOther; counted = run }) l nodes x o os from lines forest tables k.shape.1.0
+      (let a : x < length nodes = k.below.0 in let b : o < x = k.below.1.0 in omega arith) fin));
 }
 
-reflag_whole : (d : Document) (defined : Tables) (frames : List Frame) (byte : ℕ) (loose run l : Bool) (nodes : List (ℕ × Item)) (o : ℕ) (os : List ℕ) (from : From) (lines : List Place) (forest : List (ℕ × Item)) (tables : Tables)
-    → IsPlain frames → Finish d defined NoList run (InList byte loose ∷ frames) (reflagged nodes o l) (o ∷ os) from lines forest tables → Finish d defined NoList run (InList byte loose ∷ frames) nodes (o ∷ os) from lines forest tables
+reflag_whole : (d : Document) (defined : Tables) (frames : List Frame) (byte : ℕ) (loose run l : Bool) (nodes : List (ℕ × Item)) (o : ℕ) (os : List ℕ)
+    (from : From) (lines : List Place) (forest : List (ℕ × Item)) (tables : Tables)
+    → IsPlain frames → FinishesAt d defined run (InList byte loose ∷ frames) (reflagged nodes o l) (o ∷ os) from lines forest tables
+    → FinishesAt d defined run (InList byte loose ∷ frames) nodes (o ∷ os) from lines forest tables
 unfolding Finish
-reflag_whole d defined frames byte loose run l nodes o os from lines forest tables plain fin = reflag_list d defined frames byte loose run l nodes o os from lines forest tables plain fin
+reflag_whole d defined frames byte loose run l nodes o os from lines forest tables plain fin =
+    reflag_list d defined frames byte loose (record { last = LastItem; counted = run }) l nodes o os from lines forest tables plain fin
 
 -- the flags of a list that may continue
 pub completes-reflag_list : (d : Document) (defined : Tables) (run : Bool) (byte : ℕ) (loose l : Bool) (frames : List Frame) (nodes : List (ℕ × Item)) (o : ℕ) (os : List ℕ) (from : From) (lines : List Place)
@@ -936,7 +981,7 @@ completes-quote d defined frames nodes os p lines behind kind start line some_en
     let l : length (nodes ++ (suc (length os), node_of start some_end (BlockQuoteBody kind)) ∷ []) ≡ length nodes + 1 = length-append nodes ((suc (length os), node_of start some_end (BlockQuoteBody kind)) ∷ []) in
     record {
       below = (omega arith, k.below);
-      shape = k.shape;
+      shape = (sym (ap (λ z. z.last) (plain_before false frames plain)), k.shape);
       whole = whole_by _ _ _ _ _ _ _ _ (λ forest tables fin. finish_derives _ _ _ _ _ _ _ _ k forest tables (quote_step d defined frames nodes os p lines behind kind start line some_end inside forest tables plain opens fin));
     }
 
@@ -951,7 +996,7 @@ completes-list d defined frames nodes os p lines behind byte number columns star
     let l : length (nodes ++ more) ≡ length nodes + 2 = length-append nodes more in
     record {
       below = (omega arith, (omega arith, k.below));
-      shape = (plain, k.shape);
+      shape = (refl, (plain, k.shape));
       whole = whole_by _ _ _ _ _ _ _ _ (λ forest tables fin. finish_derives _ _ _ _ _ _ _ _ k forest tables (list_step d defined frames nodes os p lines behind byte number columns start line some_end other_end flags inside forest tables plain opens fin));
     }
 
@@ -964,6 +1009,6 @@ completes-item d defined run loose frames nodes o os p lines behind byte number 
     let l : length (nodes ++ (suc (suc (length os)), node_of start some_end (ListItemBody columns)) ∷ []) ≡ length nodes + 1 = length-append nodes ((suc (suc (length os)), node_of start some_end (ListItemBody columns)) ∷ []) in
     record {
       below = (omega arith, k.below);
-      shape = k.shape;
+      shape = (refl, k.shape);
       whole = whole_by _ _ _ _ _ _ _ _ (λ forest tables fin. finish_derives _ _ _ _ _ _ _ _ k forest tables (item_step d defined frames run loose nodes o os p lines behind byte number columns start line some_end inside forest tables k.shape.0 k.below.0 opens fin));
     }

@@ -26,7 +26,8 @@ use Rattle.first_pass_grammar.specs.LinkTables.{LinkEntry}
 use Rattle.first_pass_grammar.specs.LinkRuns.{definition_at, kind_in, Beyond, Ended, FlowsOn}
 use Rattle.first_pass_grammar.proofs.RunsFound.{left_beyond, run_found}
 use Rattle.first_pass_grammar.specs.Extents.{Extent, Verdict, GoesOn, IsLast, Closes, Stops, extent_by, extent}
-use Rattle.first_pass_grammar.specs.Skeleton.{Leaf, Block, leaf_block, run_block, flowing_block, OpensBeyond, OpensRun, BlankLine, From, Line, Blanks, At, blanks_alone, Opening, OpensLeaf, OpensNode, OpensText, OpensExtent, OpensAs, OpensBlockAt}
+use Rattle.first_pass_grammar.specs.Blocks.{Leaf, Block, leaf_block, run_block, flowing_block, BlankLine}
+use Rattle.first_pass_grammar.specs.Skeleton.{OpensBeyond, OpensRun, From, Line, Blanks, At, blanks_alone, Opening, OpensLeaf, OpensNode, OpensText, OpensExtent, OpensAs, OpensBlockAt}
 use Rattle.first_pass_grammar.proofs.Found.{Found, named_info, raw_lines_found}
 use Rattle.first_pass_grammar.proofs.MoreNames.{extends_none, extends_both}
 use Rattle.first_pass_grammar.proofs.LinesFound.{heading_found}

@@ -10,7 +10,8 @@ use Rattle.first_pass_grammar.specs.Kinds.{Kind, Blank, IndentedCode, Metadata, 
 use Rattle.first_pass_grammar.specs.LinkRuns.{Ended, FlowsOn}
 use Rattle.first_pass_grammar.specs.Leaves.{Document}
 use Rattle.first_pass_grammar.specs.RawLines.{range_text, range_html}
-use Rattle.first_pass_grammar.specs.Skeleton.{Block, Line, Opening, OpensLeaf, leaf_block, OpensAs, OpensRun, OpensText}
+use Rattle.first_pass_grammar.specs.Blocks.{Block, leaf_block}
+use Rattle.first_pass_grammar.specs.Skeleton.{Line, Opening, OpensLeaf, OpensAs, OpensRun, OpensText}
 use Rattle.first_pass_grammar.proofs.EachToken.{heading_each}
 use Rattle.first_pass_grammar.proofs.NamedItems.{HasEntry, tokens_entered, each_named, named_deeper, text_is_free, html_is_free, lines_named, block_named}
 use Rattle.first_pass_grammar.proofs.TextsNamed.{given_entry, text_named}

@@ -23,7 +23,6 @@ pub mod Orders
 pub mod OwnNodes
 pub mod PlacesKept
 pub mod RowEnds
-pub mod RowLemmas
 pub mod RowsAlike
 pub mod RunsFound
 pub mod SequencesFound

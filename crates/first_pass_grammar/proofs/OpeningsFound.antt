@@ -20,7 +20,8 @@ use Rattle.first_pass_grammar.specs.Names.{Names}
 use Rattle.first_pass_grammar.specs.Containers.{Context, context, at_rest, prefix, front}
 use Rattle.first_pass_grammar.specs.Kinds.{Paragraph, all_taken, unindented, is_blank_rest, quote_inside, item_at, ends_tag}
 use Rattle.first_pass_grammar.specs.Leaves.{Document, document}
-use Rattle.first_pass_grammar.specs.Skeleton.{leaf_block, Head, From, Line, At, May, Anything, ALeafAlone, TextOf, MarkAlone, Inside, behind_marker, Opening, OpensNode, next_is_blank, item_head, task_by, task_behind, behind_task, task_alone, item_opening, quote_head, tag_behind, behind_tag, quote_opening, OpensQuote, OpensFrom, Opens, OpensIf}
+use Rattle.first_pass_grammar.specs.Blocks.{leaf_block, Head}
+use Rattle.first_pass_grammar.specs.Skeleton.{From, Line, At, May, Anything, ALeafAlone, TextOf, MarkAlone, Inside, behind_marker, Opening, OpensNode, next_is_blank, item_head, task_by, task_behind, behind_task, task_alone, item_opening, quote_head, tag_behind, behind_tag, quote_opening, OpensQuote, OpensFrom, Opens, OpensIf}
 use Rattle.first_pass_grammar.proofs.KindsFound.{IsShorter, leads_alone, leads_leaf, reach, Shrinks, Leads, leads_text, leads_block}
 
 -- after a marker less is left

@@ -3,10 +3,13 @@ use Rattle.std.proofs.Common.{◌≡◌, ℕ, suc, ◌||◌, not, Bool, true, fa
 use Rattle.first_pass_items.specs.declared.item.Item.{Item}
 use Rattle.first_pass_items.specs.declared.item.ItemBody.TheVariants.{BlockQuote as BlockQuoteBody, List as ListBody, ListItem as ListItemBody}
 use Rattle.first_pass_tree.specs.Forest.{at_depth}
+use Rattle.first_pass_grammar.specs.declared.kind.Container.{Container}
 use Rattle.first_pass_grammar.specs.Names.{Names, Named, read_nodes}
 use Rattle.first_pass_grammar.specs.Kinds.{Kind}
-use Rattle.first_pass_grammar.specs.Skeleton.{LeafBlock, BlankLine, Block, Head, Opener, QuoteMarker, ItemMarker, Skeleton, Nil, Then, Node}
-use Rattle.first_pass_grammar.specs.Rows.{What, ALeaf, AQuote, AList, AnItem, Row, Rows, End, OneOf, behind, ends_in_gap, any_gap, is_loose, closing_place, is_list_of, end_of, list_until, items_behind, list_behind, row_of, container_row, is_quote_marker, begins_blank, counts_behind, rows_of}
+use Rattle.first_pass_grammar.specs.Blocks.{LeafBlock, BlankLine, Block, Head, Opener, QuoteMarker, ItemMarker, opened, Skeleton, Nil, Then, Node}
+use Rattle.first_pass_grammar.specs.Before.{Before, LastOther, nothing, after_blank, after_block, after_container, before_end}
+use Rattle.first_pass_grammar.specs.Containers.{is_quote}
+use Rattle.first_pass_grammar.specs.Rows.{What, ALeaf, AQuote, AList, AnItem, Row, Rows, End, OneOf, gapped, any_gap, is_loose, closing_place, is_list_of, end_of, list_until, items_behind, list_behind, row_of, row_of_leaf, container_row, rows_of}
 use Rattle.first_pass_grammar.specs.Derivation.{definitions_of, node_of, list_flags, row_items, tight_in, items_of}
 use Rattle.first_pass_grammar.proofs.Alike.{AlikeNodes, stands, Alike, nodes_append, tight_read, read_tight, read_at_depth}
 
@@ -26,9 +29,9 @@ abbrev AlikeRow : Names → Names → Row → Row → Type 0
 AlikeRow m n row row' = (bare row ≡ bare row') × AlikeNodes m n (inside row.what) (inside row'.what)
 
 abbrev AlikeRows : Names → Names → Rows → Rows → Type 0
-AlikeRows m n (End gap) (End gap') = gap ≡ gap'
-AlikeRows m n (End gap) (OneOf row' inner' next') = ⊥
-AlikeRows m n (OneOf row inner next) (End gap') = ⊥
+AlikeRows m n End End = Unit {0}
+AlikeRows m n End (OneOf row' inner' next') = ⊥
+AlikeRows m n (OneOf row inner next) End = ⊥
 AlikeRows m n (OneOf row inner next) (OneOf row' inner' next') = AlikeRow m n row row' × AlikeRows m n inner inner' × AlikeRows m n next next'
 
 list_bare : (byte : ℕ) (w : What) → is_list_of byte (bare_what w) ≡ is_list_of byte w
@@ -50,43 +53,36 @@ until_what byte last line start gap w = refl
 same_list : (m n : Names) (byte : ℕ) (row row' : Row) → AlikeRow m n row row' → is_list_of byte row.what ≡ is_list_of byte row'.what
 same_list m n byte row row' a = sym (list_bare byte row.what) ∙ ap (λ (r : Row). is_list_of byte r.what) a.0 ∙ list_bare byte row'.what
 
-behind_alike : (m n : Names) (run run' : Bool) (r r' : Rows) → run ≡ run' → AlikeRows m n r r' → AlikeRows m n (behind run r) (behind run' r')
-behind_alike m n run run' (End gap) (End gap') is a = ap (λ z. z || gap) is ∙ ap (λ z. run' || z) a
-behind_alike m n run run' (End gap) (OneOf row' inner' next') is a = absurd a
-behind_alike m n run run' (OneOf row inner next) (End gap') is a = absurd a
-behind_alike m n run run' (OneOf row inner next) (OneOf row' inner' next') is a =
-    let gapped : Bool → Row → Row = λ g r. record { what = r.what; line = r.line; start = r.start; gap = g || r.gap } in
-    ((ap (gapped run) a.0.0 ∙ ap (λ g. gapped g (bare row')) is, a.0.1), a.1, a.2)
-
-ends_alike : (m n : Names) (r r' : Rows) → AlikeRows m n r r' → ends_in_gap r ≡ ends_in_gap r'
-unfolding ends_in_gap
-ends_alike m n (End gap) (End gap') a = a
-ends_alike m n (End gap) (OneOf row' inner' next') a = absurd a
-ends_alike m n (OneOf row inner next) (End gap') a = absurd a
-ends_alike m n (OneOf row inner next) (OneOf row' inner' next') a = ends_alike m n next next' a.2
+gapped_alike : (m n : Names) (gap gap' : Bool) (r r' : Rows) → gap ≡ gap' → AlikeRows m n r r' → AlikeRows m n (gapped gap r) (gapped gap' r')
+gapped_alike m n gap gap' End End is a = tt
+gapped_alike m n gap gap' End (OneOf row' inner' next') is a = absurd a
+gapped_alike m n gap gap' (OneOf row inner next) End is a = absurd a
+gapped_alike m n gap gap' (OneOf row inner next) (OneOf row' inner' next') is a =
+    let with_gap : Bool → Row → Row = λ g r. record { what = r.what; line = r.line; start = r.start; gap = g } in
+    ((ap (with_gap gap) a.0.0 ∙ ap (λ g. with_gap g (bare row')) is, a.0.1), a.1, a.2)
 
 any_alike : (m n : Names) (r r' : Rows) → AlikeRows m n r r' → any_gap r ≡ any_gap r'
 unfolding any_gap
-any_alike m n (End gap) (End gap') a = refl
-any_alike m n (End gap) (OneOf row' inner' next') a = absurd a
-any_alike m n (OneOf row inner next) (End gap') a = absurd a
+any_alike m n End End a = refl
+any_alike m n End (OneOf row' inner' next') a = absurd a
+any_alike m n (OneOf row inner next) End a = absurd a
 any_alike m n (OneOf row inner next) (OneOf row' inner' next') a = ap (λ (z : Row). z.gap || any_gap next) a.0.0
     ∙ ap (λ z. row'.gap || z) (any_alike m n next next' a.2)
 
 loose_alike : (m n : Names) (r r' : Rows) → AlikeRows m n r r' → is_loose r ≡ is_loose r'
 unfolding is_loose
-loose_alike m n (End gap) (End gap') a = refl
-loose_alike m n (End gap) (OneOf row' inner' next') a = absurd a
-loose_alike m n (OneOf row inner next) (End gap') a = absurd a
+loose_alike m n End End a = refl
+loose_alike m n End (OneOf row' inner' next') a = absurd a
+loose_alike m n (OneOf row inner next) End a = absurd a
 loose_alike m n (OneOf row inner next) (OneOf row' inner' next') a =
     ap (λ (z : Row). z.gap || (any_gap inner || is_loose next)) a.0.0
     ∙ ap (λ z. row'.gap || (z || is_loose next)) (any_alike m n inner inner' a.1)
     ∙ ap (λ z. row'.gap || (any_gap inner' || z)) (loose_alike m n next next' a.2)
 
 until_alike : (m n : Names) (byte last : ℕ) (r r' : Rows) → AlikeRows m n r r' → list_until byte last r ≡ list_until byte last r'
-until_alike m n byte last (End gap) (End gap') a = refl
-until_alike m n byte last (End gap) (OneOf row' inner' next') a = absurd a
-until_alike m n byte last (OneOf row inner next) (End gap') a = absurd a
+until_alike m n byte last End End a = refl
+until_alike m n byte last End (OneOf row' inner' next') a = absurd a
+until_alike m n byte last (OneOf row inner next) End a = absurd a
 until_alike m n byte last (OneOf row inner next) (OneOf row' inner' next') a =
     sym (until_what byte last row.line row.start row.gap row.what) ∙ ap (until_at byte last) a.0.0
     ∙ until_what byte last row'.line row'.start row'.gap row'.what
@@ -97,79 +93,87 @@ chosen m n t true x x' y y' is a b = rw is a
 chosen m n t false x x' y y' is a b = rw is b
 
 items_alike : (m n : Names) (byte : ℕ) (r r' : Rows) → AlikeRows m n r r' → AlikeRows m n (items_behind byte r) (items_behind byte r')
-items_alike m n byte (End gap) (End gap') a = refl
-items_alike m n byte (End gap) (OneOf row' inner' next') a = absurd a
-items_alike m n byte (OneOf row inner next) (End gap') a = absurd a
+items_alike m n byte End End a = tt
+items_alike m n byte End (OneOf row' inner' next') a = absurd a
+items_alike m n byte (OneOf row inner next) End a = absurd a
 items_alike m n byte (OneOf row inner next) (OneOf row' inner' next') a =
-    chosen m n _ _ (behind row.gap inner) (behind row'.gap inner') (End false) (End false) (same_list m n byte row row' a.0)
-    (behind_alike m n row.gap row'.gap inner inner' (ap (λ (z : Row). z.gap) a.0.0) a.1) refl
+    chosen m n _ _ (gapped row.gap inner) (gapped row'.gap inner') End End (same_list m n byte row row' a.0)
+    (gapped_alike m n row.gap row'.gap inner inner' (ap (λ (z : Row). z.gap) a.0.0) a.1) tt
 
 past_alike : (m n : Names) (byte : ℕ) (r r' : Rows) → AlikeRows m n r r' → AlikeRows m n (list_behind byte r) (list_behind byte r')
-past_alike m n byte (End gap) (End gap') a = a
-past_alike m n byte (End gap) (OneOf row' inner' next') a = absurd a
-past_alike m n byte (OneOf row inner next) (End gap') a = absurd a
+past_alike m n byte End End a = a
+past_alike m n byte End (OneOf row' inner' next') a = absurd a
+past_alike m n byte (OneOf row inner next) End a = absurd a
 past_alike m n byte (OneOf row inner next) (OneOf row' inner' next') a = chosen m n _ _ next next' (OneOf row inner next) (OneOf row' inner' next') (same_list m n byte row row' a.0) a.2 a
 
-container_alike : (m n : Names) (last : ℕ) (opener : Opener) (line start e : ℕ) (inner inner' next next' : Rows) → AlikeRows m n inner inner'
-    → AlikeRows m n next next'
-    → (let row : Row = row_of (record { opener = opener; line = line; start = start }) e in
+container_alike : (m n : Names) (last : ℕ) (opener : Opener) (line start e : ℕ) (gap : Bool) (inner inner' next next' : Rows)
+    → AlikeRows m n inner inner' → AlikeRows m n next next'
+    → (let row : Row = row_of (record { opener = opener; line = line; start = start }) e gap in
     AlikeRows m n (container_row last opener row inner next) (container_row last opener row inner' next'))
-container_alike m n last (QuoteMarker kind) line start e inner inner' next next' a b = ((refl, refl), a, b)
-container_alike m n last (ItemMarker byte number columns) line start e inner inner' next next' a b =
-    let list : ℕ → Row = λ until. record { what = AList byte number until; line = line; start = start; gap = false } in
+container_alike m n last (QuoteMarker kind) line start e gap inner inner' next next' a b = ((refl, refl), a, b)
+container_alike m n last (ItemMarker byte number columns) line start e gap inner inner' next next' a b =
+    let list : ℕ → Row = λ until. record { what = AList byte number until; line = line; start = start; gap = gap } in
     ((ap list (until_alike m n byte last next next' b), refl), ((refl, refl), a, items_alike m n byte next next' b), past_alike m n byte next next' b)
 
-blank_alike : (m n : Names) (s t : Skeleton) → Alike m n s t → begins_blank s ≡ begins_blank t
-blank_alike m n Nil Nil a = refl
-blank_alike m n Nil (Then leaf' next') a = absurd a
-blank_alike m n Nil (Node head' e' kids' next') a = absurd a
-blank_alike m n (Then leaf next) Nil a = absurd a
-blank_alike m n (Then leaf next) (Node head' e' kids' next') a = absurd a
-blank_alike m n (Node head e kids next) Nil a = absurd a
-blank_alike m n (Node head e kids next) (Then leaf' next') a = absurd a
-blank_alike m n (Then BlankLine next) (Then BlankLine next') a = refl
-blank_alike m n (Then BlankLine next) (Then (Block b') next') a = absurd a.0
-blank_alike m n (Then (Block b) next) (Then BlankLine next') a = absurd a.0
-blank_alike m n (Then (Block b) next) (Then (Block b') next') a = refl
-blank_alike m n (Node head e kids next) (Node head' e' kids' next') a = refl
+leaf_row : (b b' : LeafBlock) (gap : Bool) → stands b ≡ stands b' → b.gap ≡ b'.gap → bare (row_of_leaf b gap) ≡ bare (row_of_leaf b' gap)
+leaf_row b b' gap is own =
+    let leaf : Kind × ℕ × ℕ → Bool → LeafBlock =
+    λ z g. record { kind = z.0; line = z.1; start = z.2; items = []; gap = g; definitions = [] } in
+    ap (λ z. row_of_leaf (leaf z b.gap) gap) is ∙ ap (λ g. row_of_leaf (leaf (stands b') g) gap) own
 
-counts_alike : (m n : Names) (opener : Opener) (s t : Skeleton) → Alike m n s t → counts_behind opener s ≡ counts_behind opener t
-counts_alike m n (QuoteMarker kind) s t a = refl
-counts_alike m n (ItemMarker byte number columns) s t a = blank_alike m n s t a
-
-leaf_row : (b b' : LeafBlock) → stands b ≡ stands b' → b.gap ≡ b'.gap
-    → (let row : LeafBlock → Row = λ x. record { what = ALeaf x; line = x.line; start = x.start; gap = false } in bare (row b) ≡ bare (row b'))
-leaf_row b b' is gap =
-    ap (λ (z : Kind × ℕ × ℕ). record { what = ALeaf (record { kind = z.0; line = z.1; start = z.2; items = []; gap = b.gap; definitions = [] }); line = z.1; start = z.2; gap = false }) is
-    ∙ ap (λ g. record { what = ALeaf (record { kind = b'.kind; line = b'.line; start = b'.start; items = []; gap = g; definitions = [] }); line = b'.line; start = b'.start; gap = false }) gap
+-- what stands before the end of alike skeletons
+end_alike : (m n : Names) (quoted : Bool) (before : Before) (s t : Skeleton) → Alike m n s t → before_end quoted before s ≡ before_end quoted before t
+unfolding before_end
+end_alike m n quoted before Nil Nil a = refl
+end_alike m n quoted before Nil (Then leaf' next') a = absurd a
+end_alike m n quoted before Nil (Node head' e' kids' next') a = absurd a
+end_alike m n quoted before (Then leaf next) Nil a = absurd a
+end_alike m n quoted before (Then leaf next) (Node head' e' kids' next') a = absurd a
+end_alike m n quoted before (Node head e kids next) Nil a = absurd a
+end_alike m n quoted before (Node head e kids next) (Then leaf' next') a = absurd a
+end_alike m n quoted before (Then BlankLine next) (Then BlankLine next') a = end_alike m n quoted (after_blank quoted before) next next' a.1
+end_alike m n quoted before (Then BlankLine next) (Then (Block b') next') a = absurd a.0
+end_alike m n quoted before (Then (Block b) next) (Then BlankLine next') a = absurd a.0
+end_alike m n quoted before (Then (Block b) next) (Then (Block b') next') a =
+    end_alike m n quoted (after_block b) next next' a.1
+    ∙ ap (λ g. before_end quoted (record { last = LastOther; counted = g }) next') a.0.2
+end_alike m n quoted before (Node head e kids next) (Node head' e' kids' next') a =
+    let c : Container = opened head.opener in
+    end_alike m n quoted (after_container c (before_end (is_quote c) nothing kids)) next next' a.3
+    ∙ ap (λ z. before_end quoted (after_container c z) next') (end_alike m n (is_quote c) nothing kids kids' a.2)
+    ∙ ap (λ (h : Head). before_end quoted (after_container (opened h.opener) (before_end (is_quote (opened h.opener)) nothing kids')) next') a.0
 
 -- the rows of alike skeletons
-rows_alike : (m n : Names) (quoted : Bool) (last : ℕ) (s t : Skeleton) → Alike m n s t → AlikeRows m n (rows_of quoted last s) (rows_of quoted last t)
+rows_alike : (m n : Names) (quoted : Bool) (before : Before) (last : ℕ) (s t : Skeleton) → Alike m n s t
+    → AlikeRows m n (rows_of quoted before last s) (rows_of quoted before last t)
 unfolding rows_of
-rows_alike m n quoted last Nil Nil a = refl
-rows_alike m n quoted last Nil (Then leaf' next') a = absurd a
-rows_alike m n quoted last Nil (Node head' e' kids' next') a = absurd a
-rows_alike m n quoted last (Then leaf next) Nil a = absurd a
-rows_alike m n quoted last (Then leaf next) (Node head' e' kids' next') a = absurd a
-rows_alike m n quoted last (Node head e kids next) Nil a = absurd a
-rows_alike m n quoted last (Node head e kids next) (Then leaf' next') a = absurd a
-rows_alike m n quoted last (Then BlankLine next) (Then BlankLine next') a = behind_alike m n (not quoted) (not quoted) (rows_of quoted last next) (rows_of quoted last next') refl (rows_alike m n quoted last next next' a.1)
-rows_alike m n quoted last (Then BlankLine next) (Then (Block b') next') a = absurd a.0
-rows_alike m n quoted last (Then (Block b) next) (Then BlankLine next') a = absurd a.0
-rows_alike m n quoted last (Then (Block b) next) (Then (Block b') next') a =
-    ((leaf_row b b' a.0.0 a.0.2, a.0.1), refl, behind_alike m n b.gap b'.gap (rows_of quoted last next) (rows_of quoted last next') a.0.2 (rows_alike m n quoted last next next' a.1))
-rows_alike m n quoted last (Node head e kids next) (Node head' e' kids' next') a =
-    let q : Bool = is_quote_marker head.opener in
-    let inner : Rows = rows_of q e kids in
-    let inner' : Rows = rows_of q e kids' in
-    let in_it : AlikeRows m n inner inner' = rows_alike m n q e kids kids' a.2 in
-    let run : (ends_in_gap inner || counts_behind head.opener next) ≡ (ends_in_gap inner' || counts_behind head.opener next') =
-    ap (λ z. z || counts_behind head.opener next) (ends_alike m n inner inner' in_it)
-    ∙ ap (λ z. ends_in_gap inner' || z) (counts_alike m n head.opener next next' a.3) in
-    subst (λ (h : Head). AlikeRows m n (rows_of quoted last (Node head e kids next)) (rows_of quoted last (Node h e' kids' next'))) a.0
-    (subst (λ (x : ℕ). AlikeRows m n (rows_of quoted last (Node head e kids next)) (rows_of quoted last (Node head x kids' next'))) a.1
-    (container_alike m n last head.opener head.line head.start e inner inner' _ _ in_it
-    (behind_alike m n _ _ (rows_of quoted last next) (rows_of quoted last next') run (rows_alike m n quoted last next next' a.3))))
+rows_alike m n quoted before last Nil Nil a = tt
+rows_alike m n quoted before last Nil (Then leaf' next') a = absurd a
+rows_alike m n quoted before last Nil (Node head' e' kids' next') a = absurd a
+rows_alike m n quoted before last (Then leaf next) Nil a = absurd a
+rows_alike m n quoted before last (Then leaf next) (Node head' e' kids' next') a = absurd a
+rows_alike m n quoted before last (Node head e kids next) Nil a = absurd a
+rows_alike m n quoted before last (Node head e kids next) (Then leaf' next') a = absurd a
+rows_alike m n quoted before last (Then BlankLine next) (Then BlankLine next') a = rows_alike m n quoted (after_blank quoted before) last next next' a.1
+rows_alike m n quoted before last (Then BlankLine next) (Then (Block b') next') a = absurd a.0
+rows_alike m n quoted before last (Then (Block b) next) (Then BlankLine next') a = absurd a.0
+rows_alike m n quoted before last (Then (Block b) next) (Then (Block b') next') a = (
+  (leaf_row b b' before.counted a.0.0 a.0.2, a.0.1),
+  tt,
+  subst (λ g. AlikeRows m n (rows_of quoted (after_block b) last next) (rows_of quoted (record { last = LastOther; counted = g }) last next')) a.0.2
+      (rows_alike m n quoted (after_block b) last next next' a.1),
+)
+rows_alike m n quoted before last (Node head e kids next) (Node head' e' kids' next') a =
+    let c : Container = opened head.opener in
+    let rows : Rows = rows_of quoted before last (Node head e kids next) in
+    let inner : Before = before_end (is_quote c) nothing kids in
+    let inner' : Before = before_end (is_quote c) nothing kids' in
+    let after : AlikeRows m n (rows_of quoted (after_container c inner) last next) (rows_of quoted (after_container c inner') last next') =
+    subst (λ (z : Before). AlikeRows m n (rows_of quoted (after_container c inner) last next) (rows_of quoted (after_container c z) last next'))
+    (end_alike m n (is_quote c) nothing kids kids' a.2) (rows_alike m n quoted (after_container c inner) last next next' a.3) in
+    subst (λ (h : Head). AlikeRows m n rows (rows_of quoted before last (Node h e' kids' next'))) a.0
+    (subst (λ (x : ℕ). AlikeRows m n rows (rows_of quoted before last (Node head x kids' next'))) a.1
+    (container_alike m n last head.opener head.line head.start e before.counted _ _ _ _ (rows_alike m n (is_quote c) nothing e kids kids' a.2) after))
 
 -- a row read
 abbrev shown : ℕ → Bool → Bool → ℕ → What → List (ℕ × (Item × Option Named)) → List (ℕ × (Item × Option Named))
@@ -187,9 +191,9 @@ shown_is m depth tight loose start w = refl
 -- the items of alike rows read alike
 rows_read : (m n : Names) (depth : ℕ) (tight : Bool) (r r' : Rows) → AlikeRows m n r r' → AlikeNodes m n (items_of depth tight r) (items_of depth tight r')
 unfolding items_of
-rows_read m n depth tight (End gap) (End gap') a = refl
-rows_read m n depth tight (End gap) (OneOf row' inner' next') a = absurd a
-rows_read m n depth tight (OneOf row inner next) (End gap') a = absurd a
+rows_read m n depth tight End End a = refl
+rows_read m n depth tight End (OneOf row' inner' next') a = absurd a
+rows_read m n depth tight (OneOf row inner next) End a = absurd a
 rows_read m n depth tight (OneOf row inner next) (OneOf row' inner' next') a =
     let loose : Bool = is_loose inner in
     let loose' : Bool = is_loose inner' in
@@ -208,9 +212,9 @@ rows_read m n depth tight (OneOf row inner next) (OneOf row' inner' next') a =
     nodes_append m n _ _ _ _ one (nodes_append m n _ _ _ _ kids (rows_read m n depth tight next next' a.2))
 
 -- the items of alike skeletons read alike
-pub forest_alike : (m n : Names) (quoted : Bool) (depth last : ℕ) (s t : Skeleton) → Alike m n s t
-    → AlikeNodes m n (items_of depth false (rows_of quoted last s)) (items_of depth false (rows_of quoted last t))
-forest_alike m n quoted depth last s t a = rows_read m n depth false (rows_of quoted last s) (rows_of quoted last t) (rows_alike m n quoted last s t a)
+pub forest_alike : (m n : Names) (quoted : Bool) (before : Before) (depth last : ℕ) (s t : Skeleton) → Alike m n s t
+    → AlikeNodes m n (items_of depth false (rows_of quoted before last s)) (items_of depth false (rows_of quoted before last t))
+forest_alike m n quoted before depth last s t a = rows_read m n depth false _ _ (rows_alike m n quoted before last s t a)
 
 -- alike skeletons define the same
 pub definitions_alike : (m n : Names) (s t : Skeleton) → Alike m n s t → definitions_of s ≡ definitions_of t

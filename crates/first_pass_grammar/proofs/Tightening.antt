@@ -8,8 +8,9 @@ use Rattle.first_pass_items.specs.declared.item.BlockQuoteKind.{BlockQuoteKind}
 use Rattle.first_pass_items.specs.declared.item.ItemBody.TheVariants.{BlockQuote as BlockQuoteBody, List as ListBody, ListItem as ListItemBody}
 use Rattle.first_pass_tree.specs.Forest.{modify, map_from, at_depth}
 use Rattle.first_pass_tree.specs.Tight.{tightened}
-use Rattle.first_pass_grammar.specs.Skeleton.{BlankLine, Block, Opener, QuoteMarker, ItemMarker, Skeleton, Nil, Then, Node}
-use Rattle.first_pass_grammar.specs.Rows.{What, ALeaf, AQuote, AList, AnItem, Row, Rows, End, OneOf, behind, is_loose, list_behind, row_of, container_row, rows_of}
+use Rattle.first_pass_grammar.specs.Before.{Before, nothing, after_blank, after_block}
+use Rattle.first_pass_grammar.specs.Blocks.{BlankLine, Block, Opener, QuoteMarker, ItemMarker, Skeleton, Nil, Then, Node}
+use Rattle.first_pass_grammar.specs.Rows.{What, ALeaf, AQuote, AList, AnItem, Row, Rows, End, OneOf, is_loose, list_behind, row_of, container_row, rows_of}
 use Rattle.first_pass_grammar.specs.Derivation.{node_of, list_flags, row_items, tight_in, items_of}
 use Rattle.first_pass_grammar.specs.Completion.{flagged, list_closed}
 
@@ -44,7 +45,7 @@ map_parts d x a b x' a' b' hx ha hb = let e = map-append (tightened d) a b in le
 
 deep_items : (d e : ℕ) (tight : Bool) (r : Rows) → d < e → map (tightened d) (items_of e tight r) ≡ items_of e tight r
 unfolding items_of
-deep_items d e tight (End gap) h = refl
+deep_items d e tight End h = refl
 deep_items d e tight (OneOf row inner next) h =
     map_parts d _ _ _ _ _ _ (deep_row d e tight (is_loose inner) row.start row.what h)
     (deep_items d (suc e) (tight_in tight (is_loose inner) row.what) inner (omega arith)) (deep_items d e tight next h)
@@ -57,33 +58,29 @@ NoItem (AList byte number e) = Unit {0}
 NoItem (AnItem columns e) = ⊥
 
 abbrev AreBlocks : Rows → Type 0
-AreBlocks (End gap) = Unit {0}
+AreBlocks End = Unit {0}
 AreBlocks (OneOf row inner next) = NoItem row.what × AreBlocks next
-
-blocks_behind : (run : Bool) (r : Rows) → AreBlocks r → AreBlocks (behind run r)
-blocks_behind run (End gap) h = tt
-blocks_behind run (OneOf row inner next) h = h
 
 blocks_by : (t : Bool) (row : Row) (inner next : Rows) → AreBlocks (OneOf row inner next) → AreBlocks (if t then next else OneOf row inner next)
 blocks_by true row inner next h = h.1
 blocks_by false row inner next h = h
 
 blocks_past : (byte : ℕ) (r : Rows) → AreBlocks r → AreBlocks (list_behind byte r)
-blocks_past byte (End gap) h = tt
+blocks_past byte End h = tt
 blocks_past byte (OneOf row inner next) h = blocks_by _ row inner next h
 
-blocks_container : (last : ℕ) (opener : Opener) (line start e : ℕ) (inner next : Rows) → AreBlocks next
-    → AreBlocks (container_row last opener (row_of (record { opener = opener; line = line; start = start }) e) inner next)
-blocks_container last (QuoteMarker kind) line start e inner next h = (tt, h)
-blocks_container last (ItemMarker byte number columns) line start e inner next h = (tt, blocks_past byte next h)
+blocks_container : (last : ℕ) (opener : Opener) (line start e : ℕ) (gap : Bool) (inner next : Rows) → AreBlocks next
+    → AreBlocks (container_row last opener (row_of (record { opener = opener; line = line; start = start }) e gap) inner next)
+blocks_container last (QuoteMarker kind) line start e gap inner next h = (tt, h)
+blocks_container last (ItemMarker byte number columns) line start e gap inner next h = (tt, blocks_past byte next h)
 
-are_blocks : (quoted : Bool) (last : ℕ) (s : Skeleton) → AreBlocks (rows_of quoted last s)
+are_blocks : (quoted : Bool) (before : Before) (last : ℕ) (s : Skeleton) → AreBlocks (rows_of quoted before last s)
 unfolding rows_of
-are_blocks quoted last Nil = tt
-are_blocks quoted last (Then BlankLine next) = blocks_behind (not quoted) (rows_of quoted last next) (are_blocks quoted last next)
-are_blocks quoted last (Then (Block b) next) = (tt, blocks_behind b.gap (rows_of quoted last next) (are_blocks quoted last next))
-are_blocks quoted last (Node head e kids next) =
-    blocks_container last head.opener head.line head.start e _ _ (blocks_behind _ (rows_of quoted last next) (are_blocks quoted last next))
+are_blocks quoted before last Nil = tt
+are_blocks quoted before last (Then BlankLine next) = are_blocks quoted (after_blank quoted before) last next
+are_blocks quoted before last (Then (Block b) next) = (tt, are_blocks quoted (after_block b) last next)
+are_blocks quoted before last (Node head e kids next) =
+    blocks_container last head.opener head.line head.start e before.counted _ _ (are_blocks quoted _ last next)
 
 -- no quote and no list is a paragraph
 same_by : (t : Bool) (x : Item) → (if t then x else x) ≡ x
@@ -116,7 +113,7 @@ block_in loose (AnItem columns x) h = absurd h
 -- the items of blocks in a tight list are those of blocks that aren't, with their paragraphs made tight
 tight_items : (d : ℕ) (r : Rows) → AreBlocks r → map (tightened d) (items_of d false r) ≡ items_of d true r
 unfolding items_of
-tight_items d (End gap) h = refl
+tight_items d End h = refl
 tight_items d (OneOf row inner next) h =
     map_parts d _ _ _ _ _ _ (tight_row d (is_loose inner) row.start row.what)
     (deep_items d (suc d) (tight_in false (is_loose inner) row.what) inner (omega arith) ∙ ap (λ z. items_of (suc d) z inner) (block_in (is_loose inner) row.what h.0))
@@ -184,8 +181,11 @@ up_node d x = let t : eqb (suc d) (suc (suc d)) ≡ false = grind (arith, nat_te
 
 -- an item of a list that is closed
 pub closed_item : (d last : ℕ) (loose : Bool) (x : Item) (kids : Skeleton)
-    → (let inner : Rows = rows_of false last kids in
+    → (let inner : Rows = rows_of false nothing last kids in
     let items : List (ℕ × Item) = (suc d, x) ∷ items_of (suc (suc d)) false inner in
     (if loose then items else map (tightened (suc (suc d))) items) ≡ (suc d, x) ∷ items_of (suc (suc d)) (not loose) inner)
 closed_item d last true x kids = refl
-closed_item d last false x kids = let a = up_node d x in let b = tight_items (suc (suc d)) (rows_of false last kids) (are_blocks false last kids) in cc
+closed_item d last false x kids =
+    let a = up_node d x in
+    let b = tight_items (suc (suc d)) (rows_of false nothing last kids) (are_blocks false nothing last kids) in
+    cc

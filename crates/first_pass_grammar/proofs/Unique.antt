@@ -25,13 +25,15 @@ use Rattle.first_pass_grammar.specs.LinkTables.{LinkEntry}
 use Rattle.first_pass_grammar.specs.LinkRuns.{kind_in, lines_beyond, ends_run, Beyond, Ended, FlowsOn, IsRun}
 use Rattle.std.proofs.lemmas.Bool.{true≢false}
 use Rattle.std.proofs.lemmas.Option.{none-some, same_Some}
-use Rattle.first_pass_grammar.specs.Skeleton.{leaf_block, OpensBeyond, OpensRun, Head, opened, From, Line, Blanks, At, Anything, ALeafAlone, TextOf, MarkAlone, behind_marker, Opening, OpensLeaf, OpensNode, OpensText, OpensExtent, OpensAs, OpensBlockAt, is_blank_behind, next_is_blank, item_head, task_by, task_behind, behind_task, task_alone, item_opening, tag_behind, behind_tag, quote_opening, OpensQuote, OpensFrom, Opens, OpensAt, Skeleton, Nil, Then, Node, Begins, Ends, behind_first, end_before, IsFirst, IsSequence}
+use Rattle.first_pass_grammar.specs.Blocks.{leaf_block, Head, opened, Skeleton, Nil, Then, Node}
+use Rattle.first_pass_grammar.specs.Skeleton.{OpensBeyond, OpensRun, From, Line, Blanks, At, Anything, ALeafAlone, TextOf, MarkAlone, behind_marker, Opening, OpensLeaf, OpensNode, OpensText, OpensExtent, OpensAs, OpensBlockAt, is_blank_behind, next_is_blank, item_head, task_by, task_behind, behind_task, task_alone, item_opening, tag_behind, behind_tag, quote_opening, OpensQuote, OpensFrom, Opens, OpensAt, Begins, Ends, behind_first, end_before, IsFirst, IsSequence}
 use Rattle.first_pass_grammar.specs.Derivation.{Tables, no_tables, told, node_of, Derives}
 use Rattle.first_pass_grammar.proofs.NoIndex.{HasNoIndex, read_alone}
 use Rattle.first_pass_grammar.specs.RawLines.{range_text, range_html}
 use Rattle.first_pass_grammar.proofs.Alike.{with_names, AlikeNodes, HoldsNoIndex, AlikeOpening, Alike, text_free, html_free, raw_alike, block_alike, fence_alike, heading_alike}
 use Rattle.first_pass_grammar.proofs.LinesAlike.{one_heading}
 use Rattle.first_pass_grammar.proofs.TablesAlike.{one_text}
+use Rattle.first_pass_grammar.specs.Before.{nothing}
 use Rattle.first_pass_grammar.proofs.RowsAlike.{forest_alike, definitions_alike}
 
 -- a place is of one kind
@@ -331,7 +333,7 @@ one_forest text options m n f g t u x y =
     let s = (one_sequence d n x.skeleton y.skeleton [] Line (lines_at 0 text) [] [] tt x.sequence y.sequence).0 in
     let root : ℕ × (Item × Option Named) = (0, (node_of 0 (length text) Root, None)) in (
       ap (read_nodes m) x.forest_is
-          ∙ ap (λ z. root ∷ z) (forest_alike m n false 1 (length text) x.skeleton y.skeleton s)
+          ∙ ap (λ z. root ∷ z) (forest_alike m n false nothing 1 (length text) x.skeleton y.skeleton s)
           ∙ sym (ap (read_nodes n) y.forest_is),
       x.tables_are ∙ ap (told no_tables) (definitions_alike m n x.skeleton y.skeleton s) ∙ sym y.tables_are,
     )

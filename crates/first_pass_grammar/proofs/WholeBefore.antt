@@ -9,9 +9,10 @@ use Rattle.first_pass_grammar.specs.declared.kind.Container.{Container}
 use Rattle.first_pass_grammar.specs.Names.{Names, Extends, index_of, NamesEntry, AreNamed}
 use Rattle.first_pass_grammar.specs.Leaves.{Document, document}
 use Rattle.first_pass_grammar.specs.Skeleton.{From, Line}
-use Rattle.first_pass_grammar.specs.Rows.{Rows, any_gap, rows_of}
+use Rattle.first_pass_grammar.specs.Rows.{Rows, any_gap}
 use Rattle.first_pass_grammar.specs.Derivation.{Tables, Derives}
-use Rattle.first_pass_grammar.specs.Completion.{ended, Pending, OneList, Standing, Further, AreFurther, rows_on, rows_beyond, rendered, Frame, InContainer, InList, containers_of, is_quote, loosened, container_closed, Becomes, Completion}
+use Rattle.first_pass_grammar.specs.Completion.{ended, Pending, OneList, Standing, Further, AreFurther, rows_on, rows_beyond, rendered, Frame, InContainer, InList, containers_of, loosened, container_closed, Becomes, Completion}
+use Rattle.first_pass_grammar.specs.Containers.{is_quote}
 use Rattle.first_pass_grammar.specs.WholeTables.{Mark, ATable, ARow, ACell, shown, marks, RowCells, row_marks, TableRows, table_marks, AreFull, AreWholeTables}
 use Rattle.first_pass_grammar.proofs.Finishes.{containers-loosened}
 use Rattle.first_pass_grammar.proofs.HeadCells.{heads_are_full}
@@ -19,13 +20,9 @@ use Rattle.first_pass_grammar.proofs.MoreNames.{alignments_kept}
 use Rattle.first_pass_grammar.proofs.PlacesKept.{AreAt}
 use Rattle.first_pass_grammar.proofs.SilentNodes.{IsSilent, AreSilent, SilentList, ShowsMore, more_both, marks_ended, rendered_shows, silent_rendered, silent_place}
 use Rattle.first_pass_grammar.proofs.WholeBlocks.{HeadsAreFull, PlainFrom, sequence_whole}
-use Rattle.first_pass_grammar.proofs.WholeForests.{behind_whole, rows_whole, WholeRows, derived_whole}
+use Rattle.first_pass_grammar.proofs.WholeForests.{rows_whole, WholeRows, derived_whole}
 
--- What completes nodes shows what they show, and then tables: each of the containers takes blocks that show whole tables, or nothing.
-further_rows : (names : Names) (quoted : Bool) (w : Standing) (f : Further) → WholeRows names (rows_of quoted f.«end» f.blocks)
-    → WholeRows names (rows_on quoted w f)
-further_rows names quoted w f h = behind_whole names _ (rows_of quoted f.«end» f.blocks) h
-
+-- the nodes still open show nothing where a container is closed
 silent_places : (depth last place e : ℕ) (nodes : List (ℕ × Item)) (list : Pending) (rows : Rows) (places : List ℕ) → AreSilent nodes places
     → AreSilent (ended (rendered depth last nodes list rows) place e) places
 silent_places depth last place e nodes list rows [] h = tt
@@ -39,6 +36,7 @@ container_shows names depth place w f rows list silent whole =
     let still = silent_rendered depth f.«end» w.nodes w.list rows place silent in
     (more, marks_ended names (rendered depth f.«end» w.nodes w.list rows) place f.«end» still ∙ shows)
 
+-- What completes nodes shows what they show, and then tables: each of the containers takes blocks that show whole tables, or nothing.
 module _ (d : Document) (full : HeadsAreFull d) where
   becomes_shows : (frames : List Frame) (places : List ℕ) (w : Standing) (further : List Further) (from : From) (lines : List Place)
       (forest : List (ℕ × Item)) (tables : Tables) → PlainFrom d.text from → AreAt d.text lines → AreSilent w.nodes places → SilentList w.nodes w.list
@@ -47,23 +45,23 @@ module _ (d : Document) (full : HeadsAreFull d) where
   becomes_shows [] [] w [] from lines forest tables plain at silent list are becomes = absurd are
   becomes_shows [] [] w (f ∷ []) from lines forest tables plain at silent list (sequence, ends) (is, told) =
       let blocks = (sequence_whole d full f.blocks [] from lines [] plain at sequence).0 in
-      let rows = further_rows d.names false w f (rows_whole d.names false f.«end» f.blocks blocks) in
+      let rows = rows_whole d.names false w.before f.«end» f.blocks blocks in
       subst (ShowsMore d.names w.nodes) (sym is) (rendered_shows d.names 1 f.«end» w.nodes w.list (rows_on false w f) list rows)
   becomes_shows [] [] w (f ∷ g ∷ more) from lines forest tables plain at silent list are becomes = absurd are
   becomes_shows [] (place ∷ places) w further from lines forest tables plain at silent list are becomes = absurd becomes
   becomes_shows (InList byte loose ∷ frames) [] w further from lines forest tables plain at silent list are becomes = absurd becomes
   becomes_shows (InContainer c ∷ frames) [] w further from lines forest tables plain at silent list are becomes = absurd becomes
   becomes_shows (InList byte loose ∷ frames) (place ∷ places) w further from lines forest tables plain at silent list are becomes =
-      becomes_shows frames places (record { nodes = w.nodes; list = OneList place byte loose; run = w.run; defined = w.defined }) further from lines forest
-      tables plain at silent.1 silent.0 are becomes
+      let inside : Standing = record { nodes = w.nodes; list = OneList place byte loose; before = w.before; defined = w.defined } in
+      becomes_shows frames places inside further from lines forest tables plain at silent.1 silent.0 are becomes
   becomes_shows (InContainer c ∷ frames) (place ∷ places) w [] from lines forest tables plain at silent list are becomes = absurd are
   becomes_shows (InContainer c ∷ frames) (place ∷ places) w (f ∷ further) from lines forest tables plain at silent list (left, sequence, ends, are) becomes =
       let rows : Rows = rows_on (is_quote c) w f in
       let gap : Bool = any_gap (rows_beyond w.list rows) in
       let depth : ℕ = suc (length (place ∷ places)) in
-      let now : Standing = container_closed depth place w f rows in
+      let now : Standing = container_closed c depth place w f rows in
       let blocks = sequence_whole d full f.blocks (c ∷ containers_of frames) from lines left plain at sequence in
-      let whole = further_rows d.names (is_quote c) w f (rows_whole d.names (is_quote c) f.«end» f.blocks blocks.0) in
+      let whole = rows_whole d.names (is_quote c) w.before f.«end» f.blocks blocks.0 in
       let here = container_shows d.names depth place w f rows list silent.0 whole in
       let still = silent_places depth f.«end» place f.«end» w.nodes w.list rows places silent.1 in
       more_both d.names w.nodes now.nodes forest here

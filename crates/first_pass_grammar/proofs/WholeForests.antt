@@ -1,5 +1,5 @@
 -- A derived tree shows whole tables.
-use Rattle.std.proofs.Common.{◌≡◌, ℕ, suc, ◌==◌, ◌||◌, Bool, true, false, List, [], ◌∷◌, ◌++◌, length, map, refl, sym, ap, subst, ◌∙◌, if◌then◌else◌}
+use Rattle.std.proofs.Common.{◌≡◌, ℕ, suc, ◌==◌, Bool, true, false, List, [], ◌∷◌, ◌++◌, length, map, refl, sym, ap, subst, ◌∙◌, if◌then◌else◌}
 use Rattle.std.proofs.lemmas.List.{append_assoc}
 use Rattle.first_pass_items.specs.declared.item.Item.{Item}
 use Rattle.first_pass_items.specs.declared.item.ItemBody.{ItemBody}
@@ -9,8 +9,11 @@ use Rattle.first_pass_tree.specs.Tight.{tight_body, tightened}
 use Rattle.first_pass_lines.specs.Places.{lines_at}
 use Rattle.first_pass_grammar.specs.Names.{Names}
 use Rattle.first_pass_grammar.specs.Leaves.{Document}
-use Rattle.first_pass_grammar.specs.Skeleton.{BlankLine, Block, Opener, QuoteMarker, ItemMarker, Line, Skeleton, Nil, Then, Node}
-use Rattle.first_pass_grammar.specs.Rows.{What, ALeaf, AQuote, AList, AnItem, Row, Rows, End, OneOf, behind, ends_in_gap, is_loose, is_list_of, items_behind, list_behind, what_of, row_of, container_row, is_quote_marker, counts_behind, rows_of}
+use Rattle.first_pass_grammar.specs.Blocks.{BlankLine, Block, Opener, QuoteMarker, ItemMarker, opened, Skeleton, Nil, Then, Node}
+use Rattle.first_pass_grammar.specs.Skeleton.{Line}
+use Rattle.first_pass_grammar.specs.Before.{Before, nothing, after_blank, after_block}
+use Rattle.first_pass_grammar.specs.Containers.{is_quote}
+use Rattle.first_pass_grammar.specs.Rows.{What, ALeaf, AQuote, AList, AnItem, Row, Rows, End, OneOf, gapped, is_loose, is_list_of, items_behind, list_behind, what_of, row_of, container_row, rows_of}
 use Rattle.first_pass_grammar.specs.Derivation.{row_items, tight_in, items_of, Tables, root_of, Derives}
 use Rattle.first_pass_grammar.specs.WholeTables.{Mark, ATable, shown, marks, row_marks, TableRows, table_marks, AreFull, AreWholeTables}
 use Rattle.first_pass_grammar.proofs.HeadCells.{heads_are_full}
@@ -69,13 +72,13 @@ WholeWhat names (AList byte number e) = Unit {0}
 WholeWhat names (AnItem columns e) = Unit {0}
 
 unfoldable pub WholeRows : Names → Rows → Type 0
-WholeRows names (End gap) = Unit {0}
+WholeRows names End = Unit {0}
 WholeRows names (OneOf row inner next) = WholeWhat names row.what × WholeRows names inner × WholeRows names next
 
-pub behind_whole : (names : Names) (run : Bool) (rows : Rows) → WholeRows names rows → WholeRows names (behind run rows)
+gapped_whole : (names : Names) (gap : Bool) (rows : Rows) → WholeRows names rows → WholeRows names (gapped gap rows)
 unfolding WholeRows
-behind_whole names run (End gap) h = tt
-behind_whole names run (OneOf row inner next) h = h
+gapped_whole names gap End h = tt
+gapped_whole names gap (OneOf row inner next) h = h
 
 unless_whole : (names : Names) (t : Bool) (a b : Rows) → WholeRows names a → WholeRows names b → WholeRows names (if t then a else b)
 unless_whole names true a b h k = h
@@ -83,12 +86,13 @@ unless_whole names false a b h k = k
 
 pub items_whole : (names : Names) (byte : ℕ) (rows : Rows) → WholeRows names rows → WholeRows names (items_behind byte rows)
 unfolding WholeRows
-items_whole names byte (End gap) h = tt
-items_whole names byte (OneOf row inner next) h = unless_whole names (is_list_of byte row.what) (behind row.gap inner) (End false) (behind_whole names row.gap inner h.1) tt
+items_whole names byte End h = tt
+items_whole names byte (OneOf row inner next) h =
+    unless_whole names (is_list_of byte row.what) (gapped row.gap inner) End (gapped_whole names row.gap inner h.1) tt
 
 pub list_whole : (names : Names) (byte : ℕ) (rows : Rows) → WholeRows names rows → WholeRows names (list_behind byte rows)
 unfolding WholeRows
-list_whole names byte (End gap) h = tt
+list_whole names byte End h = tt
 list_whole names byte (OneOf row inner next) h = unless_whole names (is_list_of byte row.what) next (OneOf row inner next) h.2 h
 
 container_whole : (names : Names) (last : ℕ) (opener : Opener) (row : Row) (inner next : Rows) → WholeWhat names row.what → WholeRows names inner
@@ -101,16 +105,15 @@ what_whole : (names : Names) (opener : Opener) (e : ℕ) → WholeWhat names (wh
 what_whole names (QuoteMarker kind) e = tt
 what_whole names (ItemMarker byte number columns) e = tt
 
-pub rows_whole : (names : Names) (quoted : Bool) (last : ℕ) (s : Skeleton) → WholeSkeleton names s → WholeRows names (rows_of quoted last s)
+pub rows_whole : (names : Names) (quoted : Bool) (before : Before) (last : ℕ) (s : Skeleton) → WholeSkeleton names s
+    → WholeRows names (rows_of quoted before last s)
 unfolding WholeSkeleton WholeRows rows_of
-rows_whole names quoted last Nil h = tt
-rows_whole names quoted last (Then BlankLine next) h = behind_whole names _ (rows_of quoted last next) (rows_whole names quoted last next h.1)
-rows_whole names quoted last (Then (Block block) next) h = (h.0, tt, behind_whole names block.gap (rows_of quoted last next) (rows_whole names quoted last next h.1))
-rows_whole names quoted last (Node head e kids next) h =
-    let inner : Rows = rows_of (is_quote_marker head.opener) e kids in
-    container_whole names last head.opener (row_of head e) inner (behind (ends_in_gap inner || counts_behind head.opener next) (rows_of quoted last next))
-    (what_whole names head.opener e) (rows_whole names (is_quote_marker head.opener) e kids h.0)
-    (behind_whole names (ends_in_gap inner || counts_behind head.opener next) (rows_of quoted last next) (rows_whole names quoted last next h.1))
+rows_whole names quoted before last Nil h = tt
+rows_whole names quoted before last (Then BlankLine next) h = rows_whole names quoted (after_blank quoted before) last next h.1
+rows_whole names quoted before last (Then (Block block) next) h = (h.0, tt, rows_whole names quoted (after_block block) last next h.1)
+rows_whole names quoted before last (Node head e kids next) h =
+    container_whole names last head.opener (row_of head e before.counted) _ _ (what_whole names head.opener e)
+    (rows_whole names (is_quote (opened head.opener)) nothing e kids h.0) (rows_whole names quoted _ last next h.1)
 
 -- so do their items
 row_whole : (names : Names) (depth : ℕ) (tight loose : Bool) (start : ℕ) (w : What) → WholeWhat names w
@@ -125,7 +128,7 @@ row_whole names depth tight loose start (AnItem columns e) h = whole_none names 
 
 pub forest_whole : (names : Names) (depth : ℕ) (tight : Bool) (rows : Rows) → WholeRows names rows → AreWholeTables names (items_of depth tight rows)
 unfolding WholeRows items_of marks
-forest_whole names depth tight (End gap) h = whole_none names [] refl
+forest_whole names depth tight End h = whole_none names [] refl
 forest_whole names depth tight (OneOf row inner next) h =
     whole_both names (row_items depth tight (is_loose inner) row.start row.what) _
     (row_whole names depth tight (is_loose inner) row.start row.what h.0)
@@ -137,7 +140,7 @@ pub derived_whole : (d : Document) (nodes : List (ℕ × Item)) (tables : Tables
 unfolding marks
 derived_whole d nodes tables h =
     let s = (sequence_whole d (heads_are_full d) h.skeleton [] Line (lines_at 0 d.text) [] tt (lines_are_at d.text) h.sequence).0 in
-    let rows = rows_of false (length d.text) h.skeleton in
-    let all = forest_whole d.names 1 false rows (rows_whole d.names false (length d.text) h.skeleton s) in
+    let rows = rows_of false nothing (length d.text) h.skeleton in
+    let all = forest_whole d.names 1 false rows (rows_whole d.names false nothing (length d.text) h.skeleton s) in
     subst (AreWholeTables d.names) (sym h.forest_is)
     (whole_both d.names (root_of (length d.text) ∷ []) (items_of 1 false rows) (whole_none d.names (root_of (length d.text) ∷ []) refl) all)

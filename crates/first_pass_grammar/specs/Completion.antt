@@ -1,5 +1,5 @@
 -- What nodes that are not yet a whole tree can still become.
-use Rattle.std.specs.Prelude.{◌≡◌, ℕ, suc, ◌<◌, ◌||◌, not, Bool, true, false, List, [], ◌∷◌, ◌++◌, length, drop, None, if◌then◌else◌}
+use Rattle.std.specs.Prelude.{◌≡◌, ℕ, suc, ◌<◌, ◌||◌, not, Bool, false, List, [], ◌∷◌, ◌++◌, length, drop, None, if◌then◌else◌}
 use Rattle.first_pass_items.specs.declared.item.Item.{Item}
 use Rattle.first_pass_items.specs.declared.item.ItemBody.{ItemBody}
 use Rattle.first_pass_items.specs.declared.item.ItemBody.TheVariants.{List as ListBody}
@@ -7,11 +7,13 @@ use Rattle.first_pass_tree.specs.Forest.{modify, map_from}
 use Rattle.first_pass_tree.specs.Tight.{tightened}
 use Rattle.first_pass_lines.specs.Places.{Place, lines_at}
 use Rattle.first_pass_grammar.specs.declared.kind.Container.{Container}
-use Rattle.first_pass_grammar.specs.declared.kind.Container.TheVariants.{BlockQuote, ListItem, FootnoteDefinition}
 use Rattle.first_pass_grammar.specs.Leaves.{Document, document}
 use Rattle.first_pass_grammar.specs.Names.{Names, Extends}
-use Rattle.first_pass_grammar.specs.Skeleton.{From, Line, blanks_alone, end_before, Skeleton, IsSequence}
-use Rattle.first_pass_grammar.specs.Rows.{Rows, behind, ends_in_gap, any_gap, is_loose, list_until, items_behind, list_behind, begins_blank, rows_of}
+use Rattle.first_pass_grammar.specs.Blocks.{Skeleton}
+use Rattle.first_pass_grammar.specs.Skeleton.{From, Line, blanks_alone, end_before, IsSequence}
+use Rattle.first_pass_grammar.specs.Before.{Before, Last, LastOther, LastItem, last_container, after_container, before_end}
+use Rattle.first_pass_grammar.specs.Containers.{is_quote}
+use Rattle.first_pass_grammar.specs.Rows.{Rows, any_gap, is_loose, list_until, items_behind, list_behind, rows_of}
 use Rattle.first_pass_grammar.specs.Derivation.{Tables, Derives, told, definitions_of, list_flags, items_of}
 
 -- the lines of a text from an offset on, which is a line's start
@@ -38,11 +40,11 @@ pub data Pending : Type 0 where
   NoList : Pending
   OneList : ℕ → ℕ → Bool → Pending
 
--- what stands so far: nodes, a list that may continue, whether the run of blank lines after them holds one that counts, and what is defined
+-- what stands so far: nodes, a list that may continue, what stands before the next block, and what is defined
 pub record Standing : Type 0 where
   pub nodes : List (ℕ × Item)
   pub list : Pending
-  pub run : Bool
+  pub before : Before
   pub defined : Tables
 
 -- what a container takes further: blocks, and where it ends after them
@@ -58,14 +60,9 @@ AreFurther d (c ∷ path) from lines (f ∷ more) =
     × AreFurther d path Line left more
 AreFurther d _ from lines _ = ⊥
 
--- a blank line is first, and counts there: after an item its list is innermost (this project)
-abbrev pub counts_first : Pending → Skeleton → Bool
-counts_first NoList s = false
-counts_first (OneList place byte loose) s = begins_blank s
-
 -- the rows of what a container takes further, a block quote or not, after what stands
 abbrev pub rows_on : Bool → Standing → Further → Rows
-rows_on quoted w f = behind (w.run || counts_first w.list f.blocks) (rows_of quoted f.«end» f.blocks)
+rows_on quoted w f = rows_of quoted w.before f.«end» f.blocks
 
 -- of such rows those that are not the list's that may continue
 abbrev pub rows_beyond : Pending → Rows → Rows
@@ -92,11 +89,6 @@ containers_of [] = []
 containers_of (InContainer c ∷ frames) = c ∷ containers_of frames
 containers_of (InList byte loose ∷ frames) = containers_of frames
 
-abbrev pub is_quote : Container → Bool
-is_quote (BlockQuote kind) = true
-is_quote (ListItem columns) = false
-is_quote (FootnoteDefinition columns) = false
-
 -- A block with a blank line before it makes the list loose in whose item it stands.
 abbrev pub loosened : Bool → List Frame → List Frame
 loosened gap [] = []
@@ -104,19 +96,23 @@ loosened gap (InContainer c ∷ frames) = InContainer c ∷ frames
 loosened gap (InList byte loose ∷ frames) = InList byte (loose || gap) ∷ frames
 
 -- what stands once a container, whose node is at a place, is closed after these rows: those of what it took further
-abbrev pub container_closed : ℕ → ℕ → Standing → Further → Rows → Standing
-container_closed depth place w f rows =
-    record { nodes = ended (rendered depth f.«end» w.nodes w.list rows) place f.«end»; list = NoList; run = ends_in_gap rows; defined = told w.defined (definitions_of f.blocks) }
+abbrev pub container_closed : Container → ℕ → ℕ → Standing → Further → Rows → Standing
+container_closed c depth place w f rows = record {
+  nodes = ended (rendered depth f.«end» w.nodes w.list rows) place f.«end»;
+  list = NoList;
+  before = after_container c (before_end (is_quote c) w.before f.blocks);
+  defined = told w.defined (definitions_of f.blocks);
+}
 
 -- What stands becomes this forest, and these tables are told then, where the nodes at these places are not closed and are what the frames say, both listed
 -- from the innermost on: each container ends after what it takes further, and so on outwards; a list ends with what continues it.
 unfoldable pub Becomes : List Frame → List ℕ → Standing → List Further → List (ℕ × Item) → Tables → Type 0
 Becomes [] [] w (f ∷ []) forest tables = (forest ≡ rendered 1 f.«end» w.nodes w.list (rows_on false w f)) × (tables ≡ told w.defined (definitions_of f.blocks))
 Becomes (InList byte loose ∷ frames) (place ∷ places) w further forest tables =
-    Becomes frames places (record { nodes = w.nodes; list = OneList place byte loose; run = w.run; defined = w.defined }) further forest tables
+    Becomes frames places (record { nodes = w.nodes; list = OneList place byte loose; before = w.before; defined = w.defined }) further forest tables
 Becomes (InContainer c ∷ frames) (place ∷ places) w (f ∷ further) forest tables =
     let rows : Rows = rows_on (is_quote c) w f in
-    Becomes (loosened (any_gap (rows_beyond w.list rows)) frames) places (container_closed (suc (length (place ∷ places))) place w f rows) further forest tables
+    Becomes (loosened (any_gap (rows_beyond w.list rows)) frames) places (container_closed c (suc (length (place ∷ places))) place w f rows) further forest tables
 Becomes _ _ w further forest tables = ⊥
 
 -- each place is before the one inside it, and the innermost before an end
@@ -130,10 +126,16 @@ IsPlain [] = Unit {0}
 IsPlain (InContainer c ∷ frames) = Unit {0}
 IsPlain (InList byte loose ∷ frames) = ⊥
 
--- a list stands in a container or at the top
+-- what is last in the innermost of open nodes: in a list an item
+abbrev pub last_of : List Frame → Last
+last_of [] = LastOther
+last_of (InContainer c ∷ frames) = LastOther
+last_of (InList byte loose ∷ frames) = LastItem
+
+-- a list stands in a container or at the top, and an item in a list, and nothing else does
 abbrev pub IsShaped : List Frame → Type 0
 IsShaped [] = Unit {0}
-IsShaped (InContainer c ∷ frames) = IsShaped frames
+IsShaped (InContainer c ∷ frames) = (last_container c ≡ last_of frames) × IsShaped frames
 IsShaped (InList byte loose ∷ frames) = IsPlain frames × IsShaped frames
 
 -- Of what stands the nodes at these places are not closed, and are what the frames say: whatever completes them from here on, the text derives.

@@ -1,5 +1,5 @@
 -- Which lines continue the containers that are open (CommonMark 5).
-use Rattle.std.specs.Prelude.{ℕ, nat_le, Bool, false, ◌||◌, Option, Some, None, List, [], ◌∷◌, is_some, if◌then◌else◌}
+use Rattle.std.specs.Prelude.{ℕ, nat_le, Bool, true, false, ◌||◌, Option, Some, None, List, [], ◌∷◌, is_some, if◌then◌else◌}
 use Rattle.std.specs.Option.{option_map, option_and_then}
 use Rattle.first_pass_items.specs.declared.option_set.Options.{Options}
 use Rattle.first_pass_lines.specs.Lines.{at_line_end}
@@ -59,3 +59,9 @@ goes_on path line = is_some (after path line.rest)
 abbrev pub next_goes_on : List Container → List Place → Bool
 next_goes_on path [] = false
 next_goes_on path (line ∷ lines) = goes_on path line
+
+-- a container is a block quote
+abbrev pub is_quote : Container → Bool
+is_quote (BlockQuote kind) = true
+is_quote (ListItem columns) = false
+is_quote (FootnoteDefinition columns) = false

@@ -9,7 +9,9 @@ use Rattle.first_pass_tree.specs.Tight.{tightened}
 use Rattle.first_pass_lines.specs.Places.{lines_at}
 use Rattle.first_pass_grammar.specs.Leaves.{Document}
 use Rattle.first_pass_grammar.specs.LinkTables.{LinkEntry, with_links}
-use Rattle.first_pass_grammar.specs.Skeleton.{BlankLine, Block, LeafBlock, Line, Skeleton, Nil, Then, Node, IsSequence}
+use Rattle.first_pass_grammar.specs.Blocks.{BlankLine, Block, LeafBlock, Skeleton, Nil, Then, Node}
+use Rattle.first_pass_grammar.specs.Skeleton.{Line, IsSequence}
+use Rattle.first_pass_grammar.specs.Before.{nothing}
 use Rattle.first_pass_grammar.specs.Rows.{What, ALeaf, AQuote, AList, AnItem, Rows, End, OneOf, is_loose, rows_of}
 
 abbrev pub node_of : ℕ → ℕ → ItemBody → Item
@@ -39,7 +41,7 @@ tight_in tight loose (AnItem columns e) = tight
 
 -- The items of rows in reading order, each with its depth, of which the rows have this one, directly in an item of a tight list or not (CommonMark 5.3).
 unfoldable pub items_of : ℕ → Bool → Rows → List (ℕ × Item)
-items_of depth tight (End gap) = []
+items_of depth tight End = []
 items_of depth tight (OneOf row inner next) =
     row_items depth tight (is_loose inner) row.start row.what ++ (items_of (suc depth) (tight_in tight (is_loose inner) row.what) inner ++ items_of depth tight next)
 
@@ -75,5 +77,5 @@ root_of n = (0, record { start = 0; «end» = n; body = Root })
 pub record Derives (d : Document) (forest : List (ℕ × Item)) (tables : Tables) : Type 0 where
   pub skeleton : Skeleton
   pub sequence : IsSequence d skeleton [] Line (lines_at 0 d.text) []
-  pub forest_is : forest ≡ root_of (length d.text) ∷ items_of 1 false (rows_of false (length d.text) skeleton)
+  pub forest_is : forest ≡ root_of (length d.text) ∷ items_of 1 false (rows_of false nothing (length d.text) skeleton)
   pub tables_are : tables ≡ tables_of skeleton

@@ -1,3 +1,5 @@
+pub mod Before
+pub mod Blocks
 pub mod CodeBlocks
 pub mod Completion
 pub mod Containers

@@ -12,6 +12,7 @@ use Rattle.first_pass_lines.specs.Rest.{Rest, indent}
 use Rattle.first_pass_lines.specs.Places.{Place, place_at, offset, start_of, moved_columns}
 use Rattle.first_pass_grammar.specs.declared.kind.Container.{Container}
 use Rattle.first_pass_grammar.specs.declared.kind.Container.TheVariants.{BlockQuote, ListItem}
+use Rattle.first_pass_grammar.specs.Blocks.{Leaf, BlankLine, Block, leaf_block, QuoteMarker, ItemMarker, Head, opened, run_block, flowing_block, Skeleton, Nil, Then, Node}
 use Rattle.first_pass_grammar.specs.Containers.{Context, context, at_rest, after, front, taken, next_goes_on}
 use Rattle.first_pass_grammar.specs.Kinds.{Kind, Blank, IndentedCode, Metadata, HtmlToEnd, HtmlToBlank, ThematicBreak, AtxHeading, FencedCode, LinkDefinitions, Paragraph, all_taken, unindented, is_blank_rest, quote_inside, quote_start, item_at, IsKind, ends_tag}
 use Rattle.std.specs.Option.{option_map}
@@ -24,44 +25,6 @@ use Rattle.first_pass_grammar.specs.HtmlBlocks.{until_end, until_blank, IsHtml}
 use Rattle.first_pass_grammar.specs.Leaves.{Document, around, IsHeading, heading_text_at, rule_block, heading_block}
 use Rattle.first_pass_grammar.specs.Tables.{Taken}
 use Rattle.first_pass_grammar.specs.Texts.{IsText}
-
--- A block with no blocks in it (CommonMark 4): what begins at its place, where its line starts and its first byte that is no space or tab stands, its
--- items with their depths below it, whether blank lines that count are at the end of what it takes, and the link definitions that it has.
-pub record LeafBlock : Type 0 where
-  pub kind : Kind
-  pub line : ℕ
-  pub start : ℕ
-  pub items : List (ℕ × Item)
-  pub gap : Bool
-  pub definitions : List LinkEntry
-
--- a blank line, or a leaf block
-pub data Leaf : Type 0 where
-  BlankLine : Leaf
-  Block : LeafBlock → Leaf
-
--- the leaf block of a kind that begins at a place
-abbrev pub block_at : Kind → Place → List (ℕ × Item) → Bool → LeafBlock
-block_at kind p items gap = record { kind = kind; line = p.line; start = offset (unindented p); items = items; gap = gap; definitions = [] }
-
-abbrev pub leaf_block : Kind → Place → List (ℕ × Item) → Bool → Leaf
-leaf_block kind p items gap = Block (block_at kind p items gap)
-
--- what opens a container: the marker of a block quote, with its kind; or of a list item, its byte and number, with the item's indent (CommonMark 5.1, 5.2)
-pub data Opener : Type 0 where
-  QuoteMarker : Option BlockQuoteKind → Opener
-  ItemMarker : ℕ → ℕ → ℕ → Opener
-
--- how a container begins: what opens it, where its line starts, and where it starts itself
-pub record Head : Type 0 where
-  pub opener : Opener
-  pub line : ℕ
-  pub start : ℕ
-
--- the container that is opened
-abbrev pub opened : Opener → Container
-opened (QuoteMarker kind) = BlockQuote kind
-opened (ItemMarker byte number indent) = ListItem indent
 
 -- What may begin at a place inside a line: any block; a leaf block alone, after a block quote's tag; the text of a task, after its marker; or such a
 -- marker alone, with nothing after it on its line, in an item that takes blank lines alone, with the offset after that line, or in one that doesn't
@@ -101,14 +64,6 @@ OpensText d path p lines marker opening =
 -- what a leaf block of a kind with these lines opens, of which this holds for its items
 abbrev pub OpensExtent : Kind → Place → Extent → (List (ℕ × Item) → Type 0) → Opening → Type 0
 OpensExtent kind p e Are opening = (items : List (ℕ × Item)) × Are items × (opening ≡ OpensLeaf (leaf_block kind p items false) Line e.left)
-
--- a run of link reference definitions, the last of which begins at a place, with no text after them
-abbrev pub run_block : Place → List LinkEntry → LeafBlock
-run_block p definitions = record { kind = LinkDefinitions; line = p.line; start = offset p; items = []; gap = false; definitions = definitions }
-
--- what stands for the text that begins at a place, after link reference definitions
-abbrev pub flowing_block : Place → List LinkEntry → List (ℕ × Item) → LeafBlock
-flowing_block p definitions items = record { kind = Paragraph; line = p.line; start = offset p; items = items; gap = false; definitions = definitions }
 
 -- What link reference definitions open: a block with no items; or what stands for the text that flows on after them (CommonMark 4.7, 4.8, GFM 4.10).
 abbrev pub OpensBeyond : Document → List Container → List LinkEntry → Beyond → Opening → Type 0
@@ -235,13 +190,6 @@ abbrev pub OpensAt : Document → List Container → From → Place → List Pla
 OpensAt d path Line p lines opening = Opens d path p lines opening
 OpensAt d path (Blanks e) p lines opening = Opens d path p lines opening
 OpensAt d path (At q may) p lines opening = OpensIf d path may p lines opening
-
--- The blocks of a container, with what is in each: a first block, and those after it.
-pub data Skeleton : Type 0 where
-  Nil : Skeleton
-  Then : Leaf → Skeleton → Skeleton
-  -- how a container begins, its end, and the blocks in it
-  Node : Head → ℕ → Skeleton → Skeleton → Skeleton
 
 -- Where a block begins: at a place inside a line, or after what the path takes of the next line.
 abbrev pub Begins : List Container → From → List Place → Place → List Place → Type 0

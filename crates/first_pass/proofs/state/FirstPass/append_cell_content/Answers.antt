@@ -1,9 +1,5 @@
-use Rattle.std.proofs.Common.{◌≡◌, ◌≤◌, ℕ, List, Option, Some, None, IfSome, IsCharBoundary, length, refl, ap, subst, ◌∙◌, sym, arith}
-use Rattle.first_pass_names.specs.TableEntries.{no_names}
-use Rattle.first_pass_grammar.specs.Leaves.{document}
-use Rattle.first_pass_grammar.specs.Tables.{cell_content}
+use Rattle.std.proofs.Common.{◌≡◌, ◌≤◌, ℕ, List, Option, Some, None, IfSome, IsCharBoundary, length, refl, ap, subst, sym, arith}
 use Rattle.first_pass_tokens.specs.Pieces.{text_upto}
-use Rattle.first_pass_tokens.specs.TreeTokens.{AppendsCell}
 use Rattle.first_pass_tokens.proofs.BytesLemmas.{few_of_cell}
 use Rattle.first_pass_tokens.proofs.OrderLemmas.{cell_end_place}
 use Rattle.first_pass_lists.specs.declared.reading.Reading.{Reading}

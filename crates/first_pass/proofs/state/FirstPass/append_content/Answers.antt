@@ -1,4 +1,4 @@
-use Rattle.std.proofs.Common.{false, ◌≡◌, ◌≤◌, ℕ, List, length, Option, Some, None, IfSome, IsCharBoundary, refl, ap, subst, ◌∙◌, arith}
+use Rattle.std.proofs.Common.{false, ◌≤◌, ℕ, List, length, Option, Some, None, IfSome, IsCharBoundary, refl, subst, arith}
 use Rattle.first_pass_names.specs.TableEntries.{no_names}
 use Rattle.first_pass_grammar.specs.Leaves.{document}
 use Rattle.first_pass_tokens.specs.Pieces.{text_upto}

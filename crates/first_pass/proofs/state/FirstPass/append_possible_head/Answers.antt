@@ -1,8 +1,7 @@
 use Rattle.std.proofs.Common.{◌≡◌, ◌+◌, ◌≤◌, ℕ, List, length, drop, Option, Some, None, IfSome, IsCharBoundary, sym, ap, subst, ◌∙◌, arith}
 use Rattle.std.proofs.lemmas.List.{length-take-le}
 use Rattle.first_pass_lines.specs.Lines.{line_len}
-use Rattle.first_pass_grammar.specs.Names.{Extends}
-use Rattle.first_pass_names.specs.TableEntries.{names_of, with_alignments}
+use Rattle.first_pass_names.specs.TableEntries.{names_of}
 use Rattle.first_pass_names.proofs.NameLemmas.{extends_both, extends_alignments}
 use Rattle.first_pass_tokens.specs.Pieces.{text_upto}
 use Rattle.first_pass_tables.proofs.TextsAre.{line_bounds}
